@@ -1,0 +1,10 @@
+pub mod Amount
+pub mod Window
+pub mod Fraction
+pub mod Fee
+pub mod Options
+pub mod Identifier
+pub mod Refusal
+pub mod Sink
+pub mod Counted
+pub mod Faulty
