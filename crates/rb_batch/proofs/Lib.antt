@@ -1,0 +1,4 @@
+pub mod Runs
+pub mod Greedy
+pub mod UnderWay
+pub mod Existence

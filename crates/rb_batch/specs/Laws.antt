@@ -1,0 +1,17 @@
+-- laws of cuts into transactions
+use Rattle.std.specs.Prelude.{◌≡◌, ◌↔◌, ℕ, List}
+use Rattle.rb_batch.specs.declared.transaction.Transaction.{Transaction}
+use Rattle.rb_batch.specs.Limits.{TransactionLimits, IsLimits}
+use Rattle.rb_batch.specs.Cut.{IsLeastCut, NoneIsTooBig}
+
+-- two least cuts of the same messages are one
+abbrev pub LeastCutIsOne : Type 0
+LeastCutIsOne =
+    (limits : TransactionLimits) (messages : List ℕ) (ts us : List Transaction)
+    → IsLeastCut limits messages ts → IsLeastCut limits messages us → ts ≡ us
+
+-- messages have a least cut exactly where none of them is over the gas limit alone
+abbrev pub LeastCutExists : Type 0
+LeastCutExists =
+    (limits : TransactionLimits) (messages : List ℕ) → IsLimits limits
+    → ((ts : List Transaction) × IsLeastCut limits messages ts) ↔ NoneIsTooBig limits messages

@@ -1,0 +1,4 @@
+pub mod Limits
+pub mod Cut
+pub mod Laws
+pub mod Refusal

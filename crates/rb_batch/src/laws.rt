@@ -1,0 +1,12 @@
+//! Laws of cuts, which hold by their proofs alone.
+ghost use Rattle.rb_batch.specs.Laws.{LeastCutIsOne, LeastCutExists};
+
+/// No two different cuts of the same messages are the least.
+pub fn least_cut_is_one()
+    ensures { LeastCutIsOne }
+{}
+
+/// Messages have a least cut exactly where none of them is over the gas limit alone.
+pub fn least_cut_exists()
+    ensures { LeastCutExists }
+{}

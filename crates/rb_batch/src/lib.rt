@@ -1,0 +1,18 @@
+//! Messages cut into transactions: the fewest that keep within the limits of gas and count, each as
+//! full as it can be from the first one on.
+#![tactic(auto)]
+
+mod cutting;
+mod error;
+pub mod laws;
+mod limits;
+mod message;
+#[cfg(test)]
+mod tests;
+mod transaction;
+
+pub use cutting::cut;
+pub use error::BatchError;
+pub use limits::Limits;
+pub use message::Msg;
+pub use transaction::Transaction;
