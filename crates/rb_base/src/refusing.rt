@@ -56,7 +56,9 @@ impl<B: Allocator> Refusing<B> {
 }
 
 unsafe impl<B: Allocator> Allocator for Refusing<B> {
-    ghost dealloc_token = { λ heap ty block. B.dealloc_token heap.inner ty block };
+    ghost use Rattle.rb_base.specs.Refusing.{heap_of};
+
+    ghost dealloc_token = { λ heap. B.dealloc_token (heap_of heap) };
 
     fn allocate(&self, size: usize, align: usize) -> Result<*mut u8, AllocError> {
         if self.meter.refuses_next() {

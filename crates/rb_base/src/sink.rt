@@ -79,9 +79,9 @@ impl<W: Write> Sink for Counted<W> {
     ghost use Rattle.rb_base.specs.Sink.{is_failure};
     ghost use Rattle.rb_base.specs.Counted.{counted_bytes, counted_number, counted_failed, number_after};
 
-    ghost taken = { λ c. W.contents c.inner };
+    ghost taken = { counted_bytes W.contents };
 
-    ghost is_broken = { λ c. c.failed };
+    ghost is_broken = { counted_failed };
 
     fn write(&mut self, piece: &[u8]) -> io::Result<usize>
         ensures bound { WritesAtMost result piece.now }

@@ -1,0 +1,8 @@
+pub mod Lists
+pub mod Rising
+pub mod Places
+pub mod Breakers
+pub mod Addresses
+pub mod Kept
+pub mod Additions
+pub mod Positions

@@ -1,0 +1,10 @@
+pub use Rattle.rb_valset.specs.Validator
+pub use Rattle.rb_valset.specs.ValidatorSet
+pub mod Header
+pub mod Book
+pub mod Invariant
+pub mod Intake
+pub mod Refusal
+pub mod Same
+pub mod Search
+pub mod Laws

@@ -1,0 +1,6 @@
+pub mod Voters
+pub mod Success
+pub mod Heights
+pub mod Known
+pub mod Window
+pub mod Orderly

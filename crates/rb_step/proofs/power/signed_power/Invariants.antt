@@ -1,0 +1,7 @@
+use Rattle.std.proofs.Common.{◌≡◌, take, sum_by}
+use Rattle.rb_step.specs.SignedPower.{commit_voters}
+use Rattle.rb_step.proofs.Voters.{lent}
+use Rattle.rb_step.proofs.power.signed_power.Given as goal
+
+abbrev pub invariant-loop-member : goal.invariant-loop-member
+invariant-loop-member g l = l.signed ≡ sum_by (lent (commit_voters l.own l.header)) (take l.member-index l.member-items)

@@ -1,0 +1,15 @@
+pub use Rattle.rb_base.specs.Fraction
+pub use Rattle.rb_base.specs.Options
+pub use Rattle.rb_base.specs.Window
+pub use Rattle.rb_book.specs.Book
+pub use Rattle.rb_book.specs.Header
+pub mod SignedPower
+pub mod StepRule
+pub mod Answer
+pub mod Reasons
+pub mod LightClient
+pub mod KnownStep
+pub mod Machine
+pub mod Fee
+pub mod View
+pub mod Laws

@@ -1,0 +1,17 @@
+//! The step rule of the light client: whether a client accepts a header on the word of a record
+//! that it trusts, at a moment or throughout a window (ICS 7; CometBFT light client); and a
+//! client's view of the chain that it tracks.
+#![tactic(auto)]
+
+pub mod laws;
+mod power;
+mod step;
+#[cfg(test)]
+mod tests;
+mod verdict;
+mod view;
+
+pub use power::{is_signed_by_two_thirds, signed_power};
+pub use step::{accepts_in, verify};
+pub use verdict::{Reason, Verdict};
+pub use view::{ClientView, are_known};

@@ -1,0 +1,174 @@
+//! The step rule: when a client accepts a header on the word of a record that it trusts.
+ghost use Rattle.std.specs.Prelude.{◌≡◌, ◌≤◌, ◌<◌, ◌↔◌, IsTrue, Some};
+ghost use Rattle.std.specs.Option.{option_copied, ForSome};
+ghost use Rattle.rb_book.specs.Header.{Names, IsSignedBy};
+ghost use Rattle.rb_step.specs.StepRule.{step_of, Accepts, AcceptsWithin};
+ghost use Rattle.rb_step.specs.Fee.{fee_of, fee_limit};
+ghost use Rattle.rb_step.specs.Answer.{answer_at, answer_within, times_fault, votes_answer};
+
+use crate::power::{is_signed_by_two_thirds, signed_power};
+use crate::verdict::{Reason, Verdict};
+use rb_base::{FeeTable, Height, Moment, Options, Window};
+use rb_book::{Header, Record};
+use rb_valset::ValidatorSet;
+use std::alloc::{Allocator, Global};
+use std::marker::Model;
+
+/// From a trusted record to a header, with the sets that they name.
+#[derive(Drop)]
+pub(crate) struct Step<'a, A: Allocator = Global> {
+    pub(crate) trusted_height: Height,
+    pub(crate) trusted: &'a Record,
+    pub(crate) next: Option<&'a ValidatorSet<A>>,
+    pub(crate) header: &'a Header<A>,
+    pub(crate) own: &'a ValidatorSet<A>,
+}
+
+impl<'a, A: Allocator> Model for Step<'a, A> {
+    ghost use Rattle.std.specs.Option.{option_copied};
+    ghost use Rattle.rb_book.specs.Header.{IsSignedBy};
+    ghost use Rattle.rb_step.specs.StepRule as rule;
+
+    ghost Value = { rule.Step };
+
+    ghost view = { λ s. rule.step_of s.trusted_height s.trusted.now (option_copied s.next) s.header.now s.own.now };
+
+    ghost invariant = { λ s. IsSignedBy s.header.now s.own.now };
+}
+
+impl<A: Allocator + Copy> Step<'_, A> {
+    /// The first check of heights and times that fails: expiry is tested at the window's last
+    /// moment, the future at its first.
+    fn times_fault(&self, options: &Options, window: &Window) -> Option<Reason>
+        ensures fault { result ≡ times_fault options.now window.now self.now }
+        ensures ordered { window.now.from ≤ window.now.until }
+    {
+        let (first, last) = (window.from().nanoseconds(), window.until().nanoseconds());
+        let trusted_time = self.trusted.time().nanoseconds();
+        let time = self.header.record().time().nanoseconds();
+        if self.header.height() <= self.trusted_height {
+            return Some(Reason::HeightOrder);
+        }
+        if trusted_time + u128::from(options.period().nanoseconds()) <= last {
+            return Some(Reason::Expired);
+        }
+        if time <= trusted_time {
+            return Some(Reason::TimeNotLater);
+        }
+        if time >= first + u128::from(options.drift()) {
+            return Some(Reason::FromFuture);
+        }
+        None
+    }
+
+    /// What the votes say, by the set that the trusted record names.
+    fn votes_answer(&self, options: &Options, next: &ValidatorSet<A>) -> Verdict
+        ensures { result ≡ votes_answer options.now self.now (Some next.now) }
+    {
+        if self.header.height().get() == self.trusted_height.get() + 1 {
+            if self.header.set_hash() != self.trusted.next() {
+                return Verdict::Invalid(Reason::WrongNextSet);
+            }
+        } else {
+            let signed = signed_power(next, self.own, self.header);
+            let total = next.total();
+            if !options.trust().is_exceeded_by(signed, total) {
+                return Verdict::NotEnoughTrust { signed, total };
+            }
+        }
+        if is_signed_by_two_thirds(self.header, self.own) {
+            Verdict::Success
+        } else {
+            Verdict::Invalid(Reason::NotTwoThirds)
+        }
+    }
+
+    /// The first check that fails in the window, or success.
+    fn answer_within(&self, options: &Options, window: &Window) -> Verdict
+        ensures answer { result ≡ answer_within options.now window.now self.now }
+        ensures ordered { window.now.from ≤ window.now.until }
+    {
+        if let Some(reason) = self.times_fault(options, window) {
+            return Verdict::Invalid(reason);
+        }
+        match self.next {
+            Some(next) => self.votes_answer(options, next),
+            None => Verdict::Invalid(Reason::TrustedSetUnknown),
+        }
+    }
+
+    /// Whether the client accepts the step at every moment of the window.
+    #[tactic(auto, using(crate::proofs::Success::success_within))]
+    pub(crate) fn is_accepted_within(&self, options: &Options, window: &Window) -> bool
+        ensures { IsTrue result ↔ AcceptsWithin options.now window.now self.now }
+    {
+        matches!(self.answer_within(options, window), Verdict::Success)
+    }
+
+    /// What the step costs by a table of fees or of gas.
+    pub(crate) fn charge(&self, table: &FeeTable) -> u64
+        ensures value { result ≡ fee_of table.now self.now }
+        ensures bound { result < fee_limit }
+    {
+        let next_size = self.next.map_or(0, |next| next.size());
+        let validators = self.own.size() + next_size;
+        table.charge(self.header.commits() as u64, validators as u64)
+    }
+}
+
+/// What a client that trusts the record at a height answers to a header at a moment: `Success`
+/// exactly where the step is accepted, else the first check that fails. `next` is the set whose
+/// hash the record gives for the next block, if it is known, and `own` the header's own set.
+/// Takes no memory.
+pub fn verify<A: Allocator + Copy>(
+    options: &Options,
+    trusted_height: Height,
+    trusted: &Record,
+    next: Option<&ValidatorSet<A>>,
+    header: &Header<A>,
+    own: &ValidatorSet<A>,
+    moment: Moment,
+) -> Verdict
+    requires named { ForSome (option_copied next) (Names trusted.now) }
+    requires signed { IsSignedBy header.now own.now }
+    ensures answer { result ≡ answer_at options.now moment
+        (step_of trusted_height trusted.now (option_copied next.entry) header.now own.now) }
+    ensures success { (result ≡ Verdict.Success) ↔ Accepts options.now moment
+        (step_of trusted_height trusted.now (option_copied next.entry) header.now own.now) }
+{
+    let step = Step {
+        trusted_height,
+        trusted,
+        next,
+        header,
+        own,
+    };
+    step.answer_within(options, &Window::at(moment))
+}
+
+/// Whether a client that trusts the record at a height accepts a header at every moment of a
+/// window. `next` is the set whose hash the record gives for the next block, if it is known, and
+/// `own` the header's own set. Takes no memory.
+pub fn accepts_in<A: Allocator + Copy>(
+    options: &Options,
+    trusted_height: Height,
+    trusted: &Record,
+    next: Option<&ValidatorSet<A>>,
+    header: &Header<A>,
+    own: &ValidatorSet<A>,
+    window: &Window,
+) -> bool
+    requires named { ForSome (option_copied next) (Names trusted.now) }
+    requires signed { IsSignedBy header.now own.now }
+    ensures { IsTrue result ↔ AcceptsWithin options.now window.now
+        (step_of trusted_height trusted.now (option_copied next.entry) header.now own.now) }
+{
+    let step = Step {
+        trusted_height,
+        trusted,
+        next,
+        header,
+        own,
+    };
+    step.is_accepted_within(options, window)
+}
