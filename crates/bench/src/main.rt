@@ -3,13 +3,23 @@
 
 mod batch;
 mod book;
+mod certificate;
+mod graph;
+mod plan;
+mod scan;
 
 use anyhow::{Context, Result, bail};
+use std::alloc::Global;
 use std::env;
 use std::rt::Env;
 
 /// The subcommands and their numbers.
 const USAGE: &str = "bench book HEADERS SETS VALIDATORS
+bench graph HEADERS SETS VALIDATORS
+bench plan HEADERS SETS VALIDATORS
+bench certify HEADERS VALIDATORS
+bench certify-labels LABELS
+bench scan PACKETS
 bench batch MESSAGES PER_TRANSACTION
 ";
 
@@ -46,27 +56,55 @@ fn number(task: &Task, place: usize) -> Result<u32> {
     }
 }
 
-fn run<R: Env + Print + AllocGlobal>(rt: &R) -> Result<()> {
-    let task = read_task(rt)?;
-    match task.name.as_str() {
+/// The numbers of a book: its headers, its sets, the validators of each.
+fn book_numbers(task: &Task) -> Result<(u32, u32, u32)> {
+    Ok((number(task, 0)?, number(task, 1)?, number(task, 2)?))
+}
+
+/// Does the work, and tells what was done; nothing where no such work is known.
+fn perform(alloc: Global, task: &Task) -> Result<Option<String>> {
+    let told = match task.name.as_str() {
         "book" => {
-            let records = book::fill(
-                rt.alloc(),
-                number(&task, 0)?,
-                number(&task, 1)?,
-                number(&task, 2)?,
-            )?;
-            println!(rt; "{records} records")?;
+            let (headers, sets, validators) = book_numbers(task)?;
+            let records = book::fill(alloc, headers, sets, validators)?;
+            format!(in alloc; "{records} records")?
+        }
+        "graph" => {
+            let (headers, sets, validators) = book_numbers(task)?;
+            let rows = graph::make_table(alloc, headers, sets, validators)?;
+            format!(in alloc; "{rows} rows")?
+        }
+        "plan" => {
+            let (headers, sets, validators) = book_numbers(task)?;
+            let (updates, fee) = plan::plan_to_top(alloc, headers, sets, validators)?;
+            format!(in alloc; "{updates} updates, fee {fee}")?
+        }
+        "certify" => {
+            let holds = certificate::certify_plan(alloc, number(task, 0)?, number(task, 1)?)?;
+            format!(in alloc; "{holds}")?
+        }
+        "certify-labels" => {
+            let holds = certificate::certify_labels(alloc, number(task, 0)?)?;
+            format!(in alloc; "{holds}")?
+        }
+        "scan" => {
+            let messages = scan::scan_path(alloc, number(task, 0)?)?;
+            format!(in alloc; "{messages} messages")?
         }
         "batch" => {
-            let transactions = batch::cut_messages(
-                rt.alloc(),
-                number(&task, 0)?,
-                number(&task, 1)?,
-            )?;
-            println!(rt; "{transactions} transactions")?;
+            let transactions = batch::cut_messages(alloc, number(task, 0)?, number(task, 1)?)?;
+            format!(in alloc; "{transactions} transactions")?
         }
-        _ => rt.print(USAGE)?,
+        _ => return Ok(None),
+    };
+    Ok(Some(told))
+}
+
+fn run<R: Env + Print + AllocGlobal>(rt: &R) -> Result<()> {
+    let task = read_task(rt)?;
+    match perform(rt.alloc(), &task)? {
+        Some(told) => println!(rt; "{told}")?,
+        None => rt.print(USAGE)?,
     }
     Ok(())
 }

@@ -1,0 +1,69 @@
+//! The files that the program reads.
+use crate::failure::Failure;
+use rb_fields::RunError;
+use std::alloc::Global;
+use std::fs::File;
+use std::io;
+use std::io::Read;
+
+/// A file is read up to one byte past what a text may have, so that the reader can tell that it is
+/// too big.
+const MOST_BYTES: u64 = 16_777_217;
+
+/// The path that stands for standard input.
+const STANDARD_INPUT: &str = "-";
+
+/// A file's path and bytes.
+#[derive(Drop)]
+pub struct Input<'a> {
+    path: &'a str,
+    bytes: Vec<u8>,
+}
+
+impl<'a> Input<'a> {
+    /// Reads a file, or standard input.
+    pub fn read(rt: &HostRuntime, path: &'a str) -> Result<Input<'a>, Failure<'a>> {
+        match bytes_at(rt, path) {
+            Ok(bytes) => Ok(Input { path, bytes }),
+            Err(error) if error.kind() == io::ErrorKind::OutOfMemory => {
+                Err(Failure::Run(RunError::NoMemory))
+            }
+            Err(error) => Err(Failure::Unreadable {
+                file: name_of(path),
+                error,
+            }),
+        }
+    }
+
+    /// What to call the file.
+    pub fn name(&self) -> &'a str {
+        name_of(self.path)
+    }
+
+    /// The bytes.
+    pub fn bytes(&self) -> &[u8] {
+        self.bytes.as_slice()
+    }
+}
+
+fn name_of<'a>(path: &'a str) -> &'a str {
+    if path == STANDARD_INPUT {
+        "standard input"
+    } else {
+        path
+    }
+}
+
+fn bytes_at(rt: &HostRuntime, path: &str) -> io::Result<Vec<u8>> {
+    if path == STANDARD_INPUT {
+        bytes_of(rt.alloc(), rt.reader())
+    } else {
+        bytes_of(rt.alloc(), File::open(rt, path)?)
+    }
+}
+
+fn bytes_of<R: Read + Drop>(alloc: Global, reader: R) -> io::Result<Vec<u8>> {
+    let mut bytes = Vec::new(alloc);
+    reader.take(MOST_BYTES).read_to_end(&mut bytes)?;
+    Ok(bytes)
+}

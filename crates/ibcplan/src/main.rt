@@ -1,0 +1,34 @@
+//! ibcplan plans the client updates of an IBC relayer's script. What it does stands in `rb_text`;
+//! here are the command line, the file, the statuses and the words for the operator.
+#![tactic(auto)]
+
+mod failure;
+mod flaw;
+mod input;
+mod perform;
+mod status;
+mod task;
+
+use std::process::ExitCode;
+use std::{env, io};
+
+/// Does what the command line asks for, and answers the status to end with.
+fn run(rt: &HostRuntime) -> io::Result<u8> {
+    let words: Vec<String> = env::args(rt)?.collect(rt.alloc())?;
+    Ok(match task::read_task(rt.alloc(), words.as_slice()) {
+        Ok(task) => perform::perform(rt, task),
+        Err(message) => perform::show(rt, &message),
+    })
+}
+
+fn main(rt: HostRuntime) -> ExitCode {
+    let status = match run(&rt) {
+        Ok(status) => status,
+        Err(error) if error.kind() == io::ErrorKind::InvalidData => {
+            let _ = eprintln!(rt; "error: the command line isn't UTF-8");
+            status::COMMAND_LINE
+        }
+        Err(_) => perform::no_memory(&rt),
+    };
+    ExitCode::from(status)
+}

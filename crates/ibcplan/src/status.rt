@@ -1,0 +1,10 @@
+//! The status that the program ends with.
+
+/// The task is done.
+pub const DONE: u8 = 0;
+
+/// The command line is wrong.
+pub const COMMAND_LINE: u8 = 2;
+
+/// Want of memory, or a file or an output that fails.
+pub const FAILED: u8 = 4;

@@ -1,0 +1,9 @@
+pub mod Plans
+pub mod Judged
+pub mod Marks
+pub mod Rising
+pub mod Search
+pub mod Known
+pub mod Refusals
+pub mod Stored
+pub mod Walks

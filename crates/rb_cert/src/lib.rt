@@ -1,0 +1,16 @@
+//! The certifier: whether a planner's answer is right, judged by its labels alone. It trusts
+//! nothing in the answer, goes by the step rule and plain sums, and takes no memory.
+#![tactic(auto)]
+
+mod judgement;
+mod labels;
+pub mod laws;
+mod places;
+#[cfg(test)]
+mod tests;
+mod ties;
+mod updates;
+mod verdict;
+
+pub use judgement::certify;
+pub use verdict::{Reason, Verdict2};

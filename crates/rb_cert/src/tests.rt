@@ -1,0 +1,466 @@
+use crate::{Reason, Verdict2, certify};
+use rb_base::{FeeTable, Height, Moment, Options, Period, Window};
+use rb_book::{ChainBook, Header, Record, Vote};
+use rb_plan::{Answer, Cost, Goal, Label, Labelling, Update, are_labels};
+use rb_step::{ClientView, are_known};
+use rb_valset::{Validator, ValidatorSet};
+use std::alloc::Global;
+use std::test::Fail;
+
+const SECOND: u128 = 1_000_000_000;
+
+/// A block at a height: the set that signed it and signs the next, as key bytes and powers, and
+/// how many validators of power 1 it has beside these. Height h has the time 10 h seconds.
+#[derive(Clone, Copy)]
+struct Block {
+    height: u64,
+    set: &'static [(u8, u64)],
+    small: u8,
+    /// Whether the header is known, which all have signed, or the record alone.
+    has_header: bool,
+}
+
+#[derive(Clone, Copy)]
+enum Wanted {
+    Exactly(u64),
+    AtLeast(u64),
+}
+
+/// A certificate: labels as height, fee and count, updates as height and trusted height (`None`:
+/// the goal is said to be unreachable); and what it gets.
+#[derive(Clone, Copy)]
+struct Case {
+    name: &'static str,
+    chain: &'static [Block],
+    stored: &'static [u64],
+    /// The window is the second 200 until this one.
+    until: u64,
+    wanted: Wanted,
+    labels: &'static [(u64, u64, u64)],
+    updates: Option<&'static [(u64, u64)]>,
+    verdict: &'static str,
+}
+
+const A: &[(u8, u64)] = &[(0xa1, 10), (0xa2, 10), (0xa3, 10), (0xa4, 10)];
+
+const A_TO_P: &[(u8, u64)] = &[(0xa1, 10), (0xa2, 10), (0x51, 10), (0x52, 10)];
+
+const A_TO_Z: &[(u8, u64)] = &[(0xa1, 100), (0xa2, 100), (0xe1, 100), (0xe2, 100)];
+
+const P_TO_Q: &[(u8, u64)] = &[(0x51, 10), (0x52, 10), (0x61, 10), (0x62, 10)];
+
+const P_TO_Z: &[(u8, u64)] = &[(0x51, 10), (0x52, 10), (0xe1, 10), (0xe2, 10)];
+
+const Q_TO_Z: &[(u8, u64)] = &[(0x61, 10), (0x62, 10), (0xe1, 10), (0xe2, 10)];
+
+const Z: &[(u8, u64)] = &[(0xe1, 10), (0xe2, 10), (0xe3, 10), (0xe4, 10)];
+
+const FIRST: Block = Block {
+    height: 1,
+    set: A,
+    small: 0,
+    has_header: true,
+};
+
+/// The way to 10 by 3 and 7 costs 336, that by 5 costs 512.
+const TWO_WAYS: &[Block] = &[
+    FIRST,
+    Block {
+        height: 3,
+        set: A_TO_P,
+        ..FIRST
+    },
+    Block {
+        height: 5,
+        set: A_TO_Z,
+        small: 96,
+        ..FIRST
+    },
+    Block {
+        height: 7,
+        set: P_TO_Z,
+        ..FIRST
+    },
+    Block {
+        height: 8,
+        set: Z,
+        has_header: false,
+        ..FIRST
+    },
+    Block {
+        height: 10,
+        set: Z,
+        ..FIRST
+    },
+];
+
+/// By 3 or 4 to 10 or 11, and from either to 20, for the same fees.
+const TIES: &[Block] = &[
+    FIRST,
+    Block {
+        height: 3,
+        set: A_TO_P,
+        ..FIRST
+    },
+    Block {
+        height: 4,
+        set: A_TO_P,
+        ..FIRST
+    },
+    Block {
+        height: 10,
+        set: P_TO_Q,
+        ..FIRST
+    },
+    Block {
+        height: 11,
+        set: P_TO_Q,
+        ..FIRST
+    },
+    Block {
+        height: 20,
+        set: Q_TO_Z,
+        ..FIRST
+    },
+];
+
+/// The least list over `TWO_WAYS` with the exact labels.
+const LEAST: Case = Case {
+    name: "the least list",
+    chain: TWO_WAYS,
+    stored: &[1],
+    until: 200,
+    wanted: Wanted::AtLeast(10),
+    labels: &[
+        (1, 0, 0),
+        (3, 112, 1),
+        (5, 304, 1),
+        (7, 224, 2),
+        (10, 336, 3),
+    ],
+    updates: Some(&[(3, 1), (7, 3), (10, 7)]),
+    verdict: "yes",
+};
+
+/// The least list over `TIES` with the exact labels.
+const LEAST_OF_TIES: Case = Case {
+    name: "the least list of several that cost the same",
+    chain: TIES,
+    wanted: Wanted::AtLeast(20),
+    labels: &[
+        (1, 0, 0),
+        (3, 112, 1),
+        (4, 112, 1),
+        (10, 224, 2),
+        (11, 224, 2),
+        (20, 336, 3),
+    ],
+    updates: Some(&[(3, 1), (10, 3), (20, 10)]),
+    ..LEAST
+};
+
+const fn over_two_ways(name: &'static str, verdict: &'static str) -> Case {
+    Case {
+        name,
+        verdict,
+        ..LEAST
+    }
+}
+
+const fn over_ties(name: &'static str, verdict: &'static str) -> Case {
+    Case {
+        name,
+        verdict,
+        ..LEAST_OF_TIES
+    }
+}
+
+fn height(number: u64) -> Result<Height, Fail> {
+    Ok(Height::new(number).ok_or("height")?)
+}
+
+fn moment(nanoseconds: u128) -> Result<Moment, Fail> {
+    Ok(Moment::new(nanoseconds).ok_or("moment")?)
+}
+
+fn make_set(alloc: Global, block: &Block) -> Result<ValidatorSet, Fail> {
+    let mut validators = Vec::new(alloc);
+    for (byte, power) in block.set {
+        validators.push(Validator::new([*byte; 32], *power)?)?;
+    }
+    for byte in 0..block.small {
+        let mut key = [0x77; 32];
+        key[0] = byte;
+        validators.push(Validator::new(key, 1)?)?;
+    }
+    Ok(ValidatorSet::new(alloc, validators)?)
+}
+
+fn make_book(alloc: Global, chain: &[Block]) -> Result<ChainBook, Fail> {
+    let mut book = ChainBook::new(alloc);
+    for block in chain {
+        let set = make_set(alloc, block)?;
+        let (hash, size) = (*set.hash(), set.size());
+        book.add_set(set)?;
+        let time = moment(u128::from(block.height) * 10 * SECOND)?;
+        let record = Record::new(time, [0; 32], hash);
+        if block.has_header {
+            let votes = vec![in alloc; Vote::Commit; size]?;
+            book.add_header(Header::new(height(block.height)?, record, hash, votes))?;
+        } else {
+            book.add_record(height(block.height)?, record)?;
+        }
+    }
+    Ok(book)
+}
+
+fn make_labelling(alloc: Global, rows: &[(u64, u64, u64)]) -> Result<Labelling, Fail> {
+    let mut labels = Vec::new(alloc);
+    for (number, fee, count) in rows {
+        labels.push(Label {
+            height: height(*number)?,
+            cost: Cost {
+                fee: *fee,
+                count: *count,
+            },
+        })?;
+    }
+    if !are_labels(labels.as_slice()) {
+        return Err(Fail::from("labels"));
+    }
+    Ok(Labelling::new(labels))
+}
+
+fn make_updates(alloc: Global, rows: &[(u64, u64)]) -> Result<Vec<Update>, Fail> {
+    let mut updates = Vec::new(alloc);
+    for (number, trusted) in rows {
+        updates.push(Update::new(height(*number)?, height(*trusted)?))?;
+    }
+    Ok(updates)
+}
+
+fn make_answer(alloc: Global, case: &Case) -> Result<Answer, Fail> {
+    let labelling = make_labelling(alloc, case.labels)?;
+    match case.updates {
+        Some(rows) => Ok(Answer::Plan {
+            updates: make_updates(alloc, rows)?,
+            labelling,
+        }),
+        None => Ok(Answer::Unreachable { labelling }),
+    }
+}
+
+fn make_heights(alloc: Global, numbers: &[u64]) -> Result<Vec<Height>, Fail> {
+    let mut heights = Vec::new(alloc);
+    for number in numbers {
+        heights.push(height(*number)?)?;
+    }
+    Ok(heights)
+}
+
+/// `yes`, or `no` with the reason's number, its name and its own numbers.
+fn to_text(alloc: Global, verdict: Verdict2) -> Result<String, Fail> {
+    let Verdict2::No(reason) = verdict else {
+        return Ok(format!(in alloc; "yes")?);
+    };
+    let (number, name) = (reason.number(), reason.name());
+    let place = match reason {
+        Reason::SourceLabel(height) | Reason::GoalLabelled(height) => {
+            format!(in alloc; " {height}")?
+        }
+        Reason::LabelTooHigh { trusted, height } => format!(in alloc; " {trusted} {height}")?,
+        Reason::PlanNotAccepted(place) | Reason::PlanNotTight(place) | Reason::NotTheTie(place) =>
+            format!(in alloc; " {place}")?,
+        Reason::GoalMissed => String::new(alloc),
+    };
+    Ok(format!(in alloc; "no {number} {name}{}", place.as_str())?)
+}
+
+/// What the case's certificate gets.
+fn judge(alloc: Global, case: &Case) -> Result<String, Fail> {
+    let book = make_book(alloc, case.chain)?;
+    let stored = make_heights(alloc, case.stored)?;
+    if !are_known(stored.as_slice(), &book) {
+        return Err(Fail::from("stored heights"));
+    }
+    let options = Options::new(
+        Period::new(1_000_000_000_000).ok_or("period")?,
+        10_000_000_000,
+    );
+    let fees = FeeTable::new(100, 1, 1)?;
+    let window = Window::new(
+        moment(200 * SECOND)?,
+        moment(u128::from(case.until) * SECOND)?,
+    )?;
+    let view = ClientView::new(options, fees, stored.as_slice(), window, &book);
+    let goal = match case.wanted {
+        Wanted::Exactly(number) => Goal::Exactly(height(number)?),
+        Wanted::AtLeast(number) => Goal::AtLeast(height(number)?),
+    };
+    to_text(alloc, certify(&view, goal, &make_answer(alloc, case)?))
+}
+
+/// Certificates and their verdicts.
+#[test]
+fn judges_certificates(rt: HostRuntime) -> Result<(), Fail> {
+    let cases = [
+        LEAST,
+        LEAST_OF_TIES,
+        Case {
+            wanted: Wanted::Exactly(9),
+            updates: None,
+            ..over_two_ways("out of reach", "yes")
+        },
+        Case {
+            until: 1_010,
+            labels: &[],
+            updates: None,
+            ..over_two_ways("what is stored expires at the last moment", "yes")
+        },
+        Case {
+            wanted: Wanted::AtLeast(3),
+            stored: &[1, 3],
+            labels: &[(1, 0, 0), (3, 0, 0), (5, 304, 1), (7, 112, 1), (10, 224, 2)],
+            updates: Some(&[]),
+            ..over_two_ways("no update is needed", "yes")
+        },
+        Case {
+            labels: &[
+                (1, 0, 0),
+                (3, 112, 1),
+                (5, 304, 1),
+                (7, 224, 2),
+                (8, 9223372036854775807, 9223372036854775807),
+                (10, 336, 3),
+                (99, 9223372036854775807, 9223372036854775807),
+            ],
+            ..over_two_ways("labels that are as large as they can be", "yes")
+        },
+        Case {
+            labels: &[(3, 112, 1), (5, 304, 1), (7, 224, 2), (10, 336, 3)],
+            ..over_two_ways("label 1 dropped", "no 601 SourceLabel 1")
+        },
+        Case {
+            labels: &[(1, 1, 0), (3, 112, 1), (7, 224, 2), (10, 336, 3)],
+            updates: Some(&[(10, 7)]),
+            ..over_two_ways("label 1 not free, and other faults", "no 601 SourceLabel 1")
+        },
+        Case {
+            stored: &[1, 3, 7],
+            labels: &[(1, 0, 0)],
+            ..over_two_ways("two stored heights without labels", "no 601 SourceLabel 3")
+        },
+        Case {
+            labels: &[(1, 0, 0), (3, 112, 1), (7, 224, 2), (10, 336, 3)],
+            updates: Some(&[(10, 7)]),
+            ..over_two_ways(
+                "label 5 dropped, and a fault in the plan",
+                "no 602 LabelTooHigh 1 5",
+            )
+        },
+        Case {
+            labels: &[(1, 0, 0), (3, 112, 1), (5, 304, 1), (7, 224, 2)],
+            ..over_two_ways("label 10 dropped", "no 602 LabelTooHigh 5 10")
+        },
+        Case {
+            labels: &[
+                (1, 0, 0),
+                (3, 112, 1),
+                (5, 304, 1),
+                (7, 224, 2),
+                (10, 400, 3),
+            ],
+            ..over_two_ways("label 10 too high from 7", "no 602 LabelTooHigh 7 10")
+        },
+        Case {
+            updates: Some(&[(10, 7)]),
+            ..over_two_ways("trusts what isn't stored", "no 603 PlanNotAccepted 0")
+        },
+        Case {
+            updates: Some(&[(3, 1), (10, 3)]),
+            ..over_two_ways("a step that isn't accepted", "no 603 PlanNotAccepted 1")
+        },
+        Case {
+            updates: Some(&[(3, 1), (3, 1), (3, 1), (8, 3)]),
+            ..over_two_ways(
+                "repeated, and then to a record with no header",
+                "no 603 PlanNotAccepted 3",
+            )
+        },
+        Case {
+            updates: Some(&[]),
+            ..over_two_ways("no updates", "no 607 GoalMissed")
+        },
+        Case {
+            labels: &[
+                (1, 0, 0),
+                (3, 112, 1),
+                (5, 300, 1),
+                (7, 224, 2),
+                (10, 336, 3),
+            ],
+            updates: Some(&[(5, 1)]),
+            ..over_two_ways("ends below the goal, and not tight", "no 607 GoalMissed")
+        },
+        Case {
+            updates: Some(&[(5, 1), (10, 5)]),
+            ..over_two_ways("the dearer way", "no 604 PlanNotTight 1")
+        },
+        Case {
+            labels: &[
+                (1, 0, 0),
+                (3, 112, 1),
+                (5, 304, 1),
+                (7, 224, 2),
+                (10, 300, 3),
+            ],
+            ..over_two_ways("label 10 too low", "no 604 PlanNotTight 2")
+        },
+        Case {
+            labels: &[
+                (1, 0, 0),
+                (3, 112, 1),
+                (5, 304, 1),
+                (7, 224, 2),
+                (10, 336, 3),
+                (99, 0, 0),
+            ],
+            ..over_two_ways("a higher wanted height costs less", "no 605 NotTheTie 2")
+        },
+        Case {
+            wanted: Wanted::AtLeast(2),
+            updates: Some(&[(4, 1)]),
+            ..over_ties("a lower wanted height costs the same", "no 605 NotTheTie 0")
+        },
+        Case {
+            wanted: Wanted::AtLeast(10),
+            updates: Some(&[(4, 1), (10, 4)]),
+            ..over_ties("10 trusts 4, and 3 is lower", "no 605 NotTheTie 1")
+        },
+        Case {
+            updates: Some(&[(4, 1), (11, 4), (20, 11)]),
+            ..over_ties("two ties, told from the last down", "no 605 NotTheTie 2")
+        },
+        Case {
+            updates: Some(&[(4, 1), (10, 4), (20, 10)]),
+            ..over_ties("a tie before the last update", "no 605 NotTheTie 1")
+        },
+        Case {
+            updates: None,
+            ..over_two_ways("said to be unreachable", "no 606 GoalLabelled 10")
+        },
+        Case {
+            wanted: Wanted::AtLeast(4),
+            updates: None,
+            ..over_two_ways(
+                "several wanted heights are labelled",
+                "no 606 GoalLabelled 5",
+            )
+        },
+    ];
+    for case in cases {
+        let verdict = judge(rt.alloc(), &case)?;
+        assert_eq!(rt; verdict.as_str(), case.verdict, "{}", case.name);
+    }
+    Ok(())
+}

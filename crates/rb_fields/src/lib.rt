@@ -1,0 +1,15 @@
+//! Reading tables of TOML: what a key holds, by its type and its range, and the fault and the
+//! place where it doesn't.
+#![tactic(auto)]
+
+mod fault;
+mod field;
+mod place;
+mod section;
+#[cfg(test)]
+mod tests;
+
+pub use fault::{Fault, FaultName, RunError};
+pub use field::{Field, MAX_NUMBER, is_identifier};
+pub use place::{Place, child_path, element_path};
+pub use section::{Section, fault_at, section_at};

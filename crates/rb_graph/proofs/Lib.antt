@@ -1,0 +1,13 @@
+pub mod Rising
+pub mod Filtered
+pub mod Found
+pub mod Members
+pub mod Lower
+pub mod CellOf
+pub mod Sources
+pub mod Accepted
+pub mod Walk
+pub mod Headers
+pub mod Known
+pub mod Into
+pub mod Charges

@@ -1,0 +1,110 @@
+//! What a step table keeps, made from its book.
+ghost use Rattle.std.specs.Prelude.{◌≡◌, ◌<◌, map, length, slice_get, IfOk, Some, All, Contains};
+ghost use Rattle.std.specs.Option.{option_copied, option_map};
+ghost use Rattle.rb_book.specs.Invariant.{IsBook, IsBacked};
+ghost use Rattle.rb_book.specs.Header.{IsSignedBy};
+ghost use Rattle.rb_graph.specs.StepTable.{own_set};
+ghost use Rattle.rb_graph.specs.Kept.{next_place, next_places, first_naming, kept_power, kept_of};
+
+use crate::source::Kept;
+use rb_base::Height;
+use rb_book::{ChainBook, Header, Known};
+use rb_step::{is_signed_by_two_thirds, signed_power};
+use rb_valset::ValidatorSet;
+use std::alloc::{AllocError, Allocator};
+
+/// For each known record, by its place, the place of its next set, where that is known.
+pub fn next_places<A: Allocator + Copy>(
+    alloc: A,
+    book: &ChainBook<A>,
+) -> Result<Vec<Option<usize>, A>, AllocError>
+    ensures { IfOk result (λ places. places.items ≡ next_places book.now) }
+{
+    book.records()
+        .iter()
+        .map(
+            |known: &Known| -> Option<usize>
+                ensures { result ≡ next_place book.entry.now known.now }
+            { book.set_place(known.record().next()) },
+        )
+        .collect(alloc)
+}
+
+/// The height of the lowest known record that names the set as its next.
+fn first_naming<A: Allocator + Copy>(book: &ChainBook<A>, set: &ValidatorSet<A>) -> Option<Height>
+    ensures { result ≡ first_naming book.now set.now }
+{
+    book.records()
+        .iter()
+        .find(|known| set.hash() == known.record().next())
+        .map(|known| known.height())
+}
+
+/// The same for each set of the book, by its place.
+pub fn first_namings<A: Allocator + Copy>(
+    alloc: A,
+    book: &ChainBook<A>,
+) -> Result<Vec<Option<Height>, A>, AllocError>
+    ensures { IfOk result (λ heights. heights.items ≡ map (first_naming book.now) book.now.sets) }
+{
+    book.sets()
+        .iter()
+        .map(
+            |set: &ValidatorSet<A>| -> Option<Height>
+                ensures { result ≡ first_naming book.entry.now set.now }
+            { first_naming(book, set) },
+        )
+        .collect(alloc)
+}
+
+/// The header's own set, which the book knows.
+fn own_set<'a, A: Allocator + Copy>(
+    book: &'a ChainBook<A>,
+    header: &Header<A>,
+) -> &'a ValidatorSet<A>
+    requires { IsBacked book.now header.now }
+    ensures own { result.now ≡ own_set book.entry.now header.now }
+    ensures signed { IsSignedBy header.now result.now }
+{
+    book.set(header.set_hash()).unwrap()
+}
+
+/// The signed power of a header in a set, where a lower record names the set.
+#[tactic(auto, unfolding(crate::specs::Kept::kept_power))]
+fn kept_power<A: Allocator + Copy>(
+    book: &ChainBook<A>,
+    header: &Header<A>,
+    own: &ValidatorSet<A>,
+    set: &ValidatorSet<A>,
+    lowest: Option<Height>,
+) -> Option<u64>
+    requires own { own.now ≡ own_set book.now header.now }
+    requires signed { IsSignedBy header.now own.now }
+    requires lowest { lowest ≡ first_naming book.now set.now }
+    ensures { result ≡ kept_power book.now header.now set.now }
+{
+    match lowest {
+        Some(lowest) if lowest < header.height() => Some(signed_power(set, own, header)),
+        _ => None,
+    }
+}
+
+/// What is kept of a header.
+#[tactic(auto, unfolding(crate::specs::Kept::kept_of))]
+pub fn kept_of<A: Allocator + Copy>(
+    alloc: A,
+    book: &ChainBook<A>,
+    header: &Header<A>,
+    lowest: &[Option<Height>],
+) -> Result<Kept<A>, AllocError>
+    requires backed { IsBacked book.now header.now }
+    requires lowest { lowest.now ≡ map (first_naming book.now) book.now.sets }
+    ensures { IfOk result (λ kept. kept ≡ kept_of book.now header.now) }
+{
+    let own = own_set(book, header);
+    let mut signed = Vec::with_capacity(alloc, lowest.len())?;
+    for (place, set) in book.sets().iter().enumerate() {
+        signed.push(kept_power(book, header, own, set, lowest[place]))?;
+    }
+    Ok(Kept::new(own.size(), is_signed_by_two_thirds(header, own), signed))
+}

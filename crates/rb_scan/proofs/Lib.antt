@@ -1,0 +1,6 @@
+pub mod Rising
+pub mod Runs
+pub mod Kept
+pub mod Least
+pub mod Within
+pub mod Replaced

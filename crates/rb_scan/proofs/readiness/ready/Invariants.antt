@@ -1,0 +1,9 @@
+use Rattle.std.proofs.Common.{◌≡◌, ℕ, map, take}
+use Rattle.std.specs.List.{filter, enumerate_from}
+use Rattle.rb_scan.specs.Owed.{is_ready}
+use Rattle.rb_scan.specs.declared.message.PacketMsg.{PacketMsg}
+use Rattle.rb_scan.proofs.readiness.ready.Given as goal
+
+abbrev pub invariant-loop-place : goal.invariant-loop-place
+invariant-loop-place g l =
+    l.list.items ≡ map (λ (p : ℕ × PacketMsg). p.1) (filter (λ (p : ℕ × PacketMsg). is_ready l.order l.reach l.messages p.0 p.1) (take l.place (enumerate_from 0 l.messages)))

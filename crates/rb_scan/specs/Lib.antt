@@ -1,0 +1,7 @@
+pub mod Sequence
+pub mod Packet
+pub mod Path
+pub mod Expiry
+pub mod Owed
+pub mod Same
+pub mod Laws

@@ -1,0 +1,23 @@
+//! Which packet messages a path owes, from which height on each can be proved, and which of them
+//! are ready (ICS 4).
+#![tactic(auto)]
+
+mod error;
+pub mod laws;
+mod message;
+mod packet;
+mod path;
+mod readiness;
+mod scan;
+mod sequence;
+mod table;
+#[cfg(test)]
+mod tests;
+
+pub use error::ScanError;
+pub use message::{Kind, PacketMsg};
+pub use packet::Packet;
+pub use path::{Order, PathView, is_path};
+pub use readiness::{ready, wanted};
+pub use scan::{Part, owed, owed_part};
+pub use sequence::Sequence;

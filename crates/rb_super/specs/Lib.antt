@@ -1,0 +1,12 @@
+pub use Rattle.rb_batch.specs.Cut
+pub use Rattle.rb_plan.specs.Labelling
+pub use Rattle.rb_plan.specs.Least
+pub use Rattle.rb_plan.specs.ProofHeight
+pub use Rattle.rb_step.specs.View
+pub mod Script
+pub mod Report
+pub mod State
+pub mod Goal
+pub mod Turns
+pub mod Priced
+pub mod Laws

@@ -1,0 +1,22 @@
+//! What is to be run, and what a run reports: for each client and turn the least list of updates
+//! with the labelling that proves it, and its transactions.
+#![tactic(auto)]
+
+mod client;
+mod goal;
+mod intake;
+pub mod laws;
+mod planning;
+mod report;
+mod reporting;
+mod run;
+mod script;
+mod sending;
+mod state;
+
+pub use report::{
+    Batch, ClientReport, Outcome, Plan, Planned, PricedUpdate, RefusedEvent, Report, Sending,
+    TurnReport,
+};
+pub use run::run_script;
+pub use script::{Asked, ClientConfig, Event, Script, Turn};

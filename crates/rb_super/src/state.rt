@@ -1,0 +1,228 @@
+//! What is known between two events.
+ghost use Rattle.std.specs.Prelude.{◌≡◌, ◌<◌, length, replicate, fold, map, All, IfOk, OnOk};
+ghost use Rattle.std.specs.List.{AllZip};
+ghost use Rattle.rb_super.specs.Report.{client_report_view, turn_report_view};
+ghost use Rattle.rb_super.specs.Script.{IsEvent, IsTurn, turn_view, script_view, IsScript};
+ghost use Rattle.rb_super.specs.State.{empty_book, new_client, opening, goes_back, after_window, after_asked, judged, after};
+ghost use Rattle.rb_super.specs.Turns.{refusals, IsClientReport, after_reports, IsTurnReport, after_turn};
+
+use crate::client::KnownClient;
+use crate::intake::{add_header, add_record, add_set};
+use crate::report::{ClientReport, RefusedEvent, TurnReport};
+use crate::reporting::{close_clients, report_clients};
+use crate::script::{Asked, ClientConfig, Event, Script, Turn};
+use rb_base::{Height, Moment, Window};
+use rb_book::{BookError, ChainBook, Header, Record};
+use rb_valset::ValidatorSet;
+use std::alloc::{AllocError, Global};
+use std::marker::Model;
+
+/// The present window, a book for each chain, and the clients.
+#[derive(Drop)]
+pub(crate) struct State {
+    window: Window,
+    books: Vec<ChainBook>,
+    clients: Vec<KnownClient>,
+}
+
+impl Model for State {
+    ghost use Rattle.rb_super.specs.State as states;
+
+    ghost Value = { states.State };
+
+    ghost view = { λ s. record { window = s.window; books = s.books.items; clients = s.clients.items } };
+
+    ghost invariant = { λ s. states.IsState (record { window = s.window; books = s.books.items; clients = s.clients.items }) };
+}
+
+/// A book for each chain, which knows nothing.
+fn empty_books(alloc: Global, chains: usize) -> Result<Vec<ChainBook>, AllocError>
+    ensures { IfOk result (λ books. books.items ≡ replicate chains empty_book) }
+{
+    let mut books = Vec::with_capacity(alloc, chains)?;
+    for _ in 0..chains {
+        books.push(ChainBook::new(alloc))?;
+    }
+    Ok(books)
+}
+
+/// The clients, which have stored nothing.
+fn new_clients(alloc: Global, configs: &[ClientConfig]) -> Result<Vec<KnownClient>, AllocError>
+    ensures { IfOk result (λ clients. clients.items ≡ map new_client configs.now) }
+{
+    let mut clients = Vec::with_capacity(alloc, configs.len())?;
+    for config in configs {
+        clients.push(KnownClient::new(alloc, *config))?;
+    }
+    Ok(clients)
+}
+
+impl State {
+    /// What is known before a script's first turn.
+    pub(crate) fn opening(alloc: Global, script: &Script) -> Result<State, AllocError>
+        requires { IsScript (script_view script.now) }
+        ensures { IfOk result (λ s. s ≡ opening (script_view script.now)) }
+    {
+        Ok(State {
+            window: Window::at(Moment::new(0).unwrap()),
+            books: empty_books(alloc, script.chains.len())?,
+            clients: new_clients(alloc, script.clients.as_slice())?,
+        })
+    }
+
+    /// Takes a window as the present one, unless it goes back; tells whether it does.
+    fn enter(&mut self, window: Window) -> bool
+        ensures back { result ≡ goes_back self.old.window window }
+        ensures after { self.new ≡ after_window self.old window }
+    {
+        if window.from() < self.window.from() || window.until() < self.window.until() {
+            return true;
+        }
+        self.window = window;
+        false
+    }
+
+    /// Asks a client for a goal.
+    fn ask(&mut self, asked: &Asked)
+        requires { asked.now.client < length self.old.clients }
+        ensures { self.new ≡ after_asked self.old asked.now }
+    {
+        self.clients[asked.client].ask(asked.goal);
+    }
+
+    fn observe_set(
+        &mut self,
+        chain: usize,
+        set: &ValidatorSet,
+    ) -> Result<Option<BookError>, AllocError>
+        requires { chain < length self.old.books }
+        ensures judged { IfOk result (λ refusal. refusal ≡ judged self.old (Event.SetSeen chain set.now)) }
+        ensures after { OnOk result (self.new ≡ after self.old (Event.SetSeen chain set.now)) }
+    {
+        add_set(&mut self.books[chain], set)
+    }
+
+    fn observe_header(
+        &mut self,
+        chain: usize,
+        header: &Header,
+    ) -> Result<Option<BookError>, AllocError>
+        requires { chain < length self.old.books }
+        ensures judged { IfOk result (λ refusal. refusal ≡ judged self.old (Event.HeaderSeen chain header.now)) }
+        ensures after { OnOk result (self.new ≡ after self.old (Event.HeaderSeen chain header.now)) }
+    {
+        add_header(&mut self.books[chain], header)
+    }
+
+    fn observe_stored(
+        &mut self,
+        client: usize,
+        height: Height,
+        entry: Record,
+    ) -> Result<Option<BookError>, AllocError>
+        requires { client < length self.old.clients }
+        ensures judged { IfOk result (λ refusal. refusal ≡ judged self.old (Event.StoredSeen client height entry)) }
+        ensures after { OnOk result (self.new ≡ after self.old (Event.StoredSeen client height entry)) }
+    {
+        let chain = self.clients[client].config().tracks;
+        let refusal = add_record(&mut self.books[chain], height, entry)?;
+        if refusal.is_some() {
+            return Ok(refusal);
+        }
+        self.clients[client].store(height)?;
+        Ok(None)
+    }
+
+    /// Takes in an event, or tells why it is refused; one that is refused changes nothing.
+    fn observe(&mut self, event: &Event) -> Result<Option<BookError>, AllocError>
+        requires { IsEvent (length self.old.books) (length self.old.clients) event.now }
+        ensures judged { IfOk result (λ refusal. refusal ≡ judged self.old event.now) }
+        ensures after { OnOk result (self.new ≡ after self.old event.now) }
+    {
+        match event {
+            Event::SetSeen { chain, set } => self.observe_set(*chain, set),
+            Event::HeaderSeen { chain, header } => self.observe_header(*chain, header),
+            Event::StoredSeen {
+                client,
+                height,
+                record,
+            } => self.observe_stored(*client, *height, *record),
+        }
+    }
+
+    /// Asks clients for goals.
+    fn ask_all(&mut self, goals: &[Asked])
+        requires { All (λ g. g.client < length self.old.clients) goals.now }
+        ensures { self.new ≡ fold after_asked self.old goals.now }
+    {
+        for asked in goals {
+            self.ask(asked);
+        }
+    }
+
+    /// Takes in events in their order, and tells which of them are refused.
+    fn observe_all(
+        &mut self,
+        alloc: Global,
+        events: &[Event],
+    ) -> Result<Vec<RefusedEvent>, AllocError>
+        requires { All (IsEvent (length self.old.books) (length self.old.clients)) events.now }
+        ensures refused { IfOk result (λ refused. refused.items ≡ refusals 0 self.old events.now) }
+        ensures after { OnOk result (self.new ≡ fold after self.old events.now) }
+    {
+        let mut refused = Vec::new(alloc);
+        for (event, seen) in events.iter().enumerate() {
+            if let Some(error) = self.observe(seen)? {
+                refused.push(RefusedEvent { event, error })?;
+            }
+        }
+        Ok(refused)
+    }
+
+    /// Plans for each client that isn't held.
+    fn plan(self, alloc: Global) -> Result<(State, Vec<ClientReport>), AllocError>
+        ensures reports { IfOk result (λ r. AllZip (IsClientReport self.window self.books) self.clients (map client_report_view r.1.items)) }
+        ensures after { IfOk result (λ r. r.0 ≡ record self { clients = after_reports self.clients (map client_report_view r.1.items) }) }
+    {
+        let State {
+            window,
+            mut books,
+            mut clients,
+        } = self;
+        let reports = report_clients(alloc, window, &mut books, clients.as_slice())?;
+        close_clients(&mut clients, reports.as_slice());
+        Ok((
+            State {
+                window,
+                books,
+                clients,
+            },
+            reports,
+        ))
+    }
+
+    /// Runs a turn. Without memory for it the state is given up.
+    pub(crate) fn run_turn(
+        self,
+        alloc: Global,
+        turn: &Turn,
+    ) -> Result<(State, TurnReport), AllocError>
+        requires { IsTurn (length self.books) (length self.clients) (turn_view turn.now) }
+        ensures report { IfOk result (λ r. IsTurnReport self (turn_view turn.now) (turn_report_view r.1)) }
+        ensures after { IfOk result (λ r. r.0 ≡ after_turn self (turn_view turn.now) (turn_report_view r.1)) }
+    {
+        let mut state = self;
+        let window_back = state.enter(turn.window);
+        state.ask_all(turn.goals.as_slice());
+        let refused = state.observe_all(alloc, turn.events.as_slice())?;
+        let (state, clients) = state.plan(alloc)?;
+        Ok((
+            state,
+            TurnReport {
+                window_back,
+                refused,
+                clients,
+            },
+        ))
+    }
+}

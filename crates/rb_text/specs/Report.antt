@@ -1,0 +1,92 @@
+-- The text of a report (own choice): lines that end with one LF, numbers as plain decimals.
+use Rattle.std.specs.Prelude.{ℕ, ◌+◌, Bool, if◌then◌else◌, List, [], ◌∷◌, ◌++◌, codes, Option, Some, None, unwrap_or}
+use Rattle.std.specs.Fmt.{decimal}
+use Rattle.std.specs.List.{flat_map}
+use Rattle.rb_batch.specs.declared.transaction.Transaction.{Transaction}
+use Rattle.rb_book.specs.Refusal.{number_of, name_of}
+use Rattle.rb_plan.specs.declared.cost.Cost.{Cost}
+use Rattle.rb_plan.specs.declared.goal.Goal.{Goal}
+use Rattle.rb_plan.specs.declared.goal.Goal.TheVariants.{Exactly, AtLeast}
+use Rattle.rb_plan.specs.declared.labelling.Label.{Label}
+use Rattle.rb_super.specs.declared.report.PricedUpdate.{PricedUpdate}
+use Rattle.rb_super.specs.declared.report.RefusedEvent.{RefusedEvent}
+use Rattle.rb_super.specs.Report.{Batch, Sending, nothing, too_big, batched, Plan, Planned, Outcome, held, idle, planned, ClientReport, TurnReport, Report}
+
+-- ---- lines
+
+abbrev pub window_line : List ℕ
+window_line = codes "refused window 806 WindowBack\n"
+
+-- want of memory, which no report tells, has no number
+abbrev pub refused_line : RefusedEvent → List ℕ
+refused_line r =
+    codes "refused event " ++ decimal r.event ++ codes " " ++ decimal (unwrap_or (number_of r.error) 0) ++ codes " " ++ name_of r.error ++ codes "\n"
+
+abbrev pub held_line : List ℕ → ℕ → List ℕ
+held_line id batch = codes "client " ++ id ++ codes " held " ++ decimal batch ++ codes "\n"
+
+abbrev pub idle_line : List ℕ → List ℕ
+idle_line id = codes "client " ++ id ++ codes " idle\n"
+
+abbrev pub goal_line : List ℕ → Goal → List ℕ
+goal_line id (AtLeast height) = codes "client " ++ id ++ codes " goal at_least " ++ decimal height ++ codes "\n"
+goal_line id (Exactly height) = codes "client " ++ id ++ codes " goal exactly " ++ decimal height ++ codes "\n"
+
+abbrev pub label_line : Label → List ℕ
+label_line l = codes "label " ++ decimal l.height ++ codes " " ++ decimal l.cost.fee ++ codes " " ++ decimal l.cost.count ++ codes "\n"
+
+abbrev pub unreachable_line : List ℕ
+unreachable_line = codes "unreachable\n"
+
+abbrev pub update_line : PricedUpdate → List ℕ
+update_line u =
+    codes "update " ++ decimal u.update.height ++ codes " from " ++ decimal u.update.trusted ++ codes " fee " ++ decimal u.fee ++ codes "\n"
+
+abbrev pub total_line : Cost → List ℕ
+total_line total = codes "total " ++ decimal total.fee ++ codes " updates " ++ decimal total.count ++ codes "\n"
+
+abbrev pub too_big_line : ℕ → List ℕ
+too_big_line index = codes "toobig " ++ decimal index ++ codes "\n"
+
+abbrev pub batch_line : ℕ → ℕ → List ℕ
+batch_line number proof = codes "batch " ++ decimal number ++ codes " proof " ++ decimal proof ++ codes "\n"
+
+abbrev pub transaction_line : ℕ → Transaction → List ℕ
+transaction_line number t =
+    codes "tx " ++ decimal number ++ codes " first " ++ decimal t.first ++ codes " count " ++ decimal t.count ++ codes " gas " ++ decimal t.gas
+    ++ codes "\n"
+
+-- ---- parts
+
+-- a line, or several, for each element, with its number from here on
+abbrev pub numbered : {X : Type 0} → (ℕ → X → List ℕ) → ℕ → List X → List ℕ
+numbered lines number [] = []
+numbered lines number (x ∷ xs) = lines number x ++ numbered lines (number + 1) xs
+
+abbrev pub sending_text : Sending → List ℕ
+sending_text nothing = []
+sending_text (too_big index) = too_big_line index
+sending_text (batched b) = batch_line b.number b.proof ++ numbered transaction_line 1 b.transactions
+
+abbrev pub plan_text : Option Plan → List ℕ
+plan_text None = unreachable_line
+plan_text (Some p) = flat_map update_line p.updates ++ total_line p.total ++ sending_text p.sending
+
+abbrev pub outcome_text : List ℕ → Outcome → List ℕ
+outcome_text id (held batch) = held_line id batch
+outcome_text id idle = idle_line id
+outcome_text id (planned p) = goal_line id p.goal ++ flat_map label_line p.labels ++ plan_text p.plan
+
+abbrev pub client_text : ClientReport → List ℕ
+client_text c = outcome_text c.id c.outcome
+
+-- a turn and what became of its window
+abbrev pub head_text : ℕ → Bool → List ℕ
+head_text number window_back = codes "turn " ++ decimal number ++ codes "\n" ++ (if window_back then window_line else [])
+
+abbrev pub turn_text : ℕ → TurnReport → List ℕ
+turn_text number t = head_text number t.window_back ++ flat_map refused_line t.refused ++ flat_map client_text t.clients
+
+-- the text of a report, its turns numbered from 1
+abbrev pub text : Report → List ℕ
+text turns = codes "ibcplan 1\n" ++ numbered turn_text 1 turns ++ codes "end\n"

@@ -1,0 +1,187 @@
+//! The text of a turn's report.
+ghost use Rattle.std.specs.Prelude.{◌≡◌, ◌++◌, map, OnOk, string_bytes};
+ghost use Rattle.std.specs.List.{flat_map};
+ghost use Rattle.std.specs.Option.{option_map};
+ghost use Rattle.rb_super.specs.Report.{sending_view, plan_view, planned_view, client_report_view, turn_report_view};
+ghost use Rattle.rb_super.specs.Report.{planned as outcome_planned};
+ghost use Rattle.rb_text.specs.Report.{refused_line, goal_line, label_line, update_line, total_line, batch_line, transaction_line, numbered, sending_text, plan_text, outcome_text, client_text, head_text, turn_text};
+
+use rb_base::Height;
+use rb_batch::Transaction;
+use rb_plan::{Cost, Goal, Label};
+use rb_super::{
+    ClientReport, Outcome, Plan, Planned, PricedUpdate, RefusedEvent, Sending, TurnReport,
+};
+use std::alloc::AllocError;
+
+fn push_refused(text: &mut String, refused: &RefusedEvent) -> Result<(), AllocError>
+    ensures { OnOk result (string_bytes text.new ≡ string_bytes text.old ++ refused_line refused.now) }
+{
+    let event = refused.event;
+    let number = refused.error.number().unwrap_or(0);
+    let name = refused.error.name();
+    writeln!(text, "refused event {event} {number} {name}")
+}
+
+fn push_refusals(text: &mut String, refusals: &[RefusedEvent]) -> Result<(), AllocError>
+    ensures { OnOk result (string_bytes text.new ≡ string_bytes text.old ++ flat_map refused_line refusals.now) }
+{
+    for refused in refusals {
+        push_refused(text, refused)?;
+    }
+    Ok(())
+}
+
+fn push_goal(text: &mut String, id: &str, goal: Goal) -> Result<(), AllocError>
+    ensures { OnOk result (string_bytes text.new ≡ string_bytes text.old ++ goal_line id.now goal) }
+{
+    match goal {
+        Goal::AtLeast(height) => writeln!(text, "client {id} goal at_least {height}"),
+        Goal::Exactly(height) => writeln!(text, "client {id} goal exactly {height}"),
+    }
+}
+
+fn push_label(text: &mut String, label: &Label) -> Result<(), AllocError>
+    ensures { OnOk result (string_bytes text.new ≡ string_bytes text.old ++ label_line label.now) }
+{
+    let Label { height, cost } = *label;
+    let Cost { fee, count } = cost;
+    writeln!(text, "label {height} {fee} {count}")
+}
+
+fn push_labels(text: &mut String, labels: &[Label]) -> Result<(), AllocError>
+    ensures { OnOk result (string_bytes text.new ≡ string_bytes text.old ++ flat_map label_line labels.now) }
+{
+    for label in labels {
+        push_label(text, label)?;
+    }
+    Ok(())
+}
+
+fn push_update(text: &mut String, priced: &PricedUpdate) -> Result<(), AllocError>
+    ensures { OnOk result (string_bytes text.new ≡ string_bytes text.old ++ update_line priced.now) }
+{
+    let height = priced.update.height();
+    let trusted = priced.update.trusted();
+    let fee = priced.fee;
+    writeln!(text, "update {height} from {trusted} fee {fee}")
+}
+
+fn push_updates(text: &mut String, updates: &[PricedUpdate]) -> Result<(), AllocError>
+    ensures { OnOk result (string_bytes text.new ≡ string_bytes text.old ++ flat_map update_line updates.now) }
+{
+    for update in updates {
+        push_update(text, update)?;
+    }
+    Ok(())
+}
+
+fn push_total(text: &mut String, total: Cost) -> Result<(), AllocError>
+    ensures { OnOk result (string_bytes text.new ≡ string_bytes text.old ++ total_line total) }
+{
+    let Cost { fee, count } = total;
+    writeln!(text, "total {fee} updates {count}")
+}
+
+fn push_transaction(
+    text: &mut String,
+    number: usize,
+    transaction: &Transaction,
+) -> Result<(), AllocError>
+    ensures { OnOk result (string_bytes text.new ≡ string_bytes text.old ++ transaction_line number transaction.now) }
+{
+    let Transaction { first, count, gas } = *transaction;
+    writeln!(text, "tx {number} first {first} count {count} gas {gas}")
+}
+
+fn push_transactions(text: &mut String, transactions: &[Transaction]) -> Result<(), AllocError>
+    ensures { OnOk result (string_bytes text.new ≡ string_bytes text.old ++ numbered transaction_line 1 transactions.now) }
+{
+    let mut number = 0;
+    for transaction in transactions {
+        number += 1;
+        push_transaction(text, number, transaction)?;
+    }
+    Ok(())
+}
+
+fn push_batch(text: &mut String, number: u64, proof: Height) -> Result<(), AllocError>
+    ensures { OnOk result (string_bytes text.new ≡ string_bytes text.old ++ batch_line number proof) }
+{
+    writeln!(text, "batch {number} proof {proof}")
+}
+
+fn push_sending(text: &mut String, sending: &Sending) -> Result<(), AllocError>
+    ensures { OnOk result (string_bytes text.new ≡ string_bytes text.old ++ sending_text (sending_view sending.now)) }
+{
+    match sending {
+        Sending::Nothing => Ok(()),
+        Sending::TooBig(index) => writeln!(text, "toobig {index}"),
+        Sending::Batch(batch) => {
+            push_batch(text, batch.number, batch.proof)?;
+            push_transactions(text, batch.transactions.as_slice())
+        }
+    }
+}
+
+fn push_plan(text: &mut String, plan: &Option<Plan>) -> Result<(), AllocError>
+    ensures { OnOk result (string_bytes text.new ≡ string_bytes text.old ++ plan_text (option_map plan_view plan.now)) }
+{
+    match plan {
+        Some(plan) => {
+            push_updates(text, plan.updates.as_slice())?;
+            push_total(text, plan.total)?;
+            push_sending(text, &plan.sending)
+        }
+        None => text.push_str("unreachable\n"),
+    }
+}
+
+fn push_planned(text: &mut String, id: &str, planned: &Planned) -> Result<(), AllocError>
+    ensures { OnOk result (string_bytes text.new
+        ≡ string_bytes text.old ++ outcome_text id.now (outcome_planned (planned_view planned.now))) }
+{
+    push_goal(text, id, planned.goal)?;
+    push_labels(text, planned.labelling.labels())?;
+    push_plan(text, &planned.plan)
+}
+
+fn push_client(text: &mut String, client: &ClientReport) -> Result<(), AllocError>
+    ensures { OnOk result (string_bytes text.new ≡ string_bytes text.old ++ client_text (client_report_view client.now)) }
+{
+    let id = client.id.as_str();
+    match &client.outcome {
+        Outcome::Held(batch) => writeln!(text, "client {id} held {batch}"),
+        Outcome::Idle => writeln!(text, "client {id} idle"),
+        Outcome::Planned(planned) => push_planned(text, id, planned),
+    }
+}
+
+fn push_clients(text: &mut String, clients: &[ClientReport]) -> Result<(), AllocError>
+    ensures { OnOk result (string_bytes text.new
+        ≡ string_bytes text.old ++ flat_map client_text (map client_report_view clients.now)) }
+{
+    for client in clients {
+        push_client(text, client)?;
+    }
+    Ok(())
+}
+
+fn push_head(text: &mut String, number: u64, window_back: bool) -> Result<(), AllocError>
+    ensures { OnOk result (string_bytes text.new ≡ string_bytes text.old ++ head_text number window_back) }
+{
+    writeln!(text, "turn {number}")?;
+    if window_back {
+        text.push_str("refused window 806 WindowBack\n")?;
+    }
+    Ok(())
+}
+
+/// Adds the lines of a turn, by its number from 1.
+pub(crate) fn push_turn(text: &mut String, number: u64, turn: &TurnReport) -> Result<(), AllocError>
+    ensures { OnOk result (string_bytes text.new ≡ string_bytes text.old ++ turn_text number (turn_report_view turn.now)) }
+{
+    push_head(text, number, turn.window_back)?;
+    push_refusals(text, turn.refused.as_slice())?;
+    push_clients(text, turn.clients.as_slice())
+}

@@ -1,0 +1,79 @@
+//! Writing a report.
+ghost use Rattle.std.specs.Prelude.{◌≡◌, false, map, OnOk, OnErr, IfErr};
+ghost use Rattle.std.specs.Io.KnownBytes.{Appends};
+ghost use Rattle.rb_base.specs.Sink.{AppendsBeginning};
+ghost use Rattle.rb_super.specs.Report.{turn_report_view, report_view};
+ghost use Rattle.rb_text.specs.Report.{text, turn_text, numbered};
+ghost use Rattle.rb_text.specs.Written.{IsWriteError};
+
+use crate::report::push_turn;
+use rb_base::{Device, Sink, write_whole};
+use rb_fields::RunError;
+use rb_super::{Report, TurnReport};
+use std::alloc::Global;
+
+/// Writes all of the bytes, or fails with the writer.
+fn put<W: Sink>(writer: &mut W, bytes: &[u8]) -> Result<(), RunError>
+    requires { W.is_broken writer.old ≡ false }
+    ensures written { OnOk result (Appends (W.taken writer.old) (W.taken writer.new) bytes.now) }
+    ensures works { OnOk result (W.is_broken writer.new ≡ false) }
+    ensures begun { OnErr result (AppendsBeginning (W.taken writer.old) (W.taken writer.new) bytes.now) }
+    ensures failed { IfErr result (λ e. IsWriteError e (W.is_broken writer.new)) }
+{
+    match write_whole(writer, bytes) {
+        Ok(()) => Ok(()),
+        Err(Device) => Err(RunError::Device),
+    }
+}
+
+/// Writes the lines of a turn, by its number from 1.
+#[tactic(auto, using(crate::proofs::Beginnings::beginnings))]
+fn put_turn<W: Sink>(
+    alloc: Global,
+    number: u64,
+    turn: &TurnReport,
+    writer: &mut W,
+) -> Result<(), RunError>
+    requires { W.is_broken writer.old ≡ false }
+    ensures written { OnOk result (Appends (W.taken writer.old) (W.taken writer.new) (turn_text number (turn_report_view turn.now))) }
+    ensures works { OnOk result (W.is_broken writer.new ≡ false) }
+    ensures begun { OnErr result (AppendsBeginning (W.taken writer.old) (W.taken writer.new) (turn_text number (turn_report_view turn.now))) }
+    ensures failed { IfErr result (λ e. IsWriteError e (W.is_broken writer.new)) }
+{
+    let mut text = String::new(alloc);
+    push_turn(&mut text, number, turn)?;
+    put(writer, text.as_bytes())
+}
+
+/// Writes the lines of the turns, which are numbered from 1.
+#[tactic(auto, using(crate::proofs::Beginnings::beginnings))]
+fn put_turns<W: Sink>(alloc: Global, turns: &[TurnReport], writer: &mut W) -> Result<(), RunError>
+    requires { W.is_broken writer.old ≡ false }
+    ensures written { OnOk result (Appends (W.taken writer.old) (W.taken writer.new) (numbered turn_text 1 (map turn_report_view turns.now))) }
+    ensures works { OnOk result (W.is_broken writer.new ≡ false) }
+    ensures begun { OnErr result (AppendsBeginning (W.taken writer.old) (W.taken writer.new) (numbered turn_text 1 (map turn_report_view turns.now))) }
+    ensures failed { IfErr result (λ e. IsWriteError e (W.is_broken writer.new)) }
+{
+    let mut number = 0;
+    for turn in turns {
+        number += 1;
+        put_turn(alloc, number, turn, writer)?;
+    }
+    Ok(())
+}
+
+/// Writes the text of a report, which is made turn by turn. `Device` where the writer fails, and
+/// `NoMemory` where a growth is refused; either way a beginning of the text was taken. The writer
+/// must not have failed before.
+#[tactic(auto, using(crate::proofs::Beginnings::beginnings))]
+pub fn write_report<W: Sink>(alloc: Global, report: &Report, writer: &mut W) -> Result<(), RunError>
+    requires { W.is_broken writer.old ≡ false }
+    ensures written { OnOk result (Appends (W.taken writer.old) (W.taken writer.new) (text (report_view report.now))) }
+    ensures works { OnOk result (W.is_broken writer.new ≡ false) }
+    ensures begun { OnErr result (AppendsBeginning (W.taken writer.old) (W.taken writer.new) (text (report_view report.now))) }
+    ensures failed { IfErr result (λ e. IsWriteError e (W.is_broken writer.new)) }
+{
+    put(writer, b"ibcplan 1\n")?;
+    put_turns(alloc, report.turns.as_slice(), writer)?;
+    put(writer, b"end\n")
+}
