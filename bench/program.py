@@ -1,4 +1,4 @@
-"""Work of the program: scripts at the limits."""
+"""Work of the program: scripts and certificates at the limits."""
 import pathlib
 import subprocess
 import sys
@@ -10,6 +10,7 @@ import measure
 TOP = pathlib.Path(__file__).resolve().parent.parent
 PROGRAM = TOP / "crates" / "ibcplan" / "out" / "ibcplan"
 
+MOST = 2**63 - 1
 MOST_BYTES = 16_777_216
 
 
@@ -31,6 +32,14 @@ class Folder:
         path = self.file(name.replace(" ", "-"), text)
         return f"{name}, {len(text) / 1e6:.1f} MB", [PROGRAM, "plan", path]
 
+    def certify(self, name, script, text):
+        """A line of a table: the verdict on a certificate, which it names."""
+        words = [PROGRAM, "certify", script, self.file(name.replace(" ", "-"), text)]
+        _, verdict, status = measure.run(words)
+        if status not in (0, 3):
+            sys.exit(f"{name}: status {status}")
+        return f"{name}, {len(text) / 1e6:.1f} MB: {verdict.strip()}", words
+
 
 def print_plans(folder):
     lines = [folder.plan(f"900 headers a chain, chains: {chains}", inputs.chains_script(chains)) for chains in (1, 4, 15)]
@@ -46,9 +55,34 @@ def print_plans(folder):
     measure.print_group("plan: names of sets", lines)
 
 
+def heights_between(labels, step):
+    """Labels of heights that no header has, below those that a header has."""
+    return [(h, 0, 0) for h in range(labels[0][0] + 1, labels[-1][0]) if h % step]
+
+
+def print_certificates(folder):
+    step = 1000
+    script = folder.file("script", inputs.headers_script(1024, step=step))
+    _, report, _ = measure.run([PROGRAM, "plan", script])
+    updates, labels = inputs.answer_of(report)
+    honest = inputs.certificate(updates, labels)
+    between = sorted(labels + heights_between(labels, step))
+    repeated = updates[:1] * 1_000_000 + updates
+    beyond = [(MOST - place, MOST, MOST) for place in range(250_000, -1, -1)]
+    lines = [
+        folder.certify("the report's own", script, honest),
+        folder.certify(f"{len(between)} labels", script, inputs.certificate(updates, between)),
+        folder.certify(f"{len(repeated)} updates", script, inputs.certificate(repeated, labels)),
+        folder.certify(f"{len(beyond)} labels at the limits", script, inputs.certificate(updates, labels + beyond)),
+        folder.certify("labels without a plan", script, inputs.certificate([], between, "unreachable")),
+    ]
+    measure.print_group("certify: 1,024 headers, one set of 100 validators", lines, statuses=(0, 3))
+
+
 def print_tables():
     """Builds the program where it isn't, by ./ibcplan, and prints its tables."""
     subprocess.run([TOP / "ibcplan", "--version"], check=True, stdout=subprocess.DEVNULL)
     with tempfile.TemporaryDirectory() as path:
         folder = Folder(path)
         print_plans(folder)
+        print_certificates(folder)

@@ -11,7 +11,7 @@ use std::io::Read;
 const MOST_BYTES: u64 = 16_777_217;
 
 /// The path that stands for standard input.
-const STANDARD_INPUT: &str = "-";
+pub const STANDARD_INPUT: &str = "-";
 
 /// A file's path and bytes.
 #[derive(Drop)]

@@ -1,5 +1,6 @@
-//! ibcplan plans the client updates of an IBC relayer's script. What it does stands in `rb_text`;
-//! here are the command line, the file, the statuses and the words for the operator.
+//! ibcplan plans the client updates of an IBC relayer's script, and judges plans that others made.
+//! What it does stands in `rb_text`; here are the command line, the files, the statuses and the
+//! words for the operator.
 #![tactic(auto)]
 
 mod failure;

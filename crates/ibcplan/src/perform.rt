@@ -7,7 +7,7 @@ use crate::task::Task;
 use clap::error::ErrorKind;
 use rb_base::Counted;
 use rb_fields::RunError;
-use rb_text::plan_over;
+use rb_text::{certify_over, plan_over};
 use std::io;
 use std::io::{Printer, Write};
 
@@ -15,6 +15,10 @@ use std::io::{Printer, Write};
 pub fn perform(rt: &HostRuntime, task: Task<'_>) -> u8 {
     let result = match task {
         Task::Plan { script } => plan(rt, script),
+        Task::Certify {
+            script,
+            certificate,
+        } => certify(rt, script, certificate),
     };
     match result {
         Ok(status) => status,
@@ -53,6 +57,26 @@ fn plan<'a>(rt: &HostRuntime, script: &'a str) -> Result<u8, Failure<'a>> {
         Ok(()) => flush(output).map(|()| status::DONE),
         Err(error) => {
             let flaw = flaw_of(rt.alloc(), &error, &script);
+            Err(Failure::new(error, flaw))
+        }
+    }
+}
+
+fn certify<'a>(rt: &HostRuntime, script: &'a str, certificate: &'a str) -> Result<u8, Failure<'a>> {
+    let script = Input::read(rt, script)?;
+    let certificate = Input::read(rt, certificate)?;
+    let mut output = Counted::new(io::writer(rt));
+    match certify_over(rt.alloc(), script.bytes(), certificate.bytes(), &mut output) {
+        Ok(holds) => {
+            flush(output)?;
+            Ok(if holds { status::DONE } else { status::DENIED })
+        }
+        Err(error) => {
+            let flaw = flaw_of(rt.alloc(), &error, &script).or_else(|| flaw_of(
+                rt.alloc(),
+                &error,
+                &certificate,
+            ));
             Err(Failure::new(error, flaw))
         }
     }

@@ -1,34 +1,53 @@
 //! The command line: what the program is asked to do.
+use crate::input::STANDARD_INPUT;
 use clap::error::ErrorKind;
 use clap::{Arg, ArgAction, ArgMatches, Command, Error};
 use std::alloc::{AllocError, Global};
 
-/// What the program is asked to do, with the path of its file.
+/// What the program is asked to do, with the paths of its files.
 #[derive(Clone, Copy, Debug)]
 pub enum Task<'a> {
     /// Write a script's report.
-    Plan { script: &'a str },
+    Plan {
+        script: &'a str,
+    },
+    /// Judge a certificate.
+    Certify {
+        script: &'a str,
+        certificate: &'a str,
+    },
 }
 
 const PLAN: &str = "plan";
 
+const CERTIFY: &str = "certify";
+
 const SCRIPT: &str = "SCRIPT";
+
+const CERT: &str = "CERT";
 
 const AFTER_HELP: &str = "Examples:
   ibcplan plan examples/smallest.toml
-  ibcplan plan - < examples/smallest.toml > report.txt
+  ibcplan certify examples/smallest.toml examples/smallest.certificate
 
 Results go to standard output; what went wrong goes to standard error.
 
 Exit status:
-  0  done
-  1  the content of the file was refused
+  0  done; of certify: the plan is the cheapest
+  1  the content of a file was refused
   2  the command line is wrong
+  3  of certify: the plan is not the cheapest, and standard output says why
   4  no memory, or a file or an output that fails";
 
 const AFTER_PLAN: &str = "Examples:
   ibcplan plan examples/smallest.toml
   ibcplan plan - < examples/smallest.toml > report.txt";
+
+const AFTER_CERTIFY: &str = "Examples:
+  ibcplan certify examples/smallest.toml examples/smallest.certificate
+  ibcplan certify examples/smallest.toml - < examples/smallest.certificate
+
+It writes yes (exit status 0), or no and the reason (exit status 3).";
 
 fn file<'a>(alloc: Global, name: &'a str, help: &'a str) -> Arg<'a> {
     Arg::new(alloc, name)
@@ -47,6 +66,20 @@ fn plan_command<'a>(alloc: Global) -> Result<Command<'a>, AllocError> {
         .arg(script)
 }
 
+fn certify_command<'a>(alloc: Global) -> Result<Command<'a>, AllocError> {
+    let script = file(alloc, SCRIPT, "The script's file; - for standard input");
+    let certificate = file(
+        alloc,
+        CERT,
+        "The certificate's file: a plan that anybody made; - for standard input",
+    );
+    Command::new(alloc, CERTIFY)
+        .about("Judges whether a plan is the cheapest for a script, or whether there is none")
+        .after_help(AFTER_CERTIFY)
+        .arg(script)?
+        .arg(certificate)
+}
+
 fn command_line<'a>(alloc: Global) -> Result<Command<'a>, AllocError> {
     Command::new(alloc, "ibcplan")
         .version("0.1.0")
@@ -54,14 +87,31 @@ fn command_line<'a>(alloc: Global) -> Result<Command<'a>, AllocError> {
         .after_help(AFTER_HELP)
         .subcommand_required(true)
         .arg_required_else_help(true)
-        .subcommand(plan_command(alloc)?)
+        .subcommand(plan_command(alloc)?)?
+        .subcommand(certify_command(alloc)?)
+}
+
+/// What is wrong where both files are standard input, which can be read once only.
+fn twice_standard_input(alloc: Global) -> Result<Error, AllocError> {
+    certify_command(alloc)?.bin_name("ibcplan certify")?.error(
+        ErrorKind::ArgumentConflict,
+        "only one of <SCRIPT> and <CERT> can be standard input",
+    )
 }
 
 /// The task of words that were parsed, or none where one is missing.
 fn task_of<'a>(matches: &ArgMatches<'a>) -> Option<Task<'a>> {
-    let given = matches.subcommand_matches(PLAN)?;
+    let (name, given) = matches.subcommand()?;
     let script = given.get_str(SCRIPT)?;
-    Some(Task::Plan { script })
+    if name == CERTIFY {
+        let certificate = given.get_str(CERT)?;
+        Some(Task::Certify {
+            script,
+            certificate,
+        })
+    } else {
+        Some(Task::Plan { script })
+    }
 }
 
 /// Reads the command line. An error is the text to show: what is wrong, or the help that was asked
@@ -70,6 +120,14 @@ pub fn read_task<'a>(alloc: Global, words: &'a [String]) -> Result<Task<'a>, Err
     let mut command = command_line(alloc)?.bin_name("ibcplan")?;
     let matches = command.try_get_matches_from_mut(words)?;
     match task_of(&matches) {
+        Some(
+            Task::Certify {
+                script,
+                certificate,
+            },
+        ) if script == STANDARD_INPUT && certificate == STANDARD_INPUT => {
+            Err(twice_standard_input(alloc)?)
+        }
         Some(task) => Ok(task),
         None => Err(command.error(ErrorKind::MissingSubcommand, "a command is missing")?),
     }

@@ -6,3 +6,5 @@ pub mod Steps
 pub mod Stored
 pub mod OneLabelling
 pub mod OneReport
+pub mod Phases
+pub mod OwnAnswers

@@ -146,7 +146,7 @@ module _ (one : AnswersAreOne) (cuts : LeastCutIsOne) where
       let rest = one_row window books cs rs qs a.1 b.1 in
       λ i. record { id = ids i; outcome = outcomes i } ∷ rest i
 
-  one_turn : (s : State) (t : Turn) (r q : TurnReport) → IsTurnReport s t r → IsTurnReport s t q → r ≡ q
+  pub one_turn : (s : State) (t : Turn) (r q : TurnReport) → IsTurnReport s t r → IsTurnReport s t q → r ≡ q
   one_turn s t r q a b =
       let windows : r.window_back ≡ q.window_back = a.window ∙ sym b.window in
       let refused : r.refused ≡ q.refused = a.refused ∙ sym b.refused in

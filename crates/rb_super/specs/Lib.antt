@@ -1,3 +1,4 @@
+pub use Rattle.rb_cert.specs.Judgement as CertJudgement
 pub use Rattle.rb_batch.specs.Cut
 pub use Rattle.rb_plan.specs.Labelling
 pub use Rattle.rb_plan.specs.Least
@@ -10,3 +11,4 @@ pub mod Goal
 pub mod Turns
 pub mod Priced
 pub mod Laws
+pub mod Judging

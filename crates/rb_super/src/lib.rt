@@ -1,10 +1,12 @@
 //! What is to be run, and what a run reports: for each client and turn the least list of updates
-//! with the labelling that proves it, and its transactions.
+//! with the labelling that proves it, and its transactions; and what is said of answers that others
+//! made for them.
 #![tactic(auto)]
 
 mod client;
 mod goal;
 mod intake;
+mod judging;
 pub mod laws;
 mod planning;
 mod report;
@@ -13,7 +15,9 @@ mod run;
 mod script;
 mod sending;
 mod state;
+mod verdict;
 
+pub use judging::judge;
 pub use report::{
     Batch, ClientReport, Outcome, Plan, Planned, PricedUpdate, RefusedEvent, Report, Sending,
     TurnReport,

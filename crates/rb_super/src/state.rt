@@ -1,18 +1,25 @@
 //! What is known between two events.
-ghost use Rattle.std.specs.Prelude.{◌≡◌, ◌<◌, length, replicate, fold, map, All, IfOk, OnOk};
+ghost use Rattle.std.specs.Prelude.{◌≡◌, ◌<◌, length, replicate, fold, map, slice_get, Some, All, IfOk, IfSome, OnOk};
 ghost use Rattle.std.specs.List.{AllZip};
+ghost use Rattle.rb_plan.specs.Answer.{labels_of, claim_of, Shows};
+ghost use Rattle.rb_plan.specs.Labelling.{IsExact};
+ghost use Rattle.rb_step.specs.View.{client_of};
+ghost use Rattle.rb_super.specs.Judging.{view_in, planned_goal, IsVerdictFor, IsRight};
 ghost use Rattle.rb_super.specs.Report.{client_report_view, turn_report_view};
 ghost use Rattle.rb_super.specs.Script.{IsEvent, IsTurn, turn_view, script_view, IsScript};
 ghost use Rattle.rb_super.specs.State.{empty_book, new_client, opening, goes_back, after_window, after_asked, judged, after};
-ghost use Rattle.rb_super.specs.Turns.{refusals, IsClientReport, after_reports, IsTurnReport, after_turn};
+ghost use Rattle.rb_super.specs.Turns.{refusals, IsClientReport, before_events, before_plans, after_reports, IsTurnReport, after_turn};
 
 use crate::client::KnownClient;
 use crate::intake::{add_header, add_record, add_set};
 use crate::report::{ClientReport, RefusedEvent, TurnReport};
 use crate::reporting::{close_clients, report_clients};
 use crate::script::{Asked, ClientConfig, Event, Script, Turn};
+use crate::verdict::verdict_on;
 use rb_base::{Height, Moment, Window};
 use rb_book::{BookError, ChainBook, Header, Record};
+use rb_cert::Verdict2;
+use rb_plan::{Answer, Goal};
 use rb_valset::ValidatorSet;
 use std::alloc::{AllocError, Global};
 use std::marker::Model;
@@ -179,6 +186,24 @@ impl State {
         Ok(refused)
     }
 
+    /// Takes in a turn up to where its clients are planned; tells whether its window goes back, and
+    /// which events are refused.
+    pub(crate) fn take_in(
+        &mut self,
+        alloc: Global,
+        turn: &Turn,
+    ) -> Result<(bool, Vec<RefusedEvent>), AllocError>
+        requires { IsTurn (length self.old.books) (length self.old.clients) (turn_view turn.now) }
+        ensures back { IfOk result (λ r. r.0 ≡ goes_back self.old.window turn.now.window) }
+        ensures refused { IfOk result (λ r. r.1.items ≡ refusals 0 (before_events self.old (turn_view turn.now)) turn.now.events.items) }
+        ensures after { OnOk result (self.new ≡ before_plans self.old (turn_view turn.now)) }
+    {
+        let window_back = self.enter(turn.window);
+        self.ask_all(turn.goals.as_slice());
+        let refused = self.observe_all(alloc, turn.events.as_slice())?;
+        Ok((window_back, refused))
+    }
+
     /// Plans for each client that isn't held.
     fn plan(self, alloc: Global) -> Result<(State, Vec<ClientReport>), AllocError>
         ensures reports { IfOk result (λ r. AllZip (IsClientReport self.window self.books) self.clients (map client_report_view r.1.items)) }
@@ -212,9 +237,7 @@ impl State {
         ensures after { IfOk result (λ r. r.0 ≡ after_turn self (turn_view turn.now) (turn_report_view r.1)) }
     {
         let mut state = self;
-        let window_back = state.enter(turn.window);
-        state.ask_all(turn.goals.as_slice());
-        let refused = state.observe_all(alloc, turn.events.as_slice())?;
+        let (window_back, refused) = state.take_in(alloc, turn)?;
         let (state, clients) = state.plan(alloc)?;
         Ok((
             state,
@@ -224,5 +247,23 @@ impl State {
                 clients,
             },
         ))
+    }
+
+    /// What is said of an answer that was made for a client; none where it is held or idle.
+    pub(crate) fn verdict_on(&self, client: usize, answer: &Answer) -> Option<Verdict2>
+        requires { client < length self.now.clients }
+        ensures judged { IfSome (slice_get self.now.clients client) (λ c.
+            IsVerdictFor (view_in self.now c) (planned_goal c (view_in self.now c)) (labels_of answer.now) (claim_of answer.now) result) }
+        ensures right { result ≡ Some Verdict2.Yes
+            → IfSome (slice_get self.now.clients client) (λ c. IsRight c (view_in self.now c) (labels_of answer.now) (claim_of answer.now)) }
+        ensures accepts { IfSome (slice_get self.now.clients client) (λ c. (goal : Goal)
+            → planned_goal c (view_in self.now c) ≡ Some goal
+            → IsExact (client_of (view_in self.now c)) (labels_of answer.now)
+            → Shows (client_of (view_in self.now c)) goal (claim_of answer.now)
+            → result ≡ Some Verdict2.Yes) }
+    {
+        let known = &self.clients[client];
+        let book = &self.books[known.config().tracks];
+        verdict_on(known, self.window, book, answer)
     }
 }

@@ -7,3 +7,4 @@ pub mod NamesLemmas
 pub mod Numbered
 pub mod SetsLemmas
 pub mod Forms
+pub mod Cases

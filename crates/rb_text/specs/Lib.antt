@@ -1,4 +1,6 @@
+pub use Rattle.rb_cert.specs.Judgement as CertJudgement
 pub use Rattle.rb_super.specs.Turns as SuperTurns
+pub use Rattle.rb_super.specs.Judging as SuperJudging
 pub mod Limits
 pub mod Documents
 pub mod Named
@@ -12,3 +14,4 @@ pub mod Certificates
 pub mod Report
 pub mod Written
 pub mod Headline
+pub mod Verdicts

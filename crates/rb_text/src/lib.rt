@@ -1,8 +1,11 @@
 //! The texts of a relayer's run: the script and the certificate that are read, the report that is
-//! written, and `plan_over`, which goes from a script to its report.
+//! written, `plan_over`, which goes from a script to its report, and `certify_over`, which judges a
+//! certificate for a script.
 #![tactic(auto)]
 
+mod case;
 mod certificate;
+mod certifying;
 mod client;
 mod document;
 mod event;
@@ -16,9 +19,11 @@ mod set;
 #[cfg(test)]
 mod tests;
 mod turn;
+mod verdict;
 mod write;
 
 pub use certificate::{Certificate, read_certificate};
+pub use certifying::certify_over;
 pub use planning::plan_over;
 pub use rb_fields::{Fault, FaultName, RunError};
 pub use script::read_script;

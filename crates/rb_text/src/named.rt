@@ -84,7 +84,8 @@ fn unused_identifier<'a, T: Named>(field: &Field<'a>, objects: &[T]) -> Result<&
     Ok(id)
 }
 
-fn place_of<T: Named>(id: &str, objects: &[T]) -> Option<usize>
+/// The place of the object that has this identifier.
+pub fn place_of<T: Named>(id: &str, objects: &[T]) -> Option<usize>
     ensures place { result ≡ position (bytes_eq id.now) (map T.name objects.now) }
     ensures range { IfSome result (λ i. i < length objects.now) }
 {

@@ -28,6 +28,3 @@ pub fn plan_over<W: Sink>(alloc: Global, bytes: &[u8], writer: &mut W) -> Result
     let report = run_script(alloc, &script)?;
     write_report(alloc, &report, writer)
 }
-
-#[cfg(test)]
-mod tests;

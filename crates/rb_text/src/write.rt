@@ -13,7 +13,7 @@ use rb_super::{Report, TurnReport};
 use std::alloc::Global;
 
 /// Writes all of the bytes, or fails with the writer.
-fn put<W: Sink>(writer: &mut W, bytes: &[u8]) -> Result<(), RunError>
+pub(crate) fn put<W: Sink>(writer: &mut W, bytes: &[u8]) -> Result<(), RunError>
     requires { W.is_broken writer.old ≡ false }
     ensures written { OnOk result (Appends (W.taken writer.old) (W.taken writer.new) bytes.now) }
     ensures works { OnOk result (W.is_broken writer.new ≡ false) }

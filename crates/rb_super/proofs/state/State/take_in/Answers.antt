@@ -4,11 +4,11 @@ use Rattle.rb_super.specs.Script.{turn_view, IsEvent}
 use Rattle.rb_super.specs.State.{State, after_asked}
 use Rattle.rb_super.specs.Turns.{before_events}
 use Rattle.rb_super.proofs.Steps.{sizes-before_events}
-use Rattle.rb_super.proofs.state.State.run_turn.Goals as goal
+use Rattle.rb_super.proofs.state.State.take_in.Goals as goal
 
 pub observe_all-requires : goal.observe_all-requires
 observe_all-requires c =
-    let s = c.args.self in
+    let s = c.args.self.now in
     let t = turn_view c.args.turn.now in
     let same : c.ask_all.new.self ≡ before_events s t =
     c.ask_all.ensures ∙ ap (fold after_asked c.enter-window_back.new.self) c.as_slice.ensures.value

@@ -1,0 +1,114 @@
+-- What certifying promises, and the line that it writes (own choice): it ends with one LF, its numbers are plain decimals.
+use Rattle.std.specs.Prelude.{◌≡◌, ℕ, ◌-◌, ◌⊎◌, Bool, true, false, nat_lt, List, [], ◌∷◌, ◌++◌, length, map, codes, Option, Some, None, Result, Ok, Err}
+use Rattle.std.specs.Fmt.{decimal}
+use Rattle.std.specs.Io.KnownBytes.{Appends}
+use Rattle.std.specs.List.{flat_map, position}
+use Rattle.std.specs.Str.{bytes_eq}
+use Rattle.rb_base.specs.Sink.{AppendsBeginning}
+use Rattle.rb_cert.specs.Reasons.{number_of, name_of}
+use Rattle.rb_cert.specs.declared.verdict.Reason.{Reason}
+use Rattle.rb_cert.specs.declared.verdict.Reason.TheVariants.{SourceLabel, LabelTooHigh, PlanNotAccepted, PlanNotTight, NotTheTie, GoalLabelled, GoalMissed}
+use Rattle.rb_cert.specs.declared.verdict.Verdict2.{Verdict2}
+use Rattle.rb_cert.specs.declared.verdict.Verdict2.TheVariants.{Yes, No}
+use Rattle.rb_fields.specs.Faults.{Fault, ◌>>=◌, check}
+use Rattle.rb_fields.specs.declared.fault.FaultName.TheVariants.{NoSuchTurn, NoGoal}
+use Rattle.rb_plan.specs.Labelling.{label_of}
+use Rattle.rb_super.specs.declared.script.ClientConfig.{ClientConfig}
+use Rattle.rb_super.specs.Judging.{IsVerdictOn, IsRightIn, IsReported}
+use Rattle.rb_super.specs.Report.{Report}
+use Rattle.rb_super.specs.Script.{Script, script_view}
+use Rattle.rb_text.specs.declared.case.Case.{Case as CodeCase}
+use Rattle.rb_text.specs.Certificates.{Certificate, certificate_of, certificate_view}
+use Rattle.rb_text.specs.Named.{known}
+use Rattle.rb_text.specs.Scripts.{script_of}
+
+-- ---- the line of a verdict
+
+-- the numbers of a reason, each after a blank
+abbrev pub numbers_text : Reason → List ℕ
+numbers_text (SourceLabel h) = codes " " ++ decimal h
+numbers_text (LabelTooHigh t h) = codes " " ++ decimal t ++ codes " " ++ decimal h
+numbers_text (PlanNotAccepted i) = codes " " ++ decimal i
+numbers_text (PlanNotTight i) = codes " " ++ decimal i
+numbers_text (NotTheTie i) = codes " " ++ decimal i
+numbers_text (GoalLabelled h) = codes " " ++ decimal h
+numbers_text GoalMissed = []
+
+abbrev pub verdict_line : Verdict2 → List ℕ
+verdict_line Yes = codes "yes\n"
+verdict_line (No reason) = codes "no " ++ decimal (number_of reason) ++ codes " " ++ name_of reason ++ numbers_text reason ++ codes "\n"
+
+abbrev pub is_yes : Verdict2 → Bool
+is_yes Yes = true
+is_yes (No reason) = false
+
+-- ---- what is judged
+
+-- a script, a certificate, and the places of the certificate's turn and client in the script
+pub record Case : Type 0 where
+  pub script : Script
+  pub certificate : Certificate
+  pub turn : ℕ
+  pub client : ℕ
+
+abbrev pub case_view : CodeCase → Case
+case_view c = record { script = script_view c.script; certificate = certificate_view c.certificate; turn = c.turn; client = c.client }
+
+-- both texts are read, the script first; then the turn is looked up, and then the client
+unfoldable pub case_in : Script → Certificate → Result Case Fault
+case_in s c = do
+  _ ← check (nat_lt (c.turn - 1) (length s.turns)) NoSuchTurn (codes "turn")
+  client ← known (codes "client") (position (bytes_eq c.client) (map (λ (k : ClientConfig). k.id) s.clients))
+  Ok (record { script = s; certificate = c; turn = c.turn - 1; client = client })
+
+unfoldable pub case_of : List ℕ → List ℕ → Result Case Fault
+case_of script certificate = do
+  s ← script_of script
+  c ← certificate_of certificate
+  case_in s c
+
+-- the verdict on the certificate's answer, for its client in its turn; none where the client is held or idle there
+abbrev pub IsVerdictOf : Case → Option Verdict2 → Type 0
+IsVerdictOf c verdict = IsVerdictOn c.script c.turn c.client (label_of c.certificate.labels) c.certificate.claim verdict
+
+-- the labelling is sound, and the answer right
+abbrev pub IsRightCase : Case → Type 0
+IsRightCase c = IsRightIn c.script c.turn c.client (label_of c.certificate.labels) c.certificate.claim
+
+-- a report has this answer for the client in the turn
+abbrev pub IsReportedCase : Report → Case → Type 0
+IsReportedCase report c = IsReported report c.turn c.client (label_of c.certificate.labels) c.certificate.claim
+
+abbrev pub no_goal : Fault
+no_goal = record { name = NoGoal; path = codes "client" }
+
+-- ---- what is promised
+
+-- the texts hold a case, and this is the verdict on it
+pub record IsVerdictFor (script certificate : List ℕ) (verdict : Option Verdict2) : Type 0 where
+  pub case : Case
+  pub read : case_of script certificate ≡ Ok case
+  pub judged : IsVerdictOf case verdict
+
+-- why nothing is judged: the first fault of the texts, or a client that is held or idle
+abbrev pub IsFaultFor : List ℕ → List ℕ → Fault → Type 0
+IsFaultFor script certificate f = (case_of script certificate ≡ Err f) ⊎ ((f ≡ no_goal) × IsVerdictFor script certificate None)
+
+-- the writer took the verdict's line; the answer tells whether it is yes
+pub record WritesVerdict (script certificate : List ℕ) (yes : Bool) (old new : Option (List ℕ)) : Type 0 where
+  pub verdict : Verdict2
+  pub judged : IsVerdictFor script certificate (Some verdict)
+  pub answer : yes ≡ is_yes verdict
+  pub written : Appends old new (verdict_line verdict)
+
+-- the writer took a beginning of it
+pub record BeginsVerdict (script certificate : List ℕ) (old new : Option (List ℕ)) : Type 0 where
+  pub verdict : Verdict2
+  pub judged : IsVerdictFor script certificate (Some verdict)
+  pub begun : AppendsBeginning old new (verdict_line verdict)
+
+-- the certificate's answer is right
+pub record IsCertified (script certificate : List ℕ) : Type 0 where
+  pub case : Case
+  pub read : case_of script certificate ≡ Ok case
+  pub right : IsRightCase case

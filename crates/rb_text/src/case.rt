@@ -1,0 +1,89 @@
+//! What is judged: a certificate for a script.
+ghost use Rattle.std.specs.Prelude.{◌≡◌, ◌<◌, ℕ, Ok, Some, None, length, codes, IfOk, IsErrOf};
+ghost use Rattle.rb_fields.specs.declared.fault.Fault.{Fault as CodeFault};
+ghost use Rattle.rb_fields.specs.Faults.{Gives, fault_view};
+ghost use Rattle.rb_super.specs.Report.{Report};
+ghost use Rattle.rb_super.specs.Script.{IsScript, script_view};
+ghost use Rattle.rb_super.specs.Turns.{IsReportOf};
+ghost use Rattle.rb_text.specs.Certificates.{certificate_view};
+ghost use Rattle.rb_text.specs.Verdicts.{case_view, case_in, case_of, IsVerdictOf, IsRightCase, IsReportedCase, no_goal};
+
+use crate::certificate::{Certificate, read_certificate};
+use crate::named::place_of;
+use crate::script::read_script;
+use rb_cert::Verdict2;
+use rb_fields::{FaultName, RunError, fault_at};
+use rb_super::{Script, judge};
+use std::alloc::Global;
+
+/// A script, a certificate, and the places of the certificate's turn and client in the script.
+#[derive(Debug, Drop)]
+pub struct Case {
+    pub script: Script,
+    pub certificate: Certificate,
+    pub turn: usize,
+    pub client: usize,
+}
+
+/// Looks up the certificate's turn, and then its client.
+#[tactic(auto, using(crate::proofs::Steps::steps), unfolding(crate::specs::Verdicts::case_in))]
+fn case_in(alloc: Global, script: Script, certificate: Certificate) -> Result<Case, RunError>
+    ensures read { Gives case_view result (case_in (script_view script) (certificate_view certificate)) }
+    ensures script { IfOk result (λ c. c.script ≡ script) }
+    ensures turn { IfOk result (λ c. c.turn < length script.turns.items) }
+    ensures client { IfOk result (λ c. c.client < length script.clients.items) }
+{
+    let turn = certificate.turn.saturating_sub(1) as usize;
+    if turn >= script.turns.len() {
+        return Err(fault_at(alloc, "turn", FaultName::NoSuchTurn));
+    }
+    match place_of(certificate.client.as_str(), script.clients.as_slice()) {
+        Some(client) => Ok(Case {
+            script,
+            certificate,
+            turn,
+            client,
+        }),
+        None => Err(fault_at(alloc, "client", FaultName::UnknownIdentifier)),
+    }
+}
+
+/// Reads both texts, the script first, and looks up what the certificate names; or answers the
+/// first fault.
+#[tactic(auto, using(crate::proofs::Steps::steps), unfolding(crate::specs::Verdicts::case_of))]
+pub(crate) fn read_case(alloc: Global, script: &[u8], certificate: &[u8]) -> Result<Case, RunError>
+    ensures read { Gives case_view result (case_of script.now certificate.now) }
+    ensures script { IfOk result (λ c. IsScript (script_view c.script)) }
+    ensures turn { IfOk result (λ c. c.turn < length c.script.turns.items) }
+    ensures client { IfOk result (λ c. c.client < length c.script.clients.items) }
+{
+    let script = read_script(alloc, script)?;
+    let certificate = read_certificate(alloc, certificate)?;
+    case_in(alloc, script, certificate)
+}
+
+/// The verdict on the certificate's answer; a fault where its client is held or idle in its turn.
+pub(crate) fn judge_case(alloc: Global, case: &Case) -> Result<Verdict2, RunError>
+    requires script { IsScript (script_view case.now.script) }
+    requires turn { case.now.turn < length case.now.script.turns.items }
+    requires client { case.now.client < length case.now.script.clients.items }
+    ensures judged { IfOk result (λ verdict. IsVerdictOf (case_view case.now) (Some verdict)) }
+    ensures right { result ≡ Ok Verdict2.Yes → IsRightCase (case_view case.now) }
+    ensures accepts { (report : Report) → IsReportOf (script_view case.now.script) report
+        → IsReportedCase report (case_view case.now)
+        → IfOk result (λ verdict. verdict ≡ Verdict2.Yes) }
+    ensures fault { (f : CodeFault) → IsErrOf result (RunError.Fault f) → fault_view f ≡ no_goal }
+    ensures no_goal { (f : CodeFault) → IsErrOf result (RunError.Fault f) → IsVerdictOf (case_view case.now) None }
+    ensures works { ¬ IsErrOf result RunError.Device }
+{
+    match judge(
+        alloc,
+        &case.script,
+        case.turn,
+        case.client,
+        &case.certificate.answer,
+    )? {
+        Some(verdict) => Ok(verdict),
+        None => Err(fault_at(alloc, "client", FaultName::NoGoal)),
+    }
+}

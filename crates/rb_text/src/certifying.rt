@@ -1,0 +1,64 @@
+//! Certifying over texts: read the script and the certificate, judge it, and write the verdict.
+ghost use Rattle.std.specs.Prelude.{◌≡◌, ◌↔◌, ◌⊎◌, Ok, true, false, IfOk, OnErr, OnOk, IfErr, IsErrOf};
+ghost use Rattle.std.specs.Io.KnownBytes.{Appends};
+ghost use Rattle.rb_base.specs.Sink.{AppendsBeginning};
+ghost use Rattle.rb_fields.specs.declared.fault.Fault.{Fault as CodeFault};
+ghost use Rattle.rb_fields.specs.Faults.{fault_view};
+ghost use Rattle.rb_super.specs.Report.{Report};
+ghost use Rattle.rb_super.specs.Turns.{IsReportOf};
+ghost use Rattle.rb_text.specs.Verdicts.{Case, case_of, verdict_line, IsReportedCase, IsFaultFor, WritesVerdict, BeginsVerdict, IsCertified};
+ghost use Rattle.rb_text.specs.Written.{IsWriteError};
+
+use crate::case::{judge_case, read_case};
+use crate::verdict::{is_yes, push_verdict};
+use crate::write::put;
+use rb_base::Sink;
+use rb_cert::Verdict2;
+use rb_fields::RunError;
+use std::alloc::Global;
+
+/// Writes the line of a verdict.
+#[tactic(auto, using(crate::proofs::Beginnings::beginnings))]
+fn put_verdict<W: Sink>(alloc: Global, verdict: &Verdict2, writer: &mut W) -> Result<(), RunError>
+    requires { W.is_broken writer.old ≡ false }
+    ensures written { OnOk result (Appends (W.taken writer.old) (W.taken writer.new) (verdict_line verdict.now)) }
+    ensures works { OnOk result (W.is_broken writer.new ≡ false) }
+    ensures begun { OnErr result (AppendsBeginning (W.taken writer.old) (W.taken writer.new) (verdict_line verdict.now)) }
+    ensures failed { IfErr result (λ e. IsWriteError e (W.is_broken writer.new)) }
+{
+    let mut text = String::new(alloc);
+    push_verdict(&mut text, verdict)?;
+    put(writer, text.as_bytes())
+}
+
+/// Judges the certificate that a text holds for the script that another one holds, and writes the
+/// verdict as one line: `yes`, or `no` with the number, the name and the numbers of the first reason
+/// that holds. The verdict is the certifier's, for the view and the goal that a run of the script
+/// plans the client by in the certificate's turn. Ok tells whether it is yes: then the labelling is
+/// sound and the answer right.
+///
+/// `Fault` is the first fault of the script, then of the certificate, then that the script doesn't
+/// have its turn or its client, then that the client is held or idle in that turn; nothing is then
+/// written. `Device` is answered where the writer fails, `NoMemory` where a growth is refused, and a
+/// beginning of the line, or nothing, was then taken. The writer must not have failed before.
+pub fn certify_over<W: Sink>(
+    alloc: Global,
+    script: &[u8],
+    certificate: &[u8],
+    writer: &mut W,
+) -> Result<bool, RunError>
+    requires { W.is_broken writer.old ≡ false }
+    ensures verdict { IfOk result (λ yes. WritesVerdict script.now certificate.now yes (W.taken writer.old) (W.taken writer.new)) }
+    ensures right { result ≡ Ok true → IsCertified script.now certificate.now }
+    ensures accepts { (case : Case) (report : Report) → case_of script.now certificate.now ≡ Ok case → IsReportOf case.script report
+        → IsReportedCase report case → IfOk result (λ yes. yes ≡ true) }
+    ensures fault { (f : CodeFault) → IsErrOf result (RunError.Fault f) → IsFaultFor script.now certificate.now (fault_view f) }
+    ensures nothing_written { (f : CodeFault) → IsErrOf result (RunError.Fault f) → writer.new ≡ writer.old }
+    ensures device { IsErrOf result RunError.Device ↔ (W.is_broken writer.new ≡ true) }
+    ensures begun { OnErr result ((writer.new ≡ writer.old) ⊎ BeginsVerdict script.now certificate.now (W.taken writer.old) (W.taken writer.new)) }
+{
+    let case = read_case(alloc, script, certificate)?;
+    let verdict = judge_case(alloc, &case)?;
+    put_verdict(alloc, &verdict, writer)?;
+    Ok(is_yes(&verdict))
+}
