@@ -89,8 +89,8 @@ const FAULTS: [(&str, &str, &str); 49] = [
     ),
     (
         "version = 1",
-        "version = 1\npath = []",
-        "1003 UnknownKey at path",
+        "version = 1\npath = [{}]",
+        "1017 TooManyObjects at path",
     ),
     (
         "until = '1970-01-01T00:03:21Z'",
