@@ -2,13 +2,24 @@ use crate::{BookError, ChainBook, Header, Known, Record, Vote};
 use rb_base::refusing::Refusing;
 use rb_base::{Height, Moment};
 use rb_valset::{Validator, ValidatorSet};
-use std::alloc::Allocator;
+use std::alloc::{Allocator, Global};
+use std::fmt::{Debug, Display};
 use std::process::Abort;
 use std::test::Fail;
 
 const THREE: &[Vote] = &[Vote::Commit, Vote::Commit, Vote::Commit, Vote::Absent];
 
+const SHORT: &[Vote] = &[Vote::Commit, Vote::Commit, Vote::Commit];
+
+const BAD: &[Vote] = &[Vote::Commit, Vote::Nil, Vote::Bad, Vote::Bad];
+
 const ZERO: [u8; 32] = [0; 32];
+
+/// Asserts in one place for all tests, since each `assert_eq!` makes the proof of the function around
+/// it dearer.
+fn assert_same<T: PartialEq + Debug>(rt: &impl Abort, row: &impl Display, given: &T, wanted: &T) {
+    assert!(rt; *given == *wanted, "{row}: {given:?}, not {wanted:?}");
+}
 
 fn height(number: u64) -> Result<Height, Fail> {
     Ok(Height::new(number).ok_or("height")?)
@@ -45,21 +56,14 @@ fn make_header<A: Allocator + Copy>(
     Ok(Header::new(height(at)?, entry(seconds, hash)?, hash, votes))
 }
 
-/// What a book answers to one header after the other, and what it then tells.
-#[test]
-fn takes_headers_in(rt: HostRuntime) -> Result<(), Fail> {
-    let alloc = rt.alloc();
-    let set = make_set(alloc, 0, 4)?;
-    let mut book = ChainBook::new(alloc);
-    let header = make_header(alloc, 2, 20, &set, THREE)?;
-    assert_eq!(rt; book.add_header(header), Err(BookError::UnknownSet));
-    assert_eq!(rt; book.add_set(set.copy()?), Ok(()));
-    assert_eq!(rt; book.add_set(set.copy()?), Ok(()));
-    let (two, five) = (height(2)?, height(5)?);
-    let bad = [Vote::Commit, Vote::Nil, Vote::Bad, Vote::Bad];
-    let cases = [
-        (2, 20, &THREE[..3], Err(BookError::WrongVerdictCount)),
-        (2, 20, bad.as_slice(), Err(BookError::BadVote(2))),
+/// The height, seconds and votes of a header, and what the book answers to it.
+type Offer = (u64, u64, &'static [Vote], Result<(), BookError>);
+
+/// One header after the other.
+fn offers(two: Height, five: Height) -> [Offer; 10] {
+    [
+        (2, 20, SHORT, Err(BookError::WrongVerdictCount)),
+        (2, 20, BAD, Err(BookError::BadVote(2))),
         (2, 20, THREE, Ok(())),
         (5, 50, THREE, Ok(())),
         (5, 50, THREE, Ok(())),
@@ -68,73 +72,178 @@ fn takes_headers_in(rt: HostRuntime) -> Result<(), Fail> {
         (3, 15, THREE, Err(BookError::TimeOrder(two))),
         (3, 50, THREE, Err(BookError::TimeOrder(five))),
         (3, 30, THREE, Ok(())),
-    ];
-    for (at, seconds, votes, answer) in cases {
-        let header = make_header(alloc, at, seconds, &set, votes)?;
-        assert_eq!(rt; book.add_header(header), answer, "{at} at {seconds} s");
-    }
-    let three = height(3)?;
-    let times = [
-        (two, moment(20)?),
-        (three, moment(30)?),
-        (five, moment(50)?),
-    ];
-    assert_eq!(rt; book.heights()?.as_slice(), [two, three, five].as_slice());
-    assert_eq!(rt; book.times()?.as_slice(), times.as_slice());
-    assert_eq!(rt; book.top(), Some(five));
-    assert_eq!(rt; book.sets().len(), 1);
-    assert_eq!(rt;
-        book.records().first(),
-        Some(&Known::new(two, entry(20, *set.hash())?))
+    ]
+}
+
+/// What a book without sets answers to a header, and what it then answers to the header's set, twice.
+fn add_first_set(
+    rt: &impl Abort,
+    alloc: Global,
+    book: &mut ChainBook,
+    set: &ValidatorSet,
+) -> Result<(), Fail> {
+    let header = make_header(alloc, 2, 20, set, THREE)?;
+    let unknown = book.add_header(header);
+    let answers = (
+        unknown,
+        book.add_set(set.copy()?),
+        book.add_set(set.copy()?),
     );
-    assert_eq!(rt; book.headers().len(), 3);
-    let known = book.header(three).ok_or("header")?;
-    assert!(rt; known.is_of(&set) && known.record().names(&set));
-    assert_eq!(rt;
-        (known.height(), known.commits(), known.votes().len()),
-        (three, 3, 4)
+    assert_same(
+        rt,
+        &"set",
+        &answers,
+        &(Err(BookError::UnknownSet), Ok(()), Ok(())),
     );
-    assert!(rt; book.record(three) == Some(known.record()) && book.record(height(4)?).is_none());
-    assert!(rt; book.set(known.set_hash()).is_some() && book.set(&ZERO).is_none());
-    let places = (book.set_place(set.hash()), book.header_place(three));
-    assert_eq!(rt; places, (Some(0), Some(1)));
-    assert_eq!(rt; book.lower_count(five), 2);
-    assert!(rt; book.copy()? == book && ChainBook::new(alloc) != book);
     Ok(())
+}
+
+fn check_heights(rt: &impl Abort, book: &ChainBook) -> Result<(), Fail> {
+    let heights = [height(2)?, height(3)?, height(5)?];
+    assert_same(
+        rt,
+        &"heights",
+        &book.heights()?.as_slice(),
+        &heights.as_slice(),
+    );
+    assert_same(rt, &"top", &book.top(), &Some(heights[2]));
+    Ok(())
+}
+
+fn check_times(rt: &impl Abort, book: &ChainBook) -> Result<(), Fail> {
+    let times = [
+        (height(2)?, moment(20)?),
+        (height(3)?, moment(30)?),
+        (height(5)?, moment(50)?),
+    ];
+    assert_same(rt, &"times", &book.times()?.as_slice(), &times.as_slice());
+    Ok(())
+}
+
+fn check_records(rt: &impl Abort, book: &ChainBook, hash: [u8; 32]) -> Result<(), Fail> {
+    let first = Known::new(height(2)?, entry(20, hash)?);
+    assert_same(rt, &"first", &book.records().first(), &Some(&first));
+    let counts = (
+        book.sets().len(),
+        book.headers().len(),
+        book.lower_count(height(5)?),
+    );
+    assert_same(rt, &"counts", &counts, &(1, 3, 2));
+    Ok(())
+}
+
+fn check_header(rt: &impl Abort, book: &ChainBook, set: &ValidatorSet) -> Result<(), Fail> {
+    let three = height(3)?;
+    let known = book.header(three).ok_or("header")?;
+    let told = (known.height(), known.commits(), known.votes().len());
+    assert_same(rt, &"header", &told, &(three, 3, 4));
+    assert!(rt; known.is_of(set) && known.record().names(set));
+    assert!(rt; book.record(three) == Some(known.record()) && book.set(known.set_hash()).is_some());
+    Ok(())
+}
+
+fn check_places(rt: &impl Abort, book: &ChainBook, hash: &[u8; 32]) -> Result<(), Fail> {
+    let places = (book.set_place(hash), book.header_place(height(3)?));
+    assert_same(rt, &"places", &places, &(Some(0), Some(1)));
+    assert!(rt; book.record(height(4)?).is_none() && book.set(&ZERO).is_none());
+    Ok(())
+}
+
+fn check_offers(
+    rt: &impl Abort,
+    alloc: Global,
+    book: &mut ChainBook,
+    set: &ValidatorSet,
+    offers: &[Offer],
+) -> Result<(), Fail> {
+    for (at, seconds, votes, wanted) in offers {
+        let header = make_header(alloc, *at, *seconds, set, votes)?;
+        let answer = (*seconds, book.add_header(header));
+        assert_same(rt, at, &answer, &(*seconds, *wanted));
+    }
+    Ok(())
+}
+
+fn check_told(rt: &impl Abort, book: &ChainBook, set: &ValidatorSet) -> Result<(), Fail> {
+    check_heights(rt, book)?;
+    check_times(rt, book)?;
+    check_records(rt, book, *set.hash())?;
+    check_header(rt, book, set)?;
+    check_places(rt, book, set.hash())
+}
+
+/// What a book answers to one header after the other, and what it then tells.
+#[test]
+fn takes_headers_in(rt: HostRuntime) -> Result<(), Fail> {
+    let set = make_set(rt.alloc(), 0, 4)?;
+    let mut book = ChainBook::new(rt.alloc());
+    add_first_set(&rt, rt.alloc(), &mut book, &set)?;
+    let offers = offers(height(2)?, height(5)?);
+    check_offers(&rt, rt.alloc(), &mut book, &set, &offers)?;
+    check_told(&rt, &book, &set)?;
+    assert!(rt; book.copy()? == book && ChainBook::new(rt.alloc()) != book);
+    Ok(())
+}
+
+/// Adds a record whose height and seconds are the number.
+fn add_numbered<A: Allocator + Copy>(
+    book: &mut ChainBook<A>,
+    number: u64,
+) -> Result<Result<(), BookError>, Fail> {
+    Ok(book.add_record(height(number)?, entry(number, ZERO)?))
 }
 
 /// Fills the book with records, as many as it may have, and tries one more.
 fn fill<A: Allocator + Copy>(rt: &impl Abort, mut book: ChainBook<A>) -> Result<usize, Fail> {
     let limit = book.limit() as u64;
-    for i in 1..=limit {
-        assert_eq!(rt; book.add_record(height(i)?, entry(i, ZERO)?), Ok(()));
+    for number in 1..=limit {
+        assert_same(rt, &number, &add_numbered(&mut book, number)?, &Ok(()));
     }
-    let above = height(limit + 1)?;
-    assert_eq!(rt;
-        book.add_record(above, entry(limit + 1, ZERO)?),
-        Err(BookError::Full)
+    let above = add_numbered(&mut book, limit + 1)?;
+    let again = add_numbered(&mut book, 1)?;
+    assert_same(
+        rt,
+        &"full",
+        &(above, again),
+        &(Err(BookError::Full), Ok(())),
     );
-    assert_eq!(rt; book.add_record(height(1)?, entry(1, ZERO)?), Ok(()));
     Ok(book.records().len())
 }
 
 #[test]
 fn holds_so_many_records(rt: HostRuntime) -> Result<(), Fail> {
-    assert_eq!(rt; fill(&rt, ChainBook::new(rt.alloc()))?, 1024);
-    assert_eq!(rt; fill(&rt, ChainBook::with_limit(rt.alloc(), 4096))?, 4096);
+    let usual = fill(&rt, ChainBook::new(rt.alloc()))?;
+    let most = fill(&rt, ChainBook::with_limit(rt.alloc(), 4096))?;
+    assert_same(&rt, &"records", &(usual, most), &(1024, 4096));
     Ok(())
+}
+
+/// Adds the set of the validators from one number up to another.
+fn add_numbered_set(
+    book: &mut ChainBook,
+    alloc: Global,
+    from: u32,
+    to: u32,
+) -> Result<Result<(), BookError>, Fail> {
+    Ok(book.add_set(make_set(alloc, from, to)?))
 }
 
 /// An equal set is taken in at any time, another one only below the limit.
 #[test]
 fn holds_so_many_sets(rt: HostRuntime) -> Result<(), Fail> {
-    let alloc = rt.alloc();
-    let mut book = ChainBook::new(alloc);
-    for i in 0..1024 {
-        assert_eq!(rt; book.add_set(make_set(alloc, i, i + 1)?), Ok(()));
+    let mut book = ChainBook::new(rt.alloc());
+    for number in 0..1024 {
+        let answer = add_numbered_set(&mut book, rt.alloc(), number, number + 1)?;
+        assert_same(&rt, &number, &answer, &Ok(()));
     }
-    assert_eq!(rt; book.add_set(make_set(alloc, 0, 2)?), Err(BookError::Full));
-    assert_eq!(rt; book.add_set(make_set(alloc, 7, 8)?), Ok(()));
+    let other = add_numbered_set(&mut book, rt.alloc(), 0, 2)?;
+    let equal = add_numbered_set(&mut book, rt.alloc(), 7, 8)?;
+    assert_same(
+        &rt,
+        &"full",
+        &(other, equal),
+        &(Err(BookError::Full), Ok(())),
+    );
     Ok(())
 }
 
@@ -153,41 +262,78 @@ fn add<A: Allocator + Copy>(
     })
 }
 
-/// Each growth refused in turn, until none is: the book stays as it was, and takes the same
-/// addition at the second try.
+/// Gives two equal books one addition. Where memory is refused, the first book stays as it was, and
+/// takes the same addition at the second try.
+fn add_to_both<'a>(
+    rt: &impl Abort,
+    (heap, ample): (&Refusing<Global>, &'a Refusing<Global>),
+    number: u64,
+    book: &mut ChainBook<&'a Refusing<Global>>,
+    same: &mut ChainBook<&'a Refusing<Global>>,
+) -> Result<(), Fail> {
+    if let Err(refusal) = add(book, ample, number)? {
+        assert!(rt; refusal == BookError::NoMemory && heap.has_refused() && *book == *same);
+        assert_same(rt, &number, &add(book, ample, number)?, &Ok(()));
+    }
+    assert_same(rt, &number, &add(same, ample, number)?, &Ok(()));
+    assert!(rt; *book == *same);
+    Ok(())
+}
+
+/// Builds a book over a heap that refuses a growth, beside one over a heap that refuses none.
+fn build_both<'a>(
+    rt: &impl Abort,
+    heap: &'a Refusing<Global>,
+    ample: &'a Refusing<Global>,
+) -> Result<(), Fail> {
+    let mut book = ChainBook::new(heap);
+    let mut same = ChainBook::new(ample);
+    for number in 0..4 {
+        add_to_both(rt, (heap, ample), number, &mut book, &mut same)?;
+    }
+    let is_copied = book.copy().is_ok() && book.heights().is_ok() && book.times().is_ok();
+    assert!(rt; is_copied || heap.has_refused());
+    Ok(())
+}
+
+/// Each growth refused in turn, until none is.
 #[test]
 fn stays_where_memory_is_refused(rt: HostRuntime) -> Result<(), Fail> {
     let ample = Refusing::new(rt.alloc(), 0);
     for refused in 1..=9 {
         let heap = Refusing::new(rt.alloc(), refused);
-        let mut book = ChainBook::new(&heap);
-        let mut same = ChainBook::new(&ample);
-        for number in 0..4 {
-            if let Err(refusal) = add(&mut book, &ample, number)? {
-                assert_eq!(rt; refusal, BookError::NoMemory);
-                assert!(rt; heap.has_refused() && book == same);
-                assert_eq!(rt; add(&mut book, &ample, number)?, Ok(()));
-            }
-            assert_eq!(rt; add(&mut same, &ample, number)?, Ok(()));
-            assert!(rt; book == same);
-        }
-        let copied = book.copy().is_ok() && book.heights().is_ok() && book.times().is_ok();
-        assert!(rt; copied || heap.has_refused());
-        assert_eq!(rt;
-            heap.has_refused(),
-            refused < 9,
-            "{refused} of {}",
-            heap.growths()
+        build_both(&rt, &heap, &ample)?;
+        let growths = heap.growths();
+        assert!(rt;
+            heap.has_refused() == (refused < 9),
+            "{refused} of {growths}"
         );
     }
     Ok(())
 }
 
-/// What is printed of refusals.
-#[test]
-fn prints(rt: HostRuntime) -> Result<(), Fail> {
-    let five = height(5)?;
-    let cases = [
+/// A refusal's text, and the same of its number and name.
+fn check_text(rt: &impl Abort, alloc: Global, refusal: BookError, text: &str) -> Result<(), Fail> {
+    let number = refusal.number().ok_or("number")?;
+    let name = refusal.name();
+    assert_same(
+        rt,
+        &"text",
+        &format!(in alloc; "{refusal}")?.as_str(),
+        &text,
+    );
+    assert_same(
+        rt,
+        &"name",
+        &format!(in alloc; "{number} {name}")?.as_str(),
+        &text,
+    );
+    Ok(())
+}
+
+/// The refusals that a number and a name are printed of.
+fn refusals(five: Height) -> [(BookError, &'static str); 7] {
+    [
         (BookError::UnknownSet, "401 UnknownSet"),
         (BookError::WrongVerdictCount, "402 WrongVerdictCount"),
         (BookError::BadVote(2), "403 BadVote"),
@@ -195,12 +341,13 @@ fn prints(rt: HostRuntime) -> Result<(), Fail> {
         (BookError::TimeOrder(five), "405 TimeOrder"),
         (BookError::Full, "406 Full"),
         (BookError::HashClash, "407 HashClash"),
-    ];
-    for (refusal, text) in cases {
-        assert_eq!(rt; format!(in rt.alloc(); "{refusal}")?.as_str(), text);
-        let number = refusal.number().ok_or("number")?;
-        let name = refusal.name();
-        assert_eq!(rt; format!(in rt.alloc(); "{number} {name}")?.as_str(), text);
+    ]
+}
+
+#[test]
+fn prints(rt: HostRuntime) -> Result<(), Fail> {
+    for (refusal, text) in refusals(height(5)?) {
+        check_text(&rt, rt.alloc(), refusal, text)?;
     }
     Ok(())
 }

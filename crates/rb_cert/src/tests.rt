@@ -159,22 +159,6 @@ const LEAST_OF_TIES: Case = Case {
     ..LEAST
 };
 
-const fn over_two_ways(name: &'static str, verdict: &'static str) -> Case {
-    Case {
-        name,
-        verdict,
-        ..LEAST
-    }
-}
-
-const fn over_ties(name: &'static str, verdict: &'static str) -> Case {
-    Case {
-        name,
-        verdict,
-        ..LEAST_OF_TIES
-    }
-}
-
 fn height(number: u64) -> Result<Height, Fail> {
     Ok(Height::new(number).ok_or("height")?)
 }
@@ -196,20 +180,26 @@ fn make_set(alloc: Global, block: &Block) -> Result<ValidatorSet, Fail> {
     Ok(ValidatorSet::new(alloc, validators)?)
 }
 
+/// Adds a block's set, and its header or its record.
+fn add_block(book: &mut ChainBook, alloc: Global, block: &Block) -> Result<(), Fail> {
+    let set = make_set(alloc, block)?;
+    let (hash, size) = (*set.hash(), set.size());
+    book.add_set(set)?;
+    let time = moment(u128::from(block.height) * 10 * SECOND)?;
+    let record = Record::new(time, [0; 32], hash);
+    if block.has_header {
+        let votes = vec![in alloc; Vote::Commit; size]?;
+        book.add_header(Header::new(height(block.height)?, record, hash, votes))?;
+    } else {
+        book.add_record(height(block.height)?, record)?;
+    }
+    Ok(())
+}
+
 fn make_book(alloc: Global, chain: &[Block]) -> Result<ChainBook, Fail> {
     let mut book = ChainBook::new(alloc);
     for block in chain {
-        let set = make_set(alloc, block)?;
-        let (hash, size) = (*set.hash(), set.size());
-        book.add_set(set)?;
-        let time = moment(u128::from(block.height) * 10 * SECOND)?;
-        let record = Record::new(time, [0; 32], hash);
-        if block.has_header {
-            let votes = vec![in alloc; Vote::Commit; size]?;
-            book.add_header(Header::new(height(block.height)?, record, hash, votes))?;
-        } else {
-            book.add_record(height(block.height)?, record)?;
-        }
+        add_block(&mut book, alloc, block)?;
     }
     Ok(book)
 }
@@ -276,190 +266,246 @@ fn to_text(alloc: Global, verdict: Verdict2) -> Result<String, Fail> {
     Ok(format!(in alloc; "no {number} {name}{}", place.as_str())?)
 }
 
+fn options() -> Result<Options, Fail> {
+    let period = Period::new(1_000_000_000_000).ok_or("period")?;
+    Ok(Options::new(period, 10_000_000_000))
+}
+
+fn window_until(seconds: u64) -> Result<Window, Fail> {
+    let until = moment(u128::from(seconds) * SECOND)?;
+    Ok(Window::new(moment(200 * SECOND)?, until)?)
+}
+
+fn goal_of(wanted: Wanted) -> Result<Goal, Fail> {
+    Ok(match wanted {
+        Wanted::Exactly(number) => Goal::Exactly(height(number)?),
+        Wanted::AtLeast(number) => Goal::AtLeast(height(number)?),
+    })
+}
+
+/// What the case's certificate gets over this book.
+fn judge_over(
+    alloc: Global,
+    book: &ChainBook,
+    stored: &[Height],
+    case: &Case,
+) -> Result<String, Fail> {
+    if !are_known(stored, book) {
+        return Err(Fail::from("stored heights"));
+    }
+    let fees = FeeTable::new(100, 1, 1)?;
+    let view = ClientView::new(options()?, fees, stored, window_until(case.until)?, book);
+    let answer = make_answer(alloc, case)?;
+    to_text(alloc, certify(&view, goal_of(case.wanted)?, &answer))
+}
+
 /// What the case's certificate gets.
 fn judge(alloc: Global, case: &Case) -> Result<String, Fail> {
     let book = make_book(alloc, case.chain)?;
     let stored = make_heights(alloc, case.stored)?;
-    if !are_known(stored.as_slice(), &book) {
-        return Err(Fail::from("stored heights"));
-    }
-    let options = Options::new(
-        Period::new(1_000_000_000_000).ok_or("period")?,
-        10_000_000_000,
-    );
-    let fees = FeeTable::new(100, 1, 1)?;
-    let window = Window::new(
-        moment(200 * SECOND)?,
-        moment(u128::from(case.until) * SECOND)?,
-    )?;
-    let view = ClientView::new(options, fees, stored.as_slice(), window, &book);
-    let goal = match case.wanted {
-        Wanted::Exactly(number) => Goal::Exactly(height(number)?),
-        Wanted::AtLeast(number) => Goal::AtLeast(height(number)?),
-    };
-    to_text(alloc, certify(&view, goal, &make_answer(alloc, case)?))
+    judge_over(alloc, &book, stored.as_slice(), case)
 }
 
 /// Certificates and their verdicts.
+const CASES: &[Case] = &[
+    LEAST,
+    LEAST_OF_TIES,
+    Case {
+        name: "out of reach",
+        wanted: Wanted::Exactly(9),
+        updates: None,
+        verdict: "yes",
+        ..LEAST
+    },
+    Case {
+        name: "what is stored expires at the last moment",
+        until: 1_010,
+        labels: &[],
+        updates: None,
+        verdict: "yes",
+        ..LEAST
+    },
+    Case {
+        name: "no update is needed",
+        wanted: Wanted::AtLeast(3),
+        stored: &[1, 3],
+        labels: &[(1, 0, 0), (3, 0, 0), (5, 304, 1), (7, 112, 1), (10, 224, 2)],
+        updates: Some(&[]),
+        verdict: "yes",
+        ..LEAST
+    },
+    Case {
+        name: "labels that are as large as they can be",
+        labels: &[
+            (1, 0, 0),
+            (3, 112, 1),
+            (5, 304, 1),
+            (7, 224, 2),
+            (8, 9223372036854775807, 9223372036854775807),
+            (10, 336, 3),
+            (99, 9223372036854775807, 9223372036854775807),
+        ],
+        verdict: "yes",
+        ..LEAST
+    },
+    Case {
+        name: "label 1 dropped",
+        labels: &[(3, 112, 1), (5, 304, 1), (7, 224, 2), (10, 336, 3)],
+        verdict: "no 601 SourceLabel 1",
+        ..LEAST
+    },
+    Case {
+        name: "label 1 not free, and other faults",
+        labels: &[(1, 1, 0), (3, 112, 1), (7, 224, 2), (10, 336, 3)],
+        updates: Some(&[(10, 7)]),
+        verdict: "no 601 SourceLabel 1",
+        ..LEAST
+    },
+    Case {
+        name: "two stored heights without labels",
+        stored: &[1, 3, 7],
+        labels: &[(1, 0, 0)],
+        verdict: "no 601 SourceLabel 3",
+        ..LEAST
+    },
+    Case {
+        name: "label 5 dropped, and a fault in the plan",
+        labels: &[(1, 0, 0), (3, 112, 1), (7, 224, 2), (10, 336, 3)],
+        updates: Some(&[(10, 7)]),
+        verdict: "no 602 LabelTooHigh 1 5",
+        ..LEAST
+    },
+    Case {
+        name: "label 10 dropped",
+        labels: &[(1, 0, 0), (3, 112, 1), (5, 304, 1), (7, 224, 2)],
+        verdict: "no 602 LabelTooHigh 5 10",
+        ..LEAST
+    },
+    Case {
+        name: "label 10 too high from 7",
+        labels: &[
+            (1, 0, 0),
+            (3, 112, 1),
+            (5, 304, 1),
+            (7, 224, 2),
+            (10, 400, 3),
+        ],
+        verdict: "no 602 LabelTooHigh 7 10",
+        ..LEAST
+    },
+    Case {
+        name: "trusts what isn't stored",
+        updates: Some(&[(10, 7)]),
+        verdict: "no 603 PlanNotAccepted 0",
+        ..LEAST
+    },
+    Case {
+        name: "a step that isn't accepted",
+        updates: Some(&[(3, 1), (10, 3)]),
+        verdict: "no 603 PlanNotAccepted 1",
+        ..LEAST
+    },
+    Case {
+        name: "repeated, and then to a record with no header",
+        updates: Some(&[(3, 1), (3, 1), (3, 1), (8, 3)]),
+        verdict: "no 603 PlanNotAccepted 3",
+        ..LEAST
+    },
+    Case {
+        name: "no updates",
+        updates: Some(&[]),
+        verdict: "no 607 GoalMissed",
+        ..LEAST
+    },
+    Case {
+        name: "ends below the goal, and not tight",
+        labels: &[
+            (1, 0, 0),
+            (3, 112, 1),
+            (5, 300, 1),
+            (7, 224, 2),
+            (10, 336, 3),
+        ],
+        updates: Some(&[(5, 1)]),
+        verdict: "no 607 GoalMissed",
+        ..LEAST
+    },
+    Case {
+        name: "the dearer way",
+        updates: Some(&[(5, 1), (10, 5)]),
+        verdict: "no 604 PlanNotTight 1",
+        ..LEAST
+    },
+    Case {
+        name: "label 10 too low",
+        labels: &[
+            (1, 0, 0),
+            (3, 112, 1),
+            (5, 304, 1),
+            (7, 224, 2),
+            (10, 300, 3),
+        ],
+        verdict: "no 604 PlanNotTight 2",
+        ..LEAST
+    },
+    Case {
+        name: "a higher wanted height costs less",
+        labels: &[
+            (1, 0, 0),
+            (3, 112, 1),
+            (5, 304, 1),
+            (7, 224, 2),
+            (10, 336, 3),
+            (99, 0, 0),
+        ],
+        verdict: "no 605 NotTheTie 2",
+        ..LEAST
+    },
+    Case {
+        name: "a lower wanted height costs the same",
+        wanted: Wanted::AtLeast(2),
+        updates: Some(&[(4, 1)]),
+        verdict: "no 605 NotTheTie 0",
+        ..LEAST_OF_TIES
+    },
+    Case {
+        name: "10 trusts 4, and 3 is lower",
+        wanted: Wanted::AtLeast(10),
+        updates: Some(&[(4, 1), (10, 4)]),
+        verdict: "no 605 NotTheTie 1",
+        ..LEAST_OF_TIES
+    },
+    Case {
+        name: "two ties, told from the last down",
+        updates: Some(&[(4, 1), (11, 4), (20, 11)]),
+        verdict: "no 605 NotTheTie 2",
+        ..LEAST_OF_TIES
+    },
+    Case {
+        name: "a tie before the last update",
+        updates: Some(&[(4, 1), (10, 4), (20, 10)]),
+        verdict: "no 605 NotTheTie 1",
+        ..LEAST_OF_TIES
+    },
+    Case {
+        name: "said to be unreachable",
+        updates: None,
+        verdict: "no 606 GoalLabelled 10",
+        ..LEAST
+    },
+    Case {
+        name: "several wanted heights are labelled",
+        wanted: Wanted::AtLeast(4),
+        updates: None,
+        verdict: "no 606 GoalLabelled 5",
+        ..LEAST
+    },
+];
+
 #[test]
 fn judges_certificates(rt: HostRuntime) -> Result<(), Fail> {
-    let cases = [
-        LEAST,
-        LEAST_OF_TIES,
-        Case {
-            wanted: Wanted::Exactly(9),
-            updates: None,
-            ..over_two_ways("out of reach", "yes")
-        },
-        Case {
-            until: 1_010,
-            labels: &[],
-            updates: None,
-            ..over_two_ways("what is stored expires at the last moment", "yes")
-        },
-        Case {
-            wanted: Wanted::AtLeast(3),
-            stored: &[1, 3],
-            labels: &[(1, 0, 0), (3, 0, 0), (5, 304, 1), (7, 112, 1), (10, 224, 2)],
-            updates: Some(&[]),
-            ..over_two_ways("no update is needed", "yes")
-        },
-        Case {
-            labels: &[
-                (1, 0, 0),
-                (3, 112, 1),
-                (5, 304, 1),
-                (7, 224, 2),
-                (8, 9223372036854775807, 9223372036854775807),
-                (10, 336, 3),
-                (99, 9223372036854775807, 9223372036854775807),
-            ],
-            ..over_two_ways("labels that are as large as they can be", "yes")
-        },
-        Case {
-            labels: &[(3, 112, 1), (5, 304, 1), (7, 224, 2), (10, 336, 3)],
-            ..over_two_ways("label 1 dropped", "no 601 SourceLabel 1")
-        },
-        Case {
-            labels: &[(1, 1, 0), (3, 112, 1), (7, 224, 2), (10, 336, 3)],
-            updates: Some(&[(10, 7)]),
-            ..over_two_ways("label 1 not free, and other faults", "no 601 SourceLabel 1")
-        },
-        Case {
-            stored: &[1, 3, 7],
-            labels: &[(1, 0, 0)],
-            ..over_two_ways("two stored heights without labels", "no 601 SourceLabel 3")
-        },
-        Case {
-            labels: &[(1, 0, 0), (3, 112, 1), (7, 224, 2), (10, 336, 3)],
-            updates: Some(&[(10, 7)]),
-            ..over_two_ways(
-                "label 5 dropped, and a fault in the plan",
-                "no 602 LabelTooHigh 1 5",
-            )
-        },
-        Case {
-            labels: &[(1, 0, 0), (3, 112, 1), (5, 304, 1), (7, 224, 2)],
-            ..over_two_ways("label 10 dropped", "no 602 LabelTooHigh 5 10")
-        },
-        Case {
-            labels: &[
-                (1, 0, 0),
-                (3, 112, 1),
-                (5, 304, 1),
-                (7, 224, 2),
-                (10, 400, 3),
-            ],
-            ..over_two_ways("label 10 too high from 7", "no 602 LabelTooHigh 7 10")
-        },
-        Case {
-            updates: Some(&[(10, 7)]),
-            ..over_two_ways("trusts what isn't stored", "no 603 PlanNotAccepted 0")
-        },
-        Case {
-            updates: Some(&[(3, 1), (10, 3)]),
-            ..over_two_ways("a step that isn't accepted", "no 603 PlanNotAccepted 1")
-        },
-        Case {
-            updates: Some(&[(3, 1), (3, 1), (3, 1), (8, 3)]),
-            ..over_two_ways(
-                "repeated, and then to a record with no header",
-                "no 603 PlanNotAccepted 3",
-            )
-        },
-        Case {
-            updates: Some(&[]),
-            ..over_two_ways("no updates", "no 607 GoalMissed")
-        },
-        Case {
-            labels: &[
-                (1, 0, 0),
-                (3, 112, 1),
-                (5, 300, 1),
-                (7, 224, 2),
-                (10, 336, 3),
-            ],
-            updates: Some(&[(5, 1)]),
-            ..over_two_ways("ends below the goal, and not tight", "no 607 GoalMissed")
-        },
-        Case {
-            updates: Some(&[(5, 1), (10, 5)]),
-            ..over_two_ways("the dearer way", "no 604 PlanNotTight 1")
-        },
-        Case {
-            labels: &[
-                (1, 0, 0),
-                (3, 112, 1),
-                (5, 304, 1),
-                (7, 224, 2),
-                (10, 300, 3),
-            ],
-            ..over_two_ways("label 10 too low", "no 604 PlanNotTight 2")
-        },
-        Case {
-            labels: &[
-                (1, 0, 0),
-                (3, 112, 1),
-                (5, 304, 1),
-                (7, 224, 2),
-                (10, 336, 3),
-                (99, 0, 0),
-            ],
-            ..over_two_ways("a higher wanted height costs less", "no 605 NotTheTie 2")
-        },
-        Case {
-            wanted: Wanted::AtLeast(2),
-            updates: Some(&[(4, 1)]),
-            ..over_ties("a lower wanted height costs the same", "no 605 NotTheTie 0")
-        },
-        Case {
-            wanted: Wanted::AtLeast(10),
-            updates: Some(&[(4, 1), (10, 4)]),
-            ..over_ties("10 trusts 4, and 3 is lower", "no 605 NotTheTie 1")
-        },
-        Case {
-            updates: Some(&[(4, 1), (11, 4), (20, 11)]),
-            ..over_ties("two ties, told from the last down", "no 605 NotTheTie 2")
-        },
-        Case {
-            updates: Some(&[(4, 1), (10, 4), (20, 10)]),
-            ..over_ties("a tie before the last update", "no 605 NotTheTie 1")
-        },
-        Case {
-            updates: None,
-            ..over_two_ways("said to be unreachable", "no 606 GoalLabelled 10")
-        },
-        Case {
-            wanted: Wanted::AtLeast(4),
-            updates: None,
-            ..over_two_ways(
-                "several wanted heights are labelled",
-                "no 606 GoalLabelled 5",
-            )
-        },
-    ];
-    for case in cases {
-        let verdict = judge(rt.alloc(), &case)?;
+    for case in CASES {
+        let verdict = judge(rt.alloc(), case)?;
         assert_eq!(rt; verdict.as_str(), case.verdict, "{}", case.name);
     }
     Ok(())

@@ -1,6 +1,7 @@
 use crate::{FaultName, RunError, Section, child_path, element_path, fault_at, section_at};
 use rb_base::Fraction;
 use std::alloc::Global;
+use std::process::Abort;
 use std::test::Fail;
 
 /// A number that tells what the table `t` holds at the key `x`, read as the kind says.
@@ -51,7 +52,7 @@ fn told(alloc: Global, text: &str, kind: &str) -> Result<String, Fail> {
 const DIGITS: &str = "x = '00000000000000000000000000000000000000000000000000000000000000fF'";
 
 /// A kind, a text, and what is told of it.
-const ROWS: [(&str, &str, &str); 44] = [
+const ROWS: &[(&str, &str, &str)] = &[
     ("number", "x = 1", "1"),
     ("number", "x = 0x9", "9"),
     ("number", "", "fault 1002 MissingKey at t.x"),
@@ -134,8 +135,21 @@ const ROWS: [(&str, &str, &str); 44] = [
 fn reads_each_kind(rt: HostRuntime) -> Result<(), Fail> {
     let alloc = rt.alloc();
     for (kind, text, line) in ROWS {
-        assert_eq!(rt; told(alloc, text, kind)?.as_str(), line, "{kind}: {text}");
+        assert_eq!(rt; told(alloc, text, kind)?.as_str(), *line, "{kind}: {text}");
     }
+    Ok(())
+}
+
+/// An error's line and status.
+fn check_error(
+    rt: &impl Abort,
+    alloc: Global,
+    error: RunError,
+    line: &str,
+    status: u8,
+) -> Result<(), Fail> {
+    assert_eq!(rt; format!(in alloc; "{error}")?.as_str(), line);
+    assert_eq!(rt; error.status(), status);
     Ok(())
 }
 
@@ -143,18 +157,10 @@ fn reads_each_kind(rt: HostRuntime) -> Result<(), Fail> {
 #[test]
 fn tells_errors(rt: HostRuntime) -> Result<(), Fail> {
     let alloc = rt.alloc();
-    for (error, line, status) in [
-        (RunError::NoMemory, "no memory", 4),
-        (RunError::Device, "device", 4),
-        (
-            fault_at(alloc, "-", FaultName::NotToml),
-            "fault 1001 NotToml at -",
-            1,
-        ),
-    ] {
-        assert_eq!(rt; format!(in alloc; "{error}")?.as_str(), line);
-        assert_eq!(rt; error.status(), status);
-    }
+    let not_toml = fault_at(alloc, "-", FaultName::NotToml);
+    check_error(&rt, alloc, not_toml, "fault 1001 NotToml at -", 1)?;
+    check_error(&rt, alloc, RunError::NoMemory, "no memory", 4)?;
+    check_error(&rt, alloc, RunError::Device, "device", 4)?;
     assert_eq!(rt; child_path(alloc, "", "turn")?.as_str(), "turn");
     Ok(())
 }

@@ -5,6 +5,8 @@ use rb_book::{ChainBook, Header, Record, Vote};
 use rb_step::{ClientView, are_known};
 use rb_valset::{Validator, ValidatorSet};
 use std::alloc::{AllocError, Allocator, Global};
+use std::fmt::{Debug, Display};
+use std::process::Abort;
 use std::test::Fail;
 
 const C: Vote = Vote::Commit;
@@ -21,6 +23,12 @@ const A: Members = &[(0xa1, 40), (0xa2, 30), (0xa3, 20), (0xa4, 10)];
 const B: Members = &[(0xa1, 40), (0xa2, 30), (0xb1, 20), (0xb2, 10)];
 
 const D: Members = &[(0xb1, 50), (0xd1, 30), (0xa4, 20)];
+
+/// Asserts in one place for all tests, since each `assert_eq!` makes the proof of the function around
+/// it dearer.
+fn assert_same<T: PartialEq + Debug>(rt: &impl Abort, row: &impl Display, given: &T, wanted: &T) {
+    assert!(rt; *given == *wanted, "{row}: {given:?}, not {wanted:?}");
+}
 
 fn height(number: u64) -> Result<Height, Fail> {
     Ok(Height::new(number).ok_or("height")?)
@@ -55,20 +63,46 @@ const HEADERS: &[(u64, Members, Members, &[Vote])] = &[
     (9, D, D, &[C, X, N]),
 ];
 
-/// These headers, where height h has the time 10 h seconds, and a record at 4 that names an unknown
-/// set.
+/// A header that has the time 10 h seconds at height h.
+fn make_header<L: Allocator + Copy>(
+    alloc: L,
+    number: u64,
+    own: &ValidatorSet<L>,
+    next: [u8; 32],
+    votes: &[Vote],
+) -> Result<Header<L>, Fail> {
+    let record = Record::new(moment(number.saturating_mul(10))?, [0; 32], next);
+    let votes = Vec::from_slice(alloc, votes)?;
+    Ok(Header::new(height(number)?, record, *own.hash(), votes))
+}
+
+/// Adds a header and its own set.
+fn add_header<L: Allocator + Copy>(
+    book: &mut ChainBook<L>,
+    alloc: L,
+    number: u64,
+    (own, next): (Members, Members),
+    votes: &[Vote],
+) -> Result<(), Fail> {
+    let next = *make_set(alloc, next)?.hash();
+    let own = make_set(alloc, own)?;
+    let header = make_header(alloc, number, &own, next, votes)?;
+    book.add_set(own)?;
+    Ok(book.add_header(header)?)
+}
+
+/// A book of these headers, and a record at 4 that names an unknown set.
 fn make_book<L: Allocator + Copy>(alloc: L) -> Result<ChainBook<L>, Fail> {
     let mut book = ChainBook::new(alloc);
     book.add_record(height(4)?, Record::new(moment(40)?, [0; 32], [7; 32]))?;
     for (number, own, next, votes) in HEADERS {
-        let (own, next) = (make_set(alloc, own)?, make_set(alloc, next)?);
-        let record = Record::new(moment(number.saturating_mul(10))?, [0; 32], *next.hash());
-        let votes = Vec::from_slice(alloc, votes)?;
-        let header = Header::new(height(*number)?, record, *own.hash(), votes);
-        book.add_set(own)?;
-        book.add_header(header)?;
+        add_header(&mut book, alloc, *number, (own, next), votes)?;
     }
     Ok(book)
+}
+
+fn make_graph(alloc: Global) -> Result<Graph, Fail> {
+    Ok(Graph::from_book(alloc, make_book(alloc)?)?)
 }
 
 /// The power in a set of the header's commit voters, each looked for among all.
@@ -116,9 +150,12 @@ fn shown_cells(alloc: Global, row: &Row) -> Result<Vec<Numbers>, Fail> {
     Ok(cells)
 }
 
-/// The rows of the book by hand: whether more than two thirds of the own set signed, the commit
-/// votes, and the cells.
-const ROWS: &[(u64, bool, usize, &[Numbers])] = &[
+/// A row: its height, whether more than two thirds of the own set signed, the commit votes, and the
+/// cells.
+type Shown = (u64, bool, usize, &'static [Numbers]);
+
+/// The rows of the book by hand.
+const ROWS: &[Shown] = &[
     (1, true, 3, &[]),
     (3, true, 2, &[(1, 70, 100, 4)]),
     (6, true, 3, &[(1, 40, 100, 4), (3, 70, 100, 4)]),
@@ -153,47 +190,60 @@ const ROWS: &[(u64, bool, usize, &[Numbers])] = &[
     ),
 ];
 
-/// The rows by hand, and their cells by the plain program.
+/// What a row says beside its cells.
+fn check_header(rt: &impl Abort, header: &Header, row: &Row, wanted: &Shown) -> Result<(), Fail> {
+    let (number, is_signed, commits, _) = *wanted;
+    let (at, time) = (height(number)?, moment(number.saturating_mul(10))?);
+    let shown = (row.height(), row.time(), row.size());
+    assert_same(rt, &number, &shown, &(at, time, header.votes().len()));
+    let shown = (row.commits(), row.is_signed());
+    assert_same(rt, &number, &shown, &(commits, is_signed));
+    Ok(())
+}
+
+/// The cells of a row, and those by the plain program.
+fn check_cells(
+    rt: &impl Abort,
+    alloc: Global,
+    (book, header): (&ChainBook, &Header),
+    row: &Row,
+    wanted: &[Numbers],
+) -> Result<(), Fail> {
+    let shown = shown_cells(alloc, row)?;
+    assert_same(rt, &row.height(), &shown.as_slice(), &wanted);
+    let plain = plain_cells(alloc, book, header)?;
+    assert_same(rt, &row.height(), &plain.as_slice(), &wanted);
+    Ok(())
+}
+
+fn check_row(
+    rt: &impl Abort,
+    alloc: Global,
+    book: &ChainBook,
+    row: &Row,
+    wanted: &Shown,
+) -> Result<(), Fail> {
+    let header = book.header(height(wanted.0)?).ok_or("header")?;
+    check_header(rt, header, row, wanted)?;
+    check_cells(rt, alloc, (book, header), row, wanted.3)
+}
+
 #[test]
 fn shows_rows(rt: HostRuntime) -> Result<(), Fail> {
-    let graph = Graph::from_book(rt.alloc(), make_book(rt.alloc())?)?;
+    let graph = make_graph(rt.alloc())?;
     let mut rows = graph.rows();
-    for (number, is_signed, commits, cells) in ROWS {
-        let header = graph.book().header(height(*number)?).ok_or("header")?;
+    for wanted in ROWS {
         let row = rows.next().ok_or("row")?;
-        let shown = (
-            row.height(),
-            row.time(),
-            row.size(),
-            row.commits(),
-            row.is_signed(),
-        );
-        let size = header.votes().len();
-        let wanted = (
-            height(*number)?,
-            moment(number.saturating_mul(10))?,
-            size,
-            *commits,
-            *is_signed,
-        );
-        assert_eq!(rt; shown, wanted);
-        assert_eq!(rt;
-            shown_cells(rt.alloc(), &row)?.as_slice(),
-            *cells,
-            "{number}"
-        );
-        assert_eq!(rt;
-            plain_cells(rt.alloc(), graph.book(), header)?.as_slice(),
-            *cells,
-            "{number}"
-        );
+        check_row(&rt, rt.alloc(), graph.book(), &row, wanted)?;
     }
     assert!(rt; rows.next().is_none() && graph.row(height(4)?).is_none());
     Ok(())
 }
 
 /// A height, the first and last second of a window, and the heights from which the step is accepted.
-const STEPS: &[(u64, u64, u64, &[u64])] = &[
+type Accepted = (u64, u64, u64, &'static [u64]);
+
+const STEPS: &[Accepted] = &[
     (3, 200, 1_009, &[1]),
     (3, 200, 1_010, &[]),
     (4, 200, 1_009, &[]),
@@ -206,51 +256,108 @@ const STEPS: &[(u64, u64, u64, &[u64])] = &[
     (10, 200, 1_009, &[7, 9]),
 ];
 
-/// The steps by hand, and by the client's own judgement of each record.
-#[test]
-fn shows_steps(rt: HostRuntime) -> Result<(), Fail> {
-    let graph = Graph::from_book(rt.alloc(), make_book(rt.alloc())?)?;
-    let fees = FeeTable::new(1000, 100, 1)?;
-    assert!(rt; are_known(&[], graph.book()));
-    for (number, from, until, trusted) in STEPS {
-        let (into, window) = (
-            height(*number)?,
-            Window::new(moment(*from)?, moment(*until)?)?,
-        );
-        let mut shown = Vec::new(rt.alloc());
-        for step in graph.steps_into(into, &options()?, &window) {
-            shown.push(step.get())?;
-        }
-        assert_eq!(rt; shown.as_slice(), *trusted, "{number}");
-        let view = ClientView::new(options()?, fees, &[], window, graph.book());
-        for known in graph.book().records() {
-            let low = known.height();
-            let is_shown = trusted.contains(&low.get());
-            assert!(rt; view.accepts(low, into) == is_shown, "{low} {number}");
+/// The heights of the steps that the table shows.
+fn shown_steps(
+    alloc: Global,
+    graph: &Graph,
+    into: Height,
+    window: &Window,
+) -> Result<Vec<u64>, Fail> {
+    let options = options()?;
+    let mut shown = Vec::new(alloc);
+    for step in graph.steps_into(into, &options, window) {
+        shown.push(step.get())?;
+    }
+    Ok(shown)
+}
+
+/// The heights of the steps by the client's own judgement of each record.
+fn judged_steps(
+    rt: &impl Abort,
+    alloc: Global,
+    book: &ChainBook,
+    into: Height,
+    window: Window,
+) -> Result<Vec<u64>, Fail> {
+    assert!(rt; are_known(&[], book));
+    let view = ClientView::new(options()?, FeeTable::new(1000, 100, 1)?, &[], window, book);
+    let mut judged = Vec::new(alloc);
+    for known in book.records() {
+        if view.accepts(known.height(), into) {
+            judged.push(known.height().get())?;
         }
     }
-    for (low, number, charge) in [(1, 10, 1_207), (4, 10, 1_203), (2, 10, 0), (1, 4, 0)] {
-        assert_eq!(rt;
-            graph.charge(&fees, height(low)?, height(number)?),
-            charge,
-            "{low}"
-        );
+    Ok(judged)
+}
+
+fn check_steps(
+    rt: &impl Abort,
+    alloc: Global,
+    graph: &Graph,
+    (number, from, until, trusted): &Accepted,
+) -> Result<(), Fail> {
+    let into = height(*number)?;
+    let window = Window::new(moment(*from)?, moment(*until)?)?;
+    let shown = shown_steps(alloc, graph, into, &window)?;
+    assert_same(rt, &into, &shown.as_slice(), trusted);
+    let judged = judged_steps(rt, alloc, graph.book(), into, window)?;
+    assert_same(rt, &into, &judged.as_slice(), trusted);
+    Ok(())
+}
+
+#[test]
+fn shows_steps(rt: HostRuntime) -> Result<(), Fail> {
+    let graph = make_graph(rt.alloc())?;
+    for accepted in STEPS {
+        check_steps(&rt, rt.alloc(), &graph, accepted)?;
     }
     Ok(())
 }
 
-/// Makes a table of the book, copies and shares it, and takes it apart again: whether both tables are
-/// of the book, and the second owner was the last.
-fn use_table<L: Allocator + Copy>(alloc: L, book: ChainBook<L>) -> Result<bool, AllocError> {
-    let graph = Graph::from_book(alloc, book)?;
+/// The fees of a step from one height into another; a step that no row has costs nothing.
+const FEES: &[(u64, u64, u64)] = &[(1, 10, 1_207), (4, 10, 1_203), (2, 10, 0), (1, 4, 0)];
+
+#[test]
+fn charges_steps(rt: HostRuntime) -> Result<(), Fail> {
+    let graph = make_graph(rt.alloc())?;
+    let fees = FeeTable::new(1000, 100, 1)?;
+    for (low, number, wanted) in FEES {
+        let fee = graph.charge(&fees, height(*low)?, height(*number)?);
+        assert_same(&rt, low, &fee, wanted);
+    }
+    Ok(())
+}
+
+/// Whether the last owner of a table gets one of the same book.
+fn is_last<L: Allocator + Copy>(owner: SharedGraph<L>, graph: &Graph<L>) -> bool {
+    match owner.into_graph() {
+        Some(last) => graph.is_of(&last.into_book()),
+        None => false,
+    }
+}
+
+/// Copies a table, shares the copy and takes it apart again: whether both tables are of one book, and
+/// the second owner was the last.
+fn share_copy<L: Allocator + Copy>(alloc: L, graph: &Graph<L>) -> Result<bool, AllocError> {
     let first = SharedGraph::new(alloc, graph.copy()?)?;
     let second = first.share()?;
     let is_same = second.graph().is_of(graph.book());
     let is_shared = first.into_graph().is_none();
-    Ok(match second.into_graph() {
-        Some(last) => is_same && is_shared && graph.is_of(&last.into_book()),
-        None => false,
-    })
+    Ok(is_same && is_shared && is_last(second, graph))
+}
+
+/// Makes a table of the book and shares a copy.
+fn use_table<L: Allocator + Copy>(alloc: L, book: ChainBook<L>) -> Result<bool, AllocError> {
+    let graph = Graph::from_book(alloc, book)?;
+    share_copy(alloc, &graph)
+}
+
+/// Whether use of a table failed with this growth refused; where it did not, it was right.
+fn fails_at(rt: &impl Abort, alloc: Global, growth: u64) -> Result<bool, Fail> {
+    let heap = Refusing::new(alloc, growth);
+    let used = use_table(&heap, make_book(&heap)?);
+    assert!(rt; used.unwrap_or(true), "{growth}");
+    Ok(used.is_err())
 }
 
 /// Each growth after the book's refused in turn: an error, or the right answer where a smaller block
@@ -261,16 +368,17 @@ fn fails_where_memory_is_refused(rt: HostRuntime) -> Result<(), Fail> {
     let book = make_book(&ample)?;
     let earlier = ample.growths();
     assert!(rt; use_table(&ample, book)?);
-    let mut failures = 0u64;
+    let mut has_failed = false;
     for growth in earlier..ample.growths() {
-        let heap = Refusing::new(rt.alloc(), growth + 1);
-        match use_table(&heap, make_book(&heap)?) {
-            Ok(is_right) => assert!(rt; is_right, "{growth}"),
-            Err(_) => failures = failures.saturating_add(1),
-        }
+        has_failed |= fails_at(&rt, rt.alloc(), growth + 1)?;
     }
-    assert!(rt; failures > 0);
-    let graph = Graph::from_book(rt.alloc(), make_book(rt.alloc())?)?;
+    assert!(rt; has_failed);
+    Ok(())
+}
+
+#[test]
+fn is_of_no_other_book(rt: HostRuntime) -> Result<(), Fail> {
+    let graph = make_graph(rt.alloc())?;
     assert!(rt; !graph.is_of(&ChainBook::new(rt.alloc())));
     Ok(())
 }

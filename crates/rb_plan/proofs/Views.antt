@@ -9,12 +9,12 @@ use Rattle.rb_base.specs.Options.{ClientOptions}
 use Rattle.rb_base.specs.Window.{Span}
 use Rattle.rb_book.specs.Book.{Book, Known, height_of, header_height, heights_of, is_at, record_at, header_at, set_of}
 use Rattle.rb_book.specs.Header.{Record, Header}
-use Rattle.rb_book.specs.Invariant.{IsBook, IsBacked}
+use Rattle.rb_book.specs.Invariant.{IsBacked}
 use Rattle.rb_step.specs.Answer.{answer_within}
-use Rattle.rb_step.specs.KnownStep.{◌>>=◌, step_at, IsAcceptedWithin}
+use Rattle.rb_step.specs.KnownStep.{◌>>=◌, step_at}
 use Rattle.rb_step.specs.Laws.{SuccessIsAcceptance}
 use Rattle.rb_step.specs.StepRule.{Step, step_of, AcceptsWithin}
-use Rattle.rb_step.specs.View.{View, IsView, IsLive, client_of}
+use Rattle.rb_step.specs.View.{View, IsView, client_of}
 use Rattle.rb_step.specs.declared.verdict.Verdict.{Verdict}
 use Rattle.rb_step.specs.declared.verdict.Verdict.TheVariants.{Success, NotEnoughTrust, Invalid}
 use Rattle.rb_plan.specs.Lookups.{AreAllKnown}

@@ -1,6 +1,8 @@
 ghost use Rattle.std.specs.Prelude.{◌≡◌, IfOk};
 
-use crate::{Answer, Cost, Goal, Update, gas_of, label, plan, proof_height, top_reachable};
+use crate::{
+    Answer, Cost, Goal, Labelling, Update, gas_of, label, plan, proof_height, top_reachable,
+};
 use rb_base::refusing::Refusing;
 use rb_base::{FeeTable, Height, Moment, Options, Period, Window};
 use rb_book::{ChainBook, Header, Record, Vote};
@@ -8,6 +10,7 @@ use rb_graph::Graph;
 use rb_step::{ClientView, are_known};
 use rb_valset::{Validator, ValidatorSet};
 use std::alloc::{AllocError, Allocator, Global};
+use std::fmt::{Debug, Display};
 use std::process::Abort;
 use std::test::Fail;
 
@@ -87,6 +90,12 @@ const ALL_EXPIRED: World = World {
     ..EXPIRED
 };
 
+/// Asserts in one place for all tests, since each `assert_eq!` makes the proof of the function around
+/// it dearer.
+fn assert_same<T: PartialEq + Debug>(rt: &impl Abort, row: &impl Display, given: &T, wanted: &T) {
+    assert!(rt; *given == *wanted, "{row}: {given:?}, not {wanted:?}");
+}
+
 fn height(number: u64) -> Result<Height, Fail> {
     Ok(Height::new(number).ok_or("height")?)
 }
@@ -108,16 +117,35 @@ fn make_set<A: Allocator + Copy>(alloc: A, members: &Members) -> Result<Validato
     Ok(ValidatorSet::new(alloc, validators)?)
 }
 
+/// A header that all of the set sign, which it names as the next too.
+fn make_header<A: Allocator + Copy>(
+    alloc: A,
+    number: u64,
+    set: &ValidatorSet<A>,
+) -> Result<Header<A>, Fail> {
+    let time = moment(u128::from(number) * 10)?;
+    let record = Record::new(time, [0; 32], *set.hash());
+    let votes = vec![in alloc; Vote::Commit; set.size()]?;
+    Ok(Header::new(height(number)?, record, *set.hash(), votes))
+}
+
+/// Adds a header and its set.
+fn add_header<A: Allocator + Copy>(
+    book: &mut ChainBook<A>,
+    alloc: A,
+    number: u64,
+    members: &Members,
+) -> Result<(), Fail> {
+    let set = make_set(alloc, members)?;
+    let header = make_header(alloc, number, &set)?;
+    book.add_set(set)?;
+    Ok(book.add_header(header)?)
+}
+
 fn make_graph<A: Allocator + Copy>(alloc: A, world: &World) -> Result<Graph<A>, Fail> {
     let mut book = ChainBook::new(alloc);
     for (number, members) in world.headers {
-        let set = make_set(alloc, members)?;
-        let time = moment(u128::from(*number) * 10)?;
-        let record = Record::new(time, [0; 32], *set.hash());
-        let votes = vec![in alloc; Vote::Commit; set.size()]?;
-        let header = Header::new(height(*number)?, record, *set.hash(), votes);
-        book.add_set(set)?;
-        book.add_header(header)?;
+        add_header(&mut book, alloc, *number, members)?;
     }
     Ok(Graph::from_book(alloc, book)?)
 }
@@ -148,24 +176,36 @@ fn make_view<'a, A: Allocator + Copy>(
     Ok(ClientView::new(options, fees, stored, window, book))
 }
 
-/// The labels, and then the updates: `1:0,0 3:112,1 | 3<1`.
-fn to_text<A: Allocator>(alloc: Global, answer: &Answer<A>) -> Result<String, AllocError> {
+/// The labels: `1:0,0 3:112,1 `.
+fn labels_text(alloc: Global, labelling: &Labelling<impl Allocator>) -> Result<String, AllocError> {
     let mut text = String::new(alloc);
-    for label in answer.labelling().labels() {
+    for label in labelling.labels() {
         let Cost { fee, count } = label.cost;
         text.push_str(format!(in alloc; "{}:{fee},{count} ", label.height)?.as_str())?;
     }
-    text.push_str("|")?;
-    match answer {
-        Answer::Plan { updates, .. } => {
-            for update in updates {
-                let (to, from) = (update.height(), update.trusted());
-                text.push_str(format!(in alloc; " {to}<{from}")?.as_str())?;
-            }
-        }
-        Answer::Unreachable { .. } => text.push_str(" unreachable")?,
+    Ok(text)
+}
+
+/// The updates: ` 3<1 10<3`.
+fn updates_text(alloc: Global, updates: &[Update]) -> Result<String, AllocError> {
+    let mut text = String::new(alloc);
+    for update in updates {
+        let (to, from) = (update.height(), update.trusted());
+        text.push_str(format!(in alloc; " {to}<{from}")?.as_str())?;
     }
     Ok(text)
+}
+
+/// The labels, and then the updates: `1:0,0 3:112,1 | 3<1`.
+fn to_text<A: Allocator>(alloc: Global, answer: &Answer<A>) -> Result<String, AllocError> {
+    let labels = labels_text(alloc, answer.labelling())?;
+    match answer {
+        Answer::Plan { updates, .. } => {
+            let updates = updates_text(alloc, updates)?;
+            format!(in alloc; "{labels}|{updates}")
+        }
+        Answer::Unreachable { .. } => format!(in alloc; "{labels}| unreachable"),
+    }
 }
 
 /// A goal of a world, with the labels and updates of its plan, and the height at which a batch of
@@ -179,22 +219,6 @@ struct Row {
     proof: Option<u64>,
 }
 
-const fn row_of(
-    world: World,
-    is_exact: bool,
-    number: u64,
-    text: &'static str,
-    proof: Option<u64>,
-) -> Row {
-    Row {
-        world,
-        is_exact,
-        number,
-        text,
-        proof,
-    }
-}
-
 fn proof_of<A: Allocator + Copy>(view: &ClientView<A>, answer: &Answer<A>) -> Option<u64> {
     match answer {
         Answer::Plan { updates, .. } => { Some(proof_height(view, updates.as_slice())?.get()) }
@@ -202,75 +226,156 @@ fn proof_of<A: Allocator + Copy>(view: &ClientView<A>, answer: &Answer<A>) -> Op
     }
 }
 
-fn check_row(rt: &impl Abort, alloc: Global, row: &Row) -> Result<(), Fail> {
-    let graph = make_graph(alloc, &row.world)?;
-    let stored = make_stored(alloc, &row.world)?;
-    let view = make_view(rt, &row.world, stored.as_slice(), &graph)?;
+fn goal_of(row: &Row) -> Result<Goal, Fail> {
     let wanted = height(row.number)?;
-    let goal = if row.is_exact {
+    Ok(if row.is_exact {
         Goal::Exactly(wanted)
     } else {
         Goal::AtLeast(wanted)
-    };
-    let answer = plan(alloc, &view, &graph, goal)?;
-    assert_eq!(rt; to_text(alloc, &answer)?.as_str(), row.text);
-    assert_eq!(rt; to_text(alloc, &answer.copy()?)?.as_str(), row.text);
-    assert_eq!(rt; proof_of(&view, &answer), row.proof, "{}", row.text);
+    })
+}
+
+/// The texts of an answer and its copy, and the height at which the updates prove.
+fn check_answer(
+    rt: &impl Abort,
+    alloc: Global,
+    view: &ClientView,
+    answer: &Answer,
+    row: &Row,
+) -> Result<(), Fail> {
+    let text = to_text(alloc, answer)?;
+    assert_same(rt, &row.number, &text.as_str(), &row.text);
+    let copied = to_text(alloc, &answer.copy()?)?;
+    assert_same(rt, &row.number, &copied.as_str(), &row.text);
+    assert_same(rt, &row.text, &proof_of(view, answer), &row.proof);
     Ok(())
 }
 
+fn check_plan(
+    rt: &impl Abort,
+    alloc: Global,
+    graph: &Graph,
+    stored: &[Height],
+    row: &Row,
+) -> Result<(), Fail> {
+    let view = make_view(rt, &row.world, stored, graph)?;
+    let answer = plan(alloc, &view, graph, goal_of(row)?)?;
+    check_answer(rt, alloc, &view, &answer, row)
+}
+
+fn check_row(rt: &impl Abort, alloc: Global, row: &Row) -> Result<(), Fail> {
+    let graph = make_graph(alloc, &row.world)?;
+    let stored = make_stored(alloc, &row.world)?;
+    check_plan(rt, alloc, &graph, stored.as_slice(), row)
+}
+
+const ROWS: &[Row] = &[
+    Row {
+        world: FIVE,
+        is_exact: false,
+        number: 10,
+        text: "1:0,0 3:112,1 5:304,1 7:224,2 10:336,3 | 3<1 7<3 10<7",
+        proof: Some(10),
+    },
+    Row {
+        world: FIVE,
+        is_exact: true,
+        number: 5,
+        text: "1:0,0 3:112,1 5:304,1 7:224,2 10:336,3 | 5<1",
+        proof: Some(5),
+    },
+    Row {
+        world: FIVE,
+        is_exact: false,
+        number: 1,
+        text: "1:0,0 3:112,1 5:304,1 7:224,2 10:336,3 |",
+        proof: Some(1),
+    },
+    Row {
+        world: FIVE,
+        is_exact: true,
+        number: 9,
+        text: "1:0,0 3:112,1 5:304,1 7:224,2 10:336,3 | unreachable",
+        proof: None,
+    },
+    Row {
+        world: TIED,
+        is_exact: false,
+        number: 10,
+        text: "1:0,0 3:112,1 4:112,1 10:224,2 | 3<1 10<3",
+        proof: Some(10),
+    },
+    Row {
+        world: TIED,
+        is_exact: false,
+        number: 2,
+        text: "1:0,0 3:112,1 4:112,1 10:224,2 | 3<1",
+        proof: Some(3),
+    },
+    Row {
+        world: EXPIRED,
+        is_exact: false,
+        number: 5,
+        text: "3:0,0 5:112,1 | 5<3",
+        proof: Some(5),
+    },
+    Row {
+        world: EXPIRED,
+        is_exact: true,
+        number: 1,
+        text: "3:0,0 5:112,1 | unreachable",
+        proof: None,
+    },
+    Row {
+        world: ALL_EXPIRED,
+        is_exact: false,
+        number: 1,
+        text: "| unreachable",
+        proof: None,
+    },
+];
+
 #[test]
 fn plans_by_fee_then_height(rt: HostRuntime) -> Result<(), Fail> {
-    for row in [
-        row_of(
-            FIVE,
-            false,
-            10,
-            "1:0,0 3:112,1 5:304,1 7:224,2 10:336,3 | 3<1 7<3 10<7",
-            Some(10),
-        ),
-        row_of(
-            FIVE,
-            true,
-            5,
-            "1:0,0 3:112,1 5:304,1 7:224,2 10:336,3 | 5<1",
-            Some(5),
-        ),
-        row_of(
-            FIVE,
-            false,
-            1,
-            "1:0,0 3:112,1 5:304,1 7:224,2 10:336,3 |",
-            Some(1),
-        ),
-        row_of(
-            FIVE,
-            true,
-            9,
-            "1:0,0 3:112,1 5:304,1 7:224,2 10:336,3 | unreachable",
-            None,
-        ),
-        row_of(
-            TIED,
-            false,
-            10,
-            "1:0,0 3:112,1 4:112,1 10:224,2 | 3<1 10<3",
-            Some(10),
-        ),
-        row_of(
-            TIED,
-            false,
-            2,
-            "1:0,0 3:112,1 4:112,1 10:224,2 | 3<1",
-            Some(3),
-        ),
-        row_of(EXPIRED, false, 5, "3:0,0 5:112,1 | 5<3", Some(5)),
-        row_of(EXPIRED, true, 1, "3:0,0 5:112,1 | unreachable", None),
-        row_of(ALL_EXPIRED, false, 1, "| unreachable", None),
-    ] {
-        check_row(&rt, rt.alloc(), &row)?;
+    for row in ROWS {
+        check_row(&rt, rt.alloc(), row)?;
     }
     Ok(())
+}
+
+/// Labels that are looked up.
+fn check_labels(
+    rt: &impl Abort,
+    alloc: Global,
+    graph: &Graph,
+    view: &ClientView,
+) -> Result<(), Fail>
+    requires { view.now.book ≡ graph.now }
+{
+    let labelling = label(alloc, view, graph)?.copy()?;
+    let found = (labelling.get(height(7)?), labelling.get(height(4)?));
+    let seven = Some(Cost { fee: 224, count: 2 });
+    assert_same(rt, &"labels", &found, &(seven, None));
+    assert_same(rt, &"top", &top_reachable(&labelling), &Some(height(10)?));
+    Ok(())
+}
+
+fn check_gas(rt: &impl Abort, view: &ClientView) -> Result<(), Fail> {
+    let gas = FeeTable::new(1_000, 0, 3)?;
+    let update = Update::new(height(5)?, height(1)?);
+    assert_same(rt, &"gas", &gas_of(view, &gas, &update), &1_312);
+    Ok(())
+}
+
+fn check_view(
+    rt: &impl Abort,
+    alloc: Global,
+    graph: &Graph,
+    stored: &[Height],
+) -> Result<(), Fail> {
+    let view = make_view(rt, &FIVE, stored, graph)?;
+    check_labels(rt, alloc, graph, &view)?;
+    check_gas(rt, &view)
 }
 
 /// Labels that are looked up, and the gas of an update by a table of its own.
@@ -278,31 +383,35 @@ fn plans_by_fee_then_height(rt: HostRuntime) -> Result<(), Fail> {
 fn looks_up_labels_and_gas(rt: HostRuntime) -> Result<(), Fail> {
     let graph = make_graph(rt.alloc(), &FIVE)?;
     let stored = make_stored(rt.alloc(), &FIVE)?;
-    let view = make_view(&rt, &FIVE, stored.as_slice(), &graph)?;
-    let labelling = label(rt.alloc(), &view, &graph)?.copy()?;
-    assert_eq!(rt;
-        labelling.get(height(7)?),
-        Some(Cost { fee: 224, count: 2 })
-    );
-    assert_eq!(rt; labelling.get(height(4)?), None);
-    assert_eq!(rt; top_reachable(&labelling), Some(height(10)?));
-    let gas = FeeTable::new(1_000, 0, 3)?;
-    let update = Update::new(height(5)?, height(1)?);
-    assert_eq!(rt; gas_of(&view, &gas, &update), 1_312);
-    Ok(())
+    check_view(&rt, rt.alloc(), &graph, stored.as_slice())
+}
+
+/// Whether the plan is made.
+fn is_planned<A: Allocator + Copy>(
+    rt: &impl Abort,
+    alloc: A,
+    graph: &Graph<A>,
+    stored: &[Height],
+) -> Result<bool, Fail> {
+    let view = make_view(rt, &TIED, stored, graph)?;
+    let answer = plan(alloc, &view, graph, Goal::AtLeast(height(10)?));
+    Ok(answer.is_ok())
+}
+
+/// Whether the plan was made on this heap, and the growths up to it.
+fn plan_on(rt: &impl Abort, heap: &Refusing<Global>) -> Result<(bool, u64), Fail> {
+    let graph = make_graph(heap, &TIED)?;
+    let stored = make_stored(heap, &TIED)?;
+    let before = heap.growths();
+    Ok((is_planned(rt, heap, &graph, stored.as_slice())?, before))
 }
 
 /// Whether the plan was made, with growth number `refused` refused, and the growths up to the plan
 /// and with it.
 fn growths_of(rt: &impl Abort, alloc: Global, refused: u64) -> Result<(bool, u64, u64), Fail> {
-    let refusing = Refusing::new(alloc, refused);
-    let alloc = &refusing;
-    let graph = make_graph(alloc, &TIED)?;
-    let stored = make_stored(alloc, &TIED)?;
-    let view = make_view(rt, &TIED, stored.as_slice(), &graph)?;
-    let before = refusing.growths();
-    let answer = plan(alloc, &view, &graph, Goal::AtLeast(height(10)?));
-    Ok((answer.is_ok(), before, refusing.growths()))
+    let heap = Refusing::new(alloc, refused);
+    let (is_made, before) = plan_on(rt, &heap)?;
+    Ok((is_made, before, heap.growths()))
 }
 
 /// Each growth of a plan in turn is refused, and no plan is made; with none refused it is.

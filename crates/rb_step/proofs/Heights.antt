@@ -17,7 +17,7 @@ rising_from_neighbours xs false h = (
   λ up. (let less = up h.0 h.1 in let more = ltb-false _ _ (sym (h.2 0)) in absurd (omega (arith, less, more))),
 )
 
-not_falling : (xs : List ℕ) → IsStrictlyIncreasing xs → (i j : ℕ) → i ≤ j → j < length xs → get_or xs i 0 ≤ get_or xs j 0
+pub not_falling : (xs : List ℕ) → IsStrictlyIncreasing xs → (i j : ℕ) → i ≤ j → j < length xs → get_or xs i 0 ≤ get_or xs j 0
 not_falling xs up i j le lt = elim (cases_lt i j) [
   | inl less ↦ (let e = AllPairs-from_increasing xs up i j 0 less lt in omega (arith, e))
   | inr more ↦ (let e : i ≡ j = omega arith in rw e (omega arith))

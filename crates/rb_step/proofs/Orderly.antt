@@ -6,6 +6,7 @@ use Rattle.std.specs.Str.{bytes_eq}
 use Rattle.std.proofs.lemmas.Bool.{eqb-true}
 use Rattle.std.proofs.lemmas.List.Elements.{All-head, All-tail}
 use Rattle.std.proofs.lemmas.List.Sums.{count_by-le-length}
+use Rattle.std.proofs.lemmas.Option.{same_Some}
 use Rattle.std.proofs.Math.Nat.{mul-le-mul}
 use Rattle.rb_base.specs.Fee.{Fees, charge_of, IsFeeTable}
 use Rattle.rb_valset.specs.Validator.{Member}
@@ -19,19 +20,16 @@ use Rattle.rb_step.specs.Laws.{ViewsAreOrderly}
 use Rattle.rb_step.specs.StepRule.{Step, step_of, Accepts, AcceptsWithin}
 use Rattle.rb_step.specs.View.{View, IsView, IsLive, client_of}
 
-some_is : {X : Type 0} (x y : X) → ◌≡◌ {A = Option X} (Some x) (Some y) → x ≡ y
-some_is x y e = cc
-
 -- what is found passes the test, and is what all elements are
 found_here : {X : Type 0} (P : X → Type 0) (p : X → Bool) (y x : X) (b : Bool) (rest : Option X) → p y ≡ b → P y → (rest ≡ Some x → P x × (p x ≡ true)) → cond b (Some y) rest ≡ Some x → P x × (p x ≡ true)
-found_here {X} P p y x true rest is here later e = (subst P (some_is y x e) here, ap p (sym (some_is y x e)) ∙ is)
+found_here {X} P p y x true rest is here later e = (subst P (same_Some y x e) here, ap p (sym (same_Some y x e)) ∙ is)
 found_here P p y x false rest is here later e = later e
 
 pub found : {X : Type 0} (P : X → Type 0) (p : X → Bool) (xs : List X) (x : X) → All P xs → find p xs ≡ Some x → P x × (p x ≡ true)
 found P p [] x all e = absurd (cc)
 found P p (y ∷ ys) x all e = found_here P p y x (p y) (find p ys) refl (All-head P y ys all) (found P p ys x (All-tail P y ys all)) e
 
-bind_some : {A B : Type 0} (o : Option A) (f : A → Option B) (y : B) → (o >>= f) ≡ Some y → (x : A) × (o ≡ Some x) × (f x ≡ Some y)
+pub bind_some : {A B : Type 0} (o : Option A) (f : A → Option B) (y : B) → (o >>= f) ≡ Some y → (x : A) × (o ≡ Some x) × (f x ≡ Some y)
 bind_some None f y e = absurd (cc)
 bind_some (Some x) f y e = (x, refl, e)
 
@@ -49,7 +47,7 @@ parts_of b t h s known =
     let first = bind_some (record_at b t) _ s known in
     let second = bind_some (header_at b h) _ s first.2 in
     let third = bind_some (set_of b second.0.set_hash) _ s second.2 in
-    let is : step_of t first.0 (set_of b first.0.next) second.0 third.0 ≡ s = some_is _ s third.2 in
+    let is : step_of t first.0 (set_of b first.0.next) second.0 third.0 ≡ s = same_Some _ s third.2 in
     subst (Parts b t h) is (record { trusted = first.1; header = second.1; own = third.1; next = refl; height = refl })
 
 -- the header of a known step is at its height, its record is known, and its own set has as many members as it has votes
@@ -67,7 +65,7 @@ backing_of b t h s book parts =
     record {
       height = height;
       recorded = ap (record_at b) (sym height) ∙ at.0.recorded;
-      votes = at.0.own.2.votes ∙ ap (λ (m : List Member). length m) (some_is at.0.own.0 s.own (sym at.0.own.1 ∙ parts.own));
+      votes = at.0.own.2.votes ∙ ap (λ (m : List Member). length m) (same_Some at.0.own.0 s.own (sym at.0.own.1 ∙ parts.own));
       few = own.0.few;
     }
 

@@ -1,14 +1,15 @@
 -- A member's place in a header's own set tells whether it is a commit voter, and what a set lends to the header.
-use Rattle.std.proofs.Common.{◌≡◌, ◌≢◌, ℕ, zero, suc, ◌+◌, ◌<◌, ◌≤◌, Bool, true, false, cond, ◌||◌, nat_lt, List, [], ◌∷◌, Some, None, length, get_or, map, filter, sum_by, position, refl, sym, ap, ◌∙◌, inl, inr, arith, zero-add, take}
-use Rattle.std.specs.List.{list_any, zip, position_or_len}
-use Rattle.std.proofs.lemmas.Bool.{ltb-false, cases_Bool, cases_lt}
+use Rattle.std.proofs.Common.{◌≡◌, ◌≢◌, ℕ, zero, suc, ◌+◌, ◌<◌, ◌≤◌, Bool, true, false, cond, ◌||◌, List, [], ◌∷◌, Some, None, length, get_or, map, filter, sum_by, position, refl, sym, ap, ◌∙◌, inl, inr, arith, zero-add, take}
+use Rattle.std.specs.List.{list_any, zip}
+use Rattle.std.proofs.lemmas.Bool.{cases_Bool, cases_lt}
 use Rattle.std.proofs.lemmas.List.{get_or_default, take_all}
 use Rattle.std.proofs.lemmas.List.Quantifiers.{position-Some}
-use Rattle.std.proofs.lemmas.List.Sums.{fails_before_first, sum_by-cons, sum_by-le-sum_by, sum_by_more, sum_by_more_le_part}
+use Rattle.std.proofs.lemmas.List.Sums.{sum_by-cons, sum_by-le-sum_by, sum_by_more, sum_by_more_le_part}
 use Rattle.std.proofs.lemmas.Slice.Eq.{bytes_eq-Decides}
 use Rattle.rb_valset.specs.Validator.{Member, address_of, has_address, max_power}
 use Rattle.rb_valset.specs.ValidatorSet.{total_of, DistinctAddresses, IsValidatorSet}
 use Rattle.rb_book.specs.Header.{Header, is_commit}
+use Rattle.rb_book.proofs.Lists.{none_at}
 use Rattle.rb_book.specs.declared.vote.Vote.{Vote}
 use Rattle.rb_step.specs.SignedPower.{commit_voters, is_among, signed_power}
 
@@ -50,16 +51,6 @@ one_voter p (x ∷ xs) (w ∷ vs) zero d v same lt here others =
     any_voter-cons p x w xs vs ∙ first_voter (is_commit w) (p x) _ here (no_voter p xs vs (λ j e below. others (suc j) e (omega arith) (omega arith)))
 one_voter p (x ∷ xs) (w ∷ vs) (suc k) d v same lt here others =
     any_voter-cons p x w xs vs ∙ later_voter (is_commit w) (p x) _ (others 0 x (omega arith) (omega arith)) ∙ one_voter p xs vs k d v (omega arith) (omega arith) here (λ j e below apart. others (suc j) e (omega arith) (let n : j ≢ k = apart in omega arith))
-
--- where no place is given, no element passes
-pub none_at : {X : Type 0} (p : X → Bool) (xs : List X) → position p xs ≡ None → (k : ℕ) (d : X) → k < length xs → p (get_or xs k d) ≡ false
-none_at p xs e k d lt =
-    let whole : length xs ≤ position_or_len p xs = cond_none (nat_lt (position_or_len p xs) (length xs)) (position_or_len p xs) e (position_or_len p xs) (length xs) refl in
-    fails_before_first p xs k d (omega arith)
-  where
-    cond_none : {A : Type 0} (b : Bool) (x : A) → cond b (Some x) None ≡ None → (m n : ℕ) → b ≡ nat_lt m n → n ≤ m
-    cond_none true x e m n is = absurd (cc)
-    cond_none false x e m n is = ltb-false m n (sym is)
 
 -- members at two places have different addresses
 apart : (ms : List Member) (j k : ℕ) (d : Member) → DistinctAddresses ms → j < length ms → k < length ms → j ≢ k → address_of (get_or ms j d).key ≢ address_of (get_or ms k d).key

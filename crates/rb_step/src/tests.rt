@@ -6,6 +6,8 @@ use rb_base::{FeeTable, Fraction, Height, Moment, Options, Period, Window};
 use rb_book::{ChainBook, Header, Record, Vote};
 use rb_valset::{Validator, ValidatorSet};
 use std::alloc::Global;
+use std::fmt::{Debug, Display};
+use std::process::Abort;
 use std::test::Fail;
 
 const SECOND: u128 = 1_000_000_000;
@@ -52,21 +54,10 @@ const ACCEPTED: Case = Case {
     last: Verdict::Success,
 };
 
-const fn answered(name: &'static str, verdict: Verdict) -> Case {
-    Case {
-        name,
-        first: verdict,
-        last: verdict,
-        ..ACCEPTED
-    }
-}
-
-const fn invalid(name: &'static str, reason: Reason) -> Case {
-    answered(name, Verdict::Invalid(reason))
-}
-
-const fn untrusted(name: &'static str, signed: u64, total: u64) -> Case {
-    answered(name, Verdict::NotEnoughTrust { signed, total })
+/// Asserts in one place for all tests, since each `assert_eq!` makes the proof of the function around
+/// it dearer.
+fn assert_same<T: PartialEq + Debug>(rt: &impl Abort, row: &impl Display, given: &T, wanted: &T) {
+    assert!(rt; *given == *wanted, "{row}: {given:?}, not {wanted:?}");
 }
 
 fn make_set(alloc: Global, members: &[(u8, u64)]) -> Result<ValidatorSet, Fail> {
@@ -114,190 +105,309 @@ fn judge(
     ))
 }
 
-/// Steps with the verdict at both ends of a window; a step is accepted in the window exactly where
-/// both are `Success`.
-#[test]
-fn judges_steps(rt: HostRuntime) -> Result<(), Fail> {
-    let cases = [
-        ACCEPTED,
-        Case {
-            name: "the period is over at the last moment",
-            window: (200 * SECOND, 1_010 * SECOND),
-            last: Verdict::Invalid(Reason::Expired),
-            ..ACCEPTED
+/// Steps with the verdict at both ends of a window.
+const CASES: &[Case] = &[
+    ACCEPTED,
+    Case {
+        name: "the period is over at the last moment",
+        window: (200 * SECOND, 1_010 * SECOND),
+        last: Verdict::Invalid(Reason::Expired),
+        ..ACCEPTED
+    },
+    Case {
+        name: "ahead by the drift at the first moment",
+        height: 21,
+        time: 210 * SECOND,
+        window: (200 * SECOND, 201 * SECOND),
+        first: Verdict::Invalid(Reason::FromFuture),
+        ..ACCEPTED
+    },
+    Case {
+        name: "ahead by less than the drift",
+        height: 21,
+        time: 210 * SECOND - 1,
+        ..ACCEPTED
+    },
+    Case {
+        name: "no higher",
+        height: 1,
+        first: Verdict::Invalid(Reason::HeightOrder),
+        last: Verdict::Invalid(Reason::HeightOrder),
+        ..ACCEPTED
+    },
+    Case {
+        name: "no later",
+        time: 10 * SECOND,
+        first: Verdict::Invalid(Reason::TimeNotLater),
+        last: Verdict::Invalid(Reason::TimeNotLater),
+        ..ACCEPTED
+    },
+    Case {
+        name: "next set unknown",
+        is_known: false,
+        first: Verdict::Invalid(Reason::TrustedSetUnknown),
+        last: Verdict::Invalid(Reason::TrustedSetUnknown),
+        ..ACCEPTED
+    },
+    Case {
+        name: "expired, and next set unknown",
+        is_known: false,
+        window: (1_010 * SECOND, 1_011 * SECOND),
+        first: Verdict::Invalid(Reason::Expired),
+        last: Verdict::Invalid(Reason::Expired),
+        ..ACCEPTED
+    },
+    Case {
+        name: "adjacent",
+        height: 2,
+        ..ACCEPTED
+    },
+    Case {
+        name: "adjacent, 90 of 100 in another set",
+        next: &[(0xa1, 50), (0xa2, 40), (0xa3, 10)],
+        own: &[(0xa1, 50), (0xa2, 40), (0xb3, 10)],
+        height: 2,
+        votes: &[C, C, C],
+        first: Verdict::Invalid(Reason::WrongNextSet),
+        last: Verdict::Invalid(Reason::WrongNextSet),
+        ..ACCEPTED
+    },
+    Case {
+        name: "a third, whatever the own set gives",
+        next: &[(0xa1, 10), (0xa2, 10), (0xa3, 10)],
+        own: &[(0xa1, 90), (0xb2, 10)],
+        votes: &[C, C],
+        first: Verdict::NotEnoughTrust {
+            signed: 10,
+            total: 30,
         },
-        Case {
-            name: "ahead by the drift at the first moment",
-            height: 21,
-            time: 210 * SECOND,
-            window: (200 * SECOND, 201 * SECOND),
-            first: Verdict::Invalid(Reason::FromFuture),
-            ..ACCEPTED
+        last: Verdict::NotEnoughTrust {
+            signed: 10,
+            total: 30,
         },
-        Case {
-            name: "ahead by less than the drift",
-            height: 21,
-            time: 210 * SECOND - 1,
-            ..ACCEPTED
+        ..ACCEPTED
+    },
+    Case {
+        name: "all, which is not more than all",
+        next: &[(0xa1, 10), (0xa2, 10), (0xa3, 10)],
+        own: &[(0xa1, 10), (0xa2, 10), (0xa3, 10)],
+        votes: &[C, C, C],
+        trust: (1, 1),
+        first: Verdict::NotEnoughTrust {
+            signed: 30,
+            total: 30,
         },
-        Case {
-            height: 1,
-            ..invalid("no higher", Reason::HeightOrder)
+        last: Verdict::NotEnoughTrust {
+            signed: 30,
+            total: 30,
         },
-        Case {
-            time: 10 * SECOND,
-            ..invalid("no later", Reason::TimeNotLater)
-        },
-        Case {
-            is_known: false,
-            ..invalid("next set unknown", Reason::TrustedSetUnknown)
-        },
-        Case {
-            is_known: false,
-            window: (1_010 * SECOND, 1_011 * SECOND),
-            ..invalid("expired, and next set unknown", Reason::Expired)
-        },
-        Case {
-            name: "adjacent",
-            height: 2,
-            ..ACCEPTED
-        },
-        Case {
-            next: &[(0xa1, 50), (0xa2, 40), (0xa3, 10)],
-            own: &[(0xa1, 50), (0xa2, 40), (0xb3, 10)],
-            height: 2,
-            votes: &[C, C, C],
-            ..invalid("adjacent, 90 of 100 in another set", Reason::WrongNextSet)
-        },
-        Case {
-            next: &[(0xa1, 10), (0xa2, 10), (0xa3, 10)],
-            own: &[(0xa1, 90), (0xb2, 10)],
-            votes: &[C, C],
-            ..untrusted("a third, whatever the own set gives", 10, 30)
-        },
-        Case {
-            next: &[(0xa1, 10), (0xa2, 10), (0xa3, 10)],
-            own: &[(0xa1, 10), (0xa2, 10), (0xa3, 10)],
-            votes: &[C, C, C],
-            trust: (1, 1),
-            ..untrusted("all, which is not more than all", 30, 30)
-        },
-        Case {
-            own: &[(0xa1, 30), (0xa2, 30), (0xa3, 30)],
-            next: &[(0xa1, 30), (0xa2, 30), (0xa3, 30)],
-            votes: &[C, C, X],
-            ..invalid("60 of 90", Reason::NotTwoThirds)
-        },
-        Case {
-            votes: &[C, N, C, N],
-            ..invalid("nil votes", Reason::NotTwoThirds)
-        },
-    ];
-    for case in cases {
-        let next = make_set(rt.alloc(), case.next)?;
-        let own = make_set(rt.alloc(), case.own)?;
-        let trusted = Record::new(moment(10 * SECOND)?, [0; 32], *next.hash());
-        let record = Record::new(moment(case.time)?, [0; 32], *own.hash());
-        let votes = Vec::from_slice(rt.alloc(), case.votes)?;
-        let header = Header::new(height(case.height)?, record, *own.hash(), votes);
-        assert!(rt; trusted.names(&next));
-        assert!(rt; header.is_of(&own));
-        let judged = if case.is_known {
-            judge(&case, &trusted, Some(&next), &header, &own)?
-        } else {
-            judge(&case, &trusted, None, &header, &own)?
-        };
-        let is_accepted = case.first == Verdict::Success && case.last == Verdict::Success;
-        let expected = (case.first, case.last, is_accepted);
-        assert_eq!(rt; judged, expected, "{}", case.name);
-    }
+        ..ACCEPTED
+    },
+    Case {
+        name: "60 of 90",
+        own: &[(0xa1, 30), (0xa2, 30), (0xa3, 30)],
+        next: &[(0xa1, 30), (0xa2, 30), (0xa3, 30)],
+        votes: &[C, C, X],
+        first: Verdict::Invalid(Reason::NotTwoThirds),
+        last: Verdict::Invalid(Reason::NotTwoThirds),
+        ..ACCEPTED
+    },
+    Case {
+        name: "nil votes",
+        votes: &[C, N, C, N],
+        first: Verdict::Invalid(Reason::NotTwoThirds),
+        last: Verdict::Invalid(Reason::NotTwoThirds),
+        ..ACCEPTED
+    },
+];
+
+/// The header of the case.
+fn make_header(alloc: Global, case: &Case, own: &ValidatorSet) -> Result<Header, Fail> {
+    let record = Record::new(moment(case.time)?, [0; 32], *own.hash());
+    let votes = Vec::from_slice(alloc, case.votes)?;
+    Ok(Header::new(height(case.height)?, record, *own.hash(), votes))
+}
+
+/// A step is accepted in the window exactly where both verdicts are `Success`.
+fn check_case(
+    rt: &impl Abort,
+    case: &Case,
+    next: &ValidatorSet,
+    header: &Header,
+    own: &ValidatorSet,
+) -> Result<(), Fail> {
+    let trusted = Record::new(moment(10 * SECOND)?, [0; 32], *next.hash());
+    assert!(rt; trusted.names(next));
+    assert!(rt; header.is_of(own));
+    let judged = if case.is_known {
+        judge(case, &trusted, Some(next), header, own)?
+    } else {
+        judge(case, &trusted, None, header, own)?
+    };
+    let is_accepted = case.first == Verdict::Success && case.last == Verdict::Success;
+    assert_same(
+        rt,
+        &case.name,
+        &judged,
+        &(case.first, case.last, is_accepted),
+    );
     Ok(())
 }
 
 #[test]
+fn judges_steps(rt: HostRuntime) -> Result<(), Fail> {
+    for case in CASES {
+        let next = make_set(rt.alloc(), case.next)?;
+        let own = make_set(rt.alloc(), case.own)?;
+        let header = make_header(rt.alloc(), case, &own)?;
+        check_case(&rt, case, &next, &header, &own)?;
+    }
+    Ok(())
+}
+
+const REASONS: &[(Reason, &str)] = &[
+    (Reason::HeightOrder, "501 HeightOrder"),
+    (Reason::Expired, "502 Expired"),
+    (Reason::TimeNotLater, "503 TimeNotLater"),
+    (Reason::FromFuture, "504 FromFuture"),
+    (Reason::TrustedSetUnknown, "505 TrustedSetUnknown"),
+    (Reason::WrongNextSet, "506 WrongNextSet"),
+    (Reason::NotTwoThirds, "507 NotTwoThirds"),
+];
+
+#[test]
 fn names_reasons(rt: HostRuntime) -> Result<(), Fail> {
-    let reasons = [
-        (Reason::HeightOrder, "501 HeightOrder"),
-        (Reason::Expired, "502 Expired"),
-        (Reason::TimeNotLater, "503 TimeNotLater"),
-        (Reason::FromFuture, "504 FromFuture"),
-        (Reason::TrustedSetUnknown, "505 TrustedSetUnknown"),
-        (Reason::WrongNextSet, "506 WrongNextSet"),
-        (Reason::NotTwoThirds, "507 NotTwoThirds"),
-    ];
-    for (reason, text) in reasons {
+    for (reason, text) in REASONS {
         let (number, name) = (reason.number(), reason.name());
-        assert_eq!(rt; format!(in rt.alloc(); "{number} {name}")?.as_str(), text);
+        assert_eq!(rt; format!(in rt.alloc(); "{number} {name}")?.as_str(), *text);
     }
     Ok(())
 }
 
 const B: &[(u8, u64)] = &[(0xb1, 10), (0xb2, 10), (0xb3, 10), (0xb4, 10)];
 
+/// A header of the set, signed by three. Height h has the time 10 h seconds.
+fn signed_header(
+    alloc: Global,
+    number: u64,
+    own: &ValidatorSet,
+    next: &ValidatorSet,
+) -> Result<Header, Fail> {
+    let time = moment(u128::from(number) * 10 * SECOND)?;
+    let record = Record::new(time, [0; 32], *next.hash());
+    let votes = Vec::from_slice(alloc, &[C, C, C, X])?;
+    Ok(Header::new(height(number)?, record, *own.hash(), votes))
+}
+
+/// Adds such a header with its own and its next set.
+fn add_header(
+    book: &mut ChainBook,
+    alloc: Global,
+    number: u64,
+    own: &[(u8, u64)],
+    next: &[(u8, u64)],
+) -> Result<(), Fail> {
+    let own = make_set(alloc, own)?;
+    let next = make_set(alloc, next)?;
+    let header = signed_header(alloc, number, &own, &next)?;
+    book.add_set(own)?;
+    book.add_set(next)?;
+    Ok(book.add_header(header)?)
+}
+
 /// Headers 1 and 4 of the set A, where 4 names B, and header 5 of B, each signed by three; and a
-/// record at 7 that names an unknown set. Height h has the time 10 h seconds.
+/// record at 7 that names an unknown set.
 fn make_book(alloc: Global) -> Result<ChainBook, Fail> {
     let mut book = ChainBook::new(alloc);
-    for (number, own, next) in [(1, A, A), (4, A, B), (5, B, B)] {
-        let (own, next) = (make_set(alloc, own)?, make_set(alloc, next)?);
-        let time = moment(u128::from(number) * 10 * SECOND)?;
-        let record = Record::new(time, [0; 32], *next.hash());
-        let votes = Vec::from_slice(alloc, &[C, C, C, X])?;
-        let header = Header::new(height(number)?, record, *own.hash(), votes);
-        book.add_set(own)?;
-        book.add_set(next)?;
-        book.add_header(header)?;
-    }
+    add_header(&mut book, alloc, 1, A, A)?;
+    add_header(&mut book, alloc, 4, A, B)?;
+    add_header(&mut book, alloc, 5, B, B)?;
     let unknown = Record::new(moment(70 * SECOND)?, [0; 32], [7; 32]);
     book.add_record(height(7)?, unknown)?;
     Ok(book)
 }
 
-/// Heights with whether they are stored and live, and steps with whether they are accepted and
-/// their fee, until 1,010 s, when the record at 10 s expires.
+#[test]
+fn knows_rising_heights(rt: HostRuntime) -> Result<(), Fail> {
+    let book = make_book(rt.alloc())?;
+    let (one, two, seven) = (height(1)?, height(2)?, height(7)?);
+    assert!(rt; !are_known(&[seven, one], &book));
+    assert!(rt; !are_known(&[one, two], &book));
+    assert!(rt; are_known(&[one, seven], &book));
+    Ok(())
+}
+
+/// A view of a client that has stored these, with a window from 200 s.
+fn view_until<'a>(
+    rt: &impl Abort,
+    book: &'a ChainBook,
+    stored: &'a [Height],
+    seconds: u128,
+) -> Result<ClientView<'a>, Fail> {
+    assert!(rt; are_known(stored, book));
+    let fees = FeeTable::new(100, 1, 1)?;
+    let until = moment(seconds.saturating_mul(SECOND))?;
+    let window = Window::new(moment(200 * SECOND)?, until)?;
+    Ok(ClientView::new(options()?, fees, stored, window, book))
+}
+
+/// Heights with whether they are stored and live, until 1,010 s, when the record at 10 s expires.
+const HEIGHTS: &[(u64, bool, bool)] = &[
+    (1, true, false),
+    (2, false, false),
+    (4, false, true),
+    (7, true, true),
+];
+
+/// Steps with whether they are accepted until then, their fee and their charge.
+const STEPS: &[(u64, u64, bool, u64, u64)] = &[
+    (1, 4, false, 111, 40),
+    (4, 5, true, 111, 40),
+    (5, 4, false, 111, 40),
+    (7, 5, false, 107, 20),
+    (1, 7, false, 0, 0),
+];
+
+fn check_heights(rt: &impl Abort, view: &ClientView) -> Result<(), Fail> {
+    for (number, is_stored, is_live) in HEIGHTS {
+        let at = height(*number)?;
+        let shown = (view.is_stored(at), view.is_live(at), view.is_source(at));
+        let is_source = *is_stored && *is_live;
+        assert_same(rt, number, &shown, &(*is_stored, *is_live, is_source));
+    }
+    Ok(())
+}
+
+fn check_steps(rt: &impl Abort, view: &ClientView) -> Result<(), Fail> {
+    let gas = FeeTable::new(0, 0, 5)?;
+    for (trusted, number, is_accepted, fee, charge) in STEPS {
+        let (from, to) = (height(*trusted)?, height(*number)?);
+        let shown = (
+            view.accepts(from, to),
+            view.fee(from, to),
+            view.charge(&gas, from, to),
+        );
+        assert_same(rt, number, &shown, &(*is_accepted, *fee, *charge));
+    }
+    Ok(())
+}
+
+/// The view of the same client at 200 s.
+fn check_moment(rt: &impl Abort, view: &ClientView) -> Result<(), Fail> {
+    let window = Window::at(moment(200 * SECOND)?);
+    let (options, fees, stored) = (view.options(), view.fees(), view.stored());
+    let view = ClientView::new(options, fees, stored, window, view.book());
+    assert_same(rt, &"window", &view.window(), &window);
+    assert!(rt; view.accepts(height(1)?, height(4)?));
+    Ok(())
+}
+
 #[test]
 fn shows_a_view(rt: HostRuntime) -> Result<(), Fail> {
     let book = make_book(rt.alloc())?;
     let stored = [height(1)?, height(7)?];
-    assert!(rt; !are_known(&[stored[1], stored[0]], &book));
-    assert!(rt; !are_known(&[stored[0], height(2)?], &book));
-    assert!(rt; are_known(&stored, &book));
-    let fees = FeeTable::new(100, 1, 1)?;
-    let window = Window::new(moment(200 * SECOND)?, moment(1_010 * SECOND)?)?;
-    let view = ClientView::new(options()?, fees, &stored, window, &book);
-    for (number, is_stored, is_live) in [
-        (1, true, false),
-        (2, false, false),
-        (4, false, true),
-        (7, true, true),
-    ] {
-        let at = height(number)?;
-        assert_eq!(rt; view.is_stored(at), is_stored, "{number}");
-        assert_eq!(rt; view.is_live(at), is_live, "{number}");
-        assert_eq!(rt; view.is_source(at), is_stored && is_live, "{number}");
-    }
-    let gas = FeeTable::new(0, 0, 5)?;
-    for (trusted, number, is_accepted, fee, charge) in [
-        (1, 4, false, 111, 40),
-        (4, 5, true, 111, 40),
-        (5, 4, false, 111, 40),
-        (7, 5, false, 107, 20),
-        (1, 7, false, 0, 0),
-    ] {
-        let (from, to) = (height(trusted)?, height(number)?);
-        assert_eq!(rt; view.accepts(from, to), is_accepted, "{trusted} {number}");
-        assert_eq!(rt; view.fee(from, to), fee, "{trusted} {number}");
-        assert_eq!(rt; view.charge(&gas, from, to), charge, "{trusted} {number}");
-    }
-    let window = Window::at(moment(200 * SECOND)?);
-    let view = ClientView::new(
-        view.options(),
-        view.fees(),
-        view.stored(),
-        window,
-        view.book(),
-    );
-    assert_eq!(rt; view.window(), window);
-    assert!(rt; view.accepts(height(1)?, height(4)?));
-    Ok(())
+    let view = view_until(&rt, &book, &stored, 1_010)?;
+    check_heights(&rt, &view)?;
+    check_steps(&rt, &view)?;
+    check_moment(&rt, &view)
 }
