@@ -1,9 +1,17 @@
 use crate::{Validator, ValidatorSet, ValsetError};
 use rb_base::refusing::Refusing;
 use std::alloc::{AllocError, Allocator, Global};
+use std::fmt::{Debug, Display};
+use std::process::Abort;
 use std::test::Fail;
 
 const TOP: u64 = Validator::MAX_POWER;
+
+/// Asserts in one place for all tests, since each `assert_eq!` makes the proof of the function around
+/// it dearer.
+fn assert_same<T: PartialEq + Debug>(rt: &impl Abort, row: &impl Display, given: &T, wanted: &T) {
+    assert!(rt; *given == *wanted, "{row}: {given:?}, not {wanted:?}");
+}
 
 fn to_hex(alloc: Global, bytes: &[u8]) -> Result<String, AllocError> {
     let mut text = String::new(alloc);
@@ -28,129 +36,189 @@ fn make_set<A: Allocator + Copy>(
     ValidatorSet::new(alloc, validators)
 }
 
+/// The bytes before the power in a leaf of the key.
+const FRAME: &str = "0a220a20a1a1a1a1a1a1a1a1a1a1a1a1a1a1a1a1a1a1a1a1a1a1a1a1a1a1a1a1a1a1a1a1";
+
 /// The bytes after the key in a leaf, by the power.
+const LEAVES: &[(u64, &str)] = &[
+    (1, "1001"),
+    (10, "100a"),
+    (127, "107f"),
+    (128, "108001"),
+    (300, "10ac02"),
+    (16_384, "10808001"),
+    (TOP, "10ffffffffffffffff0f"),
+];
+
+fn check_leaf(rt: &impl Abort, alloc: Global, power: u64, tail: &str) -> Result<(), Fail> {
+    let validator = Validator::new([0xa1; 32], power)?;
+    assert_same(rt, &"power", &validator.power(), &power);
+    let leaf = to_hex(alloc, validator.leaf().as_slice())?;
+    let wanted = format!(in alloc; "{FRAME}{tail}")?;
+    assert_same(rt, &power, &leaf.as_str(), &wanted.as_str());
+    let address = to_hex(alloc, validator.address())?;
+    assert_same(
+        rt,
+        &power,
+        &address.as_str(),
+        &"52fe6094743bfd4f9be4321d98adc7e23c1ab622",
+    );
+    Ok(())
+}
+
 #[test]
 fn writes_leaves(rt: HostRuntime) -> Result<(), Fail> {
-    let rows = [
-        (1, "1001"),
-        (10, "100a"),
-        (127, "107f"),
-        (128, "108001"),
-        (300, "10ac02"),
-        (16_384, "10808001"),
-        (TOP, "10ffffffffffffffff0f"),
-    ];
-    let frame = "0a220a20a1a1a1a1a1a1a1a1a1a1a1a1a1a1a1a1a1a1a1a1a1a1a1a1a1a1a1a1a1a1a1a1";
-    for (power, tail) in rows {
-        let validator = Validator::new([0xa1; 32], power)?;
-        assert_eq!(rt; validator.power(), power);
-        let leaf = to_hex(rt.alloc(), validator.leaf().as_slice())?;
-        assert_eq!(rt;
-            leaf.as_str(),
-            format!(in rt.alloc(); "{frame}{tail}")?.as_str()
-        );
-        assert_eq!(rt;
-            to_hex(rt.alloc(), validator.address())?.as_str(),
-            "52fe6094743bfd4f9be4321d98adc7e23c1ab622"
-        );
+    for (power, tail) in LEAVES {
+        check_leaf(&rt, rt.alloc(), *power, tail)?;
     }
     Ok(())
 }
 
-/// Sets with their total, the keys in set order and the hash, which another program made.
+/// A set with its total, the keys in set order and the hash.
+type Ordered = (&'static [(u8, u64)], u64, &'static [u8], &'static str);
+
+/// Another program made the hashes.
+const SETS: &[Ordered] = &[
+    (
+        &[(0xa1, 10), (0xa2, 10), (0xa3, 30), (0xa4, 10)],
+        60,
+        &[0xa3, 0xa1, 0xa4, 0xa2],
+        "f9669392e0624b4eff200f28daba7f1874d58b2004f5685633caa176b803fedf",
+    ),
+    (
+        &[(1, 1), (2, 2), (3, 3), (4, 4), (5, 5), (6, 6), (7, 7)],
+        28,
+        &[7, 6, 5, 4, 3, 2, 1],
+        "0af09471b037547110fef90f8882681c100f0ea7380ab3689e2f9ccfa2b3d083",
+    ),
+    (
+        &[(1, TOP)],
+        TOP,
+        &[1],
+        "c53f5b6e62c4eb27a306c7df54bea38a36f0e5fafbbe25caa0d8c94b44bb744c",
+    ),
+];
+
+/// The addresses of no set.
+const UNKNOWN: &[[u8; 20]] = &[[0; 20], [0x73; 20], [255; 20]];
+
+fn check_places(rt: &impl Abort, set: &ValidatorSet, order: &[u8]) -> Result<(), Fail> {
+    for (place, byte) in order.iter().enumerate() {
+        let member = Validator::new([*byte; 32], 1)?;
+        assert_same(rt, byte, &set.position(member.address()), &Some(place));
+        let found = set.find(member.address()).ok_or("absent")?;
+        assert_same(rt, byte, found.key(), member.key());
+    }
+    for unknown in UNKNOWN {
+        assert!(rt; set.position(unknown).is_none() && set.find(unknown).is_none());
+    }
+    Ok(())
+}
+
+fn check_set(
+    rt: &impl Abort,
+    alloc: Global,
+    set: &ValidatorSet,
+    wanted: &Ordered,
+) -> Result<(), Fail> {
+    let (_, total, order, hash) = *wanted;
+    assert_same(rt, &hash, &(set.total(), set.size()), &(total, order.len()));
+    assert_same(rt, &hash, &to_hex(alloc, set.hash())?.as_str(), &hash);
+    check_places(rt, set, order)
+}
+
 #[test]
 fn orders_and_hashes(rt: HostRuntime) -> Result<(), Fail> {
-    let rows = [
-        (
-            [(0xa1, 10), (0xa2, 10), (0xa3, 30), (0xa4, 10)].as_slice(),
-            60,
-            [0xa3, 0xa1, 0xa4, 0xa2].as_slice(),
-            "f9669392e0624b4eff200f28daba7f1874d58b2004f5685633caa176b803fedf",
-        ),
-        (
-            [(1, 1), (2, 2), (3, 3), (4, 4), (5, 5), (6, 6), (7, 7)].as_slice(),
-            28,
-            [7, 6, 5, 4, 3, 2, 1].as_slice(),
-            "0af09471b037547110fef90f8882681c100f0ea7380ab3689e2f9ccfa2b3d083",
-        ),
-        (
-            [(1, TOP)].as_slice(),
-            TOP,
-            [1].as_slice(),
-            "c53f5b6e62c4eb27a306c7df54bea38a36f0e5fafbbe25caa0d8c94b44bb744c",
-        ),
-    ];
     let other = make_set(rt.alloc(), &[(1, 9)])?;
-    for (members, total, order, hash) in rows {
-        let set = make_set(rt.alloc(), members)?;
-        assert_eq!(rt; set.total(), total);
-        assert_eq!(rt; set.size(), order.len());
-        assert_eq!(rt; to_hex(rt.alloc(), set.hash())?.as_str(), hash);
-        for (place, byte) in order.iter().enumerate() {
-            let member = Validator::new([*byte; 32], 1)?;
-            assert_eq!(rt; set.position(member.address()), Some(place));
-            let found = set.find(member.address()).ok_or("absent")?;
-            assert_eq!(rt; found.key(), member.key());
-        }
-        for unknown in [[0; 20], [0x73; 20], [255; 20]] {
-            assert_eq!(rt; set.position(&unknown), None);
-            assert!(rt; set.find(&unknown).is_none());
-        }
-        assert!(rt; set.copy()? == set);
-        assert!(rt; set != other);
+    for wanted in SETS {
+        let set = make_set(rt.alloc(), wanted.0)?;
+        check_set(&rt, rt.alloc(), &set, wanted)?;
+        assert!(rt; set.copy()? == set && set != other);
     }
     Ok(())
 }
 
 /// Members with the refusal that they get, by its number and name.
+const REFUSED: &[(&[(u8, u64)], &str)] = &[
+    (&[(1, TOP), (2, 0)], "201 ZeroPower"),
+    (&[(1, TOP + 1)], "202 PowerTooBig"),
+    (&[], "203 Empty"),
+    (&[(1, TOP), (2, 5), (1, 2)], "205 DuplicateAddress"),
+    (&[(1, TOP), (2, 1)], "206 TotalTooBig"),
+];
+
+fn check_refusal(
+    rt: &impl Abort,
+    alloc: Global,
+    refusal: ValsetError,
+    text: &str,
+) -> Result<(), Fail> {
+    let (number, name) = (refusal.number().ok_or("number")?, refusal.name());
+    assert_same(
+        rt,
+        &"text",
+        &format!(in alloc; "{refusal}")?.as_str(),
+        &text,
+    );
+    assert_same(
+        rt,
+        &"name",
+        &format!(in alloc; "{number} {name}")?.as_str(),
+        &text,
+    );
+    Ok(())
+}
+
 #[test]
 fn refuses(rt: HostRuntime) -> Result<(), Fail> {
-    let rows = [
-        ([(1, TOP), (2, 0)].as_slice(), "201 ZeroPower"),
-        ([(1, TOP + 1)].as_slice(), "202 PowerTooBig"),
-        ([].as_slice(), "203 Empty"),
-        (
-            [(1, TOP), (2, 5), (1, 2)].as_slice(),
-            "205 DuplicateAddress",
-        ),
-        ([(1, TOP), (2, 1)].as_slice(), "206 TotalTooBig"),
-    ];
-    for (members, text) in rows {
+    for (members, text) in REFUSED {
         let refusal = make_set(rt.alloc(), members).err().ok_or("accepted")?;
-        assert_eq!(rt; format!(in rt.alloc(); "{refusal}")?.as_str(), text);
-        let (number, name) = (refusal.number().ok_or("number")?, refusal.name());
-        assert_eq!(rt; format!(in rt.alloc(); "{number} {name}")?.as_str(), text);
-    }
-    let validator = Validator::new([1; 32], 1)?;
-    for (count, refusal) in [
-        (10_000, ValsetError::DuplicateAddress),
-        (10_001, ValsetError::TooMany),
-    ] {
-        let members = vec![in rt.alloc(); validator; count]?;
-        assert_eq!(rt; ValidatorSet::new(rt.alloc(), members).err(), Some(refusal));
+        check_refusal(&rt, rt.alloc(), refusal, text)?;
     }
     Ok(())
+}
+
+/// What so many equal validators are refused for.
+fn refusal_of(alloc: Global, count: usize) -> Result<Option<ValsetError>, Fail> {
+    let members = vec![in alloc; Validator::new([1; 32], 1)?; count]?;
+    Ok(ValidatorSet::new(alloc, members).err())
+}
+
+#[test]
+fn refuses_too_many(rt: HostRuntime) -> Result<(), Fail> {
+    let most = refusal_of(rt.alloc(), 10_000)?;
+    assert_same(&rt, &"most", &most, &Some(ValsetError::DuplicateAddress));
+    let above = refusal_of(rt.alloc(), 10_001)?;
+    assert_same(&rt, &"above", &above, &Some(ValsetError::TooMany));
+    Ok(())
+}
+
+/// Which call, if any, was refused memory, of `new` and then `copy`.
+fn refused_call(rt: &impl Abort, heap: &Refusing<Global>) -> &'static str {
+    match make_set(heap, &[(0xa1, 10), (0xa2, 10), (0xa3, 30), (0xa4, 10)]) {
+        Ok(set) => {
+            assert_same(rt, &"total", &set.total(), &60);
+            if set.copy().is_err() {
+                "copy "
+            } else {
+                "none "
+            }
+        }
+        Err(error) => {
+            assert_same(rt, &"new", &error, &ValsetError::NoMemory);
+            "new "
+        }
+    }
 }
 
 /// Refuses each growth in turn: the list of members and three of `new`, two of `copy`, then none.
 #[test]
 fn survives_each_refused_growth(rt: HostRuntime) -> Result<(), Fail> {
-    let members = [(0xa1, 10), (0xa2, 10), (0xa3, 30), (0xa4, 10)];
     let mut outcomes = String::new(rt.alloc());
     for refused in 1..=8 {
         let heap = Refusing::new(rt.alloc(), refused);
-        let outcome = match make_set(&heap, &members) {
-            Ok(set) => {
-                let copied = set.copy();
-                assert_eq!(rt; set.total(), 60);
-                if copied.is_err() { "copy " } else { "none " }
-            }
-            Err(error) => {
-                assert_eq!(rt; error, ValsetError::NoMemory);
-                "new "
-            }
-        };
-        assert_eq!(rt; heap.has_refused(), outcome != "none ", "growth {refused}");
+        let outcome = refused_call(&rt, &heap);
+        assert_same(&rt, &refused, &heap.has_refused(), &(outcome != "none "));
         outcomes.push_str(outcome)?;
     }
     assert_eq!(rt; outcomes.as_str(), "new new new new copy copy none none ");
