@@ -14,7 +14,8 @@ use Rattle.rb_step.specs.StepRule.{Step, step_of, Accepts, AcceptsWithin}
 use Rattle.rb_step.specs.View.{View, IsView, client_of}
 use Rattle.rb_plan.proofs.Lookups.{find-at, find-some, pairs_from_increasing}
 use Rattle.rb_cert.specs.Refused.{IsRefusedLike}
-use Rattle.rb_cert.proofs.Known.{records_rise, bind_some}
+use Rattle.rb_step.proofs.Orderly.{bind_some}
+use Rattle.rb_cert.proofs.Known.{records_rise}
 use Rattle.rb_cert.proofs.Rising.{at_place, lower_before}
 
 bind_is : {A B : Type 0} (o : Option A) (f : A → Option B) (x : A) → o ≡ Some x → (o >>= f) ≡ f x

@@ -5,26 +5,17 @@ use Rattle.std.specs.List.Sorted.{IsStrictlyIncreasing, IsBinarySearchResult}
 use Rattle.std.specs.Ordering.{nat_cmp}
 use Rattle.std.proofs.lemmas.Bool.{cases_lt, lt-ltb, le-ltb, eq-eqb, ne_eqb}
 use Rattle.std.proofs.lemmas.List.Folds.{list_any_at, list_any_none}
-use Rattle.std.proofs.lemmas.List.Kept.{AllPairs-from_increasing}
 use Rattle.std.proofs.lemmas.List.Sorted.{searched}
-use Rattle.std.proofs.lemmas.List.Sums.{sum_by-cons}
 use Rattle.std.proofs.lemmas.List.{get_or_default}
 use Rattle.std.proofs.lemmas.List.Edits.{length-insert, get_or-insert_below, get_or-insert_at, get_or-insert_above}
 use Rattle.std.proofs.lemmas.Result.{MatchResult-at_ok, MatchResult-at_err}
+use Rattle.rb_book.proofs.Rising.{count-step}
+use Rattle.rb_step.proofs.Heights.{not_falling}
 use Rattle.rb_super.specs.State.{with_height}
-
-not_falling : (xs : List ℕ) → IsStrictlyIncreasing xs → (i j : ℕ) → i ≤ j → j < length xs → get_or xs i 0 ≤ get_or xs j 0
-not_falling xs up i j le lt = elim (cases_lt i j) [
-  | inl less ↦ (let e = AllPairs-from_increasing xs up i j 0 less lt in omega (arith, e))
-  | inr more ↦ (let e : i ≡ j = omega arith in rw e (omega arith))
-]
 
 -- the numbers before a place are lower, and those from it on are higher
 abbrev IsGap : List ℕ → ℕ → ℕ → Type 0
 IsGap xs x i = (i ≤ length xs) × ((k : ℕ) → k < i → get_or xs k 0 < x) × ((k : ℕ) → i ≤ k → k < length xs → x < get_or xs k 0)
-
-count-step : (p : ℕ → Bool) (x : ℕ) (xs : List ℕ) (b : Bool) → p x ≡ b → count_by p (x ∷ xs) ≡ cond b 1 0 + count_by p xs
-count-step p x xs b e = sum_by-cons (λ y. cond (p y) 1 0) x xs ∙ ap (λ (c : Bool). cond c 1 0 + count_by p xs) e
 
 -- as many are lower as stand before the gap
 lower_count : (xs : List ℕ) (x i : ℕ) → IsGap xs x i → count_by (λ y. nat_lt y x) xs ≡ i

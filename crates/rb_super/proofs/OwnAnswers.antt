@@ -1,5 +1,5 @@
 -- The answer of a report is right where its client is planned.
-use Rattle.std.proofs.Common.{◌≡◌, ℕ, zero, suc, List, [], ◌∷◌, Option, Some, None, IfSome, MatchOption, Bool, is_some, cond, length, map, take, slice_get, ◌<◌, refl, sym, ap, ◌∙◌, subst}
+use Rattle.std.proofs.Common.{◌≡◌, ℕ, zero, suc, List, [], ◌∷◌, Option, Some, None, IfSome, MatchOption, is_some, cond, length, map, take, slice_get, ◌<◌, sym, ap, ◌∙◌, subst}
 use Rattle.std.specs.List.{AllZip}
 use Rattle.std.specs.Option.{option_map}
 use Rattle.rb_batch.specs.Laws.{LeastCutIsOne}
@@ -7,7 +7,7 @@ use Rattle.rb_cert.specs.declared.verdict.Verdict2.{Verdict2}
 use Rattle.rb_cert.specs.declared.verdict.Verdict2.TheVariants.{Yes}
 use Rattle.rb_plan.specs.declared.goal.Goal.{Goal}
 use Rattle.rb_plan.specs.Answer.{Shows}
-use Rattle.rb_plan.specs.Labelling.{Labels, IsExact, label_of}
+use Rattle.rb_plan.specs.Labelling.{Labels, IsExact}
 use Rattle.rb_plan.specs.Laws.{AnswersAreOne}
 use Rattle.rb_plan.specs.Least.{IsUnreachable}
 use Rattle.rb_step.specs.LightClient.{Update}
@@ -15,12 +15,12 @@ use Rattle.rb_step.specs.View.{View, client_of}
 use Rattle.rb_super.specs.declared.script.ClientConfig.{ClientConfig}
 use Rattle.rb_super.specs.Goal.{goal_of}
 use Rattle.rb_super.specs.Judging.{Leads, IsPlanPhase, view_in, planned_goal, claim_in, IsReported}
-use Rattle.rb_super.specs.Report.{Plan, Planned, Outcome, planned, ClientReport, TurnReport, Report}
+use Rattle.rb_super.specs.Report.{Plan, Planned, planned, TurnReport, Report}
 use Rattle.rb_super.specs.Script.{Script, Turn}
 use Rattle.rb_super.specs.State.{KnownClient, State, opening}
-use Rattle.rb_super.specs.Turns.{update_of, IsPlan, IsPlanned, IsOutcome, IsClientReport, IsTurnReport, AreTurnReports, IsReportOf, before_plans, after_turn}
+use Rattle.rb_super.specs.Turns.{update_of, IsPlan, IsPlanned, IsOutcome, IsClientReport, IsTurnReport, AreTurnReports, IsReportOf, after_turn}
 use Rattle.rb_super.proofs.OneReport.{one_turn}
-use Rattle.rb_super.proofs.Phases.{found}
+use Rattle.rb_graph.proofs.Walk.{there}
 
 zipped_at : {X Y : Type 0} (R : X → Y → Type 0) (xs : List X) (ys : List Y) (i : ℕ) (x : X) (y : Y) → AllZip R xs ys → slice_get xs i ≡ Some x → slice_get ys i ≡ Some y → R x y
 zipped_at R [] ys i x y all a b = cc
@@ -62,7 +62,7 @@ pub own_answer : AnswersAreOne → LeastCutIsOne → (script : Script) (turn cli
     → Shows (client_of (view_in s c)) goal claim → verdict ≡ Some Yes)
     → (report : Report) → IsReportOf script report → IsReported report turn client labels claim → verdict ≡ Some Yes
 own_answer one cuts script turn client labels claim s verdict phase within accepts report all own =
-    let at = found s.clients client within in
+    let at = there s.clients client within in
     let c = at.0 in
     let v = view_in s c in
     let of_turn : IsTurnReport phase.begun phase.this own.of_turn =

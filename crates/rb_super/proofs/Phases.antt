@@ -6,6 +6,7 @@ use Rattle.std.specs.declared.alloc.AllocError.{AllocError}
 use Rattle.std.proofs.lemmas.List.{map_more, take-map, get_or-map, length-map}
 use Rattle.std.proofs.lemmas.List.Elements.{All-take}
 use Rattle.std.proofs.lemmas.Option.{slice_get-get_or}
+use Rattle.rb_graph.proofs.Walk.{there}
 use Rattle.rb_cert.specs.declared.verdict.Verdict2.{Verdict2}
 use Rattle.rb_cert.specs.declared.verdict.Verdict2.TheVariants.{Yes}
 use Rattle.rb_plan.specs.Labelling.{Labels}
@@ -44,10 +45,6 @@ at_place turns items i t same lt at =
     slice_get-get_or (map turn_view turns) i (turn_view t) (omega (arith, length-map turns turn_view))
     ∙ ap Some (get_or-map turn_view turns i t (turn_view t) lt ∙ ap turn_view (ap (λ xs. get_or xs i t) (sym same) ∙ sym at))
 
-pub found : {X : Type 0} (xs : List X) (i : ℕ) → i < length xs → (x : X) × (slice_get xs i ≡ Some x)
-found [] i lt = absurd (omega arith)
-found (x ∷ xs) i lt = (get_or (x ∷ xs) i x, slice_get-get_or (x ∷ xs) i x lt)
-
 -- what a yes says of the client at a place
 pub right_in : (script : Script) (turn client : ℕ) (labels : Labels) (claim : Option (List Update)) (s : State) (verdict : Option Verdict2)
     → IsPlanPhase script turn s → client < length s.clients
@@ -55,7 +52,7 @@ pub right_in : (script : Script) (turn client : ℕ) (labels : Labels) (claim : 
     → ◌≡◌ {A = Result (Option Verdict2) AllocError} (Ok verdict) (Ok (Some Yes)) → IsRightIn script turn client labels claim
 right_in script turn client labels claim s verdict phase within right answered =
     let said : verdict ≡ Some Yes = ap (λ (r : Result (Option Verdict2) AllocError). unwrap_or (result_ok r) verdict) answered in
-    let at = found s.clients client within in
+    let at = there s.clients client within in
     record {
       known = at.0;
       view = view_in s at.0;

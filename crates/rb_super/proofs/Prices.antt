@@ -11,6 +11,7 @@ use Rattle.rb_plan.specs.Least.{IsLeast}
 use Rattle.rb_plan.specs.Order.{IsCheaper, CostsAtMost, cost_of}
 use Rattle.rb_step.specs.LightClient.{Update, Client, total_fee}
 use Rattle.rb_step.specs.View.{View, client_of}
+use Rattle.rb_plan.proofs.Costs.{same_cost}
 use Rattle.rb_super.specs.declared.script.ClientConfig.{ClientConfig}
 use Rattle.rb_super.specs.declared.report.PricedUpdate.{PricedUpdate}
 use Rattle.rb_super.specs.Priced.{priced_by}
@@ -34,9 +35,6 @@ total-priced client (u ∷ us) =
 length-priced : (client : Client) (us : List Update) → length (map (priced_by client) us) ≡ length us
 length-priced client [] = refl
 length-priced client (u ∷ us) = ap (λ n. suc n) (length-priced client us)
-
-same_cost : (a b : Cost) → a.fee ≡ b.fee → a.count ≡ b.count → a ≡ b
-same_cost a b p q = λ i. record { fee = p i; count = q i }
 
 -- the sum of the fees fits
 pub fees_fit : (client : Client) (us : List Update) (ps : List PricedUpdate) → ps ≡ map (priced_by client) us → total_fee client us < 2 ^ 63 → sum_by (λ (u : PricedUpdate). u.fee) ps < 2 ^ 64

@@ -1,4 +1,4 @@
-use Rattle.std.proofs.Common.{◌<◌, length, sym, subst}
+use Rattle.std.proofs.Common.{◌<◌, sym, subst}
 use Rattle.rb_plan.specs.Answer.{labels_of, claim_of}
 use Rattle.rb_super.specs.Script.{script_view}
 use Rattle.rb_super.proofs.OwnAnswers.{own_answer}

@@ -1,4 +1,4 @@
-use Rattle.std.proofs.Common.{ℕ, ◌<◌, length, map, ap, sym, subst, ◌∙◌}
+use Rattle.std.proofs.Common.{ℕ, ◌<◌, length, ap, sym, subst, ◌∙◌}
 use Rattle.rb_super.specs.Judging.{Leads}
 use Rattle.rb_super.specs.Script.{IsTurn, script_view, turn_view}
 use Rattle.rb_super.specs.State.{State, opening}
