@@ -13,7 +13,7 @@ use Rattle.rb_fields.specs.declared.fault.RunError.{RunError}
 use Rattle.rb_super.specs.declared.script.ClientConfig.{ClientConfig}
 use Rattle.rb_super.specs.Script.{Script}
 use Rattle.rb_text.specs.Certificates.{Certificate}
-use Rattle.rb_text.specs.Named.{known}
+use Rattle.rb_script.specs.Named.{known}
 use Rattle.rb_text.specs.Verdicts.{Case, case_in, case_of, is_yes, IsRightCase, IsCertified}
 
 abbrev made : Script → Certificate → ℕ → ℕ → Case

@@ -1,10 +1,4 @@
-pub mod Steps
-pub mod Positions
 pub mod Beginnings
-pub mod Documents
 pub mod Labels
-pub mod NamesLemmas
 pub mod Numbered
-pub mod SetsLemmas
-pub mod Forms
 pub mod Cases

@@ -13,7 +13,7 @@ use Rattle.rb_fields.specs.declared.fault.FaultName.TheVariants.{BadVersion, Out
 use Rattle.rb_text.specs.declared.certificate.AnswerKind.{AnswerKind}
 use Rattle.rb_text.specs.declared.certificate.AnswerKind.TheVariants.{Plan, Unreachable}
 use Rattle.rb_text.specs.declared.certificate.Certificate.{Certificate as CodeCertificate}
-use Rattle.rb_text.specs.Documents.{document}
+use Rattle.rb_script.specs.Documents.{document}
 
 -- the turn by its number from 1, the client, the list of updates that is claimed to be the least or that there is none, and the labels
 pub record Certificate : Type 0 where

@@ -6,7 +6,7 @@ use Rattle.rb_super.specs.Report.{Report}
 use Rattle.rb_super.specs.Script.{Script}
 use Rattle.rb_super.specs.Turns.{IsReportOf}
 use Rattle.rb_text.specs.Report.{text}
-use Rattle.rb_text.specs.Scripts.{script_of}
+use Rattle.rb_script.specs.Scripts.{script_of}
 
 -- the bytes hold a script, and this is its report: for each client and turn the least list of updates, with the exact
 -- labelling and the least cut

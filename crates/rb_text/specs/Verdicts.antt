@@ -19,8 +19,8 @@ use Rattle.rb_super.specs.Report.{Report}
 use Rattle.rb_super.specs.Script.{Script, script_view}
 use Rattle.rb_text.specs.declared.case.Case.{Case as CodeCase}
 use Rattle.rb_text.specs.Certificates.{Certificate, certificate_of, certificate_view}
-use Rattle.rb_text.specs.Named.{known}
-use Rattle.rb_text.specs.Scripts.{script_of}
+use Rattle.rb_script.specs.Named.{known}
+use Rattle.rb_script.specs.Scripts.{script_of}
 
 -- ---- the line of a verdict
 

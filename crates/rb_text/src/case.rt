@@ -1,5 +1,5 @@
 //! What is judged: a certificate for a script.
-ghost use Rattle.std.specs.Prelude.{◌≡◌, ◌<◌, ℕ, Ok, Some, None, length, codes, IfOk, IsErrOf};
+ghost use Rattle.std.specs.Prelude.{◌≡◌, ◌<◌, Ok, Some, None, length, IfOk, IsErrOf};
 ghost use Rattle.rb_fields.specs.declared.fault.Fault.{Fault as CodeFault};
 ghost use Rattle.rb_fields.specs.Faults.{Gives, fault_view};
 ghost use Rattle.rb_super.specs.Report.{Report};
@@ -9,10 +9,9 @@ ghost use Rattle.rb_text.specs.Certificates.{certificate_view};
 ghost use Rattle.rb_text.specs.Verdicts.{case_view, case_in, case_of, IsVerdictOf, IsRightCase, IsReportedCase, no_goal};
 
 use crate::certificate::{Certificate, read_certificate};
-use crate::named::place_of;
-use crate::script::read_script;
 use rb_cert::Verdict2;
 use rb_fields::{FaultName, RunError, fault_at};
+use rb_script::{place_of, read_script};
 use rb_super::{Script, judge};
 use std::alloc::Global;
 
@@ -26,7 +25,7 @@ pub struct Case {
 }
 
 /// Looks up the certificate's turn, and then its client.
-#[tactic(auto, using(crate::proofs::Steps::steps), unfolding(crate::specs::Verdicts::case_in))]
+#[tactic(auto, using(rb_fields::proofs::Steps::steps), unfolding(crate::specs::Verdicts::case_in))]
 fn case_in(alloc: Global, script: Script, certificate: Certificate) -> Result<Case, RunError>
     ensures read { Gives case_view result (case_in (script_view script) (certificate_view certificate)) }
     ensures script { IfOk result (λ c. c.script ≡ script) }
@@ -50,7 +49,7 @@ fn case_in(alloc: Global, script: Script, certificate: Certificate) -> Result<Ca
 
 /// Reads both texts, the script first, and looks up what the certificate names; or answers the
 /// first fault.
-#[tactic(auto, using(crate::proofs::Steps::steps), unfolding(crate::specs::Verdicts::case_of))]
+#[tactic(auto, using(rb_fields::proofs::Steps::steps), unfolding(crate::specs::Verdicts::case_of))]
 pub(crate) fn read_case(alloc: Global, script: &[u8], certificate: &[u8]) -> Result<Case, RunError>
     ensures read { Gives case_view result (case_of script.now certificate.now) }
     ensures script { IfOk result (λ c. IsScript (script_view c.script)) }

@@ -1,19 +1,18 @@
 //! The certificate of a text.
 ghost use Rattle.std.specs.Prelude.{◌<◌, ◌^◌, [], IfOk, OnOk, All, codes, map};
 ghost use Rattle.std.specs.List.Sorted.{IsStrictlyIncreasing};
-ghost use Rattle.toml.specs.View.{view, items_view, table_view};
+ghost use Rattle.toml.specs.View.{view, items_view};
 ghost use Rattle.rb_fields.specs.Faults.{Gives};
 ghost use Rattle.rb_fields.specs.Places.{element};
 ghost use Rattle.rb_fields.specs.Fields.{field_view, section_view, field_at, only, needs, optional, or_default, identifier};
-ghost use Rattle.rb_text.specs.Documents.{whole};
 ghost use Rattle.rb_text.specs.Certificates.{answer, update, updates, label, labels, each, rising, certificate_keys, certificate, certificate_of, certificate_view};
 
-use crate::document::read_table;
 use rb_base::{ClientId, Height};
 use rb_fields::{FaultName, Field, MAX_NUMBER, Place, RunError, Section, element_path};
 use rb_plan::{Answer, Cost, Label, Labelling, Update};
+use rb_script::read_table;
 use std::alloc::Global;
-use toml::{Table, Value};
+use toml::Value;
 
 /// A planner's answer for one client in one turn, whoever made it.
 #[derive(Debug, Drop)]
@@ -31,7 +30,7 @@ pub enum AnswerKind {
     Unreachable,
 }
 
-#[tactic(auto, using(crate::proofs::Steps::steps), unfolding(crate::specs::Certificates::answer))]
+#[tactic(auto, using(rb_fields::proofs::Steps::steps), unfolding(crate::specs::Certificates::answer))]
 fn read_answer(field: &Field<'_>) -> Result<AnswerKind, RunError>
     ensures { Gives (λ k. k) result (answer (field_view field.now)) }
 {
@@ -42,14 +41,14 @@ fn read_answer(field: &Field<'_>) -> Result<AnswerKind, RunError>
     }
 }
 
-#[tactic(auto, using(crate::proofs::Steps::steps))]
+#[tactic(auto, using(rb_fields::proofs::Steps::steps))]
 fn needed_answer(section: &Section<'_>) -> Result<AnswerKind, RunError>
     ensures { Gives (λ k. k) result (needs (codes "answer") answer (section_view section.now)) }
 {
     read_answer(&section.required("answer")?)
 }
 
-#[tactic(auto, using(crate::proofs::Steps::steps), unfolding(crate::specs::Certificates::update))]
+#[tactic(auto, using(rb_fields::proofs::Steps::steps), unfolding(crate::specs::Certificates::update))]
 fn read_update(field: &Field<'_>) -> Result<Update, RunError>
     ensures { Gives (λ u. u) result (update (field_view field.now)) }
 {
@@ -59,7 +58,7 @@ fn read_update(field: &Field<'_>) -> Result<Update, RunError>
     Ok(Update::new(Height::new(height).unwrap(), Height::new(trusted).unwrap()))
 }
 
-#[tactic(auto, using(crate::proofs::Steps::steps))]
+#[tactic(auto, using(rb_fields::proofs::Steps::steps))]
 fn read_update_at(alloc: Global, index: usize, value: &Value) -> Result<Update, RunError>
     ensures { Gives (λ u. u) result (update (field_at (element (codes "updates") index) (view value.now))) }
 {
@@ -87,14 +86,14 @@ fn read_updates(alloc: Global, items: &[Value]) -> Result<Vec<Update>, RunError>
     Ok(updates)
 }
 
-#[tactic(auto, using(crate::proofs::Steps::steps), unfolding(crate::specs::Certificates::updates))]
+#[tactic(auto, using(rb_fields::proofs::Steps::steps), unfolding(crate::specs::Certificates::updates))]
 fn updates(field: &Field<'_>) -> Result<Vec<Update>, RunError>
     ensures { Gives (λ v. v.items) result (updates (field_view field.now)) }
 {
     read_updates(field.alloc, field.items()?)
 }
 
-#[tactic(auto, using(crate::proofs::Steps::steps))]
+#[tactic(auto, using(rb_fields::proofs::Steps::steps))]
 fn updates_or_none(section: &Section<'_>) -> Result<Vec<Update>, RunError>
     ensures { Gives (λ v. v.items) result (or_default [] updates (optional (codes "updates") (section_view section.now))) }
 {
@@ -104,7 +103,7 @@ fn updates_or_none(section: &Section<'_>) -> Result<Vec<Update>, RunError>
     }
 }
 
-#[tactic(auto, using(crate::proofs::Steps::steps), unfolding(crate::specs::Certificates::label))]
+#[tactic(auto, using(rb_fields::proofs::Steps::steps), unfolding(crate::specs::Certificates::label))]
 fn read_label(field: &Field<'_>) -> Result<Label, RunError>
     ensures read { Gives (λ l. l) result (label (field_view field.now)) }
     ensures small { IfOk result (λ l. (l.cost.fee < 2 ^ 63) × (l.cost.count < 2 ^ 63)) }
@@ -119,7 +118,7 @@ fn read_label(field: &Field<'_>) -> Result<Label, RunError>
     })
 }
 
-#[tactic(auto, using(crate::proofs::Steps::steps))]
+#[tactic(auto, using(rb_fields::proofs::Steps::steps))]
 fn read_label_at(alloc: Global, index: usize, value: &Value) -> Result<Label, RunError>
     ensures read { Gives (λ l. l) result (label (field_at (element (codes "labels") index) (view value.now))) }
     ensures small { IfOk result (λ l. (l.cost.fee < 2 ^ 63) × (l.cost.count < 2 ^ 63)) }
@@ -169,7 +168,7 @@ fn judge_order(alloc: Global, labels: &[Label]) -> Result<(), RunError>
     Ok(())
 }
 
-#[tactic(auto, using(crate::proofs::Steps::steps), unfolding(crate::specs::Certificates::labels))]
+#[tactic(auto, using(rb_fields::proofs::Steps::steps), unfolding(crate::specs::Certificates::labels))]
 fn labels(field: &Field<'_>) -> Result<Labelling, RunError>
     ensures { Gives (λ l. l) result (labels (field_view field.now)) }
 {
@@ -178,7 +177,7 @@ fn labels(field: &Field<'_>) -> Result<Labelling, RunError>
     Ok(Labelling::new(labels))
 }
 
-#[tactic(auto, using(crate::proofs::Steps::steps))]
+#[tactic(auto, using(rb_fields::proofs::Steps::steps))]
 fn needed_labels(section: &Section<'_>) -> Result<Labelling, RunError>
     ensures { Gives (λ l. l) result (needs (codes "labels") labels (section_view section.now)) }
 {
@@ -191,7 +190,7 @@ fn only_certificate_keys(section: &Section<'_>) -> Result<(), RunError>
     section.only(&["version", "turn", "client", "answer", "updates", "labels"])
 }
 
-#[tactic(auto, using(crate::proofs::Steps::steps))]
+#[tactic(auto, using(rb_fields::proofs::Steps::steps))]
 fn needed_client(section: &Section<'_>) -> Result<ClientId, RunError>
     ensures { Gives (λ c. c) result (needs (codes "client") identifier (section_view section.now)) }
 {
@@ -199,7 +198,7 @@ fn needed_client(section: &Section<'_>) -> Result<ClientId, RunError>
     Ok(ClientId::new(id).unwrap())
 }
 
-#[tactic(auto, using(crate::proofs::Steps::steps), unfolding(crate::specs::Certificates::certificate))]
+#[tactic(auto, using(rb_fields::proofs::Steps::steps), unfolding(crate::specs::Certificates::certificate))]
 fn read_document(section: &Section<'_>) -> Result<Certificate, RunError>
     ensures { Gives certificate_view result (certificate (section_view section.now)) }
 {
@@ -229,7 +228,7 @@ fn read_document(section: &Section<'_>) -> Result<Certificate, RunError>
 
 /// Reads a certificate, or answers the first fault of its text. Whether the script has its turn and
 /// its client is not judged here.
-#[tactic(auto, using(crate::proofs::Steps::steps), unfolding(crate::specs::Certificates::certificate_of))]
+#[tactic(auto, using(rb_fields::proofs::Steps::steps), unfolding(crate::specs::Certificates::certificate_of))]
 pub fn read_certificate(alloc: Global, bytes: &[u8]) -> Result<Certificate, RunError>
     ensures { Gives certificate_view result (certificate_of bytes.now) }
 {

@@ -1,24 +1,15 @@
-//! The texts of a relayer's run: the script and the certificate that are read, the report that is
-//! written, `plan_over`, which goes from a script to its report, and `certify_over`, which judges a
+//! The texts of a relayer's run: the certificate that is read, the report that is written,
+//! `plan_over`, which goes from a script to its report, and `certify_over`, which judges a
 //! certificate for a script.
 #![tactic(auto)]
 
 mod case;
 mod certificate;
 mod certifying;
-mod client;
-mod document;
-mod event;
-mod limits;
-mod named;
-mod names;
 mod planning;
 mod report;
-mod script;
-mod set;
 #[cfg(test)]
 mod tests;
-mod turn;
 mod verdict;
 mod write;
 
@@ -26,5 +17,5 @@ pub use certificate::{Certificate, read_certificate};
 pub use certifying::certify_over;
 pub use planning::plan_over;
 pub use rb_fields::{Fault, FaultName, RunError};
-pub use script::read_script;
+pub use rb_script::read_script;
 pub use write::write_report;

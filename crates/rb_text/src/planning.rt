@@ -3,12 +3,12 @@ ghost use Rattle.std.specs.Prelude.{◌≡◌, ◌↔◌, ◌⊎◌, Err, true, 
 ghost use Rattle.rb_fields.specs.declared.fault.Fault.{Fault as CodeFault};
 ghost use Rattle.rb_fields.specs.Faults.{fault_view};
 ghost use Rattle.rb_text.specs.Headline.{WritesReport, BeginsReport};
-ghost use Rattle.rb_text.specs.Scripts.{script_of};
+ghost use Rattle.rb_script.specs.Scripts.{script_of};
 
-use crate::script::read_script;
 use crate::write::write_report;
 use rb_base::Sink;
 use rb_fields::RunError;
+use rb_script::read_script;
 use rb_super::run_script;
 use std::alloc::Global;
 

@@ -7,7 +7,7 @@ use Rattle.rb_super.specs.declared.script.ClientConfig.{ClientConfig}
 use Rattle.rb_super.specs.Script.{script_view, turn_view}
 use Rattle.rb_text.specs.Certificates.{certificate_view}
 use Rattle.rb_text.proofs.Cases.{case-found, case-unknown}
-use Rattle.rb_text.proofs.Steps.{fails-at}
+use Rattle.rb_fields.proofs.Steps.{fails-at}
 use Rattle.rb_text.proofs.case.case_in.Goals as goal
 
 pub returns-in-Some-clause-read : goal.returns-in-Some-clause-read

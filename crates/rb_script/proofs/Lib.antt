@@ -1,0 +1,5 @@
+pub mod Positions
+pub mod Documents
+pub mod NamesLemmas
+pub mod SetsLemmas
+pub mod Forms

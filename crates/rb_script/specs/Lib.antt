@@ -1,0 +1,11 @@
+pub use Rattle.rb_super.specs.Script
+pub use Rattle.rb_fields.specs.Faults
+pub mod Limits
+pub mod Documents
+pub mod Named
+pub mod Names
+pub mod Clients
+pub mod Sets
+pub mod Events
+pub mod Turns
+pub mod Scripts

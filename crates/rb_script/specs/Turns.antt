@@ -1,0 +1,100 @@
+-- The tables of goals and turns.
+use Rattle.std.specs.Prelude.{ℕ, ◌+◌, ◌-◌, List, [], ◌∷◌, codes, Option, Some, None, Result, Ok, Err, Bool, not, ◌==◌, nat_le}
+use Rattle.std.specs.List.{list_any}
+use Rattle.toml.specs.Data.{Items, no_items}
+use Rattle.toml.specs.View.{items_view}
+use Rattle.rb_base.specs.Window.{Span}
+use Rattle.rb_plan.specs.declared.goal.Goal.{Goal}
+use Rattle.rb_plan.specs.declared.goal.Goal.TheVariants.{Exactly, AtLeast}
+use Rattle.rb_super.specs.declared.script.ClientConfig.{ClientConfig}
+use Rattle.rb_super.specs.declared.script.Asked.{Asked}
+use Rattle.rb_super.specs.Script.{Turn}
+use Rattle.rb_fields.specs.Faults.{Fault, ◌>>=◌, fault, check}
+use Rattle.rb_fields.specs.Places.{child}
+use Rattle.rb_fields.specs.Fields.{Field, Section, items, items_count, only, needs, optional, or_default, height, time, elements, in_sequence}
+use Rattle.rb_fields.specs.declared.fault.FaultName.TheVariants.{TwoGoals, TooManyEvents, BadWindow}
+use Rattle.rb_script.specs.declared.turn.Reading.{Reading as CodeReading}
+use Rattle.rb_script.specs.declared.turn.Frame.{Frame as CodeFrame}
+use Rattle.rb_script.specs.Named.{reference}
+use Rattle.rb_script.specs.Names.{Names, names_of}
+use Rattle.rb_script.specs.Clients.{client_ids}
+use Rattle.rb_script.specs.Events.{event}
+
+-- ---- goals
+
+-- exactly one of the two
+abbrev pub goal_of : Option ℕ → Option ℕ → Option Goal
+goal_of (Some h) None = Some (AtLeast h)
+goal_of None (Some h) = Some (Exactly h)
+goal_of (Some h) (Some k) = None
+goal_of None None = None
+
+abbrev pub one_goal : List ℕ → Option Goal → Result Goal Fault
+one_goal path (Some goal) = Ok goal
+one_goal path None = fault TwoGoals path
+
+-- a height, if the key is there
+abbrev pub maybe_height : Option Field → Result (Option ℕ) Fault
+maybe_height None = Ok None
+maybe_height (Some f) = height f >>= λ h. Ok (Some h)
+
+abbrev pub goal_keys : List (List ℕ)
+goal_keys = codes "client" ∷ codes "at_least" ∷ codes "exactly" ∷ []
+
+abbrev pub is_asked : ℕ → List Asked → Bool
+is_asked client before = list_any (λ g. g.client == client) before
+
+-- a goal, beside those before it in the turn
+unfoldable pub asked : List ClientConfig → List Asked → Section → Result Asked Fault
+asked clients before s = do
+  _ ← only goal_keys s
+  client ← needs (codes "client") (reference (client_ids clients)) s
+  least ← maybe_height (optional (codes "at_least") s)
+  exact ← maybe_height (optional (codes "exactly") s)
+  goal ← one_goal s.path (goal_of least exact)
+  _ ← check (not (is_asked client before)) TwoGoals s.path
+  Ok (record { client = client; goal = goal })
+
+-- ---- turns
+
+abbrev pub turn_keys : List (List ℕ)
+turn_keys = codes "from" ∷ codes "until" ∷ codes "goal" ∷ codes "event" ∷ []
+
+-- what a turn's own keys hold
+pub record Frame : Type 0 where
+  pub window : Span
+  pub goals : Items
+  pub events : Items
+
+abbrev pub frame_view : CodeFrame → Frame
+frame_view f = record { window = f.window; goals = items_view f.goals.now; events = items_view f.events.now }
+
+-- where at most so many goals and events may still stand
+unfoldable pub frame : ℕ → Section → Result Frame Fault
+frame room s = do
+  _ ← only turn_keys s
+  from ← needs (codes "from") time s
+  until ← needs (codes "until") time s
+  goals ← or_default no_items items (optional (codes "goal") s)
+  events ← or_default no_items items (optional (codes "event") s)
+  _ ← check (nat_le (items_count goals + items_count events) room) TooManyEvents s.path
+  _ ← check (nat_le from until) BadWindow s.path
+  Ok (record { window = record { from = from; until = until }; goals = goals; events = events })
+
+-- what the turns before leave to the next: the names that they gave, and room for so many goals and events
+pub record Reading : Type 0 where
+  pub names : Names
+  pub room : ℕ
+
+abbrev pub reading_view : CodeReading → Reading
+reading_view r = record { names = names_of r.names; room = r.room }
+
+unfoldable pub turn : List (List ℕ) → List ClientConfig → Reading → Section → Result (Turn × Reading) Fault
+turn chains clients reading s = do
+  f ← frame reading.room s
+  goals ← elements (asked clients) (child s.path (codes "goal")) [] f.goals
+  events ← in_sequence (event chains clients) (child s.path (codes "event")) reading.names [] f.events
+  Ok (
+    record { window = f.window; goals = goals; events = events.0 },
+    record { names = events.1; room = reading.room - (items_count f.goals + items_count f.events) },
+  )

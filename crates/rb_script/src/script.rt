@@ -1,0 +1,116 @@
+//! The script of a text.
+ghost use Rattle.std.specs.Prelude.{◌≡◌, [], IfOk, codes, map};
+ghost use Rattle.toml.specs.View.{items_view, table_view};
+ghost use Rattle.rb_super.specs.Script.{IsScript, script_view, turn_view};
+ghost use Rattle.rb_fields.specs.Faults.{Gives};
+ghost use Rattle.rb_fields.specs.Fields.{section_view, only, in_sequence};
+ghost use Rattle.rb_script.specs.Documents.{whole};
+ghost use Rattle.rb_script.specs.Turns.{turn, reading_view};
+ghost use Rattle.rb_script.specs.Scripts.{script, script_of, tables, tables_view, top_keys, opening};
+
+use crate::client::{read_chains, read_clients};
+use crate::document::read_table;
+use crate::limits::{MAX_CHAINS, MAX_CLIENTS, MAX_ENTRIES, MAX_PATHS, MAX_TURNS};
+use crate::names::SetNames;
+use crate::turn::{Reading, read_turn_at};
+use rb_base::ChainId;
+use rb_fields::{FaultName, RunError, Section};
+use rb_super::{ClientConfig, Script, Turn};
+use std::alloc::Global;
+use toml::{Table, Value};
+
+/// What the keys of the whole text hold.
+#[derive(Clone, Copy)]
+pub struct Tables<'a> {
+    pub chains: &'a [Value],
+    pub clients: &'a [Value],
+    pub turns: &'a [Value],
+}
+
+fn only_top_keys(section: &Section<'_>) -> Result<(), RunError>
+    ensures { Gives (λ u. u) result (only top_keys (section_view section.now)) }
+{
+    section.only(&["version", "chain", "client", "path", "turn"])
+}
+
+#[tactic(auto, using(rb_fields::proofs::Steps::steps), unfolding(crate::specs::Scripts::tables))]
+fn read_tables<'a>(section: Section<'a>) -> Result<Tables<'a>, RunError>
+    ensures { Gives tables_view result (tables (section_view section.entry)) }
+{
+    only_top_keys(&section)?;
+    let _version = section.number("version", 1, 1, FaultName::BadVersion)?;
+    let chains = section.array("chain", MAX_CHAINS)?;
+    let clients = section.array("client", MAX_CLIENTS)?;
+    let _paths = section.array("path", MAX_PATHS)?;
+    let turns = section.array("turn", MAX_TURNS)?;
+    Ok(Tables {
+        chains,
+        clients,
+        turns,
+    })
+}
+
+fn opening(alloc: Global) -> Reading
+    ensures { reading_view result ≡ opening }
+{
+    Reading {
+        names: SetNames::new(alloc),
+        room: MAX_ENTRIES,
+    }
+}
+
+fn read_turns(
+    alloc: Global,
+    items: &[Value],
+    chains: &[ChainId],
+    clients: &[ClientConfig],
+    reading: &mut Reading,
+) -> Result<Vec<Turn>, RunError>
+    ensures { Gives (λ v. (map turn_view v.items, reading_view reading.new)) result (in_sequence (turn chains.now clients.now) (codes "turn") (reading_view reading.old) [] (items_view items.now)) }
+{
+    let mut turns = Vec::with_capacity(alloc, items.len())?;
+    for value in items {
+        let turn = read_turn_at(turns.len(), value, chains, clients, reading)?;
+        turns.push(turn)?;
+    }
+    Ok(turns)
+}
+
+#[tactic(auto, using(rb_fields::proofs::Steps::steps), unfolding(crate::specs::Scripts::script))]
+fn read_document(alloc: Global, table: &Table) -> Result<Script, RunError>
+    ensures { Gives script_view result (script (whole (table_view table.now))) }
+{
+    let section = Section {
+        alloc,
+        path: "",
+        table,
+    };
+    let tables = read_tables(section)?;
+    let chains = read_chains(alloc, tables.chains)?;
+    let clients = read_clients(alloc, tables.clients, chains.as_slice())?;
+    let turns = read_turns(
+        alloc,
+        tables.turns,
+        chains.as_slice(),
+        clients.as_slice(),
+        &mut opening(alloc),
+    )?;
+    Ok(Script {
+        chains,
+        clients,
+        turns,
+    })
+}
+
+/// Reads the script that a text holds, or answers the first fault of the text, in the order of
+/// docs/FORMATS.md: the text as a whole, then each table by its keys, then what concerns several of
+/// them. In every script that it gives, identifiers differ, and what is named is there. `NoMemory`
+/// is answered where a growth is refused.
+#[tactic(auto, using(rb_fields::proofs::Steps::steps), unfolding(crate::specs::Scripts::script_of))]
+pub fn read_script(alloc: Global, bytes: &[u8]) -> Result<Script, RunError>
+    ensures read { Gives script_view result (script_of bytes.now) }
+    ensures form { IfOk result (λ s. IsScript (script_view s)) }
+{
+    let table = read_table(alloc, bytes)?;
+    read_document(alloc, &table)
+}
