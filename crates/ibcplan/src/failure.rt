@@ -1,5 +1,7 @@
 //! Why the program gave no result: the line that says so, and what to do about it where the line
 //! doesn't tell.
+ghost use Rattle.ibcplan.specs.Status.{IsFailureStatus};
+
 use crate::flaw::Flaw;
 use crate::status;
 use rb_fields::RunError;
@@ -30,7 +32,9 @@ impl<'a> Failure<'a> {
     }
 
     /// The status that the program ends with.
-    pub fn status(&self) -> u8 {
+    pub fn status(&self) -> u8
+        ensures { IsFailureStatus result }
+    {
         match self {
             Failure::Unreadable { .. } => status::FAILED,
             Failure::Flawed { error, .. } => error.status(),

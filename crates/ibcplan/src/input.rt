@@ -1,4 +1,6 @@
 //! The files that the program reads.
+ghost use Rattle.std.specs.Prelude.{◌≡◌};
+
 use crate::failure::Failure;
 use rb_fields::RunError;
 use std::alloc::Global;
@@ -41,7 +43,9 @@ impl<'a> Input<'a> {
     }
 
     /// The bytes.
-    pub fn bytes(&self) -> &[u8] {
+    pub fn bytes(&self) -> &[u8]
+        ensures { result.now ≡ self.now.bytes.items }
+    {
         self.bytes.as_slice()
     }
 }

@@ -1,4 +1,7 @@
 //! The tasks done: files are read, results go to standard output, failures to standard error.
+ghost use Rattle.std.specs.Prelude.{IfOk};
+ghost use Rattle.ibcplan.specs.Status.{IsPlanned, IsJudged};
+
 use crate::failure::Failure;
 use crate::flaw::flaw_of;
 use crate::input::Input;
@@ -13,14 +16,7 @@ use std::io::{Printer, Write};
 
 /// Does a task, and answers the status to end with.
 pub fn perform(rt: &HostRuntime, task: Task<'_>) -> u8 {
-    let result = match task {
-        Task::Plan { script } => plan(rt, script),
-        Task::Certify {
-            script,
-            certificate,
-        } => certify(rt, script, certificate),
-    };
-    match result {
+    match outcome_of(rt, task) {
         Ok(status) => status,
         Err(failure) => {
             let _ = eprintln!(rt; "{failure}");
@@ -50,21 +46,42 @@ pub fn no_memory(rt: &HostRuntime) -> u8 {
     status::FAILED
 }
 
-fn plan<'a>(rt: &HostRuntime, script: &'a str) -> Result<u8, Failure<'a>> {
-    let script = Input::read(rt, script)?;
+/// Reads the files of a task and does it.
+fn outcome_of<'a>(rt: &HostRuntime, task: Task<'a>) -> Result<u8, Failure<'a>> {
+    match task {
+        Task::Plan { script } => plan(rt, &Input::read(rt, script)?),
+        Task::Certify {
+            script,
+            certificate,
+        } => {
+            let script = Input::read(rt, script)?;
+            certify(rt, &script, &Input::read(rt, certificate)?)
+        }
+    }
+}
+
+/// Writes the report of the script that a file holds.
+fn plan<'a>(rt: &HostRuntime, script: &Input<'a>) -> Result<u8, Failure<'a>>
+    ensures done { IfOk result (IsPlanned script.now.bytes.items) }
+{
     let mut output = Counted::new(io::writer(rt));
     match plan_over(rt.alloc(), script.bytes(), &mut output) {
         Ok(()) => flush(output).map(|()| status::DONE),
         Err(error) => {
-            let flaw = flaw_of(rt.alloc(), &error, &script);
+            let flaw = flaw_of(rt.alloc(), &error, script);
             Err(Failure::new(error, flaw))
         }
     }
 }
 
-fn certify<'a>(rt: &HostRuntime, script: &'a str, certificate: &'a str) -> Result<u8, Failure<'a>> {
-    let script = Input::read(rt, script)?;
-    let certificate = Input::read(rt, certificate)?;
+/// Writes the verdict on the certificate that a file holds.
+fn certify<'a>(
+    rt: &HostRuntime,
+    script: &Input<'a>,
+    certificate: &Input<'a>,
+) -> Result<u8, Failure<'a>>
+    ensures judged { IfOk result (IsJudged script.now.bytes.items certificate.now.bytes.items) }
+{
     let mut output = Counted::new(io::writer(rt));
     match certify_over(rt.alloc(), script.bytes(), certificate.bytes(), &mut output) {
         Ok(holds) => {
@@ -72,10 +89,10 @@ fn certify<'a>(rt: &HostRuntime, script: &'a str, certificate: &'a str) -> Resul
             Ok(if holds { status::DONE } else { status::DENIED })
         }
         Err(error) => {
-            let flaw = flaw_of(rt.alloc(), &error, &script).or_else(|| flaw_of(
+            let flaw = flaw_of(rt.alloc(), &error, script).or_else(|| flaw_of(
                 rt.alloc(),
                 &error,
-                &certificate,
+                certificate,
             ));
             Err(Failure::new(error, flaw))
         }
