@@ -434,7 +434,12 @@ fn tells_what_is_too_much(rt: HostRuntime) -> Result<(), Fail> {
     let text = chains(alloc, 65)?;
     refuses(&rt, alloc, text.as_bytes(), "1017 TooManyObjects at chain")?;
     let text = events(alloc, 200_000)?;
-    refuses(&rt, alloc, text.as_bytes(), "1004 WrongType at turn[0].event[0]")?;
+    refuses(
+        &rt,
+        alloc,
+        text.as_bytes(),
+        "1004 WrongType at turn[0].event[0]",
+    )?;
     let text = events(alloc, 200_001)?;
     refuses(&rt, alloc, text.as_bytes(), "1018 TooManyEvents at turn[0]")
 }
