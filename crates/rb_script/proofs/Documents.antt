@@ -1,5 +1,5 @@
 -- The text of a document, before its tables are read.
-use Rattle.std.proofs.Common.{◌≡◌, ℕ, ◌≤◌, List, length, codes, Bool, true, false, Option, Some, None, Ok, IsUtf8, nat_lt, if◌then◌else◌, refl, ap, arith}
+use Rattle.std.proofs.Common.{◌≡◌, ℕ, ◌≤◌, List, length, codes, Bool, true, false, Some, None, Ok, IsUtf8, nat_lt, if◌then◌else◌, refl, ap, arith}
 use Rattle.std.specs.Str.{is_utf8}
 use Rattle.std.proofs.lemmas.Bool.{false_from_ne_true, ltb-true}
 use Rattle.std.proofs.lemmas.Str.{is_utf8-from_IsUtf8, IsUtf8-from_is_utf8}

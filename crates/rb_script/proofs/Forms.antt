@@ -1,20 +1,20 @@
 -- What every script that was read keeps.
-use Rattle.std.proofs.Common.{◌≡◌, ◌≢◌, ℕ, zero, suc, ◌+◌, ◌<◌, ◌≤◌, ◌==◌, nat_le, nat_lt, not, cond, ◌||◌, List, [], ◌∷◌, ◌++◌, length, map, codes, get_or, Result, Ok, Err, Option, Some, None, Bool, true, false, All, AllPairs, IfOk, is_none, refl, sym, ap, subst, ◌∙◌, arith}
-use Rattle.std.specs.List.{position, position_or_len, prefix_len, list_any}
+use Rattle.std.proofs.Common.{◌≡◌, ◌≢◌, ℕ, suc, ◌+◌, ◌<◌, ◌≤◌, ◌==◌, nat_le, nat_lt, not, cond, ◌||◌, List, [], ◌∷◌, ◌++◌, length, codes, get_or, Result, Ok, Err, Option, Some, None, Bool, true, false, All, AllPairs, IfOk, is_none, refl, sym, ap, subst, ◌∙◌, arith}
+use Rattle.std.specs.List.{position, position_or_len, prefix_len}
 use Rattle.std.specs.Str.{bytes_eq}
 use Rattle.std.proofs.lemmas.Bool.{eq-eqb, leb-true, ltb-false, true≢false}
 use Rattle.std.proofs.lemmas.List.{length-map, get_or-map}
 use Rattle.std.proofs.lemmas.List.Elements.{All-cons, All-push}
 use Rattle.std.proofs.lemmas.List.Quantifiers.{all_pairs_push, position-Some}
 use Rattle.std.proofs.lemmas.Slice.Eq.{bytes_eq-Decides}
-use Rattle.toml.specs.Data.{Data, Items, no_items, item}
+use Rattle.toml.specs.Data.{Items, no_items, item}
 use Rattle.rb_base.specs.Fraction.{one_third}
 use Rattle.rb_super.specs.Script.{Script, Turn, IsScript, IsTurn, IsClient, IsEvent, script_view}
 use Rattle.rb_super.specs.declared.script.Script.{Script as CodeScript}
 use Rattle.rb_super.specs.declared.script.ClientConfig.{ClientConfig}
 use Rattle.rb_super.specs.declared.script.Asked.{Asked}
 use Rattle.rb_super.specs.declared.script.Event.{Event}
-use Rattle.rb_fields.specs.Faults.{Fault, ◌>>=◌, fault, check, Gives}
+use Rattle.rb_fields.specs.Faults.{Fault, ◌>>=◌, check, Gives}
 use Rattle.rb_fields.specs.declared.fault.RunError.{RunError}
 use Rattle.rb_fields.specs.declared.fault.FaultName.{FaultName}
 use Rattle.rb_fields.specs.declared.fault.FaultName.TheVariants.{OutOfRange, DuplicateIdentifier, SameChain, TwoGoals, TooManyEvents, BadWindow}

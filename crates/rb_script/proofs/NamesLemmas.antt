@@ -1,11 +1,11 @@
 -- The maps of names, and the names that they hold.
-use Rattle.std.proofs.Common.{◌≡◌, ◌≢◌, ℕ, zero, suc, ◌<◌, ◌==◌, ◌&&◌, Bool, true, false, cond, List, [], ◌∷◌, ◌++◌, length, Option, Some, None, option_and_then, slice_get, slice_set, String, Global, string_bytes, refl, sym, ap, subst, ◌∙◌, arith}
+use Rattle.std.proofs.Common.{◌≡◌, ◌≢◌, ℕ, zero, suc, ◌<◌, ◌==◌, ◌&&◌, Bool, true, false, cond, List, [], ◌∷◌, ◌++◌, length, Some, option_and_then, slice_get, slice_set, String, Global, string_bytes, refl, sym, ap, subst, ◌∙◌, arith}
 use Rattle.std.specs.BTreeMap.{BTreeMap, get_by_text, UpdatesBy}
 use Rattle.std.specs.String.{string_cmp}
 use Rattle.std.specs.Str.{bytes_eq}
 use Rattle.std.proofs.lemmas.Bool.{eqb-true, eq-eqb, true≢false}
 use Rattle.std.proofs.lemmas.Map.Text.{btree_map_updates_text}
-use Rattle.rb_script.specs.Names.{Names, names_in, with_name}
+use Rattle.rb_script.specs.Names.{names_in, with_name}
 
 at-push : (maps : List (BTreeMap (String Global) (List ℕ))) (m : BTreeMap (String Global) (List ℕ)) → m.entries ≡ []
     → (chain : ℕ) (name : List ℕ) → names_in (maps ++ m ∷ []) chain name ≡ names_in maps chain name

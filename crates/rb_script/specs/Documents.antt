@@ -1,5 +1,5 @@
 -- The table that a text holds.
-use Rattle.std.specs.Prelude.{ℕ, List, [], length, codes, Option, Some, None, Result, Ok, Err, nat_lt, if◌then◌else◌}
+use Rattle.std.specs.Prelude.{ℕ, List, [], length, codes, Option, Some, None, Result, Ok, nat_lt, if◌then◌else◌}
 use Rattle.std.specs.Str.{is_utf8}
 use Rattle.toml.specs.Data.{Members}
 use Rattle.toml.specs.Parse.{parse_document}

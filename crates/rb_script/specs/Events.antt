@@ -1,5 +1,5 @@
 -- The tables of events.
-use Rattle.std.specs.Prelude.{ℕ, List, [], ◌∷◌, ◌++◌, map, codes, Option, Some, None, option_map, unwrap_or, slice_get, Result, Ok, Err, Bool, ◌==◌, if◌then◌else◌}
+use Rattle.std.specs.Prelude.{ℕ, List, [], ◌∷◌, ◌++◌, codes, Option, Some, None, option_map, unwrap_or, slice_get, Result, Ok, ◌==◌, if◌then◌else◌}
 use Rattle.std.specs.Str.{bytes_eq}
 use Rattle.rb_valset.specs.ValidatorSet.{set_hash}
 use Rattle.rb_book.specs.declared.vote.Vote.{Vote}
@@ -7,7 +7,7 @@ use Rattle.rb_book.specs.declared.vote.Vote.TheVariants.{Commit, Nil, Absent, Ba
 use Rattle.rb_super.specs.declared.script.ClientConfig.{ClientConfig}
 use Rattle.rb_super.specs.declared.script.Event.{Event}
 use Rattle.rb_super.specs.declared.script.Event.TheVariants.{SetSeen, HeaderSeen, StoredSeen}
-use Rattle.rb_fields.specs.Faults.{Fault, ◌>>=◌, fault, check}
+use Rattle.rb_fields.specs.Faults.{Fault, ◌>>=◌, fault}
 use Rattle.rb_fields.specs.Fields.{Field, Section, text, only, needs, optional, or_default, height, time, hash, zero_hash}
 use Rattle.rb_fields.specs.declared.fault.FaultName.TheVariants.{BadKind, BadVotes}
 use Rattle.rb_script.specs.declared.event.Kind.{Kind}

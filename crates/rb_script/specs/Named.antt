@@ -1,5 +1,5 @@
 -- Identifiers of the tables of an array, and references to them.
-use Rattle.std.specs.Prelude.{ℕ, List, Option, Some, None, is_none, Result, Ok, Err}
+use Rattle.std.specs.Prelude.{ℕ, List, Option, Some, None, is_none, Result, Ok}
 use Rattle.std.specs.List.{position}
 use Rattle.std.specs.Str.{bytes_eq}
 use Rattle.rb_fields.specs.Faults.{Fault, ◌>>=◌, fault, check}

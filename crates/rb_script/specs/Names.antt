@@ -1,5 +1,5 @@
 -- Names of validator sets: each stands for the hash of a set of one chain.
-use Rattle.std.specs.Prelude.{ℕ, ◌==◌, ◌&&◌, nat_le, Bool, if◌then◌else◌, List, length, Option, Some, None, is_none, option_and_then, slice_get, String, Result, Ok, Err}
+use Rattle.std.specs.Prelude.{ℕ, ◌==◌, ◌&&◌, nat_le, Bool, if◌then◌else◌, List, length, Option, Some, None, is_none, option_and_then, slice_get, String, Result, Ok}
 use Rattle.std.specs.BTreeMap.{BTreeMap, get_by_text}
 use Rattle.std.specs.Str.{bytes_eq, chars}
 use Rattle.std.specs.declared.alloc.Global.{Global}

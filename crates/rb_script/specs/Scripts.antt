@@ -1,10 +1,10 @@
 -- The script of a text.
-use Rattle.std.specs.Prelude.{ℕ, List, [], ◌∷◌, codes, Result, Ok, Err}
+use Rattle.std.specs.Prelude.{ℕ, List, [], ◌∷◌, codes, Result, Ok}
 use Rattle.toml.specs.Data.{Items, no_items}
 use Rattle.toml.specs.View.{items_view}
 use Rattle.rb_super.specs.Script.{Script}
 use Rattle.rb_fields.specs.Faults.{Fault, ◌>>=◌}
-use Rattle.rb_fields.specs.Fields.{Field, Section, only, needs, optional, or_default, number, array, elements, in_sequence}
+use Rattle.rb_fields.specs.Fields.{Section, only, needs, optional, or_default, number, array, elements, in_sequence}
 use Rattle.rb_fields.specs.declared.fault.FaultName.TheVariants.{BadVersion}
 use Rattle.rb_script.specs.declared.script.Tables.{Tables as CodeTables}
 use Rattle.rb_script.specs.Limits.{max_chains, max_clients, max_paths, max_turns, max_entries}

@@ -1,5 +1,5 @@
 -- The validators of a set.
-use Rattle.std.specs.Prelude.{ℕ, ◌∷◌, ◌++◌, [], List, length, map, Bool, ◌&&◌, nat_lt, nat_le, is_none, Result, Ok, Err}
+use Rattle.std.specs.Prelude.{ℕ, ◌∷◌, ◌++◌, [], List, length, Bool, ◌&&◌, nat_lt, nat_le, is_none, Result, Ok}
 use Rattle.std.specs.List.{list_all}
 use Rattle.toml.specs.Data.{Data, Items, no_items, item, as_str, as_integer, as_array}
 use Rattle.hex.specs.Hex.{decode_sized}

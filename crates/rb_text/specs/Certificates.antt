@@ -1,9 +1,8 @@
 -- The certificate of a text: a planner's answer for one client in one turn, made by whomever.
-use Rattle.std.specs.Prelude.{ℕ, suc, ◌==◌, Bool, true, nat_lt, if◌then◌else◌, List, [], ◌∷◌, ◌++◌, length, codes, Option, Some, None, Result, Ok, Err}
+use Rattle.std.specs.Prelude.{ℕ, suc, ◌==◌, Bool, true, nat_lt, if◌then◌else◌, List, [], ◌∷◌, ◌++◌, length, codes, Option, Some, None, Result, Ok}
 use Rattle.std.specs.Str.{bytes_eq}
 use Rattle.toml.specs.Data.{Items, no_items, item}
 use Rattle.rb_plan.specs.LightClient.{Update}
-use Rattle.rb_plan.specs.declared.cost.Cost.{Cost}
 use Rattle.rb_plan.specs.declared.labelling.Label.{Label}
 use Rattle.rb_plan.specs.Answer.{claim_of, labelling_of}
 use Rattle.rb_fields.specs.Faults.{Fault, ◌>>=◌, fault, check}

@@ -1,5 +1,5 @@
 -- What planning over a text promises.
-use Rattle.std.specs.Prelude.{◌≡◌, ◌⊎◌, ℕ, List, Option, Ok}
+use Rattle.std.specs.Prelude.{◌≡◌, ℕ, List, Option, Ok}
 use Rattle.std.specs.Io.KnownBytes.{Appends}
 use Rattle.rb_base.specs.Sink.{AppendsBeginning}
 use Rattle.rb_super.specs.Report.{Report}

@@ -10,7 +10,7 @@ use Rattle.rb_plan.specs.declared.goal.Goal.TheVariants.{Exactly, AtLeast}
 use Rattle.rb_plan.specs.declared.labelling.Label.{Label}
 use Rattle.rb_super.specs.declared.report.PricedUpdate.{PricedUpdate}
 use Rattle.rb_super.specs.declared.report.RefusedEvent.{RefusedEvent}
-use Rattle.rb_super.specs.Report.{Batch, Sending, nothing, too_big, batched, Plan, Planned, Outcome, held, idle, planned, ClientReport, TurnReport, Report}
+use Rattle.rb_super.specs.Report.{Sending, nothing, too_big, batched, Plan, Outcome, held, idle, planned, ClientReport, TurnReport, Report}
 
 -- ---- lines
 

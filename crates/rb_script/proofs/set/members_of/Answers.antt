@@ -3,7 +3,7 @@ use Rattle.std.proofs.lemmas.List.{take_all}
 use Rattle.rb_fields.specs.Fields.{field_view}
 use Rattle.rb_fields.specs.declared.fault.FaultName.TheVariants.{BadSet}
 use Rattle.rb_script.specs.declared.set.GivenValidator.{GivenValidator}
-use Rattle.rb_script.specs.Sets.{member_of, all_powers, with_powers}
+use Rattle.rb_script.specs.Sets.{member_of, all_powers}
 use Rattle.rb_fields.proofs.Steps.{fails-at}
 use Rattle.rb_script.proofs.SetsLemmas.{with_powers-fails, with_powers-holds, read-more, powers-more}
 use Rattle.rb_script.proofs.set.members_of.Goals as goal

@@ -1,4 +1,4 @@
-use Rattle.std.proofs.Common.{◌≡◌, ◌≢◌, ◌<◌, length, arith, rules, Some}
+use Rattle.std.proofs.Common.{◌≡◌, ◌≢◌, length, arith, rules, Some}
 use borrow.Author.Tests.{ltb-true, ltb-false}
 use Rattle.toml.specs.Data.{as_array}
 use Rattle.toml.specs.View.{view, array_view}

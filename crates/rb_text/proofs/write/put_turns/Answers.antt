@@ -1,4 +1,4 @@
-use Rattle.std.proofs.Common.{◌≡◌, ℕ, List, ◌+◌, ◌++◌, drop, map, sym, ap, ◌∙◌, subst, append_assoc}
+use Rattle.std.proofs.Common.{◌≡◌, ◌+◌, ◌++◌, drop, map, sym, ap, ◌∙◌, subst, append_assoc}
 use Rattle.rb_base.specs.Sink.{AppendsBeginning}
 use Rattle.rb_super.specs.Report.{turn_report_view}
 use Rattle.rb_text.specs.Report.{numbered, turn_text}
