@@ -1,0 +1,486 @@
+use crate::scripts::{Base, GOAL, ONE_STEP, edited, joined};
+use rb_base::{Counted, Fault, Faulty};
+use rb_fields::RunError;
+use rb_text::plan_over;
+use std::alloc::{AllocError, Global};
+use std::test::Fail;
+
+/// What is written for a script, and after it the error, if there is one.
+pub fn answer_to(alloc: Global, script: &[u8]) -> Result<String, Fail> {
+    let mut writer = Counted::new(Vec::new(alloc));
+    let planned = plan_over(alloc, script, &mut writer);
+    let mut answer = String::from_utf8_lossy(alloc, writer.into_inner().as_slice())?;
+    if let Err(error) = planned {
+        write!(answer, "{error}")?;
+    }
+    Ok(answer)
+}
+
+pub const ASKED: &str = "client c0 goal at_least 10\n";
+
+const IDLE: &str = "client c0 idle\n";
+
+pub const LABELS: &str = "label 1 0 0
+label 2 111 1
+label 3 111 1
+label 4 111 1
+label 5 111 1
+label 6 111 1
+label 7 111 1
+label 8 111 1
+label 9 111 1
+label 10 111 1
+";
+
+pub const PLAN: &str = "update 10 from 1 fee 111
+total 111 updates 1
+batch 1 proof 10
+tx 1 first 0 count 1 gas 111
+";
+
+const NEIGHBOUR_LABELS: &str = "label 1 0 0
+label 2 111 1
+label 3 222 2
+label 4 333 3
+label 5 444 4
+label 6 555 5
+label 7 666 6
+label 8 777 7
+label 9 888 8
+label 10 999 9
+";
+
+const NEIGHBOUR_UPDATES: &str = "update 2 from 1 fee 111
+update 3 from 2 fee 111
+update 4 from 3 fee 111
+update 5 from 4 fee 111
+update 6 from 5 fee 111
+update 7 from 6 fee 111
+update 8 from 7 fee 111
+update 9 from 8 fee 111
+update 10 from 9 fee 111
+";
+
+/// Scripts, as edits of one that is made of pieces, and the lines of their turn, in pieces.
+const ROWS: &[(&str, Base, &[(&str, &str)], &[&str])] = &[
+    // Ten headers of one validator set, three of four members signing. Height 1 is stored and height 10 is asked
+    // for: one update goes all the way.
+    ("one_step", Base::OneStep, &[], &[ASKED, LABELS, PLAN]),
+    // The second header has a vote that is bad, so it is refused and has no label; the plan is the same.
+    (
+        "bad_vote",
+        Base::OneStep,
+        &[(
+            "time = '1970-01-01T00:00:20Z', set = 'A', next = 'A', votes = 'CCCA'",
+            "time = '1970-01-01T00:00:20Z', set = 'A', next = 'A', votes = 'CCBC'",
+        )],
+        &[
+            "refused event 3 403 BadVote\n",
+            ASKED,
+            "label 1 0 0
+label 3 111 1
+label 4 111 1
+label 5 111 1
+label 6 111 1
+label 7 111 1
+label 8 111 1
+label 9 111 1
+label 10 111 1
+",
+            PLAN,
+        ],
+    ),
+    // An exact height is asked for, though higher ones cost the same.
+    (
+        "exact_height",
+        Base::OneStep,
+        &[("at_least = 10", "exactly = 7")],
+        &[
+            "client c0 goal exactly 7\n",
+            LABELS,
+            "update 7 from 1 fee 111
+total 111 updates 1
+batch 1 proof 7
+tx 1 first 0 count 1 gas 111
+",
+        ],
+    ),
+    // The stored record (10 s, period 1,000 s) has expired at 1,010 s, the window's end.
+    (
+        "expired_at_the_end",
+        Base::OneStep,
+        &[(
+            "until = '1970-01-01T00:03:20Z'",
+            "until = '1970-01-01T00:16:50Z'",
+        )],
+        &[ASKED, "unreachable\n"],
+    ),
+    // Live at the window's first moment is not enough: the stored record expires in it.
+    (
+        "expires_in_the_window",
+        Base::OneStep,
+        &[(
+            "until = '1970-01-01T00:03:20Z'",
+            "until = '1970-01-01T00:25:00Z'",
+        )],
+        &[ASKED, "unreachable\n"],
+    ),
+    // The update's gas (111) is the limit of a transaction.
+    (
+        "gas_limit_is_met",
+        Base::OneStep,
+        &[("limits = [100000, 100, 0]", "limits = [111, 100, 0]")],
+        &[ASKED, LABELS, PLAN],
+    ),
+    // The stored height meets the goal already: the labels, and no update.
+    (
+        "goal_is_stored",
+        Base::OneStep,
+        &[("at_least = 10", "at_least = 1")],
+        &["client c0 goal at_least 1\n", LABELS, "total 0 updates 0\n"],
+    ),
+    // No header reaches the height that is asked for.
+    (
+        "height_is_unknown",
+        Base::OneStep,
+        &[("at_least = 10", "at_least = 11")],
+        &["client c0 goal at_least 11\n", LABELS, "unreachable\n"],
+    ),
+    // A nanosecond before it expires the stored record may still be trusted.
+    (
+        "live_at_the_end",
+        Base::OneStep,
+        &[(
+            "until = '1970-01-01T00:03:20Z'",
+            "until = '1970-01-01T00:16:49.999999999Z'",
+        )],
+        &[ASKED, LABELS, PLAN],
+    ),
+    // No height is asked for and the client is never refreshed.
+    ("no_goal", Base::OneStep, &[(GOAL, "")], &[IDLE]),
+    // The stored record is old, but no known height is younger than the refresh of 100 s.
+    (
+        "nothing_is_fresh",
+        Base::OneStep,
+        &[
+            (
+                "drift_ns = 10000000000",
+                "drift_ns = 10000000000\nrefresh_ns = 100000000000",
+            ),
+            (GOAL, ""),
+        ],
+        &[IDLE],
+    ),
+    // Nine updates in transactions of at most four.
+    (
+        "one_update_a_transaction",
+        Base::OneStep,
+        &[(
+            "limits = [100000, 100, 0]",
+            "limits = [100000, 4, 7]\ntrust = [1, 1]",
+        )],
+        &[
+            ASKED,
+            NEIGHBOUR_LABELS,
+            NEIGHBOUR_UPDATES,
+            "total 999 updates 9
+batch 1 proof 10
+tx 1 first 0 count 4 gas 451
+tx 2 first 4 count 4 gas 451
+tx 3 first 8 count 1 gas 118
+",
+        ],
+    ),
+    // No height is asked for. The stored record is older than the client's refresh of 100 s, and height 11 is the
+    // least that is fresh.
+    (
+        "refresh",
+        Base::OneStep,
+        &[
+            (
+                "drift_ns = 10000000000",
+                "drift_ns = 10000000000\nrefresh_ns = 100000000000",
+            ),
+            (GOAL, ""),
+            (
+                "  { kind = 'header', chain = 'alpha', height = 10, time = '1970-01-01T00:01:40Z', set = 'A', next = 'A', votes = 'CCCA' },",
+                "  { kind = 'header', chain = 'alpha', height = 10, time = '1970-01-01T00:01:40Z', set = 'A', next = 'A', votes = 'CCCA' },\n  { kind = 'header', chain = 'alpha', height = 11, time = '1970-01-01T00:01:50Z', set = 'A', next = 'A', votes = 'CCCA' },",
+            ),
+        ],
+        &[
+            "client c0 goal at_least 11\n",
+            LABELS,
+            "label 11 111 1
+update 11 from 1 fee 111
+total 111 updates 1
+batch 1 proof 11
+tx 1 first 0 count 1 gas 111
+",
+        ],
+    ),
+    // The stored record is a second younger than the client's refresh.
+    (
+        "still_fresh",
+        Base::OneStep,
+        &[
+            (
+                "drift_ns = 10000000000",
+                "drift_ns = 10000000000\nrefresh_ns = 191000000000",
+            ),
+            (GOAL, ""),
+            (
+                "  { kind = 'header', chain = 'alpha', height = 10, time = '1970-01-01T00:01:40Z', set = 'A', next = 'A', votes = 'CCCA' },",
+                "  { kind = 'header', chain = 'alpha', height = 10, time = '1970-01-01T00:01:40Z', set = 'A', next = 'A', votes = 'CCCA' },\n  { kind = 'header', chain = 'alpha', height = 11, time = '1970-01-01T00:01:50Z', set = 'A', next = 'A', votes = 'CCCA' },",
+            ),
+        ],
+        &[IDLE],
+    ),
+    // The update's gas (111) is above the limit of a transaction (110).
+    (
+        "too_big",
+        Base::OneStep,
+        &[("limits = [100000, 100, 0]", "limits = [110, 100, 0]")],
+        &[
+            ASKED,
+            LABELS,
+            "update 10 from 1 fee 111
+total 111 updates 1
+toobig 0
+",
+        ],
+    ),
+    // A set's powers together are 1152921504606846975: that is allowed.
+    (
+        "total_at_the_limit",
+        Base::OneStep,
+        &[
+            (GOAL, ""),
+            (
+                "['a2a2a2a2a2a2a2a2a2a2a2a2a2a2a2a2a2a2a2a2a2a2a2a2a2a2a2a2a2a2a2a2', 10]",
+                "['a2a2a2a2a2a2a2a2a2a2a2a2a2a2a2a2a2a2a2a2a2a2a2a2a2a2a2a2a2a2a2a2', 1152921504606846945]",
+            ),
+        ],
+        &[IDLE],
+    ),
+    // With a transaction's own gas of 1 the update is above the limit of 111.
+    (
+        "transaction_gas_counts",
+        Base::OneStep,
+        &[("limits = [100000, 100, 0]", "limits = [111, 100, 1]")],
+        &[
+            ASKED,
+            LABELS,
+            "update 10 from 1 fee 111
+total 111 updates 1
+toobig 0
+",
+        ],
+    ),
+    // With a trust level of 1/1 only neighbours can be reached.
+    (
+        "trust_all",
+        Base::OneStep,
+        &[(
+            "limits = [100000, 100, 0]",
+            "limits = [100000, 100, 0]\ntrust = [1, 1]",
+        )],
+        &[
+            ASKED,
+            NEIGHBOUR_LABELS,
+            NEIGHBOUR_UPDATES,
+            "total 999 updates 9
+batch 1 proof 10
+tx 1 first 0 count 9 gas 999
+",
+        ],
+    ),
+    // Three of four members are not more than three quarters, so only neighbours can be reached.
+    (
+        "trust_three_quarters",
+        Base::OneStep,
+        &[(
+            "limits = [100000, 100, 0]",
+            "limits = [100000, 100, 0]\ntrust = [3, 4]",
+        )],
+        &[
+            ASKED,
+            NEIGHBOUR_LABELS,
+            NEIGHBOUR_UPDATES,
+            "total 999 updates 9
+batch 1 proof 10
+tx 1 first 0 count 9 gas 999
+",
+        ],
+    ),
+    // Three of four members are more than the client's trust level of two thirds.
+    (
+        "trust_two_thirds",
+        Base::OneStep,
+        &[(
+            "limits = [100000, 100, 0]",
+            "limits = [100000, 100, 0]\ntrust = [2, 3]",
+        )],
+        &[ASKED, LABELS, PLAN],
+    ),
+    // Height 11 is not known.
+    (
+        "exact_height_is_unknown",
+        Base::OneStep,
+        &[("at_least = 10", "exactly = 11")],
+        &["client c0 goal exactly 11\n", LABELS, "unreachable\n"],
+    ),
+    // At the end of the window the newest stored record is as old as the refresh asks for.
+    (
+        "refresh_at_once",
+        Base::OneStep,
+        &[
+            (
+                "drift_ns = 10000000000",
+                "drift_ns = 10000000000\nrefresh_ns = 190000000000",
+            ),
+            (GOAL, ""),
+        ],
+        &[
+            "client c0 goal at_least 2\n",
+            LABELS,
+            "update 2 from 1 fee 111
+total 111 updates 1
+batch 1 proof 2
+tx 1 first 0 count 1 gas 111
+",
+        ],
+    ),
+    // A nanosecond younger.
+    (
+        "fresh_by_a_nanosecond",
+        Base::OneStep,
+        &[
+            (
+                "drift_ns = 10000000000",
+                "drift_ns = 10000000000\nrefresh_ns = 190000000001",
+            ),
+            (GOAL, ""),
+        ],
+        &[IDLE],
+    ),
+    // Two updates by height 5, whose set has a hundred members, cost 304 + 208 = 512; three by heights 3 and 7 cost
+    // 336.
+    (
+        "cheap_detour",
+        Base::Detour,
+        &[],
+        &[
+            ASKED,
+            "label 1 0 0
+label 3 112 1
+label 5 304 1
+label 7 224 2
+label 10 336 3
+update 3 from 1 fee 112
+update 7 from 3 fee 112
+update 10 from 7 fee 112
+total 336 updates 3
+batch 1 proof 10
+tx 1 first 0 count 3 gas 336
+",
+        ],
+    ),
+    // With a trust level of one half no later set is trusted.
+    (
+        "detour_trust_half",
+        Base::Detour,
+        &[(
+            "limits = [100000, 100, 0]",
+            "limits = [100000, 100, 0]\ntrust = [1, 2]",
+        )],
+        &[
+            ASKED,
+            "label 1 0 0
+unreachable
+",
+        ],
+    ),
+    // The same with a trust level of two fifths, which the shared powers still exceed.
+    (
+        "detour_trust_two_fifths",
+        Base::Detour,
+        &[(
+            "limits = [100000, 100, 0]",
+            "limits = [100000, 100, 0]\ntrust = [2, 5]",
+        )],
+        &[
+            ASKED,
+            "label 1 0 0
+label 3 112 1
+label 5 304 1
+label 7 224 2
+label 10 336 3
+update 3 from 1 fee 112
+update 7 from 3 fee 112
+update 10 from 7 fee 112
+total 336 updates 3
+batch 1 proof 10
+tx 1 first 0 count 3 gas 336
+",
+        ],
+    ),
+    // By height 3 and by height 4 the fee is equal: the lower trusted height is taken.
+    (
+        "tie_to_the_lower_height",
+        Base::Tie,
+        &[],
+        &[
+            ASKED,
+            "label 1 0 0
+label 3 112 1
+label 4 112 1
+label 10 224 2
+update 3 from 1 fee 112
+update 10 from 3 fee 112
+total 224 updates 2
+batch 1 proof 10
+tx 1 first 0 count 2 gas 224
+",
+        ],
+    ),
+];
+
+/// The report of a turn with these lines.
+pub fn report_of(alloc: Global, lines: &[&str]) -> Result<String, AllocError> {
+    let lines = joined(alloc, lines)?;
+    format!(in alloc; "ibcplan 1\nturn 1\n{lines}end\n")
+}
+
+#[test]
+fn plans(rt: HostRuntime) -> Result<(), Fail> {
+    let alloc = rt.alloc();
+    for (name, base, edits, lines) in ROWS {
+        let script = edited(alloc, *base, edits)?;
+        let report = report_of(alloc, lines)?;
+        let answer = answer_to(alloc, script.as_bytes())?;
+        assert_eq!(rt; answer.as_str(), report.as_str(), "{name}");
+    }
+    assert_eq!(rt;
+        answer_to(alloc, b"version = 1")?.as_str(),
+        "ibcplan 1\nend\n"
+    );
+    Ok(())
+}
+
+/// A writer that fails at each of its calls in turn has taken a beginning of the report.
+#[test]
+fn tells_that_the_writer_failed(rt: HostRuntime) -> Result<(), Fail> {
+    let alloc = rt.alloc();
+    let script = joined(alloc, ONE_STEP)?;
+    let report = answer_to(alloc, script.as_bytes())?;
+    for failing in 1..=40 {
+        let faulty = Faulty::new(alloc, 10, failing, Fault::Zero);
+        let mut writer = Counted::new(faulty);
+        let planned = plan_over(alloc, script.as_bytes(), &mut writer);
+        let faulty = writer.into_inner();
+        assert!(rt; report.as_bytes().starts_with(faulty.bytes()));
+        assert_eq!(rt; planned.is_ok(), faulty.bytes().len() == report.len());
+        assert_eq!(rt; matches!(planned, Err(RunError::Device)), planned.is_err());
+    }
+    Ok(())
+}
