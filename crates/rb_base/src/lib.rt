@@ -13,8 +13,6 @@ mod ids;
 mod options;
 pub mod refusing;
 mod sink;
-#[cfg(test)]
-mod tests;
 mod window;
 
 pub use amount::{Height, Moment, Period};

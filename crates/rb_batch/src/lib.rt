@@ -7,8 +7,6 @@ mod error;
 pub mod laws;
 mod limits;
 mod message;
-#[cfg(test)]
-mod tests;
 mod transaction;
 
 pub use cutting::cut;

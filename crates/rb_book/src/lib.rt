@@ -9,8 +9,6 @@ mod intake;
 pub mod laws;
 mod record;
 mod search;
-#[cfg(test)]
-mod tests;
 mod vote;
 
 pub use book::ChainBook;

@@ -6,8 +6,6 @@ mod judgement;
 mod labels;
 pub mod laws;
 mod places;
-#[cfg(test)]
-mod tests;
 mod ties;
 mod updates;
 mod verdict;

@@ -6,8 +6,6 @@ mod fault;
 mod field;
 mod place;
 mod section;
-#[cfg(test)]
-mod tests;
 
 pub use fault::{Fault, FaultName, RunError};
 pub use field::{Field, MAX_NUMBER, is_identifier};

@@ -10,8 +10,6 @@ mod rows;
 mod shared;
 mod source;
 mod steps;
-#[cfg(test)]
-mod tests;
 
 pub use cell::Cell;
 pub use graph::Graph;

@@ -10,8 +10,6 @@ mod labels;
 pub mod laws;
 mod planner;
 mod planning;
-#[cfg(test)]
-mod tests;
 mod update;
 
 pub use answer::Answer;

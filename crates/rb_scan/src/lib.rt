@@ -11,8 +11,6 @@ mod readiness;
 mod scan;
 mod sequence;
 mod table;
-#[cfg(test)]
-mod tests;
 
 pub use error::ScanError;
 pub use message::{Kind, PacketMsg};

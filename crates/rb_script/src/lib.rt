@@ -10,8 +10,6 @@ mod named;
 mod names;
 mod script;
 mod set;
-#[cfg(test)]
-mod tests;
 mod turn;
 
 pub use document::read_table;

@@ -6,8 +6,6 @@
 pub mod laws;
 mod power;
 mod step;
-#[cfg(test)]
-mod tests;
 mod verdict;
 mod view;
 

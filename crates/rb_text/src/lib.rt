@@ -8,8 +8,6 @@ mod certificate;
 mod certifying;
 mod planning;
 mod report;
-#[cfg(test)]
-mod tests;
 mod verdict;
 mod write;
 

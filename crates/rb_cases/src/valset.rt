@@ -1,17 +1,12 @@
-use crate::{Validator, ValidatorSet, ValsetError};
+use crate::make::assert_same;
 use rb_base::refusing::Refusing;
+use rb_valset::{Validator, ValidatorSet, ValsetError};
 use std::alloc::{AllocError, Allocator, Global};
-use std::fmt::{Debug, Display};
+use std::fmt::Display;
 use std::process::Abort;
 use std::test::Fail;
 
 const TOP: u64 = Validator::MAX_POWER;
-
-/// Asserts in one place for all tests, since each `assert_eq!` makes the proof of the function around
-/// it dearer.
-fn assert_same<T: PartialEq + Debug>(rt: &impl Abort, row: &impl Display, given: &T, wanted: &T) {
-    assert!(rt; *given == *wanted, "{row}: {given:?}, not {wanted:?}");
-}
 
 fn to_hex(alloc: Global, bytes: &[u8]) -> Result<String, AllocError> {
     let mut text = String::new(alloc);

@@ -1,9 +1,10 @@
-use crate::{Graph, Row, SharedGraph};
+use crate::make::{Members, assert_same, height, make_set, options, second};
 use rb_base::refusing::Refusing;
-use rb_base::{FeeTable, Height, Moment, Options, Period, Window};
+use rb_base::{FeeTable, Height, Window};
 use rb_book::{ChainBook, Header, Record, Vote};
+use rb_graph::{Graph, Row, SharedGraph};
 use rb_step::{ClientView, are_known};
-use rb_valset::{Validator, ValidatorSet};
+use rb_valset::ValidatorSet;
 use std::alloc::{AllocError, Allocator, Global};
 use std::fmt::{Debug, Display};
 use std::process::Abort;
@@ -15,42 +16,11 @@ const N: Vote = Vote::Nil;
 
 const X: Vote = Vote::Absent;
 
-/// Members as key bytes and powers.
-type Members = &'static [(u8, u64)];
-
 const A: Members = &[(0xa1, 40), (0xa2, 30), (0xa3, 20), (0xa4, 10)];
 
 const B: Members = &[(0xa1, 40), (0xa2, 30), (0xb1, 20), (0xb2, 10)];
 
 const D: Members = &[(0xb1, 50), (0xd1, 30), (0xa4, 20)];
-
-/// Asserts in one place for all tests, since each `assert_eq!` makes the proof of the function around
-/// it dearer.
-fn assert_same<T: PartialEq + Debug>(rt: &impl Abort, row: &impl Display, given: &T, wanted: &T) {
-    assert!(rt; *given == *wanted, "{row}: {given:?}, not {wanted:?}");
-}
-
-fn height(number: u64) -> Result<Height, Fail> {
-    Ok(Height::new(number).ok_or("height")?)
-}
-
-fn moment(seconds: u64) -> Result<Moment, Fail> {
-    Ok(Moment::new(u128::from(seconds) * 1_000_000_000).ok_or("moment")?)
-}
-
-/// A period of 1,000 s, a drift of 10 s and a trust of 1/3.
-fn options() -> Result<Options, Fail> {
-    let period = Period::new(1_000_000_000_000).ok_or("period")?;
-    Ok(Options::new(period, 10_000_000_000))
-}
-
-fn make_set<L: Allocator + Copy>(alloc: L, members: &[(u8, u64)]) -> Result<ValidatorSet<L>, Fail> {
-    let mut validators = Vec::new(alloc);
-    for (byte, power) in members {
-        validators.push(Validator::new([*byte; 32], *power)?)?;
-    }
-    Ok(ValidatorSet::new(alloc, validators)?)
-}
 
 /// Heights, their own and next sets, and the votes. The header at 9 isn't signed by enough of its own
 /// set.
@@ -71,7 +41,7 @@ fn make_header<L: Allocator + Copy>(
     next: [u8; 32],
     votes: &[Vote],
 ) -> Result<Header<L>, Fail> {
-    let record = Record::new(moment(number.saturating_mul(10))?, [0; 32], next);
+    let record = Record::new(second(number.saturating_mul(10))?, [0; 32], next);
     let votes = Vec::from_slice(alloc, votes)?;
     Ok(Header::new(height(number)?, record, *own.hash(), votes))
 }
@@ -94,7 +64,7 @@ fn add_header<L: Allocator + Copy>(
 /// A book of these headers, and a record at 4 that names an unknown set.
 fn make_book<L: Allocator + Copy>(alloc: L) -> Result<ChainBook<L>, Fail> {
     let mut book = ChainBook::new(alloc);
-    book.add_record(height(4)?, Record::new(moment(40)?, [0; 32], [7; 32]))?;
+    book.add_record(height(4)?, Record::new(second(40)?, [0; 32], [7; 32]))?;
     for (number, own, next, votes) in HEADERS {
         add_header(&mut book, alloc, *number, (own, next), votes)?;
     }
@@ -193,7 +163,7 @@ const ROWS: &[Shown] = &[
 /// What a row says beside its cells.
 fn check_header(rt: &impl Abort, header: &Header, row: &Row, wanted: &Shown) -> Result<(), Fail> {
     let (number, is_signed, commits, _) = *wanted;
-    let (at, time) = (height(number)?, moment(number.saturating_mul(10))?);
+    let (at, time) = (height(number)?, second(number.saturating_mul(10))?);
     let shown = (row.height(), row.time(), row.size());
     assert_same(rt, &number, &shown, &(at, time, header.votes().len()));
     let shown = (row.commits(), row.is_signed());
@@ -297,7 +267,7 @@ fn check_steps(
     (number, from, until, trusted): &Accepted,
 ) -> Result<(), Fail> {
     let into = height(*number)?;
-    let window = Window::new(moment(*from)?, moment(*until)?)?;
+    let window = Window::new(second(*from)?, second(*until)?)?;
     let shown = shown_steps(alloc, graph, into, &window)?;
     assert_same(rt, &into, &shown.as_slice(), trusted);
     let judged = judged_steps(rt, alloc, graph.book(), into, window)?;

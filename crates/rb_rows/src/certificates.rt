@@ -1,6 +1,6 @@
-use crate::read_certificate;
 use rb_base::Height;
 use rb_plan::{Answer, Cost, Label, Labelling, Update};
+use rb_text::read_certificate;
 use std::alloc::Global;
 use std::process::Abort;
 use std::test::Fail;

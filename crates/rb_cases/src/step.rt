@@ -1,10 +1,11 @@
 ghost use Rattle.std.specs.Option.{option_copied, ForSome};
 ghost use Rattle.rb_book.specs.Header.{Names, IsSignedBy};
 
-use crate::{ClientView, Reason, Verdict, accepts_in, are_known, verify};
-use rb_base::{FeeTable, Fraction, Height, Moment, Options, Period, Window};
+use crate::make::{Members, assert_same, height, make_set, nanosecond, options};
+use rb_base::{FeeTable, Fraction, Height, Window};
 use rb_book::{ChainBook, Header, Record, Vote};
-use rb_valset::{Validator, ValidatorSet};
+use rb_step::{ClientView, Reason, Verdict, accepts_in, are_known, verify};
+use rb_valset::ValidatorSet;
 use std::alloc::Global;
 use std::fmt::{Debug, Display};
 use std::process::Abort;
@@ -18,9 +19,9 @@ const SECOND: u128 = 1_000_000_000;
 struct Case {
     name: &'static str,
     /// The set that the trusted record names, as key bytes and powers, and whether it is known.
-    next: &'static [(u8, u64)],
+    next: Members,
     is_known: bool,
-    own: &'static [(u8, u64)],
+    own: Members,
     height: u64,
     time: u128,
     votes: &'static [Vote],
@@ -54,33 +55,6 @@ const ACCEPTED: Case = Case {
     last: Verdict::Success,
 };
 
-/// Asserts in one place for all tests, since each `assert_eq!` makes the proof of the function around
-/// it dearer.
-fn assert_same<T: PartialEq + Debug>(rt: &impl Abort, row: &impl Display, given: &T, wanted: &T) {
-    assert!(rt; *given == *wanted, "{row}: {given:?}, not {wanted:?}");
-}
-
-fn make_set(alloc: Global, members: &[(u8, u64)]) -> Result<ValidatorSet, Fail> {
-    let mut validators = Vec::new(alloc);
-    for (byte, power) in members {
-        validators.push(Validator::new([*byte; 32], *power)?)?;
-    }
-    Ok(ValidatorSet::new(alloc, validators)?)
-}
-
-fn height(number: u64) -> Result<Height, Fail> {
-    Ok(Height::new(number).ok_or("height")?)
-}
-
-fn moment(nanoseconds: u128) -> Result<Moment, Fail> {
-    Ok(Moment::new(nanoseconds).ok_or("moment")?)
-}
-
-fn options() -> Result<Options, Fail> {
-    let period = Period::new(1_000_000_000_000).ok_or("period")?;
-    Ok(Options::new(period, 10_000_000_000))
-}
-
 /// The verdicts at the first and the last moment of the case's window, and whether the step is
 /// accepted in it.
 fn judge(
@@ -95,7 +69,7 @@ fn judge(
 {
     let (numerator, denominator) = case.trust;
     let options = options()?.with_trust(Fraction::new(numerator, denominator)?);
-    let (from, until) = (moment(case.window.0)?, moment(case.window.1)?);
+    let (from, until) = (nanosecond(case.window.0)?, nanosecond(case.window.1)?);
     let window = Window::new(from, until)?;
     let low = height(1)?;
     Ok((
@@ -223,7 +197,7 @@ const CASES: &[Case] = &[
 
 /// The header of the case.
 fn make_header(alloc: Global, case: &Case, own: &ValidatorSet) -> Result<Header, Fail> {
-    let record = Record::new(moment(case.time)?, [0; 32], *own.hash());
+    let record = Record::new(nanosecond(case.time)?, [0; 32], *own.hash());
     let votes = Vec::from_slice(alloc, case.votes)?;
     Ok(Header::new(height(case.height)?, record, *own.hash(), votes))
 }
@@ -236,7 +210,7 @@ fn check_case(
     header: &Header,
     own: &ValidatorSet,
 ) -> Result<(), Fail> {
-    let trusted = Record::new(moment(10 * SECOND)?, [0; 32], *next.hash());
+    let trusted = Record::new(nanosecond(10 * SECOND)?, [0; 32], *next.hash());
     assert!(rt; trusted.names(next));
     assert!(rt; header.is_of(own));
     let judged = if case.is_known {
@@ -293,7 +267,7 @@ fn signed_header(
     own: &ValidatorSet,
     next: &ValidatorSet,
 ) -> Result<Header, Fail> {
-    let time = moment(u128::from(number) * 10 * SECOND)?;
+    let time = nanosecond(u128::from(number) * 10 * SECOND)?;
     let record = Record::new(time, [0; 32], *next.hash());
     let votes = Vec::from_slice(alloc, &[C, C, C, X])?;
     Ok(Header::new(height(number)?, record, *own.hash(), votes))
@@ -322,7 +296,7 @@ fn make_book(alloc: Global) -> Result<ChainBook, Fail> {
     add_header(&mut book, alloc, 1, A, A)?;
     add_header(&mut book, alloc, 4, A, B)?;
     add_header(&mut book, alloc, 5, B, B)?;
-    let unknown = Record::new(moment(70 * SECOND)?, [0; 32], [7; 32]);
+    let unknown = Record::new(nanosecond(70 * SECOND)?, [0; 32], [7; 32]);
     book.add_record(height(7)?, unknown)?;
     Ok(book)
 }
@@ -346,8 +320,8 @@ fn view_until<'a>(
 ) -> Result<ClientView<'a>, Fail> {
     assert!(rt; are_known(stored, book));
     let fees = FeeTable::new(100, 1, 1)?;
-    let until = moment(seconds.saturating_mul(SECOND))?;
-    let window = Window::new(moment(200 * SECOND)?, until)?;
+    let until = nanosecond(seconds.saturating_mul(SECOND))?;
+    let window = Window::new(nanosecond(200 * SECOND)?, until)?;
     Ok(ClientView::new(options()?, fees, stored, window, book))
 }
 
@@ -394,7 +368,7 @@ fn check_steps(rt: &impl Abort, view: &ClientView) -> Result<(), Fail> {
 
 /// The view of the same client at 200 s.
 fn check_moment(rt: &impl Abort, view: &ClientView) -> Result<(), Fail> {
-    let window = Window::at(moment(200 * SECOND)?);
+    let window = Window::at(nanosecond(200 * SECOND)?);
     let (options, fees, stored) = (view.options(), view.fees(), view.stored());
     let view = ClientView::new(options, fees, stored, window, view.book());
     assert_same(rt, &"window", &view.window(), &window);

@@ -1,5 +1,5 @@
-use crate::{FaultName, RunError, Section, child_path, element_path, fault_at, section_at};
 use rb_base::Fraction;
+use rb_fields::{FaultName, RunError, Section, child_path, element_path, fault_at, section_at};
 use std::alloc::Global;
 use std::process::Abort;
 use std::test::Fail;
@@ -97,6 +97,23 @@ const ROWS: &[(&str, &str, &str)] = &[
         "fault 1011 BadTime at t.x",
     ),
     ("time", "x = 'now'", "fault 1011 BadTime at t.x"),
+    ("time", "x = '1970-01-01T00:03Z'", "180000000000"),
+    ("time", "x = '1970-01-01T00:00:60Z'", "59000000000"),
+    (
+        "time",
+        "x = '1970-01-01T01:00:07+01:00[Europe/Berlin]'",
+        "7000000000",
+    ),
+    (
+        "time",
+        "x = '1970-01-01T00:00:01.1234567891Z'",
+        "fault 1011 BadTime at t.x",
+    ),
+    (
+        "time",
+        "x = '1970-01-01T00:03:20'",
+        "fault 1011 BadTime at t.x",
+    ),
     (
         "time",
         "x = 1970-01-01T00:03:20Z",

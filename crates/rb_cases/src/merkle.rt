@@ -1,4 +1,4 @@
-use crate::root;
+use rb_merkle::root;
 use sha2::{Digest, Sha256};
 use std::alloc::{AllocError, Global};
 use std::test::Fail;

@@ -1,9 +1,10 @@
-use crate::{BookError, ChainBook, Header, Known, Record, Vote};
+use crate::make::{assert_same, height, second};
+use rb_base::Height;
 use rb_base::refusing::Refusing;
-use rb_base::{Height, Moment};
+use rb_book::{BookError, ChainBook, Header, Known, Record, Vote};
 use rb_valset::{Validator, ValidatorSet};
 use std::alloc::{Allocator, Global};
-use std::fmt::{Debug, Display};
+use std::fmt::Display;
 use std::process::Abort;
 use std::test::Fail;
 
@@ -15,26 +16,16 @@ const BAD: &[Vote] = &[Vote::Commit, Vote::Nil, Vote::Bad, Vote::Bad];
 
 const ZERO: [u8; 32] = [0; 32];
 
-/// Asserts in one place for all tests, since each `assert_eq!` makes the proof of the function around
-/// it dearer.
-fn assert_same<T: PartialEq + Debug>(rt: &impl Abort, row: &impl Display, given: &T, wanted: &T) {
-    assert!(rt; *given == *wanted, "{row}: {given:?}, not {wanted:?}");
-}
-
-fn height(number: u64) -> Result<Height, Fail> {
-    Ok(Height::new(number).ok_or("height")?)
-}
-
-fn moment(seconds: u64) -> Result<Moment, Fail> {
-    Ok(Moment::new(u128::from(seconds) * 1_000_000_000).ok_or("moment")?)
-}
-
 fn entry(seconds: u64, next: [u8; 32]) -> Result<Record, Fail> {
-    Ok(Record::new(moment(seconds)?, ZERO, next))
+    Ok(Record::new(second(seconds)?, ZERO, next))
 }
 
 /// Validators of power 10, whose keys are the numbers from one up to another.
-fn make_set<A: Allocator + Copy>(alloc: A, from: u32, to: u32) -> Result<ValidatorSet<A>, Fail> {
+fn make_numbered_set<A: Allocator + Copy>(
+    alloc: A,
+    from: u32,
+    to: u32,
+) -> Result<ValidatorSet<A>, Fail> {
     let mut members = Vec::new(alloc);
     for number in from..to {
         let mut key = ZERO;
@@ -112,9 +103,9 @@ fn check_heights(rt: &impl Abort, book: &ChainBook) -> Result<(), Fail> {
 
 fn check_times(rt: &impl Abort, book: &ChainBook) -> Result<(), Fail> {
     let times = [
-        (height(2)?, moment(20)?),
-        (height(3)?, moment(30)?),
-        (height(5)?, moment(50)?),
+        (height(2)?, second(20)?),
+        (height(3)?, second(30)?),
+        (height(5)?, second(50)?),
     ];
     assert_same(rt, &"times", &book.times()?.as_slice(), &times.as_slice());
     Ok(())
@@ -175,7 +166,7 @@ fn check_told(rt: &impl Abort, book: &ChainBook, set: &ValidatorSet) -> Result<(
 /// What a book answers to one header after the other, and what it then tells.
 #[test]
 fn takes_headers_in(rt: HostRuntime) -> Result<(), Fail> {
-    let set = make_set(rt.alloc(), 0, 4)?;
+    let set = make_numbered_set(rt.alloc(), 0, 4)?;
     let mut book = ChainBook::new(rt.alloc());
     add_first_set(&rt, rt.alloc(), &mut book, &set)?;
     let offers = offers(height(2)?, height(5)?);
@@ -225,7 +216,7 @@ fn add_numbered_set(
     from: u32,
     to: u32,
 ) -> Result<Result<(), BookError>, Fail> {
-    Ok(book.add_set(make_set(alloc, from, to)?))
+    Ok(book.add_set(make_numbered_set(alloc, from, to)?))
 }
 
 /// An equal set is taken in at any time, another one only below the limit.
@@ -253,7 +244,7 @@ fn add<A: Allocator + Copy>(
     alloc: A,
     number: u64,
 ) -> Result<Result<(), BookError>, Fail> {
-    let set = make_set(alloc, 0, 4)?;
+    let set = make_numbered_set(alloc, 0, 4)?;
     Ok(match number {
         0 => book.add_set(set),
         1 => book.add_record(height(7)?, entry(70, *set.hash())?),

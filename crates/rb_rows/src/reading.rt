@@ -1,7 +1,7 @@
-use crate::read_script;
 use rb_base::{FeeTable, Fraction, Height, Moment, Window};
 use rb_book::Vote;
 use rb_plan::Goal;
+use rb_script::read_script;
 use rb_super::{ClientConfig, Event, Script, Turn};
 use rb_valset::{Validator, ValidatorSet};
 use std::alloc::Global;

@@ -1,12 +1,14 @@
 ghost use Rattle.std.specs.Prelude.{◌+◌, ◌<◌, ◌^◌, IfOk};
 
-use crate::{
+use crate::make::{assert_same, second};
+use rb_base::refusing::Refusing;
+use rb_base::{Height, Moment};
+use rb_scan::{
     Kind, Order, Packet, PacketMsg, Part, PathView, ScanError, Sequence, is_path, owed, owed_part,
     ready, wanted,
 };
-use rb_base::refusing::Refusing;
-use rb_base::{Height, Moment};
-use std::alloc::Allocator;
+use std::alloc::{Allocator, Global};
+use std::process::Abort;
 use std::test::Fail;
 
 /// A packet in numbers; 0 stands for none, and the timeout time is in seconds.
@@ -57,15 +59,11 @@ fn block(number: u64) -> Result<Height, Fail>
     Ok(Height::new(number).ok_or("block")?)
 }
 
-fn moment(seconds: u64) -> Result<Moment, Fail> {
-    Ok(Moment::new(u128::from(seconds) * 1_000_000_000).ok_or("moment")?)
-}
-
 fn packet_of(seen: &Seen) -> Result<Packet, Fail> {
     let sequence = Sequence::new(seen.sequence).ok_or("sequence")?;
     let timeout_time = match seen.timeout_seconds {
         0 => None,
-        seconds => Some(moment(seconds)?),
+        seconds => Some(second(seconds)?),
     };
     let timeout_height = Height::new(seen.timeout_height);
     let mut packet = Packet::new(sequence, block(seen.sent)?, timeout_height, timeout_time);
@@ -114,7 +112,7 @@ fn view_of<A: Allocator + Copy>(alloc: A, row: &Row, closed: bool) -> Result<Pat
     }
     let mut destination = Vec::new(alloc);
     for (height, seconds) in row.records {
-        destination.push((block(*height)?, moment(*seconds)?))?;
+        destination.push((block(*height)?, second(*seconds)?))?;
     }
     let first = Sequence::new(row.first).ok_or("first")?;
     if !is_path(first, &packets, &destination) {
@@ -436,24 +434,87 @@ const ROWS: &[Row] = &[
     },
 ];
 
+/// What a path owes, whole and in its two parts.
+fn check_owed<A: Allocator + Copy>(
+    rt: &impl Abort,
+    view: &PathView<A>,
+    index: usize,
+    wanted: &[PacketMsg],
+) -> Result<(), Fail> {
+    let list = owed(view)?;
+    assert_same(rt, &index, &list.as_slice(), &wanted);
+    let mut parts = owed_part(view, Part::Packets)?;
+    parts.extend_from_slice(&owed_part(view, Part::Channel)?)?;
+    assert_same(rt, &index, &parts.as_slice(), &wanted);
+    Ok(())
+}
+
+/// A row's path; it is equal to its copy, and once it is closed it owes nothing.
+fn check_row(rt: &impl Abort, alloc: Global, index: usize, row: &Row) -> Result<(), Fail> {
+    let view = view_of(alloc, row, false)?;
+    check_owed(rt, &view, index, messages_of(alloc, row.owed)?.as_slice())?;
+    assert!(rt; view.copy()? == view, "row {index}");
+    let closed = view_of(alloc, row, true)?;
+    assert!(rt; owed(&closed)?.is_empty() && closed != view, "row {index}");
+    Ok(())
+}
+
 /// Receives of consecutive sequences up to a gap; one timeout in place of them; acknowledgements
 /// up to one that isn't written; what is finished, cleared or settled is owed no more; a closed
 /// path owes nothing.
 #[test]
 fn lists_what_is_owed(rt: HostRuntime) -> Result<(), Fail> {
     for (index, row) in ROWS.iter().enumerate() {
-        let view = view_of(rt.alloc(), row, false)?;
-        let list = owed(&view)?;
-        let expected = messages_of(rt.alloc(), row.owed)?;
-        assert_eq!(rt; list.as_slice(), expected.as_slice(), "row {index}");
-        let mut parts = owed_part(&view, Part::Packets)?;
-        parts.extend_from_slice(&owed_part(&view, Part::Channel)?)?;
-        assert_eq!(rt; parts.as_slice(), list.as_slice(), "row {index}");
-        assert!(rt; view.copy()? == view, "row {index}");
-        let closed = view_of(rt.alloc(), row, true)?;
-        assert!(rt; owed(&closed)?.is_empty(), "row {index}");
-        assert!(rt; closed != view, "row {index}");
+        check_row(&rt, rt.alloc(), index, row)?;
     }
+    Ok(())
+}
+
+const RECEIVES: &[Message] = &[
+    (Kind::Receive, 4, 9),
+    (Kind::Receive, 5, 12),
+    (Kind::Receive, 6, 10),
+];
+
+const KINDS: &[Message] = &[
+    (Kind::Receive, 4, 11),
+    (Kind::Receive, 5, 9),
+    (Kind::Acknowledge, 1, 10),
+    (Kind::Acknowledge, 2, 11),
+    (Kind::Acknowledge, 3, 8),
+    (Kind::Timeout, 6, 11),
+    (Kind::Timeout, 7, 7),
+];
+
+/// A list, its order, how far the client reaches (0: nowhere), the places of what is ready, and the
+/// height that this wants.
+type Reach = (&'static [Message], Order, u64, &'static [usize], u64);
+
+const REACHES: &[Reach] = &[
+    (RECEIVES, Order::Ordered, 10, &[0], 9),
+    (RECEIVES, Order::Unordered, 10, &[0, 2], 10),
+    (RECEIVES, Order::Unordered, 0, &[], 0),
+    (RECEIVES, Order::Ordered, 12, &[0, 1, 2], 12),
+    (KINDS, Order::Ordered, 10, &[2, 6], 10),
+    (KINDS, Order::Unordered, 10, &[1, 2, 4, 6], 10),
+];
+
+/// The messages at these places.
+fn chosen(alloc: Global, list: &[PacketMsg], places: &[usize]) -> Result<Vec<PacketMsg>, Fail> {
+    let mut messages = Vec::new(alloc);
+    for place in places {
+        messages.push(*list.get(*place).ok_or("place")?)?;
+    }
+    Ok(messages)
+}
+
+fn check_ready(rt: &impl Abort, alloc: Global, index: usize, reach: &Reach) -> Result<(), Fail> {
+    let (list, order, reach, kept, floor) = *reach;
+    let list = messages_of(alloc, list)?;
+    let expected = chosen(alloc, &list, kept)?;
+    let ready = ready(alloc, &list, order, Height::new(reach))?;
+    assert_same(rt, &index, &ready.as_slice(), &expected.as_slice());
+    assert_same(rt, &index, &wanted(&ready), &Height::new(floor));
     Ok(())
 }
 
@@ -461,37 +522,8 @@ fn lists_what_is_owed(rt: HostRuntime) -> Result<(), Fail> {
 /// acknowledgements.
 #[test]
 fn keeps_what_is_ready(rt: HostRuntime) -> Result<(), Fail> {
-    let receives = [
-        (Kind::Receive, 4, 9),
-        (Kind::Receive, 5, 12),
-        (Kind::Receive, 6, 10),
-    ];
-    let kinds = [
-        (Kind::Receive, 4, 11),
-        (Kind::Receive, 5, 9),
-        (Kind::Acknowledge, 1, 10),
-        (Kind::Acknowledge, 2, 11),
-        (Kind::Acknowledge, 3, 8),
-        (Kind::Timeout, 6, 11),
-        (Kind::Timeout, 7, 7),
-    ];
-    let rows = [
-        (receives.as_slice(), Order::Ordered, 10, [0].as_slice(), 9),
-        (&receives, Order::Unordered, 10, &[0, 2], 10),
-        (&receives, Order::Unordered, 0, &[], 0),
-        (&receives, Order::Ordered, 12, &[0, 1, 2], 12),
-        (&kinds, Order::Ordered, 10, &[2, 6], 10),
-        (&kinds, Order::Unordered, 10, &[1, 2, 4, 6], 10),
-    ];
-    for (index, (list, order, reach, kept, floor)) in rows.iter().enumerate() {
-        let list = messages_of(rt.alloc(), list)?;
-        let mut expected = Vec::new(rt.alloc());
-        for place in *kept {
-            expected.push(*list.get(*place).ok_or("place")?)?;
-        }
-        let ready = ready(rt.alloc(), &list, *order, Height::new(*reach))?;
-        assert_eq!(rt; ready.as_slice(), expected.as_slice(), "row {index}");
-        assert_eq!(rt; wanted(&ready), Height::new(*floor), "row {index}");
+    for (index, reach) in REACHES.iter().enumerate() {
+        check_ready(&rt, rt.alloc(), index, reach)?;
     }
     Ok(())
 }
@@ -520,30 +552,39 @@ fn scan<A: Allocator + Copy>(
     Ok((list.len() + receives.len(), ready.len()))
 }
 
+/// A packet that is sent at 8 and not yet received.
+fn sent_packet(sequence: u64) -> Result<Packet, Fail> {
+    packet_of(&Seen {
+        sequence,
+        sent: 8,
+        ..NOTHING
+    })
+}
+
+fn sent_packets(alloc: Global, count: u64) -> Result<Vec<Packet>, Fail> {
+    let mut packets = Vec::new(alloc);
+    for sequence in 1..=count {
+        packets.push(sent_packet(sequence)?)?;
+    }
+    Ok(packets)
+}
+
 /// Refuses each growth in turn until a scan meets no refusal: two for the view, two for its copy,
 /// and one for each list.
 #[test]
 fn survives_each_refused_growth(rt: HostRuntime) -> Result<(), Fail> {
-    let mut packets = Vec::new(rt.alloc());
-    for sequence in 1..=40 {
-        packets.push(packet_of(&Seen {
-            sequence,
-            sent: 8,
-            ..NOTHING
-        })?)?;
-    }
-    let destination = [(block(9)?, moment(90)?)];
+    let packets = sent_packets(rt.alloc(), 40)?;
+    let destination = [(block(9)?, second(90)?)];
     for refused in 1..=8 {
         let heap = Refusing::new(rt.alloc(), refused);
         let scanned = scan(&heap, &packets, &destination);
-        assert_eq!(rt; heap.has_refused(), refused <= 7, "growth {refused}");
-        match scanned {
-            Ok(counts) => assert_eq!(rt; (refused, counts), (8, (80, 40))),
-            Err(error) => {
-                assert_eq!(rt; error, ScanError::NoMemory);
-                assert!(rt; refused <= 7);
-            }
-        }
+        let wanted = if refused <= 7 {
+            Err(ScanError::NoMemory)
+        } else {
+            Ok((80, 40))
+        };
+        assert_same(&rt, &refused, &scanned, &wanted);
+        assert_same(&rt, &refused, &heap.has_refused(), &(refused <= 7));
     }
     Ok(())
 }
@@ -551,26 +592,28 @@ fn survives_each_refused_growth(rt: HostRuntime) -> Result<(), Fail> {
 #[test]
 fn keeps_ranges_and_prints(rt: HostRuntime) -> Result<(), Fail> {
     let top = 9_223_372_036_854_775_807;
-    assert!(rt; Sequence::new(0).is_none());
-    assert!(rt; Sequence::new(top + 1).is_none());
-    assert_eq!(rt; Sequence::new(top).ok_or("sequence")?.get(), top);
+    assert!(rt; Sequence::new(0).is_none() && Sequence::new(top + 1).is_none());
+    assert_same(
+        &rt,
+        &"top",
+        &Sequence::new(top).ok_or("sequence")?.get(),
+        &top,
+    );
     let sequence = Sequence::new(12).ok_or("sequence")?;
-    assert_eq!(rt; format!(in rt.alloc(); "{sequence}")?.as_str(), "12");
-    let error = ScanError::NoMemory;
-    assert_eq!(rt; format!(in rt.alloc(); "{error}")?.as_str(), "no memory");
-    let records = [(block(9)?, moment(90)?), (block(10)?, moment(90)?)];
+    let text = format!(in rt.alloc(); "{sequence}")?;
+    assert_same(&rt, &"sequence", &text.as_str(), &"12");
+    let text = format!(in rt.alloc(); "{}", ScanError::NoMemory)?;
+    assert_same(&rt, &"error", &text.as_str(), &"no memory");
+    Ok(())
+}
+
+/// Times that do not rise, and a packet below the first, make no path.
+#[test]
+fn knows_paths(rt: HostRuntime) -> Result<(), Fail> {
+    let sequence = Sequence::new(12).ok_or("sequence")?;
+    let records = [(block(9)?, second(90)?), (block(10)?, second(90)?)];
     assert!(rt; is_path(sequence, &[], &records[..1]));
     assert!(rt; !is_path(sequence, &[], &records));
-    assert!(rt;
-        !is_path(
-            sequence,
-            &[packet_of(&Seen {
-                sequence: 11,
-                sent: 8,
-                ..NOTHING
-            })?],
-            &[]
-        )
-    );
+    assert!(rt; !is_path(sequence, &[sent_packet(11)?], &[]));
     Ok(())
 }

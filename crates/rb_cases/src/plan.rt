@@ -1,20 +1,19 @@
 ghost use Rattle.std.specs.Prelude.{◌≡◌, IfOk};
 
-use crate::{
-    Answer, Cost, Goal, Labelling, Update, gas_of, label, plan, proof_height, top_reachable,
-};
+use crate::make::{assert_same, height, make_heights, make_set_with, options, second};
 use rb_base::refusing::Refusing;
-use rb_base::{FeeTable, Height, Moment, Options, Period, Window};
+use rb_base::{FeeTable, Height, Window};
 use rb_book::{ChainBook, Header, Record, Vote};
 use rb_graph::Graph;
+use rb_plan::{
+    Answer, Cost, Goal, Labelling, Update, gas_of, label, plan, proof_height, top_reachable,
+};
 use rb_step::{ClientView, are_known};
-use rb_valset::{Validator, ValidatorSet};
+use rb_valset::ValidatorSet;
 use std::alloc::{AllocError, Allocator, Global};
 use std::fmt::{Debug, Display};
 use std::process::Abort;
 use std::test::Fail;
-
-const SECOND: u128 = 1_000_000_000;
 
 /// Validators by the byte that their key repeats, with their powers, and so many others of power 1.
 #[derive(Clone, Copy)]
@@ -60,7 +59,7 @@ const HUNDRED: Members = Members {
 struct World {
     stored: &'static [u64],
     headers: &'static [(u64, Members)],
-    seconds: u128,
+    seconds: u64,
 }
 
 /// The fewest updates to height 10 go by 5, whose hundred validators make them dear.
@@ -90,40 +89,13 @@ const ALL_EXPIRED: World = World {
     ..EXPIRED
 };
 
-/// Asserts in one place for all tests, since each `assert_eq!` makes the proof of the function around
-/// it dearer.
-fn assert_same<T: PartialEq + Debug>(rt: &impl Abort, row: &impl Display, given: &T, wanted: &T) {
-    assert!(rt; *given == *wanted, "{row}: {given:?}, not {wanted:?}");
-}
-
-fn height(number: u64) -> Result<Height, Fail> {
-    Ok(Height::new(number).ok_or("height")?)
-}
-
-fn moment(seconds: u128) -> Result<Moment, Fail> {
-    Ok(Moment::new(seconds.saturating_mul(SECOND)).ok_or("moment")?)
-}
-
-fn make_set<A: Allocator + Copy>(alloc: A, members: &Members) -> Result<ValidatorSet<A>, Fail> {
-    let mut validators = Vec::new(alloc);
-    for (byte, power) in members.named {
-        validators.push(Validator::new([*byte; 32], *power)?)?;
-    }
-    for byte in 0..members.others {
-        let mut key = [0x77; 32];
-        key[0] = byte;
-        validators.push(Validator::new(key, 1)?)?;
-    }
-    Ok(ValidatorSet::new(alloc, validators)?)
-}
-
 /// A header that all of the set sign, which it names as the next too.
 fn make_header<A: Allocator + Copy>(
     alloc: A,
     number: u64,
     set: &ValidatorSet<A>,
 ) -> Result<Header<A>, Fail> {
-    let time = moment(u128::from(number) * 10)?;
+    let time = second(number.saturating_mul(10))?;
     let record = Record::new(time, [0; 32], *set.hash());
     let votes = vec![in alloc; Vote::Commit; set.size()]?;
     Ok(Header::new(height(number)?, record, *set.hash(), votes))
@@ -136,7 +108,7 @@ fn add_header<A: Allocator + Copy>(
     number: u64,
     members: &Members,
 ) -> Result<(), Fail> {
-    let set = make_set(alloc, members)?;
+    let set = make_set_with(alloc, members.named, members.others)?;
     let header = make_header(alloc, number, &set)?;
     book.add_set(set)?;
     Ok(book.add_header(header)?)
@@ -150,14 +122,6 @@ fn make_graph<A: Allocator + Copy>(alloc: A, world: &World) -> Result<Graph<A>, 
     Ok(Graph::from_book(alloc, book)?)
 }
 
-fn make_stored<A: Allocator + Copy>(alloc: A, world: &World) -> Result<Vec<Height, A>, Fail> {
-    let mut stored = Vec::new(alloc);
-    for number in world.stored {
-        stored.push(height(*number)?)?;
-    }
-    Ok(stored)
-}
-
 /// The view of the world's client. An update costs 100, and 1 for each vote and validator.
 fn make_view<'a, A: Allocator + Copy>(
     rt: &impl Abort,
@@ -169,11 +133,9 @@ fn make_view<'a, A: Allocator + Copy>(
 {
     let book = graph.book();
     assert!(rt; are_known(stored, book));
-    let period = Period::new(1_000_000_000_000).ok_or("period")?;
-    let options = Options::new(period, 10_000_000_000);
     let fees = FeeTable::new(100, 1, 1)?;
-    let window = Window::at(moment(world.seconds)?);
-    Ok(ClientView::new(options, fees, stored, window, book))
+    let window = Window::at(second(world.seconds)?);
+    Ok(ClientView::new(options()?, fees, stored, window, book))
 }
 
 /// The labels: `1:0,0 3:112,1 `.
@@ -265,7 +227,7 @@ fn check_plan(
 
 fn check_row(rt: &impl Abort, alloc: Global, row: &Row) -> Result<(), Fail> {
     let graph = make_graph(alloc, &row.world)?;
-    let stored = make_stored(alloc, &row.world)?;
+    let stored = make_heights(alloc, row.world.stored)?;
     check_plan(rt, alloc, &graph, stored.as_slice(), row)
 }
 
@@ -382,7 +344,7 @@ fn check_view(
 #[test]
 fn looks_up_labels_and_gas(rt: HostRuntime) -> Result<(), Fail> {
     let graph = make_graph(rt.alloc(), &FIVE)?;
-    let stored = make_stored(rt.alloc(), &FIVE)?;
+    let stored = make_heights(rt.alloc(), FIVE.stored)?;
     check_view(&rt, rt.alloc(), &graph, stored.as_slice())
 }
 
@@ -401,7 +363,7 @@ fn is_planned<A: Allocator + Copy>(
 /// Whether the plan was made on this heap, and the growths up to it.
 fn plan_on(rt: &impl Abort, heap: &Refusing<Global>) -> Result<(bool, u64), Fail> {
     let graph = make_graph(heap, &TIED)?;
-    let stored = make_stored(heap, &TIED)?;
+    let stored = make_heights(heap, TIED.stored)?;
     let before = heap.growths();
     Ok((is_planned(rt, heap, &graph, stored.as_slice())?, before))
 }

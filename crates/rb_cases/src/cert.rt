@@ -1,13 +1,11 @@
-use crate::{Reason, Verdict2, certify};
-use rb_base::{FeeTable, Height, Moment, Options, Period, Window};
+use crate::make::{height, make_heights, make_set_with, options, second};
+use rb_base::{FeeTable, Height, Window};
 use rb_book::{ChainBook, Header, Record, Vote};
+use rb_cert::{Reason, Verdict2, certify};
 use rb_plan::{Answer, Cost, Goal, Label, Labelling, Update, are_labels};
 use rb_step::{ClientView, are_known};
-use rb_valset::{Validator, ValidatorSet};
 use std::alloc::Global;
 use std::test::Fail;
-
-const SECOND: u128 = 1_000_000_000;
 
 /// A block at a height: the set that signed it and signs the next, as key bytes and powers, and
 /// how many validators of power 1 it has beside these. Height h has the time 10 h seconds.
@@ -159,33 +157,12 @@ const LEAST_OF_TIES: Case = Case {
     ..LEAST
 };
 
-fn height(number: u64) -> Result<Height, Fail> {
-    Ok(Height::new(number).ok_or("height")?)
-}
-
-fn moment(nanoseconds: u128) -> Result<Moment, Fail> {
-    Ok(Moment::new(nanoseconds).ok_or("moment")?)
-}
-
-fn make_set(alloc: Global, block: &Block) -> Result<ValidatorSet, Fail> {
-    let mut validators = Vec::new(alloc);
-    for (byte, power) in block.set {
-        validators.push(Validator::new([*byte; 32], *power)?)?;
-    }
-    for byte in 0..block.small {
-        let mut key = [0x77; 32];
-        key[0] = byte;
-        validators.push(Validator::new(key, 1)?)?;
-    }
-    Ok(ValidatorSet::new(alloc, validators)?)
-}
-
 /// Adds a block's set, and its header or its record.
 fn add_block(book: &mut ChainBook, alloc: Global, block: &Block) -> Result<(), Fail> {
-    let set = make_set(alloc, block)?;
+    let set = make_set_with(alloc, block.set, block.small)?;
     let (hash, size) = (*set.hash(), set.size());
     book.add_set(set)?;
-    let time = moment(u128::from(block.height) * 10 * SECOND)?;
+    let time = second(block.height.saturating_mul(10))?;
     let record = Record::new(time, [0; 32], hash);
     if block.has_header {
         let votes = vec![in alloc; Vote::Commit; size]?;
@@ -240,14 +217,6 @@ fn make_answer(alloc: Global, case: &Case) -> Result<Answer, Fail> {
     }
 }
 
-fn make_heights(alloc: Global, numbers: &[u64]) -> Result<Vec<Height>, Fail> {
-    let mut heights = Vec::new(alloc);
-    for number in numbers {
-        heights.push(height(*number)?)?;
-    }
-    Ok(heights)
-}
-
 /// `yes`, or `no` with the reason's number, its name and its own numbers.
 fn to_text(alloc: Global, verdict: Verdict2) -> Result<String, Fail> {
     let Verdict2::No(reason) = verdict else {
@@ -266,14 +235,9 @@ fn to_text(alloc: Global, verdict: Verdict2) -> Result<String, Fail> {
     Ok(format!(in alloc; "no {number} {name}{}", place.as_str())?)
 }
 
-fn options() -> Result<Options, Fail> {
-    let period = Period::new(1_000_000_000_000).ok_or("period")?;
-    Ok(Options::new(period, 10_000_000_000))
-}
-
 fn window_until(seconds: u64) -> Result<Window, Fail> {
-    let until = moment(u128::from(seconds) * SECOND)?;
-    Ok(Window::new(moment(200 * SECOND)?, until)?)
+    let until = second(seconds)?;
+    Ok(Window::new(second(200)?, until)?)
 }
 
 fn goal_of(wanted: Wanted) -> Result<Goal, Fail> {
