@@ -4,3 +4,4 @@ pub mod Heights
 pub mod Known
 pub mod Window
 pub mod Orderly
+pub mod Conditions

@@ -7,6 +7,7 @@ pub mod SignedPower
 pub mod StepRule
 pub mod Answer
 pub mod Reasons
+pub mod Conditions
 pub mod LightClient
 pub mod KnownStep
 pub mod Machine

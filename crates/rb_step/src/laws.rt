@@ -1,5 +1,5 @@
 //! Laws of the step rule and of the light client, over the definitions alone.
-ghost use Rattle.rb_step.specs.Laws.{SuccessIsAcceptance, WindowIsByEnds, WindowIsByStep, ViewsAreOrderly};
+ghost use Rattle.rb_step.specs.Laws.{AnswerApplies, SuccessIsAcceptance, WindowIsByEnds, WindowIsByStep, ViewsAreOrderly};
 
 /// A step is accepted at every moment of a window exactly where it is accepted at the first and
 /// at the last.
@@ -10,6 +10,13 @@ pub fn window_is_by_ends()
 /// The answer for a window is success exactly where the step is accepted at every moment of it.
 pub fn success_is_acceptance()
     ensures { SuccessIsAcceptance }
+{}
+
+/// The answer for a window is invalid for a reason, or too little trust with so much power of so
+/// much, or success, exactly where the condition of that answer holds in its own words and that of
+/// no earlier one does. What `verify` answers is that for the window of its moment alone.
+pub fn answer_applies()
+    ensures { AnswerApplies }
 {}
 
 /// Updates are allowed whatever moments of the window they come at exactly where each in turn

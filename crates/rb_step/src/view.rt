@@ -65,7 +65,8 @@ pub fn are_known<A: Allocator + Copy>(heights: &[Height], book: &ChainBook<A>) -
 }
 
 impl<'a, A: Allocator + Copy> ClientView<'a, A> {
-    /// The view of these. Takes no memory.
+    /// The view of these. The stored heights rise and each has a record in the book, as `are_known`
+    /// tells. Takes no memory.
     pub fn new(
         options: Options,
         fees: FeeTable,
