@@ -6,5 +6,6 @@ pub mod Steps
 pub mod Stored
 pub mod OneLabelling
 pub mod OneReport
+pub mod OneVerdict
 pub mod Phases
 pub mod OwnAnswers

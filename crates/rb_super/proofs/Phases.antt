@@ -56,6 +56,6 @@ right_in script turn client labels claim s verdict phase within right answered =
     record {
       known = at.0;
       view = view_in s at.0;
-      planned = record { state = s; phase = phase; is = at.1; view = refl };
+      is = record { state = s; phase = phase; is = at.1; view = refl };
       right = subst (λ o. IfSome o (λ (c : KnownClient). IsRight c (view_in s c) labels claim)) at.1 (right said);
     }

@@ -33,7 +33,7 @@ abbrev pub view_in : State → KnownClient → View
 view_in s c = view_of s.window (book_at s.books c.config.tracks) c
 
 -- a client, by its place, and its view, where the turn's clients are planned
-pub record IsPlannedIn (script : Script) (turn client : ℕ) (c : KnownClient) (v : View) : Type 0 where
+pub record IsClientIn (script : Script) (turn client : ℕ) (c : KnownClient) (v : View) : Type 0 where
   pub state : State
   pub phase : IsPlanPhase script turn state
   pub is : slice_get state.clients client ≡ Some c
@@ -62,14 +62,14 @@ pub record IsRight (c : KnownClient) (v : View) (labels : Labels) (claim : Optio
 pub record IsVerdictOn (script : Script) (turn client : ℕ) (labels : Labels) (claim : Option (List Update)) (verdict : Option Verdict2) : Type 0 where
   pub known : KnownClient
   pub view : View
-  pub planned : IsPlannedIn script turn client known view
+  pub is : IsClientIn script turn client known view
   pub judged : IsVerdictFor view (planned_goal known view) labels claim verdict
 
 -- the answer is right for it
 pub record IsRightIn (script : Script) (turn client : ℕ) (labels : Labels) (claim : Option (List Update)) : Type 0 where
   pub known : KnownClient
   pub view : View
-  pub planned : IsPlannedIn script turn client known view
+  pub is : IsClientIn script turn client known view
   pub right : IsRight known view labels claim
 
 -- ---- answers of a report

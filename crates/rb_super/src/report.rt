@@ -26,7 +26,7 @@ pub struct RefusedEvent {
     pub error: BookError,
 }
 
-/// What came of a client in a turn.
+/// A client in a turn, by its identifier, and what came of it.
 #[derive(Debug, Drop)]
 pub struct ClientReport {
     pub id: ClientId,
