@@ -1,10 +1,11 @@
-//! Why the program gave no result: the line that says so, and what to do about it where the line
-//! doesn't tell.
+//! Why the program gave no result: the line that says so, and what to do about it.
 ghost use Rattle.ibcplan.specs.Status.{IsFailureStatus};
 
-use crate::flaw::Flaw;
+use crate::flaw::{Flaw, flaw_of};
+use crate::input::Input;
 use crate::status;
-use rb_fields::RunError;
+use rb_fields::{Fault, RunError};
+use std::alloc::Global;
 use std::io;
 use thiserror::Error;
 
@@ -14,20 +15,27 @@ pub enum Failure<'a> {
     /// A file can't be read.
     #[error("device\n{file}: {error}\nGive the path of a file that can be read, or - for standard input.")]
     Unreadable { file: &'a str, error: io::Error },
-    /// A file is no TOML from one place on.
-    #[error("{error}\n{flaw}")]
-    Flawed { error: RunError, flaw: Flaw<'a> },
-    /// A run gave no result.
-    #[error("{0}")]
-    Run(RunError),
+    /// The content of a file is refused.
+    #[error("{fault}\n{flaw}")]
+    Refused { fault: Fault, flaw: Flaw<'a> },
+    /// Standard output fails.
+    #[error("device\nStandard output can't be written; what it took may be only a beginning.")]
+    Unwritten,
+    /// Memory is wanting.
+    #[error("no memory")]
+    NoMemory,
 }
 
 impl<'a> Failure<'a> {
-    /// Why a run gave no result, with the flaw of a file where there is one.
-    pub fn new(error: RunError, flaw: Option<Flaw<'a>>) -> Failure<'a> {
-        match flaw {
-            Some(flaw) => Failure::Flawed { error, flaw },
-            None => Failure::Run(error),
+    /// Why a run over an input gave no result.
+    pub fn of_run(alloc: Global, error: RunError, input: &Input<'a>) -> Failure<'a> {
+        match error {
+            RunError::Fault(fault) => {
+                let flaw = flaw_of(alloc, &fault, input);
+                Failure::Refused { fault, flaw }
+            }
+            RunError::Device => Failure::Unwritten,
+            RunError::NoMemory => Failure::NoMemory,
         }
     }
 
@@ -36,9 +44,8 @@ impl<'a> Failure<'a> {
         ensures { IsFailureStatus result }
     {
         match self {
-            Failure::Unreadable { .. } => status::FAILED,
-            Failure::Flawed { error, .. } => error.status(),
-            Failure::Run(error) => error.status(),
+            Failure::Refused { .. } => status::REFUSED,
+            Failure::Unreadable { .. } | Failure::Unwritten | Failure::NoMemory => status::FAILED,
         }
     }
 }

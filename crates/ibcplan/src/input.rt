@@ -2,7 +2,6 @@
 ghost use Rattle.std.specs.Prelude.{◌≡◌};
 
 use crate::failure::Failure;
-use rb_fields::RunError;
 use std::alloc::Global;
 use std::fs::File;
 use std::io;
@@ -27,9 +26,7 @@ impl<'a> Input<'a> {
     pub fn read(rt: &HostRuntime, path: &'a str) -> Result<Input<'a>, Failure<'a>> {
         match bytes_at(rt, path) {
             Ok(bytes) => Ok(Input { path, bytes }),
-            Err(error) if error.kind() == io::ErrorKind::OutOfMemory => {
-                Err(Failure::Run(RunError::NoMemory))
-            }
+            Err(error) if error.kind() == io::ErrorKind::OutOfMemory => { Err(Failure::NoMemory) }
             Err(error) => Err(Failure::Unreadable {
                 file: name_of(path),
                 error,

@@ -3,6 +3,7 @@
 //! words for the operator.
 #![tactic(auto)]
 
+mod advice;
 mod failure;
 mod flaw;
 mod input;
@@ -12,6 +13,11 @@ mod task;
 
 use std::process::ExitCode;
 use std::{env, io};
+
+const NOT_UTF_8: &str = "error: the command line isn't UTF-8
+
+Rename the file, or give it as standard input: ibcplan plan - < FILE
+For more information, try '--help'.";
 
 /// Does what the command line asks for, and answers the status to end with.
 fn run(rt: &HostRuntime) -> io::Result<u8> {
@@ -26,7 +32,7 @@ fn main(rt: HostRuntime) -> ExitCode {
     let status = match run(&rt) {
         Ok(status) => status,
         Err(error) if error.kind() == io::ErrorKind::InvalidData => {
-            let _ = eprintln!(rt; "error: the command line isn't UTF-8");
+            let _ = eprintln!(rt; "{NOT_UTF_8}");
             status::COMMAND_LINE
         }
         Err(_) => perform::no_memory(&rt),

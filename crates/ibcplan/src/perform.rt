@@ -1,16 +1,16 @@
 //! The tasks done: files are read, results go to standard output, failures to standard error.
-ghost use Rattle.std.specs.Prelude.{IfOk};
-ghost use Rattle.ibcplan.specs.Status.{IsPlanned, IsJudged};
+ghost use Rattle.std.specs.Prelude.{◌≡◌, ◌⊎◌, false, IfOk};
+ghost use Rattle.ibcplan.specs.Status.{IsPlanned, IsConfirmed, IsDenied};
 
 use crate::failure::Failure;
-use crate::flaw::flaw_of;
 use crate::input::Input;
 use crate::status;
 use crate::task::Task;
 use clap::error::ErrorKind;
-use rb_base::Counted;
+use rb_base::{Counted, Sink};
 use rb_fields::RunError;
-use rb_text::{certify_over, plan_over};
+use rb_text::{certify_over, plan_over, read_script};
+use std::alloc::Global;
 use std::io;
 use std::io::{Printer, Write};
 
@@ -34,7 +34,7 @@ pub fn show(rt: &HostRuntime, message: &clap::Error) -> u8 {
         Ok(()) if message.use_stderr() => status::COMMAND_LINE,
         Ok(()) => status::DONE,
         Err(_) => {
-            let _ = eprintln!(rt; "device");
+            let _ = eprintln!(rt; "{}", Failure::Unwritten);
             status::FAILED
         }
     }
@@ -42,60 +42,73 @@ pub fn show(rt: &HostRuntime, message: &clap::Error) -> u8 {
 
 /// Ends for want of memory.
 pub fn no_memory(rt: &HostRuntime) -> u8 {
-    let _ = eprintln!(rt; "no memory");
+    let _ = eprintln!(rt; "{}", Failure::NoMemory);
     status::FAILED
 }
 
-/// Reads the files of a task and does it.
+/// Reads the files of a task, does it, and sends on what the writer may still hold.
 fn outcome_of<'a>(rt: &HostRuntime, task: Task<'a>) -> Result<u8, Failure<'a>> {
-    match task {
-        Task::Plan { script } => plan(rt, &Input::read(rt, script)?),
+    let mut output = Counted::new(io::writer(rt));
+    let status = match task {
+        Task::Plan { script } => {
+            let script = Input::read(rt, script)?;
+            plan(rt.alloc(), &script, &mut output)?
+        }
         Task::Certify {
             script,
             certificate,
         } => {
             let script = Input::read(rt, script)?;
-            certify(rt, &script, &Input::read(rt, certificate)?)
+            let certificate = Input::read(rt, certificate)?;
+            certify(rt.alloc(), &script, &certificate, &mut output)?
         }
-    }
+    };
+    flush(output)?;
+    Ok(status)
 }
 
 /// Writes the report of the script that a file holds.
-fn plan<'a>(rt: &HostRuntime, script: &Input<'a>) -> Result<u8, Failure<'a>>
-    ensures done { IfOk result (IsPlanned script.now.bytes.items) }
+fn plan<'a, W: Sink>(alloc: Global, script: &Input<'a>, output: &mut W) -> Result<u8, Failure<'a>>
+    requires { W.is_broken output.old ≡ false }
+    ensures done { IfOk result (IsPlanned script.now.bytes.items (W.taken output.old) (W.taken output.new)) }
 {
-    let mut output = Counted::new(io::writer(rt));
-    match plan_over(rt.alloc(), script.bytes(), &mut output) {
-        Ok(()) => flush(output).map(|()| status::DONE),
-        Err(error) => {
-            let flaw = flaw_of(rt.alloc(), &error, script);
-            Err(Failure::new(error, flaw))
-        }
+    match plan_over(alloc, script.bytes(), output) {
+        Ok(()) => Ok(status::DONE),
+        Err(error) => Err(Failure::of_run(alloc, error, script)),
     }
 }
 
 /// Writes the verdict on the certificate that a file holds.
-fn certify<'a>(
-    rt: &HostRuntime,
+fn certify<'a, W: Sink>(
+    alloc: Global,
     script: &Input<'a>,
     certificate: &Input<'a>,
+    output: &mut W,
 ) -> Result<u8, Failure<'a>>
-    ensures judged { IfOk result (IsJudged script.now.bytes.items certificate.now.bytes.items) }
+    requires { W.is_broken output.old ≡ false }
+    ensures judged { IfOk result (λ status.
+        IsConfirmed script.now.bytes.items certificate.now.bytes.items (W.taken output.old) (W.taken output.new) status
+        ⊎ IsDenied script.now.bytes.items certificate.now.bytes.items (W.taken output.old) (W.taken output.new) status) }
 {
-    let mut output = Counted::new(io::writer(rt));
-    match certify_over(rt.alloc(), script.bytes(), certificate.bytes(), &mut output) {
-        Ok(holds) => {
-            flush(output)?;
-            Ok(if holds { status::DONE } else { status::DENIED })
-        }
+    match certify_over(alloc, script.bytes(), certificate.bytes(), output) {
+        Ok(true) => Ok(status::DONE),
+        Ok(false) => Ok(status::DENIED),
         Err(error) => {
-            let flaw = flaw_of(rt.alloc(), &error, script).or_else(|| flaw_of(
-                rt.alloc(),
-                &error,
-                certificate,
-            ));
-            Err(Failure::new(error, flaw))
+            let input = refused_input(alloc, script, certificate);
+            Err(Failure::of_run(alloc, error, input))
         }
+    }
+}
+
+/// The file that a fault of certifying is in: the certificate, unless the script has a fault itself.
+fn refused_input<'a, 'b>(
+    alloc: Global,
+    script: &'b Input<'a>,
+    certificate: &'b Input<'a>,
+) -> &'b Input<'a> {
+    match read_script(alloc, script.bytes()) {
+        Err(RunError::Fault(_)) => script,
+        _ => certificate,
     }
 }
 
@@ -103,6 +116,6 @@ fn certify<'a>(
 fn flush<'a>(output: Counted<Printer<'_, HostRuntime>>) -> Result<(), Failure<'a>> {
     match output.into_inner().flush() {
         Ok(()) => Ok(()),
-        Err(_) => Err(Failure::Run(RunError::Device)),
+        Err(_) => Err(Failure::Unwritten),
     }
 }

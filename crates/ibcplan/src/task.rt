@@ -34,9 +34,10 @@ Results go to standard output; what went wrong goes to standard error.
 
 Exit status:
   0  done; of certify: the plan is the cheapest
-  1  the content of a file was refused
+  1  the content of a file is refused
   2  the command line is wrong
-  3  of certify: the plan is not the cheapest, and standard output says why
+  3  of certify: the certificate doesn't show that the plan is the cheapest, and
+     standard output says why
   4  no memory, or a file or an output that fails";
 
 const AFTER_PLAN: &str = "Examples:
