@@ -1,14 +1,14 @@
 #!/usr/bin/env python3
 """Prints examples/hundred_headers.toml: a hundred headers, whose validator sets change as time goes by.
 
-Every seventh header one to three validators leave the set and as many new ones join it; some sets are small and some
-are large. The seed is fixed, so that the script is the same each time."""
+At every seventh header some validators leave the set, which is then cut or filled by new ones to a size that is drawn. The
+seed is fixed, so that the script is the same each time."""
 import hashlib
 import random
 
 HEAD = """# A hundred headers, and validator sets that change.
 #
-# At every seventh height some validators leave and others join, and the sets have between 5 and 30 members. A step is
+# At every seventh height some validators leave and mostly others join, and the sets have between 5 and 20 members. A step is
 # accepted while more than a third of the trusted power still signs, so the plan has to choose where it stops: it
 # prefers heights whose sets are small, since each vote and each validator costs. Made by examples/hundred_headers.py.
 

@@ -92,7 +92,7 @@ impl<'a> Field<'a> {
         }
     }
 
-    /// The moment that it holds, as a timestamp (RFC 3339).
+    /// The moment that it holds, as a timestamp that `jiff` reads (RFC 3339, or ISO 8601 with an offset).
     #[tactic(auto, using(crate::proofs::Steps::steps), unfolding(crate::specs::Fields::time))]
     pub fn time(&self) -> Result<Moment, RunError>
         ensures { Gives (λ n. n) result (time (field_view self.now)) }

@@ -15,13 +15,13 @@ pub record IsReportFor (bytes : List ℕ) (report : Report) : Type 0 where
   pub read : script_of bytes ≡ Ok script
   pub reported : IsReportOf script report
 
--- the writer took the text of that report
+-- the writer took the text of that report, where its bytes are known before and after
 pub record WritesReport (bytes : List ℕ) (old new : Option (List ℕ)) : Type 0 where
   pub report : Report
   pub planned : IsReportFor bytes report
   pub written : Appends old new (text report)
 
--- the writer took a beginning of it
+-- the writer took a beginning of it, where its bytes are known
 pub record BeginsReport (bytes : List ℕ) (old new : Option (List ℕ)) : Type 0 where
   pub report : Report
   pub planned : IsReportFor bytes report

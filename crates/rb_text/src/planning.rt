@@ -15,7 +15,8 @@ use std::alloc::Global;
 /// Reads the script that the bytes hold, runs it on the calling thread, and writes its report.
 /// `Fault` is the first fault of bytes that hold no script, and nothing is then written; `Device`
 /// is answered where the writer fails, `NoMemory` where a growth is refused, and a beginning of
-/// the report, or nothing, was then taken. The writer must not have failed before.
+/// the report, or nothing, was then taken. The writer must not have failed before. What it took is
+/// said where a contract can name its bytes, as those of a list in memory.
 pub fn plan_over<W: Sink>(alloc: Global, bytes: &[u8], writer: &mut W) -> Result<(), RunError>
     requires { W.is_broken writer.old ≡ false }
     ensures report { OnOk result (WritesReport bytes.now (W.taken writer.old) (W.taken writer.new)) }
