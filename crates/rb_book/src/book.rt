@@ -9,9 +9,10 @@ ghost use Rattle.rb_book.specs.Invariant.{IsBook, IsBacked};
 ghost use Rattle.rb_book.specs.Search.{IsNewPlace};
 ghost use Rattle.rb_book.specs.Intake.{record_refusal, header_refusal, set_refusal, after_set, after_record, after_header, IsRefusal};
 
+use crate::addresses::Addresses;
 use crate::error::BookError;
 use crate::header::Header;
-use crate::intake::{breaker, first_bad_vote, new_addresses};
+use crate::intake::{breaker, first_bad_vote};
 use crate::record::{Known, Record};
 use crate::search::{header_place, record_place, set_place};
 use rb_base::{Height, Moment};
@@ -36,20 +37,19 @@ pub struct ChainBook<A: Allocator = Global> {
     sets: Vec<ValidatorSet<A>, A>,
     records: Vec<Known, A>,
     headers: Vec<Header<A>, A>,
-    addresses: usize,
+    addresses: Addresses<A>,
 }
 
 impl<A: Allocator> Model for ChainBook<A> {
-    ghost use Rattle.std.specs.Prelude.{◌≡◌};
-    ghost use Rattle.rb_book.specs.Book.{Book, address_count};
-    ghost use Rattle.rb_book.specs.Invariant.{IsBook};
+    ghost use Rattle.rb_book.specs.Book.{Book};
+    ghost use Rattle.rb_book.specs.Invariant.{IsBook, AreAddressesOf};
 
     ghost Value = { Book };
 
     ghost view = { λ b. record { limit = b.limit; sets = b.sets.items; records = b.records.items; headers = b.headers.items } };
 
     ghost invariant = { λ b. IsBook (record { limit = b.limit; sets = b.sets.items; records = b.records.items; headers = b.headers.items })
-        × (b.addresses ≡ address_count b.sets.items) };
+        × AreAddressesOf b.sets.items b.addresses };
 }
 
 impl<A: Allocator + Copy> ChainBook<A> {
@@ -70,7 +70,7 @@ impl<A: Allocator + Copy> ChainBook<A> {
             sets: Vec::new(alloc),
             records: Vec::new(alloc),
             headers: Vec::new(alloc),
-            addresses: 0,
+            addresses: Addresses::new(alloc),
         }
     }
 
@@ -84,7 +84,7 @@ impl<A: Allocator + Copy> ChainBook<A> {
             sets: copy_sets(alloc, self.sets.as_slice())?,
             records: Vec::from_slice(alloc, self.records.as_slice())?,
             headers: copy_headers(alloc, self.headers.as_slice())?,
-            addresses: self.addresses,
+            addresses: self.addresses.copy()?,
         })
     }
 
@@ -277,13 +277,21 @@ impl<A: Allocator> ChainBook<A> {
         }
     }
 
+    /// How many addresses the sets have together with this one.
+    fn addresses_with(&self, set: &ValidatorSet<A>) -> usize
+        ensures count { result ≡ address_count (set.now ∷ self.now.sets) }
+        ensures valid { IsValidatorSet set.now }
+    {
+        self.addresses.len() + self.addresses.count_new(set.members())
+    }
+
     /// Where a set goes, if it is new, or why it is refused.
-    fn judge_set(&self, set: &ValidatorSet<A>) -> Result<Option<SetPlace>, BookError>
+    fn judge_set(&self, set: &ValidatorSet<A>) -> Result<Option<usize>, BookError>
         ensures accepted { OnOk result (set_refusal self.now set.now ≡ None) }
         ensures place { IfOk result (λ new. MatchOption new
             (IsSome (set_of self.now (set_hash set.now)))
-            (λ p. IsNewPlace (has_hash (set_hash set.now)) (is_before (set_hash set.now)) self.now.sets p.set
-            × (p.addresses ≡ address_count (set.now ∷ self.now.sets)) × IsValidatorSet set.now)) }
+            (λ p. IsNewPlace (has_hash (set_hash set.now)) (is_before (set_hash set.now)) self.now.sets p
+            × IsValidatorSet set.now)) }
         ensures refused { IfErr result (λ e. set_refusal self.now set.now ≡ Some e) }
     {
         let sets = self.sets.as_slice();
@@ -291,14 +299,11 @@ impl<A: Allocator> ChainBook<A> {
             Ok(place) if sets[place] == *set => Ok(None),
             Ok(_) => Err(BookError::HashClash),
             Err(place) => {
-                let addresses = self.addresses + new_addresses(sets, set);
+                let addresses = self.addresses_with(set);
                 if sets.len() >= MAX_SETS || addresses > MAX_ADDRESSES {
                     return Err(BookError::Full);
                 }
-                Ok(Some(SetPlace {
-                    set: place,
-                    addresses,
-                }))
+                Ok(Some(place))
             }
         }
     }
@@ -312,8 +317,9 @@ impl<A: Allocator> ChainBook<A> {
         ensures unchanged { OnErr result (self.new ≡ self.old) }
     {
         if let Some(place) = self.judge_set(&set)? {
-            self.sets.insert(place.set, set)?;
-            self.addresses = place.addresses;
+            self.sets.reserve(1)?;
+            self.addresses.add(set.members())?;
+            self.sets.insert(place, set).unwrap();
         }
         Ok(())
     }
@@ -356,13 +362,6 @@ impl<A: Allocator> ChainBook<A> {
         }
         Ok(())
     }
-}
-
-/// Where a new set goes, and how many addresses the book then has.
-#[derive(Clone, Copy)]
-struct SetPlace {
-    set: usize,
-    addresses: usize,
 }
 
 /// Where a new header goes, and its record if that is new too.

@@ -2,6 +2,7 @@
 //! headers by height.
 #![tactic(auto)]
 
+mod addresses;
 mod book;
 mod error;
 mod header;

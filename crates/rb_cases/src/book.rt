@@ -291,12 +291,12 @@ fn build_both<'a>(
 #[test]
 fn stays_where_memory_is_refused(rt: HostRuntime) -> Result<(), Fail> {
     let ample = Refusing::new(rt.alloc(), 0);
-    for refused in 1..=9 {
+    for refused in 1..=17 {
         let heap = Refusing::new(rt.alloc(), refused);
         build_both(&rt, &heap, &ample)?;
         let growths = heap.growths();
         assert!(rt;
-            heap.has_refused() == (refused < 9),
+            heap.has_refused() == (refused < 17),
             "{refused} of {growths}"
         );
     }

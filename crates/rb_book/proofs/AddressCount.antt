@@ -15,6 +15,7 @@ use Rattle.std.specs.Str.{bytes_eq}
 use Rattle.rb_valset.specs.Validator.{Member, address_of, has_address}
 use Rattle.rb_valset.specs.ValidatorSet.{DistinctAddresses}
 use Rattle.rb_book.specs.Book.{is_known_address, addresses_of, address_count}
+use Rattle.rb_book.specs.Invariant.{AreAddressesOf}
 
 abbrev Address : Type 0
 Address = List ℕ
@@ -66,7 +67,7 @@ distinct_addresses (m ∷ ms) h = λ i j d before within e.
     let there = get_or-map address_in (m ∷ ms) j m d (omega (arith, long)) in
     h i j m before (omega (arith, long)) (sym here ∙ e ∙ there)
 
-pub address_count-cons : (s : List Member) (ss : List (List Member)) → DistinctAddresses s → address_count (s ∷ ss) ≡ count_by (λ m. not (is_known_address ss (address_of m.key))) s + address_count ss
+address_count-cons : (s : List Member) (ss : List (List Member)) → DistinctAddresses s → address_count (s ∷ ss) ≡ count_by (λ m. not (is_known_address ss (address_of m.key))) s + address_count ss
 address_count-cons s ss distinct = address_count-onto s ss (IsDistinct-from_AllPairs bytes_eq-Decides (members_addresses s) (distinct_addresses s distinct))
 
 -- the order of the sets doesn't matter
@@ -102,15 +103,34 @@ swap_or true false c = refl
 swap_or false true c = refl
 swap_or false false c = refl
 
-member-insert : (ss : List (List Member)) (i : ℕ) (s : List Member) (q : Address) → is_member bytes_eq (addresses_of (s ∷ ss)) q ≡ is_member bytes_eq (addresses_of (insert ss i s)) q
-member-insert ss i s q =
+known-insert : (ss : List (List Member)) (i : ℕ) (s : List Member) (a : Address) → is_known_address (s ∷ ss) a ≡ is_known_address (insert ss i s) a
+known-insert ss i s a =
     let front : List (List Member) = take i ss in
     let back : List (List Member) = drop i ss in
-    let has : List Member → Bool = list_any (has_address q) in
-    let known_insert : is_known_address (insert ss i s) q ≡ (list_any has front || (has s || list_any has back)) = list_any-append has front (s ∷ back) in
-    let known_rest : is_known_address ss q ≡ (list_any has front || list_any has back) = ap (list_any has) (sym (take-append-drop i ss)) ∙ list_any-append has front back in
-    known-addresses (s ∷ ss) q ∙ ap (λ (b : Bool). has s || b) known_rest ∙ swap_or (has s) (list_any has front) (list_any has back) ∙ sym known_insert ∙ sym (known-addresses (insert ss i s) q)
+    let has : List Member → Bool = list_any (has_address a) in
+    let known_insert : is_known_address (insert ss i s) a ≡ (list_any has front || (has s || list_any has back)) = list_any-append has front (s ∷ back) in
+    let known_rest : is_known_address ss a ≡ (list_any has front || list_any has back) = ap (list_any has) (sym (take-append-drop i ss)) ∙ list_any-append has front back in
+    ap (λ (b : Bool). has s || b) known_rest ∙ swap_or (has s) (list_any has front) (list_any has back) ∙ sym known_insert
+
+member-insert : (ss : List (List Member)) (i : ℕ) (s : List Member) (q : Address) → is_member bytes_eq (addresses_of (s ∷ ss)) q ≡ is_member bytes_eq (addresses_of (insert ss i s)) q
+member-insert ss i s q = known-addresses (s ∷ ss) q ∙ known-insert ss i s q ∙ sym (known-addresses (insert ss i s) q)
 
 pub address_count-insert : (ss : List (List Member)) (i : ℕ) (s : List Member) → address_count (insert ss i s) ≡ address_count (s ∷ ss)
 address_count-insert ss i s =
     sym (length-from_keys nat_list_eq_equiv (unique_keys bytes_eq (addresses_of (s ∷ ss))) (addresses_of (insert ss i s)) (distinct-unique (addresses_of (s ∷ ss))) (λ q. member-unique (addresses_of (s ∷ ss)) q ∙ member-insert ss i s q))
+
+-- ---- the addresses of all sets, each once
+
+length-known : (ss : List (List Member)) (known : List Address) → IsDistinct bytes_eq known → AreAddressesOf ss known → length known ≡ address_count ss
+length-known ss known distinct same = length-from_keys nat_list_eq_equiv known (addresses_of ss) distinct (λ a. same a ∙ sym (known-addresses ss a))
+
+-- how many there are with those of one more set
+pub address_count-known : (s : List Member) (ss : List (List Member)) (known : List Address) → DistinctAddresses s → IsDistinct bytes_eq known → AreAddressesOf ss known → length known + count_by (λ (m : Member). not (is_member bytes_eq known (address_in m))) s ≡ address_count (s ∷ ss)
+address_count-known s ss known members distinct same =
+    let news : count_by (λ (m : Member). not (is_member bytes_eq known (address_in m))) s ≡ count_by (λ (m : Member). not (is_known_address ss (address_in m))) s = λ i. count_by (λ (m : Member). not (same (address_in m) i)) s in
+    omega (arith, length-known ss known distinct same, news, address_count-cons s ss members)
+
+-- and that they are then the addresses of all sets
+pub AreAddressesOf-insert : (ss : List (List Member)) (i : ℕ) (s : List Member) (known new : List Address) → AreAddressesOf ss known → ((a : Address) → is_member bytes_eq new a ≡ (list_any (has_address a) s || is_member bytes_eq known a)) → AreAddressesOf (insert ss i s) new
+AreAddressesOf-insert ss i s known new same added = λ a.
+    added a ∙ ap (λ (b : Bool). list_any (has_address a) s || b) (same a) ∙ known-insert ss i s a
