@@ -122,6 +122,39 @@ const TIES: &[Block] = &[
     },
 ];
 
+/// The stored heights 1, 3, 4 and 6 name two next sets in turn; of the one nobody signs 10 and 12, of
+/// the other half signs 12.
+const IN_TURN: &[Block] = &[
+    FIRST,
+    Block {
+        height: 3,
+        set: Z,
+        has_header: false,
+        ..FIRST
+    },
+    Block {
+        height: 4,
+        has_header: false,
+        ..FIRST
+    },
+    Block {
+        height: 6,
+        set: Z,
+        has_header: false,
+        ..FIRST
+    },
+    Block {
+        height: 10,
+        set: P_TO_Q,
+        ..FIRST
+    },
+    Block {
+        height: 12,
+        set: Q_TO_Z,
+        ..FIRST
+    },
+];
+
 /// The least list over `TWO_WAYS` with the exact labels.
 const LEAST: Case = Case {
     name: "the least list",
@@ -274,6 +307,24 @@ fn judge(alloc: Global, case: &Case) -> Result<String, Fail> {
 const CASES: &[Case] = &[
     LEAST,
     LEAST_OF_TIES,
+    Case {
+        name: "next sets that refuse in turn",
+        chain: IN_TURN,
+        stored: &[1, 3, 4, 6],
+        wanted: Wanted::Exactly(12),
+        labels: &[(1, 0, 0), (3, 0, 0), (4, 0, 0), (6, 0, 0), (12, 112, 1)],
+        updates: Some(&[(12, 3)]),
+        ..LEAST
+    },
+    Case {
+        name: "a next set that accepts between two that refuse",
+        chain: IN_TURN,
+        stored: &[1, 3, 4, 6],
+        labels: &[(1, 0, 0), (3, 0, 0), (4, 0, 0), (6, 0, 0)],
+        updates: None,
+        verdict: "no 602 LabelTooHigh 3 12",
+        ..LEAST
+    },
     Case {
         name: "out of reach",
         wanted: Wanted::Exactly(9),

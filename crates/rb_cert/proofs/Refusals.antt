@@ -1,25 +1,56 @@
--- A step from a higher record is refused where the step from a lower live one that names the same set is.
-use Rattle.std.proofs.Common.{◌≡◌, ℕ, ◌+◌, ◌<◌, List, ap, sym, ◌∙◌, refl, subst, arith, Option, Some, None, slice_get, get_or}
-use Rattle.std.specs.List.{Contains}
+-- A step that isn't adjacent is refused where the step from a live record that names the same next set is.
+use Rattle.std.proofs.Common.{◌≡◌, ℕ, ◌+◌, ◌<◌, ◌⊎◌, ◌↔◌, Bool, List, inl, inr, length, find, position, ap, sym, ◌∙◌, refl, subst, arith, Option, Some, None, slice_get, get_or}
+use Rattle.std.specs.List.{position_or_len, Contains}
 use Rattle.std.specs.Option.{IsSomeAnd, IfSome, IsSome, option_map}
-use Rattle.std.proofs.lemmas.Option.{same_Some, get_or_from_slice_get, slice_get_within}
+use Rattle.std.proofs.lemmas.Bool.{cases_lt, cond-true, cond-false, lt-ltb, le-ltb}
+use Rattle.std.proofs.lemmas.List.Elements.{All-contains}
+use Rattle.std.proofs.lemmas.List.Folds.{find_at}
+use Rattle.std.proofs.lemmas.Option.{none-some, same_Some, get_or_from_slice_get, slice_get_within}
 use Rattle.rb_base.specs.Fraction.{Exceeds}
 use Rattle.rb_valset.specs.Validator.{Member}
 use Rattle.rb_valset.specs.ValidatorSet.{total_of}
-use Rattle.rb_book.specs.Book.{Known, height_of, time_of, header_height, record_at, header_at, set_of}
+use Rattle.rb_book.specs.Book.{Known, Book, height_of, time_of, header_height, is_at, has_hash, record_at, header_at, set_of}
 use Rattle.rb_book.specs.Header.{Record, Header}
+use Rattle.rb_book.specs.Invariant.{IsBacked}
 use Rattle.rb_step.specs.KnownStep.{◌>>=◌, step_at}
 use Rattle.rb_step.specs.SignedPower.{signed_power}
 use Rattle.rb_step.specs.StepRule.{Step, step_of, Accepts, AcceptsWithin}
 use Rattle.rb_step.specs.View.{View, IsView, client_of}
 use Rattle.rb_plan.proofs.Lookups.{find-at, find-some, pairs_from_increasing}
-use Rattle.rb_cert.specs.Refused.{IsRefusedLike}
+use Rattle.rb_cert.specs.Places.{IsMarked}
+use Rattle.rb_cert.specs.Refused.{IsJudgedBy, AreRefused}
 use Rattle.rb_step.proofs.Orderly.{bind_some}
 use Rattle.rb_cert.proofs.Known.{records_rise}
 use Rattle.rb_cert.proofs.Rising.{at_place, lower_before}
 
 bind_is : {A B : Type 0} (o : Option A) (f : A → Option B) (x : A) → o ≡ Some x → (o >>= f) ≡ f x
 bind_is {A} o f x e = ap (λ (p : Option A). p >>= f) e
+
+-- what a search finds stands at the place that it finds
+found_at : {X : Type 0} (p : X → Bool) (xs : List X) (i : ℕ) → position p xs ≡ Some i → find p xs ≡ slice_get xs i
+found_at p xs i at =
+    elim (cases_lt (position_or_len p xs) (length xs)) [
+      | inl less ↦ (let here : position p xs ≡ Some (position_or_len p xs) = cond-true _ _ _ (lt-ltb _ _ less) in find_at p xs ∙ ap (slice_get xs) (same_Some (position_or_len p xs) i (sym here ∙ at)))
+      | inr past ↦ (let none : position p xs ≡ None = cond-false _ _ _ (le-ltb _ _ past) in absurd (none-some i (sym none ∙ at)))
+    ]
+
+same_found : {X : Type 0} (p q : X → Bool) (xs : List X) (i : ℕ) → position p xs ≡ Some i → position q xs ≡ Some i → find p xs ≡ find q xs
+same_found p q xs i at at' = found_at p xs i at ∙ sym (found_at q xs i at')
+
+-- the record that a look-up finds
+record AreSame (b : Book) (h : ℕ) (r : Record) (m : Known) : Type 0 where
+  there : Contains b.records m
+  height : m.height ≡ h
+  entry : m.record_of ≡ r
+
+known_at : (b : Book) (h : ℕ) (r : Record) → record_at b h ≡ Some r → (m : Known) × AreSame b h r m
+known_at b h r is = go (find (is_at h) b.records) refl
+  where
+    go : (o : Option Known) → find (is_at h) b.records ≡ o → (m : Known) × AreSame b h r m
+    go None e = absurd (none-some r (sym (ap (option_map (λ (k : Known). k.record_of)) e) ∙ is))
+    go (Some m) e =
+        let found : Contains b.records m × (height_of m ≡ h) = find-some height_of b.records h m e in
+        (m, record { there = found.0; height = found.1; entry = same_Some m.record_of r (sym (ap (option_map (λ (k : Known). k.record_of)) e) ∙ is) })
 
 module _ (v : View) (view : IsView v) where
   record_is : (k : Known) → Contains v.book.records k → record_at v.book k.height ≡ Some k.record_of
@@ -36,27 +67,36 @@ module _ (v : View) (view : IsView v) where
           let second : time_of (get_or v.book.records j k) ≡ time_of n = ap time_of (get_or_from_slice_get v.book.records j n k at') in
           omega (arith, up, first, second)
 
-  -- the step from the lower record, by the same votes
-  accepted_lower : (k n : Known) (h m : ℕ) (header : Header) (own : List Member) → header.height ≡ h → IsRefusedLike k n h → time_of k < time_of n
-      → m < time_of k + v.options.period → Accepts v.options m (step_of n.height n.record_of (set_of v.book n.record_of.next) header own)
+  -- a header is later than each lower record
+  header_later : (k : Known) (header : Header) → Contains v.book.records k → Contains v.book.headers header → k.height < header.height → time_of k < header.record_of.time
+  header_later k header k_there there lower =
+      let backed : IsBacked v.book header = All-contains (IsBacked v.book) v.book.headers header view.book.backed there in
+      let own : (m : Known) × AreSame v.book header.height header.record_of m = known_at v.book header.height header.record_of backed.recorded in
+      let up : time_of k < time_of own.0 = times_rise k own.0 k_there own.1.there (subst (λ (n : ℕ). k.height < n) (sym own.1.height) lower) in
+      subst (λ (r : Record). time_of k < r.time) own.1.entry up
+
+  -- the step from the live record, by the same votes
+  accepted_live : (k n : Known) (h set m : ℕ) (header : Header) (own : List Member) → header.height ≡ h → k.height < h → IsJudgedBy v k h set → IsJudgedBy v n h set
+      → time_of k < header.record_of.time → m < time_of k + v.options.period
+      → Accepts v.options m (step_of n.height n.record_of (set_of v.book n.record_of.next) header own)
       → Accepts v.options m (step_of k.height k.record_of (set_of v.book k.record_of.next) header own)
-  accepted_lower k n h m header own at like earlier live a =
-      let next : set_of v.book n.record_of.next ≡ set_of v.book k.record_of.next = ap (set_of v.book) (sym like.same_set) in
+  accepted_live k n h set m header own at lower k_by n_by earlier live a =
+      let next : set_of v.book n.record_of.next ≡ set_of v.book k.record_of.next = same_found (has_hash n.record_of.next) (has_hash k.record_of.next) v.book.sets set n_by.place k_by.place in
       record {
-        higher = omega (arith, a.higher, like.lower_height);
+        higher = omega (arith, at, lower);
         not_expired = live;
-        later = omega (arith, a.later, earlier);
+        later = earlier;
         not_from_future = a.not_from_future;
         next_known = subst (λ (o : Option (List Member)). IsSome o) next a.next_known;
-        follows = λ adjacent. absurd (omega (arith, adjacent, a.higher, like.lower_height));
-        trusted_signed = λ _. subst (λ (o : Option (List Member)). IfSome o (λ s. Exceeds (signed_power s own header) (total_of s) v.options.trust)) next (a.trusted_signed (λ adjacent. like.not_adjacent (sym adjacent ∙ at)));
+        follows = λ adjacent. absurd (k_by.not_adjacent (sym adjacent ∙ at));
+        trusted_signed = λ _. subst (λ (o : Option (List Member)). IfSome o (λ s. Exceeds (signed_power s own header) (total_of s) v.options.trust)) next (a.trusted_signed (λ adjacent. n_by.not_adjacent (sym adjacent ∙ at)));
         own_signed = a.own_signed;
       }
 
-  pub accepted_like : (k n : Known) (h : ℕ) → Contains v.book.records k → Contains v.book.records n → (client_of v).IsLive k.height → IsRefusedLike k n h
+  accepted_like : (k n : Known) (h set : ℕ) → Contains v.book.records k → Contains v.book.records n → (client_of v).IsLive k.height → k.height < h → IsJudgedBy v k h set → IsJudgedBy v n h set
       → (client_of v).Accepts n.height h → (client_of v).Accepts k.height h
   unfolding client_of step_at
-  accepted_like k n h k_there n_there live like accepted = go (step_at v.book n.height h) refl accepted
+  accepted_like k n h set k_there n_there live lower k_by n_by accepted = go (step_at v.book n.height h) refl accepted
     where
       time : v.window.until < time_of k + v.options.period
       time = subst (λ (o : Option Record). IsSomeAnd o (λ r. v.window.until < r.time + v.options.period)) (record_is k k_there) live
@@ -70,10 +110,20 @@ module _ (v : View) (view : IsView v) where
           let header = second.0 in
           let own = third.0 in
           let trusted : first.0 ≡ n.record_of = same_Some first.0 n.record_of (sym first.1 ∙ record_is n n_there) in
-          let at : header.height ≡ h = (find-some header_height v.book.headers h header second.1).1 in
+          let found : Contains v.book.headers header × (header_height header ≡ h) = find-some header_height v.book.headers h header second.1 in
+          let earlier : time_of k < header.record_of.time = header_later k header k_there found.0 (subst (λ (t : ℕ). k.height < t) (sym found.1) lower) in
           let of_n : s ≡ step_of n.height n.record_of (set_of v.book n.record_of.next) header own =
           same_Some s (step_of n.height first.0 (set_of v.book first.0.next) header own) (sym third.2) ∙ ap (λ (r : Record). step_of n.height r (set_of v.book r.next) header own) trusted in
           let of_k : step_at v.book k.height h ≡ Some (step_of k.height k.record_of (set_of v.book k.record_of.next) header own) =
           bind_is (record_at v.book k.height) _ k.record_of (record_is k k_there) ∙ bind_is (header_at v.book h) _ header second.1 ∙ bind_is (set_of v.book header.set_hash) _ own third.1 in
           subst (λ (o : Option Step). IsSomeAnd o (AcceptsWithin v.options v.window)) (sym of_k)
-          (λ m within. accepted_lower k n h m header own at like (times_rise k n k_there n_there like.lower_height) (omega (arith, time, within)) (subst (Accepts v.options m) of_n (throughout m within)))
+          (λ m within. accepted_live k n h set m header own found.1 lower k_by n_by earlier (omega (arith, time, within)) (subst (Accepts v.options m) of_n (throughout m within)))
+
+  -- one more set by which the step from a live record was refused
+  pub refused_more : (k : Known) (h set : ℕ) (words marked : List ℕ) → Contains v.book.records k → (client_of v).IsLive k.height → k.height < h → IsJudgedBy v k h set → ¬ (client_of v).Accepts k.height h
+      → ((p : ℕ) → IsMarked marked p ↔ (IsMarked words p ⊎ (p ≡ set))) → AreRefused words v h → AreRefused marked v h
+  refused_more k h set words marked k_there live lower k_by refused more so_far n other n_there n_by mark accepted = go ((more other).0 mark)
+    where
+      go : IsMarked words other ⊎ (other ≡ set) → ⊥
+      go (inl before) = so_far n other n_there n_by before accepted
+      go (inr same) = refused (accepted_like k n h set k_there n_there live lower k_by (subst (IsJudgedBy v n h) same n_by) accepted)

@@ -6,6 +6,7 @@ mod judgement;
 mod labels;
 pub mod laws;
 mod places;
+mod refused;
 mod ties;
 mod updates;
 mod verdict;
