@@ -5,5 +5,7 @@ pub mod Rising
 pub mod Search
 pub mod Known
 pub mod Refusals
+pub mod Targets
+pub mod Again
 pub mod Stored
 pub mod Walks

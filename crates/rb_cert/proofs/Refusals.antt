@@ -23,7 +23,7 @@ use Rattle.rb_step.proofs.Orderly.{bind_some}
 use Rattle.rb_cert.proofs.Known.{records_rise}
 use Rattle.rb_cert.proofs.Rising.{at_place, lower_before}
 
-bind_is : {A B : Type 0} (o : Option A) (f : A → Option B) (x : A) → o ≡ Some x → (o >>= f) ≡ f x
+pub bind_is : {A B : Type 0} (o : Option A) (f : A → Option B) (x : A) → o ≡ Some x → (o >>= f) ≡ f x
 bind_is {A} o f x e = ap (λ (p : Option A). p >>= f) e
 
 -- what a search finds stands at the place that it finds
@@ -53,7 +53,7 @@ known_at b h r is = go (find (is_at h) b.records) refl
         (m, record { there = found.0; height = found.1; entry = same_Some m.record_of r (sym (ap (option_map (λ (k : Known). k.record_of)) e) ∙ is) })
 
 module _ (v : View) (view : IsView v) where
-  record_is : (k : Known) → Contains v.book.records k → record_at v.book k.height ≡ Some k.record_of
+  pub record_is : (k : Known) → Contains v.book.records k → record_at v.book k.height ≡ Some k.record_of
   record_is k there = ap (option_map (λ (x : Known). x.record_of)) (find-at height_of v.book.records k k.height (records_rise v view) there refl)
 
   times_rise : (k n : Known) → Contains v.book.records k → Contains v.book.records n → k.height < n.height → time_of k < time_of n
@@ -93,7 +93,7 @@ module _ (v : View) (view : IsView v) where
         own_signed = a.own_signed;
       }
 
-  accepted_like : (k n : Known) (h set : ℕ) → Contains v.book.records k → Contains v.book.records n → (client_of v).IsLive k.height → k.height < h → IsJudgedBy v k h set → IsJudgedBy v n h set
+  pub accepted_like : (k n : Known) (h set : ℕ) → Contains v.book.records k → Contains v.book.records n → (client_of v).IsLive k.height → k.height < h → IsJudgedBy v k h set → IsJudgedBy v n h set
       → (client_of v).Accepts n.height h → (client_of v).Accepts k.height h
   unfolding client_of step_at
   accepted_like k n h set k_there n_there live lower k_by n_by accepted = go (step_at v.book n.height h) refl accepted

@@ -11,5 +11,7 @@ pub mod Refusal
 pub mod Judgement
 pub mod Places
 pub mod Refused
+pub mod Target
+pub mod Accepted
 pub mod Checks
 pub mod Laws

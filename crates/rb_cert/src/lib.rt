@@ -2,11 +2,13 @@
 //! nothing in the answer, goes by the step rule and plain sums, and takes no memory.
 #![tactic(auto)]
 
+mod accepted;
 mod judgement;
 mod labels;
 pub mod laws;
 mod places;
 mod refused;
+mod target;
 mod ties;
 mod updates;
 mod verdict;

@@ -2,11 +2,14 @@
 ghost use Rattle.std.specs.Prelude.{◌≡◌, ℕ, ◌<◌, ◌↔◌, Some, IfSome, IsTrue, Contains};
 ghost use Rattle.rb_step.specs.View.{View, IsView, client_of};
 ghost use Rattle.rb_cert.specs.Refused.{IsJudgedBy, AreRefused};
+ghost use Rattle.rb_cert.specs.Target.{IsTarget};
 
 use crate::places::Places;
+use crate::target::accepts_from;
 use rb_base::Height;
-use rb_book::Known;
+use rb_book::{Header, Known};
 use rb_step::ClientView;
+use rb_valset::ValidatorSet;
 use std::alloc::Allocator;
 
 /// The next sets by which a height's header was refused, as places in the book's sets.
@@ -26,29 +29,31 @@ impl RefusedSets {
     }
 }
 
-/// Whether the client accepts the step from the known height. Where it refused the step from
-/// another live record that names the same next set, it refuses this one too: so the votes that a
-/// set refuses are counted once.
+/// Whether the client accepts the step from the known record to the header. Where it refused the
+/// step from another live record that names the same next set, it refuses this one too: so the
+/// votes that a set refuses are counted once.
 pub(crate) fn accepts<A: Allocator + Copy>(
     view: &ClientView<'_, A>,
     known: &Known,
-    height: Height,
+    header: &Header<A>,
+    own: &ValidatorSet<A>,
     refused: &mut RefusedSets,
 ) -> bool
     requires view { IsView view.now }
     requires known { Contains view.now.book.records known.now }
-    requires lower { known.now.height < height }
-    requires refused { AreRefused refused.old.places.words view.now height }
-    ensures value { IsTrue result ↔ (client_of view.now).Accepts known.now.height height }
-    ensures refused { AreRefused refused.new.places.words view.now height }
+    requires target { IsTarget view.now.book header.now own.now }
+    requires lower { known.now.height < header.now.height }
+    requires refused { AreRefused refused.old.places.words view.now header.now.height }
+    ensures value { IsTrue result ↔ (client_of view.now).Accepts known.now.height header.now.height }
+    ensures refused { AreRefused refused.new.places.words view.now header.now.height }
 {
-    let Some(set) = judging_set(view, known, height) else {
-        return view.accepts(known.height(), height);
+    let Some(set) = judging_set(view, known, header.height()) else {
+        return accepts_from(view, known, header, own);
     };
     if refused.places.contains(set) {
         return false;
     }
-    let is_accepted = view.accepts(known.height(), height);
+    let is_accepted = accepts_from(view, known, header, own);
     if !is_accepted && view.is_live(known.height()) {
         refused.places.insert(set);
     }
@@ -57,13 +62,13 @@ pub(crate) fn accepts<A: Allocator + Copy>(
 
 /// The place of the next set that the step from the known height goes by: none where the step is
 /// adjacent, or where the set isn't known.
-fn judging_set<A: Allocator + Copy>(
+pub(crate) fn judging_set<A: Allocator + Copy>(
     view: &ClientView<'_, A>,
     known: &Known,
     height: Height,
 ) -> Option<usize>
     ensures value { (set : ℕ) → (result ≡ Some set) ↔ IsJudgedBy view.now known.now height set }
-    ensures small { IfSome result (λ set. set < 4096) }
+    ensures small { IfSome result (λ set. set < 1024) }
 {
     if known.height().get() + 1 == height.get() {
         return None;

@@ -2,13 +2,15 @@
 ghost use Rattle.std.specs.Prelude.{◌≡◌, Some, OnOk, IfOk, IfErr, IfSome, IfNone};
 ghost use Rattle.rb_step.specs.LightClient.{IsAcceptable};
 ghost use Rattle.rb_step.specs.View.{IsView, client_of};
-ghost use Rattle.rb_plan.specs.declared.goal.Goal.{Goal};
+ghost use Rattle.rb_events.specs.declared.goal.Goal.{Goal};
 ghost use Rattle.rb_plan.specs.Goal.{Meets};
 ghost use Rattle.rb_plan.specs.Order.{cost_of};
 ghost use Rattle.rb_plan.specs.Labelling.{Labels, label_of};
 ghost use Rattle.rb_cert.specs.Checks.{IsFirstOf, AreTight};
 ghost use Rattle.rb_cert.specs.Places.{IsPlaceOf, AreMarked, IsAllowedFrom};
+ghost use Rattle.rb_cert.specs.Accepted.{AreAccepted};
 
+use crate::accepted::{AcceptedSteps, accepts_again};
 use crate::labels::is_labelled;
 use crate::places::{Places, place_of};
 use crate::verdict::Reason;
@@ -18,7 +20,7 @@ use std::alloc::Allocator;
 
 /// 603: each update trusts a height that is stored or an earlier update's, and its step is
 /// accepted. Linear in the updates: what is stored after the earlier ones is marked by the places
-/// of its records.
+/// of its records, and the votes for a header are counted once for each next set.
 pub(crate) fn check_accepted<A: Allocator + Copy>(
     view: &ClientView<'_, A>,
     updates: &[Update],
@@ -27,8 +29,9 @@ pub(crate) fn check_accepted<A: Allocator + Copy>(
     ensures err { IfErr result (λ r. (label : Labels) (goal : Goal) → IsFirstOf 3 (client_of view.now) label goal (Some updates.now) r) }
 {
     let mut stored = stored_places(view);
+    let mut accepted = AcceptedSteps::none();
     for (index, update) in updates.iter().enumerate() {
-        match accepted_place(view, &stored, *update) {
+        match accepted_place(view, &stored, *update, &mut accepted) {
             Some(place) => stored.insert(place),
             None => return Err(Reason::PlanNotAccepted(index)),
         }
@@ -57,15 +60,20 @@ fn accepted_place<A: Allocator + Copy>(
     view: &ClientView<'_, A>,
     stored: &Places,
     update: Update,
+    accepted: &mut AcceptedSteps,
 ) -> Option<usize>
+    requires { AreAccepted accepted.old.words view.now }
     ensures some { IfSome result (λ place. IsPlaceOf view.now.book.records update.height place
         × IsAllowedFrom stored.now.words view.now.book.records (client_of view.now) update) }
     ensures none { IfNone result (¬ IsAllowedFrom stored.now.words view.now.book.records (client_of view.now) update) }
+    ensures accepted { AreAccepted accepted.new.words view.now }
 {
     let records = view.book().records();
     let trusted = place_of(records, update.trusted())?;
     let place = place_of(records, update.height())?;
-    if stored.contains(trusted) && view.accepts(update.trusted(), update.height()) {
+    if stored.contains(trusted)
+        && accepts_again(view, &records[trusted], update.height(), place, accepted)
+    {
         Some(place)
     } else {
         None

@@ -1,0 +1,53 @@
+//! Steps to a header that is at hand with its own set.
+ghost use Rattle.std.specs.Prelude.{◌≡◌, ◌<◌, ◌↔◌, IsTrue, Contains};
+ghost use Rattle.rb_step.specs.Fee.{fee_limit};
+ghost use Rattle.rb_step.specs.View.{IsView, client_of};
+ghost use Rattle.rb_cert.specs.Target.{IsTarget};
+
+use rb_book::{Header, Known};
+use rb_step::{ClientView, accepts_in};
+use rb_valset::ValidatorSet;
+use std::alloc::Allocator;
+
+/// The fee of the step from the known record.
+pub(crate) fn fee_from<A: Allocator + Copy>(
+    view: &ClientView<'_, A>,
+    known: &Known,
+    header: &Header<A>,
+    own: &ValidatorSet<A>,
+) -> u64
+    requires view { IsView view.now }
+    requires known { Contains view.now.book.records known.now }
+    requires target { IsTarget view.now.book header.now own.now }
+    ensures value { result ≡ (client_of view.now).fee known.now.height header.now.height }
+    ensures bound { result < fee_limit }
+{
+    let next = view.book().set(known.record().next());
+    let validators = own.size() + next.map_or(0, |next| next.size());
+    view.fees()
+        .charge(header.commits() as u64, validators as u64)
+}
+
+/// Whether the client accepts the step from the known record.
+pub(crate) fn accepts_from<A: Allocator + Copy>(
+    view: &ClientView<'_, A>,
+    known: &Known,
+    header: &Header<A>,
+    own: &ValidatorSet<A>,
+) -> bool
+    requires view { IsView view.now }
+    requires known { Contains view.now.book.records known.now }
+    requires target { IsTarget view.now.book header.now own.now }
+    ensures { IsTrue result ↔ (client_of view.now).Accepts known.now.height header.now.height }
+{
+    let next = view.book().set(known.record().next());
+    accepts_in(
+        &view.options(),
+        known.height(),
+        known.record(),
+        next,
+        header,
+        own,
+        &view.window(),
+    )
+}
