@@ -4,5 +4,8 @@ pub mod Places
 pub mod Breakers
 pub mod AddressCount
 pub mod Kept
+pub mod FewHeaders
 pub mod Additions
 pub mod Positions
+pub mod Puts
+pub mod Conditions

@@ -8,3 +8,5 @@ pub mod Refusal
 pub mod Same
 pub mod Search
 pub mod Laws
+pub mod Conditions
+pub mod Shared

@@ -1,18 +1,18 @@
 //! The book of one chain.
-ghost use Rattle.std.specs.Prelude.{◌≡◌, ◌≤◌, ◌↔◌, ◌∷◌, [], IsTrue, IsSome, IfSome, IfOk, IfErr, OnOk, OnErr, MatchOption, Some, None, count_by, position};
+ghost use Rattle.std.specs.Prelude.{◌≡◌, ◌≤◌, ◌↔◌, ◌∷◌, [], vec_capacity, IsTrue, IfSome, IfOk, IfErr, OnOk, OnErr, Some, None, count_by, position};
 ghost use Rattle.std.specs.Option.{option_copied};
 ghost use Rattle.std.specs.Cmp.Lexicographic.{pointwise};
 ghost use Rattle.rb_valset.specs.ValidatorSet.{set_hash, IsValidatorSet, same_set};
 ghost use Rattle.rb_book.specs.Header.{same_header};
-ghost use Rattle.rb_book.specs.Book.{Book, set_of, record_at, header_at, heights_of, times_of, top_of, is_at, is_below, header_is_at, header_is_below, has_hash, is_before, address_count, same_known, same_book};
+ghost use Rattle.rb_book.specs.Book.{Book, set_of, record_at, header_at, heights_of, times_of, top_of, is_below, header_is_at, has_hash, address_count, same_known, same_book};
 ghost use Rattle.rb_book.specs.Invariant.{IsBook, IsBacked};
-ghost use Rattle.rb_book.specs.Search.{IsNewPlace};
 ghost use Rattle.rb_book.specs.Intake.{record_refusal, header_refusal, set_refusal, after_set, after_record, after_header, IsRefusal};
 
 use crate::addresses::Addresses;
 use crate::error::BookError;
 use crate::header::Header;
 use crate::intake::{breaker, first_bad_vote};
+use crate::known_addresses::{copy_addresses, count_new, keep_addresses, reserve_addresses};
 use crate::record::{Known, Record};
 use crate::search::{header_place, record_place, set_place};
 use rb_base::{Height, Moment};
@@ -31,61 +31,75 @@ const MAX_ADDRESSES: usize = 65_536;
 
 /// The known sets, records and headers of one chain, each at most once: sets by hash, records and
 /// headers by height. Times rise with heights; each header's record and own set are known.
+///
+/// A new book takes the memory for all that it may ever have, so that only the addresses of its
+/// sets, which are kept to count them, take more: what was judged is put into it without memory.
 #[derive(Debug, Drop)]
 pub struct ChainBook<A: Allocator = Global> {
     limit: usize,
     sets: Vec<ValidatorSet<A>, A>,
     records: Vec<Known, A>,
     headers: Vec<Header<A>, A>,
-    addresses: Addresses<A>,
+    distinct: usize,
+    addresses: Option<Addresses<A>>,
 }
 
 impl<A: Allocator> Model for ChainBook<A> {
-    ghost use Rattle.rb_book.specs.Book.{Book};
-    ghost use Rattle.rb_book.specs.Invariant.{IsBook, AreAddressesOf};
+    ghost use Rattle.std.specs.Prelude.{◌≡◌, ◌≤◌, vec_capacity};
+    ghost use Rattle.rb_book.specs.Book.{Book, address_count, max_sets};
+    ghost use Rattle.rb_book.specs.Invariant.{IsBook, MayHaveAddressesOf};
 
     ghost Value = { Book };
 
     ghost view = { λ b. record { limit = b.limit; sets = b.sets.items; records = b.records.items; headers = b.headers.items } };
 
     ghost invariant = { λ b. IsBook (record { limit = b.limit; sets = b.sets.items; records = b.records.items; headers = b.headers.items })
-        × AreAddressesOf b.sets.items b.addresses };
+        × ((max_sets ≤ vec_capacity b.sets) × (b.limit ≤ vec_capacity b.records) × (b.limit ≤ vec_capacity b.headers))
+        × (b.distinct ≡ address_count b.sets.items)
+        × MayHaveAddressesOf b.sets.items b.addresses };
 }
 
 impl<A: Allocator + Copy> ChainBook<A> {
     /// An empty book for at most 1,024 records.
-    pub fn new(alloc: A) -> ChainBook<A>
-        ensures { result ≡ record { limit = 1024; sets = []; records = []; headers = [] } }
+    pub fn new(alloc: A) -> Result<ChainBook<A>, AllocError>
+        ensures { IfOk result (λ book. book ≡ record { limit = 1024; sets = []; records = []; headers = [] }) }
     {
         ChainBook::with_limit(alloc, DEFAULT_LIMIT)
     }
 
     /// An empty book for at most so many records, 1 to 4,096.
-    pub fn with_limit(alloc: A, records: usize) -> ChainBook<A>
+    pub fn with_limit(alloc: A, records: usize) -> Result<ChainBook<A>, AllocError>
         requires { (1 ≤ records) × (records ≤ 4096) }
-        ensures { result ≡ record { limit = records; sets = []; records = []; headers = [] } }
+        ensures { IfOk result (λ book. book ≡ record { limit = records; sets = []; records = []; headers = [] }) }
     {
-        ChainBook {
+        Ok(ChainBook {
             limit: records,
-            sets: Vec::new(alloc),
-            records: Vec::new(alloc),
-            headers: Vec::new(alloc),
-            addresses: Addresses::new(alloc),
-        }
+            sets: Vec::with_capacity(alloc, MAX_SETS)?,
+            records: Vec::with_capacity(alloc, records)?,
+            headers: Vec::with_capacity(alloc, records)?,
+            distinct: 0,
+            addresses: Some(Addresses::new(alloc)),
+        })
     }
 
     /// An equal book, on the allocator of this one.
     pub fn copy(&self) -> Result<ChainBook<A>, AllocError>
         ensures { IfOk result (λ book. book ≡ self.now) }
     {
-        let alloc = *self.records.allocator();
+        let alloc = self.alloc();
         Ok(ChainBook {
             limit: self.limit,
-            sets: copy_sets(alloc, self.sets.as_slice())?,
-            records: Vec::from_slice(alloc, self.records.as_slice())?,
-            headers: copy_headers(alloc, self.headers.as_slice())?,
-            addresses: self.addresses.copy()?,
+            sets: copy_sets(alloc, self.sets.as_slice(), MAX_SETS)?,
+            records: copy_records(alloc, self.records.as_slice(), self.limit)?,
+            headers: copy_headers(alloc, self.headers.as_slice(), self.limit)?,
+            distinct: self.distinct,
+            addresses: copy_addresses(&self.addresses)?,
         })
+    }
+
+    /// The allocator.
+    pub(crate) fn alloc(&self) -> A {
+        *self.records.allocator()
     }
 
     /// The known heights, rising.
@@ -219,17 +233,45 @@ impl<A: Allocator> ChainBook<A> {
             && same_headers(self.headers.as_slice(), other.headers.as_slice())
     }
 
-    /// Where a record for this height goes, if it is new, or why it is refused.
-    fn judge_record(&self, height: Height, entry: &Record) -> Result<Option<usize>, BookError>
+    /// How many addresses the sets have together with this one.
+    fn addresses_with(&self, set: &ValidatorSet<A>) -> usize
+        ensures count { result ≡ address_count (set.now ∷ self.now.sets) }
+        ensures valid { IsValidatorSet set.now }
+    {
+        self.distinct + count_new(&self.addresses, self.sets.as_slice(), set.members())
+    }
+}
+
+impl<A: Allocator> ChainBook<A> {
+    /// Why a set would be refused: `HashClash` where another set has its hash, `Full` where the book
+    /// has 1,024 sets or would have more than 65,536 addresses. Takes no memory.
+    pub fn judge_set(&self, set: &ValidatorSet<A>) -> Result<(), BookError>
+        ensures accepted { OnOk result (set_refusal self.now set.now ≡ None) }
+        ensures refused { IfErr result (λ e. set_refusal self.now set.now ≡ Some e) }
+    {
+        let sets = self.sets.as_slice();
+        match set_place(sets, set.hash()) {
+            Ok(place) if sets[place] == *set => Ok(()),
+            Ok(_) => Err(BookError::HashClash),
+            Err(_) => {
+                if sets.len() >= MAX_SETS || self.addresses_with(set) > MAX_ADDRESSES {
+                    return Err(BookError::Full);
+                }
+                Ok(())
+            }
+        }
+    }
+
+    /// Why a record would be refused: `Conflict` where its height has another record, `TimeOrder`
+    /// where its time doesn't stand between those of its neighbours, `Full` where the book has as
+    /// many records as it may. Takes no memory.
+    pub fn judge_record(&self, height: Height, entry: &Record) -> Result<(), BookError>
         ensures accepted { OnOk result (record_refusal self.now height entry.now ≡ None) }
-        ensures place { IfOk result (λ new. MatchOption new
-            (IsSome (record_at self.now height))
-            (IsNewPlace (is_at height) (is_below height) self.now.records)) }
         ensures refused { IfErr result (λ e. record_refusal self.now height entry.now ≡ Some e) }
     {
         let records = self.records.as_slice();
         match record_place(records, height) {
-            Ok(place) if *records[place].record() == *entry => Ok(None),
+            Ok(place) if *records[place].record() == *entry => Ok(()),
             Ok(_) => Err(BookError::Conflict(height)),
             Err(place) => {
                 if let Some(height) = breaker(records, place, entry.time()) {
@@ -238,20 +280,16 @@ impl<A: Allocator> ChainBook<A> {
                 if records.len() >= self.limit {
                     return Err(BookError::Full);
                 }
-                Ok(Some(place))
+                Ok(())
             }
         }
     }
 
-    /// Where a header and its record go, if they are new, or why it is refused.
-    fn judge_header(&self, header: &Header<A>) -> Result<Option<HeaderPlace>, BookError>
+    /// Why a header would be refused: `UnknownSet` where its own set is not known,
+    /// `WrongVerdictCount` where it hasn't one vote for each member, `BadVote` where one is bad,
+    /// `Conflict` where its height has another header, and why its record would be. Takes no memory.
+    pub fn judge_header(&self, header: &Header<A>) -> Result<(), BookError>
         ensures accepted { OnOk result (header_refusal self.now header.now ≡ None) }
-        ensures place { IfOk result (λ new. MatchOption new
-            (IsSome (header_at self.now header.now.height))
-            (λ p. IsNewPlace (header_is_at header.now.height) (header_is_below header.now.height) self.now.headers p.header
-            × MatchOption p.entry
-            (IsSome (record_at self.now header.now.height))
-            (IsNewPlace (is_at header.now.height) (is_below header.now.height) self.now.records))) }
         ensures refused { IfErr result (λ e. header_refusal self.now header.now ≡ Some e) }
     {
         let Some(set) = self.set(header.set_hash()) else {
@@ -265,110 +303,97 @@ impl<A: Allocator> ChainBook<A> {
         }
         let headers = self.headers.as_slice();
         match header_place(headers, header.height()) {
-            Ok(place) if headers[place] == *header => Ok(None),
+            Ok(place) if headers[place] == *header => Ok(()),
             Ok(_) => Err(BookError::Conflict(header.height())),
-            Err(place) => {
-                let entry = self.judge_record(header.height(), header.record())?;
-                Ok(Some(HeaderPlace {
-                    header: place,
-                    entry,
-                }))
-            }
+            Err(_) => self.judge_record(header.height(), header.record()),
         }
     }
 
-    /// How many addresses the sets have together with this one.
-    fn addresses_with(&self, set: &ValidatorSet<A>) -> usize
-        ensures count { result ≡ address_count (set.now ∷ self.now.sets) }
-        ensures valid { IsValidatorSet set.now }
+    /// Makes room for the addresses of a set, if it is new. Where a set is put into a book that has
+    /// no room for them, the addresses are not kept from then on, and new ones are looked for in
+    /// each of the sets.
+    pub fn make_room(&mut self, set: &ValidatorSet<A>) -> Result<(), AllocError>
+        ensures { self.new ≡ self.old }
     {
-        self.addresses.len() + self.addresses.count_new(set.members())
+        if self.set_place(set.hash()).is_some() {
+            return Ok(());
+        }
+        reserve_addresses(&mut self.addresses, set.size())
     }
 
-    /// Where a set goes, if it is new, or why it is refused.
-    fn judge_set(&self, set: &ValidatorSet<A>) -> Result<Option<usize>, BookError>
-        ensures accepted { OnOk result (set_refusal self.now set.now ≡ None) }
-        ensures place { IfOk result (λ new. MatchOption new
-            (IsSome (set_of self.now (set_hash set.now)))
-            (λ p. IsNewPlace (has_hash (set_hash set.now)) (is_before (set_hash set.now)) self.now.sets p
-            × IsValidatorSet set.now)) }
-        ensures refused { IfErr result (λ e. set_refusal self.now set.now ≡ Some e) }
+    /// Puts a set that is not refused into the book; an equal one changes nothing. Takes no memory.
+    pub fn put_set(&mut self, set: ValidatorSet<A>)
+        requires { set_refusal self.old set ≡ None }
+        ensures { self.new ≡ after_set self.old set }
     {
-        let sets = self.sets.as_slice();
-        match set_place(sets, set.hash()) {
-            Ok(place) if sets[place] == *set => Ok(None),
-            Ok(_) => Err(BookError::HashClash),
-            Err(place) => {
-                let addresses = self.addresses_with(set);
-                if sets.len() >= MAX_SETS || addresses > MAX_ADDRESSES {
-                    return Err(BookError::Full);
-                }
-                Ok(Some(place))
-            }
+        if let Err(place) = set_place(self.sets.as_slice(), set.hash()) {
+            self.distinct = self.addresses_with(&set);
+            keep_addresses(&mut self.addresses, set.members());
+            self.sets.insert(place, set).unwrap();
         }
     }
 
-    /// Adds a set; an equal one changes nothing. `HashClash` where another set has its hash,
-    /// `Full` where the book has 1,024 sets or would have more than 65,536 addresses.
+    /// Puts a record that is not refused into the book; an equal one changes nothing. Takes no
+    /// memory.
+    pub fn put_record(&mut self, height: Height, entry: Record)
+        requires { record_refusal self.old height entry ≡ None }
+        ensures { self.new ≡ after_record self.old height entry }
+    {
+        if let Err(place) = record_place(self.records.as_slice(), height) {
+            let known = Known::new(height, entry);
+            self.records.insert(place, known).unwrap();
+        }
+    }
+
+    /// Puts a header that is not refused into the book, with its record; an equal one changes
+    /// nothing. Takes no memory.
+    pub fn put_header(&mut self, header: Header<A>)
+        requires { header_refusal self.old header ≡ None }
+        ensures { self.new ≡ after_header self.old header }
+    {
+        let height = header.height();
+        if let Err(place) = header_place(self.headers.as_slice(), height) {
+            self.put_record(height, *header.record());
+            self.headers.insert(place, header).unwrap();
+        }
+    }
+
+    /// Adds a set, unless it is refused as `judge_set` tells.
     pub fn add_set(&mut self, set: ValidatorSet<A>) -> Result<(), BookError>
         ensures accepted { OnOk result (set_refusal self.old set ≡ None) }
         ensures added { OnOk result (self.new ≡ after_set self.old set) }
         ensures refused { IfErr result (λ e. IsRefusal e (set_refusal self.old set)) }
         ensures unchanged { OnErr result (self.new ≡ self.old) }
     {
-        if let Some(place) = self.judge_set(&set)? {
-            self.sets.reserve(1)?;
-            self.addresses.add(set.members())?;
-            self.sets.insert(place, set).unwrap();
-        }
+        self.judge_set(&set)?;
+        self.make_room(&set)?;
+        self.put_set(set);
         Ok(())
     }
 
-    /// Adds a record; an equal one changes nothing. `Conflict` where its height has another
-    /// record, `TimeOrder` where its time doesn't stand between those of its neighbours, `Full`
-    /// where the book has as many records as it may.
+    /// Adds a record, unless it is refused as `judge_record` tells. Takes no memory.
     pub fn add_record(&mut self, height: Height, entry: Record) -> Result<(), BookError>
         ensures accepted { OnOk result (record_refusal self.old height entry ≡ None) }
         ensures added { OnOk result (self.new ≡ after_record self.old height entry) }
-        ensures refused { IfErr result (λ e. IsRefusal e (record_refusal self.old height entry)) }
+        ensures refused { IfErr result (λ e. record_refusal self.old height entry ≡ Some e) }
         ensures unchanged { OnErr result (self.new ≡ self.old) }
     {
-        if let Some(place) = self.judge_record(height, &entry)? {
-            self.records.insert(place, Known::new(height, entry))?;
-        }
+        self.judge_record(height, &entry)?;
+        self.put_record(height, entry);
         Ok(())
     }
 
-    /// Adds a header and its record; an equal one changes nothing. `UnknownSet` where its own set
-    /// is not known, `WrongVerdictCount` where it hasn't one vote for each member, `BadVote` where
-    /// one is bad, `Conflict` where its height has another header, and what `add_record` answers.
+    /// Adds a header and its record, unless it is refused as `judge_header` tells. Takes no memory.
     pub fn add_header(&mut self, header: Header<A>) -> Result<(), BookError>
         ensures accepted { OnOk result (header_refusal self.old header ≡ None) }
         ensures added { OnOk result (self.new ≡ after_header self.old header) }
-        ensures refused { IfErr result (λ e. IsRefusal e (header_refusal self.old header)) }
+        ensures refused { IfErr result (λ e. header_refusal self.old header ≡ Some e) }
         ensures unchanged { OnErr result (self.new ≡ self.old) }
     {
-        let Some(place) = self.judge_header(&header)? else {
-            return Ok(());
-        };
-        match place.entry {
-            None => self.headers.insert(place.header, header)?,
-            Some(entry) => {
-                self.headers.reserve(1)?;
-                let known = Known::new(header.height(), *header.record());
-                self.records.insert(entry, known)?;
-                self.headers.insert(place.header, header).unwrap();
-            }
-        }
+        self.judge_header(&header)?;
+        self.put_header(header);
         Ok(())
     }
-}
-
-/// Where a new header goes, and its record if that is new too.
-#[derive(Clone, Copy)]
-struct HeaderPlace {
-    header: usize,
-    entry: Option<usize>,
 }
 
 /// Two books are equal where their limits are and all that they know is; no memory is taken.
@@ -415,23 +440,40 @@ fn same_headers<A: Allocator>(headers: &[Header<A>], others: &[Header<A>]) -> bo
 fn copy_sets<A: Allocator + Copy>(
     alloc: A,
     sets: &[ValidatorSet<A>],
+    room: usize,
 ) -> Result<Vec<ValidatorSet<A>, A>, AllocError>
-    ensures { IfOk result (λ copies. copies.items ≡ sets.now) }
+    ensures items { IfOk result (λ copies. copies.items ≡ sets.now) }
+    ensures room { IfOk result (λ copies. room ≤ vec_capacity copies) }
 {
-    let mut copies = Vec::with_capacity(alloc, sets.len())?;
+    let mut copies = Vec::with_capacity(alloc, room)?;
     for set in sets {
         copies.push(set.copy()?)?;
     }
     Ok(copies)
 }
 
+fn copy_records<A: Allocator + Copy>(
+    alloc: A,
+    records: &[Known],
+    room: usize,
+) -> Result<Vec<Known, A>, AllocError>
+    ensures items { IfOk result (λ copies. copies.items ≡ records.now) }
+    ensures room { IfOk result (λ copies. room ≤ vec_capacity copies) }
+{
+    let mut copies = Vec::with_capacity(alloc, room)?;
+    copies.extend_from_slice(records)?;
+    Ok(copies)
+}
+
 fn copy_headers<A: Allocator + Copy>(
     alloc: A,
     headers: &[Header<A>],
+    room: usize,
 ) -> Result<Vec<Header<A>, A>, AllocError>
-    ensures { IfOk result (λ copies. copies.items ≡ headers.now) }
+    ensures items { IfOk result (λ copies. copies.items ≡ headers.now) }
+    ensures room { IfOk result (λ copies. room ≤ vec_capacity copies) }
 {
-    let mut copies = Vec::with_capacity(alloc, headers.len())?;
+    let mut copies = Vec::with_capacity(alloc, room)?;
     for header in headers {
         copies.push(header.copy()?)?;
     }

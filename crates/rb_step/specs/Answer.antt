@@ -6,6 +6,7 @@ use Rattle.rb_base.specs.Options.{ClientOptions}
 use Rattle.rb_base.specs.Window.{Span}
 use Rattle.rb_valset.specs.Validator.{Member}
 use Rattle.rb_valset.specs.ValidatorSet.{total_of}
+use Rattle.rb_book.specs.Header.{Record, Header}
 use Rattle.rb_step.specs.SignedPower.{signed_power}
 use Rattle.rb_step.specs.StepRule.{Step}
 use Rattle.rb_step.specs.declared.verdict.Verdict.{Verdict}
@@ -35,12 +36,21 @@ abbrev pub test : Bool → Reason → Option Reason → Option Reason
 test passes reason rest = if passes then rest else Some reason
 
 -- 501 to 504: what heights and times say in a window, expiry by its last moment and the future by its first
+abbrev pub times_fault_between : ClientOptions → Span → ℕ → Record → Header → Option Reason
+times_fault_between o w trusted_height trusted header =
+    test (nat_lt trusted_height header.height) HeightOrder (
+    test (nat_lt w.until (trusted.time + o.period)) Expired (
+    test (nat_lt trusted.time header.record_of.time) TimeNotLater (
+    test (nat_lt header.record_of.time (w.from + o.drift)) FromFuture None)))
+
 abbrev pub times_fault : ClientOptions → Span → Step → Option Reason
-times_fault o w s =
-    test (nat_lt s.trusted_height s.header.height) HeightOrder (
-    test (nat_lt w.until (s.trusted.time + o.period)) Expired (
-    test (nat_lt s.trusted.time s.header.record_of.time) TimeNotLater (
-    test (nat_lt s.header.record_of.time (w.from + o.drift)) FromFuture None)))
+times_fault o w s = times_fault_between o w s.trusted_height s.trusted s.header
+
+-- whether the header's own set is trusted on the record's word: the set is the one that the record names, where the header
+-- is adjacent, and else that much power of that total in the named set is more than the trust level
+abbrev pub is_trusted : ClientOptions → ℕ → Record → Header → ℕ → ℕ → Bool
+is_trusted o trusted_height trusted header signed total =
+    if header.height == trusted_height + 1 then bytes_eq header.set_hash trusted.next else exceeds signed total o.trust
 
 abbrev pub invalid_or : Option Reason → Verdict → Verdict
 invalid_or None rest = rest

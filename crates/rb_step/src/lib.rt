@@ -3,12 +3,14 @@
 //! client's view of the chain that it tracks.
 #![tactic(auto)]
 
+mod checks;
 pub mod laws;
 mod power;
 mod step;
 mod verdict;
 mod view;
 
+pub use checks::{is_adjacent, is_trusted, times_allow, times_fault};
 pub use power::{is_signed_by_two_thirds, signed_power};
 pub use step::{accepts_in, verify};
 pub use verdict::{Reason, Verdict};

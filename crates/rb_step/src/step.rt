@@ -4,8 +4,9 @@ ghost use Rattle.std.specs.Option.{option_copied, ForSome};
 ghost use Rattle.rb_book.specs.Header.{Names, IsSignedBy};
 ghost use Rattle.rb_step.specs.StepRule.{step_of, Accepts, AcceptsWithin};
 ghost use Rattle.rb_step.specs.Fee.{fee_of, fee_limit};
-ghost use Rattle.rb_step.specs.Answer.{answer_at, answer_within, times_fault, votes_answer};
+ghost use Rattle.rb_step.specs.Answer.{answer_at, answer_within, votes_answer};
 
+use crate::checks::{is_adjacent, is_trusted, times_fault};
 use crate::power::{is_signed_by_two_thirds, signed_power};
 use crate::verdict::{Reason, Verdict};
 use rb_base::{FeeTable, Height, Moment, Options, Window};
@@ -37,44 +38,25 @@ impl<'a, A: Allocator> Model for Step<'a, A> {
 }
 
 impl<A: Allocator + Copy> Step<'_, A> {
-    /// The first check of heights and times that fails: expiry is tested at the window's last
-    /// moment, the future at its first.
-    fn times_fault(&self, options: &Options, window: &Window) -> Option<Reason>
-        ensures fault { result ≡ times_fault options.now window.now self.now }
-        ensures ordered { window.now.from ≤ window.now.until }
-    {
-        let (first, last) = (window.from().nanoseconds(), window.until().nanoseconds());
-        let trusted_time = self.trusted.time().nanoseconds();
-        let time = self.header.record().time().nanoseconds();
-        if self.header.height() <= self.trusted_height {
-            return Some(Reason::HeightOrder);
-        }
-        if trusted_time + u128::from(options.period().nanoseconds()) <= last {
-            return Some(Reason::Expired);
-        }
-        if time <= trusted_time {
-            return Some(Reason::TimeNotLater);
-        }
-        if time >= first + u128::from(options.drift()) {
-            return Some(Reason::FromFuture);
-        }
-        None
-    }
-
     /// What the votes say, by the set that the trusted record names.
     fn votes_answer(&self, options: &Options, next: &ValidatorSet<A>) -> Verdict
         ensures { result ≡ votes_answer options.now self.now (Some next.now) }
     {
-        if self.header.height().get() == self.trusted_height.get() + 1 {
-            if self.header.set_hash() != self.trusted.next() {
-                return Verdict::Invalid(Reason::WrongNextSet);
-            }
+        let is_adjacent = is_adjacent(self.trusted_height, self.header);
+        // An adjacent header is trusted by its hash alone: nothing is summed for it.
+        let signed = if is_adjacent {
+            0
         } else {
-            let signed = signed_power(next, self.own, self.header);
-            let total = next.total();
-            if !options.trust().is_exceeded_by(signed, total) {
-                return Verdict::NotEnoughTrust { signed, total };
-            }
+            signed_power(next, self.own, self.header)
+        };
+        let total = next.total();
+        let (height, trusted) = (self.trusted_height, self.trusted);
+        if !is_trusted(options, height, trusted, self.header, signed, total) {
+            return if is_adjacent {
+                Verdict::Invalid(Reason::WrongNextSet)
+            } else {
+                Verdict::NotEnoughTrust { signed, total }
+            };
         }
         if is_signed_by_two_thirds(self.header, self.own) {
             Verdict::Success
@@ -88,7 +70,8 @@ impl<A: Allocator + Copy> Step<'_, A> {
         ensures answer { result ≡ answer_within options.now window.now self.now }
         ensures ordered { window.now.from ≤ window.now.until }
     {
-        if let Some(reason) = self.times_fault(options, window) {
+        let (height, trusted) = (self.trusted_height, self.trusted);
+        if let Some(reason) = times_fault(options, height, trusted, self.header, window) {
             return Verdict::Invalid(reason);
         }
         match self.next {
