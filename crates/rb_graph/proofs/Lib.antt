@@ -11,3 +11,7 @@ pub mod Headers
 pub mod Known
 pub mod Into
 pub mod Charges
+pub mod Numbering
+pub mod Room
+pub mod OwnPlace
+pub mod Targets

@@ -4,12 +4,14 @@ ghost use Rattle.std.specs.Option.{option_copied, option_map};
 ghost use Rattle.rb_book.specs.Invariant.{IsBook, IsBacked};
 ghost use Rattle.rb_book.specs.Header.{IsSignedBy};
 ghost use Rattle.rb_graph.specs.StepTable.{own_set};
+ghost use Rattle.rb_graph.specs.Numbering.{AreNumbered, entries_of, IsVotersPlane};
 ghost use Rattle.rb_graph.specs.Kept.{next_place, next_places, first_naming, kept_power, kept_of};
 
+use crate::numbers::{tallied, voters_plane};
 use crate::source::Kept;
-use rb_base::Height;
+use rb_base::{Fraction, Height};
 use rb_book::{ChainBook, Header, Known};
-use rb_step::{is_signed_by_two_thirds, signed_power};
+use rb_lanes::{Columns, Plane, Tally};
 use rb_valset::ValidatorSet;
 use std::alloc::{AllocError, Allocator};
 
@@ -69,7 +71,16 @@ fn own_set<'a, A: Allocator + Copy>(
     book.set(header.set_hash()).unwrap()
 }
 
-/// The signed power of a header in a set, where a lower record names the set.
+/// The place of the header's own set among the book's sets.
+fn own_place<A: Allocator + Copy>(book: &ChainBook<A>, header: &Header<A>) -> usize
+    requires { IsBacked book.now header.now }
+    ensures { slice_get book.now.sets result ≡ Some (own_set book.now header.now) }
+{
+    book.set_place(header.set_hash()).unwrap()
+}
+
+/// The signed power of a header in a set, where a lower record names the set. `tally` is the set's,
+/// and `plane` has the bits of the header's commit voters.
 #[tactic(auto, unfolding(crate::specs::Kept::kept_power))]
 fn kept_power<A: Allocator + Copy>(
     book: &ChainBook<A>,
@@ -77,34 +88,58 @@ fn kept_power<A: Allocator + Copy>(
     own: &ValidatorSet<A>,
     set: &ValidatorSet<A>,
     lowest: Option<Height>,
+    columns: &Columns<A>,
+    tally: &Tally<A>,
+    plane: &Plane<A>,
 ) -> Option<u64>
     requires own { own.now ≡ own_set book.now header.now }
-    requires signed { IsSignedBy header.now own.now }
     requires lowest { lowest ≡ first_naming book.now set.now }
+    requires numbered { AreNumbered columns.now set.now }
+    requires tally { tally.now ≡ entries_of columns.now set.now }
+    requires plane { IsVotersPlane columns.now own.now header.now plane.now }
     ensures { result ≡ kept_power book.now header.now set.now }
 {
     match lowest {
-        Some(lowest) if lowest < header.height() => Some(signed_power(set, own, header)),
+        Some(lowest) if lowest < header.height() => {
+            Some(tallied(columns, set, tally, own, header, plane))
+        }
         _ => None,
     }
 }
 
-/// What is kept of a header.
+/// What is kept of a header: all its sums are read from one plane of its commit voters.
 #[tactic(auto, unfolding(crate::specs::Kept::kept_of))]
 pub fn kept_of<A: Allocator + Copy>(
     alloc: A,
     book: &ChainBook<A>,
     header: &Header<A>,
     lowest: &[Option<Height>],
+    columns: &Columns<A>,
+    tallies: &[Tally<A>],
 ) -> Result<Kept<A>, AllocError>
     requires backed { IsBacked book.now header.now }
     requires lowest { lowest.now ≡ map (first_naming book.now) book.now.sets }
+    requires numbered { All (AreNumbered columns.now) book.now.sets }
+    requires tallies { tallies.now ≡ map (entries_of columns.now) book.now.sets }
     ensures { IfOk result (λ kept. kept ≡ kept_of book.now header.now) }
 {
     let own = own_set(book, header);
+    let own_tally = &tallies[own_place(book, header)];
+    let plane = voters_plane(alloc, columns, own, own_tally, header)?;
+    let own_signed = tallied(columns, own, own_tally, own, header, &plane);
+    let is_signed = Fraction::two_thirds().is_exceeded_by(own_signed, own.total());
     let mut signed = Vec::with_capacity(alloc, lowest.len())?;
     for (place, set) in book.sets().iter().enumerate() {
-        signed.push(kept_power(book, header, own, set, lowest[place]))?;
+        signed.push(kept_power(
+            book,
+            header,
+            own,
+            set,
+            lowest[place],
+            columns,
+            &tallies[place],
+            &plane,
+        ))?;
     }
-    Ok(Kept::new(own.size(), is_signed_by_two_thirds(header, own), signed))
+    Ok(Kept::new(own.size(), is_signed, signed))
 }
