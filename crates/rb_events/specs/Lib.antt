@@ -1,0 +1,7 @@
+pub mod Goal
+pub mod Block
+pub mod Gas
+pub mod Limits
+pub mod Refusal
+pub mod Config
+pub mod Script

@@ -1,0 +1,22 @@
+//! What scripts are made of: the chains, clients and paths that a relayer is set up with, what is
+//! observed of them and asked, and why it is refused.
+#![tactic(auto)]
+
+mod block;
+mod config;
+mod differing;
+mod gas;
+mod goal;
+mod limits;
+mod observation;
+mod refusal;
+mod script;
+
+pub use block::BlockHeight;
+pub use config::{ClientConfig, Config, PathConfig, is_config};
+pub use gas::PathGas;
+pub use goal::Goal;
+pub use limits::{MAX_CHAINS, MAX_CLIENTS, MAX_ENTRIES, MAX_PATHS, MAX_TURNS};
+pub use observation::Observation;
+pub use refusal::Refusal;
+pub use script::{Asked, Script, Settlement, Turn, is_script};
