@@ -4,10 +4,14 @@ use anyhow::Result;
 use rb_graph::Graph;
 use std::alloc::Global;
 
-/// Makes the table of a book with so many headers over so many sets of so many validators, and
-/// answers the number of its rows.
-pub fn make_table(alloc: Global, headers: u32, sets: u32, validators: u32) -> Result<usize> {
+/// The table of a book with so many headers over so many sets of so many validators.
+pub fn graph_of(alloc: Global, headers: u32, sets: u32, validators: u32) -> Result<Graph> {
     let book = make_book(alloc, headers, sets, validators)?;
-    let graph = Graph::from_book(alloc, book)?;
+    Ok(Graph::from_book(alloc, book)?)
+}
+
+/// Makes that table, and answers the number of its rows.
+pub fn make_table(alloc: Global, headers: u32, sets: u32, validators: u32) -> Result<usize> {
+    let graph = graph_of(alloc, headers, sets, validators)?;
     Ok(graph.rows().count())
 }

@@ -7,11 +7,12 @@ mod certificate;
 mod graph;
 mod plan;
 mod scan;
+mod share;
 
 use anyhow::{Context, Result, bail};
-use std::alloc::Global;
 use std::env;
-use std::rt::Env;
+use std::rt::{Clock, Env};
+use std::time::Instant;
 
 /// The subcommands and their numbers.
 const USAGE: &str = "bench book HEADERS SETS VALIDATORS
@@ -20,6 +21,8 @@ bench plan HEADERS SETS VALIDATORS
 bench certify HEADERS VALIDATORS
 bench certify-labels LABELS
 bench scan PACKETS
+bench share CLIENTS VIEWS HEADERS VALIDATORS
+bench share-turns CLIENTS VIEWS HEADERS VALIDATORS
 bench batch MESSAGES PER_TRANSACTION
 ";
 
@@ -61,8 +64,20 @@ fn book_numbers(task: &Task) -> Result<(u32, u32, u32)> {
     Ok((number(task, 0)?, number(task, 1)?, number(task, 2)?))
 }
 
+/// Plans over a book filled with headers, and tells how long that took when the table stood.
+fn plan_timed<R: Clock + AllocGlobal>(rt: &R, task: &Task) -> Result<String> {
+    let alloc = rt.alloc();
+    let (headers, sets, validators) = book_numbers(task)?;
+    let graph = graph::graph_of(alloc, headers, sets, validators)?;
+    let start = Instant::now(rt)?;
+    let (updates, fee) = plan::plan_to_top(alloc, &graph, headers)?;
+    let micros = start.elapsed(rt)?.as_micros();
+    Ok(format!(in alloc; "{updates} updates, fee {fee}, planned in {micros} us")?)
+}
+
 /// Does the work, and tells what was done; nothing where no such work is known.
-fn perform(alloc: Global, task: &Task) -> Result<Option<String>> {
+fn perform<R: Clock + AllocGlobal>(rt: &R, task: &Task) -> Result<Option<String>> {
+    let alloc = rt.alloc();
     let told = match task.name.as_str() {
         "book" => {
             let (headers, sets, validators) = book_numbers(task)?;
@@ -74,11 +89,7 @@ fn perform(alloc: Global, task: &Task) -> Result<Option<String>> {
             let rows = graph::make_table(alloc, headers, sets, validators)?;
             format!(in alloc; "{rows} rows")?
         }
-        "plan" => {
-            let (headers, sets, validators) = book_numbers(task)?;
-            let (updates, fee) = plan::plan_to_top(alloc, headers, sets, validators)?;
-            format!(in alloc; "{updates} updates, fee {fee}")?
-        }
+        "plan" => plan_timed(rt, task)?,
         "certify" => {
             let holds = certificate::certify_plan(alloc, number(task, 0)?, number(task, 1)?)?;
             format!(in alloc; "{holds}")?
@@ -91,6 +102,18 @@ fn perform(alloc: Global, task: &Task) -> Result<Option<String>> {
             let messages = scan::scan_path(alloc, number(task, 0)?)?;
             format!(in alloc; "{messages} messages")?
         }
+        "share" => {
+            let (clients, views) = (number(task, 0)?, number(task, 1)?);
+            let (headers, validators) = (number(task, 2)?, number(task, 3)?);
+            let equal = share::hold_views(alloc, clients, views, headers, validators)?;
+            format!(in alloc; "{equal} equal views")?
+        }
+        "share-turns" => {
+            let (clients, views) = (number(task, 0)?, number(task, 1)?);
+            let (headers, validators) = (number(task, 2)?, number(task, 3)?);
+            let equal = share::hold_turns(alloc, clients, views, headers, validators)?;
+            format!(in alloc; "{equal} equal views")?
+        }
         "batch" => {
             let transactions = batch::cut_messages(alloc, number(task, 0)?, number(task, 1)?)?;
             format!(in alloc; "{transactions} transactions")?
@@ -100,9 +123,9 @@ fn perform(alloc: Global, task: &Task) -> Result<Option<String>> {
     Ok(Some(told))
 }
 
-fn run<R: Env + Print + AllocGlobal>(rt: &R) -> Result<()> {
+fn run<R: Env + Print + Clock + AllocGlobal>(rt: &R) -> Result<()> {
     let task = read_task(rt)?;
-    match perform(rt.alloc(), &task)? {
+    match perform(rt, &task)? {
         Some(told) => println!(rt; "{told}")?,
         None => rt.print(USAGE)?,
     }

@@ -1,5 +1,4 @@
 //! Plans over a book filled with headers.
-use crate::book::make_book;
 use anyhow::{Context, Result, bail};
 use rb_base::{FeeTable, Height, Moment, Options, Period, Window};
 use rb_graph::Graph;
@@ -7,15 +6,9 @@ use rb_plan::{Answer, Goal, plan};
 use rb_step::{ClientView, are_known};
 use std::alloc::Global;
 
-/// Plans from the first height to the last over so many headers, shared out among so many sets of
-/// which none has a validator of another; answers the number of updates and their fee.
-pub fn plan_to_top(
-    alloc: Global,
-    headers: u32,
-    sets: u32,
-    validators: u32,
-) -> Result<(usize, u64)> {
-    let graph = Graph::from_book(alloc, make_book(alloc, headers, sets, validators)?)?;
+/// Plans from the first height to the last over the table of so many headers; answers the number of
+/// updates and their fee.
+pub fn plan_to_top(alloc: Global, graph: &Graph, headers: u32) -> Result<(usize, u64)> {
     let stored = [Height::new(1).context("a height")?];
     if !are_known(&stored, graph.book()) {
         bail!("a header is wanted");
@@ -30,7 +23,7 @@ pub fn plan_to_top(
         graph.book(),
     );
     let top = Height::new(u64::from(headers)).context("a height")?;
-    match plan(alloc, &view, &graph, Goal::AtLeast(top))? {
+    match plan(alloc, &view, graph, Goal::AtLeast(top))? {
         Answer::Plan { updates, labelling } => {
             let cost = labelling.get(top).context("a label")?;
             Ok((updates.len(), cost.fee))

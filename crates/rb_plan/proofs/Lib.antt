@@ -8,12 +8,14 @@ pub mod Exact
 pub mod Converse
 pub mod Lookups
 pub mod Cheapest
+pub mod Cheapening
 pub mod Raise
+pub mod Serving
+pub mod StepBetween
 pub mod Existence
 pub mod FirstOfGoal
 pub mod Walks
 pub mod Search
 pub mod Views
-pub mod Steps
 pub mod Tops
 pub mod OverViews

@@ -1,11 +1,13 @@
 //! The exact labelling: known heights in rising order, each labelled from the labels below it.
-ghost use Rattle.std.specs.Prelude.{◌≡◌, IfOk};
+ghost use Rattle.std.specs.Prelude.{◌≡◌, IfOk, All};
 ghost use Rattle.rb_step.specs.View.{client_of};
 ghost use Rattle.rb_plan.specs.Labelling.{IsLabelling, IsExact, label_of};
 ghost use Rattle.rb_plan.specs.Raised.{IsCheaperOf, IsCheapestStep, IsRaised};
+ghost use Rattle.rb_plan.specs.Offers.{IsOffer, OffersLead};
 
 use crate::cost::Cost;
-use crate::labelling::{Label, Labelling, label_at};
+use crate::labelling::{Label, Labelling};
+use crate::offers::Offer;
 use crate::planner::Planner;
 use rb_base::Height;
 use rb_graph::Graph;
@@ -23,29 +25,32 @@ fn cheaper(best: Option<Cost>, cost: Cost) -> Cost
 }
 
 impl<A: Allocator + Copy> Planner<'_, A> {
-    /// The least cost at which an accepted step leads to the height from a labelled one.
-    fn cheapest_step(&self, labels: &[Label], height: Height) -> Option<Cost>
-        requires { IsLabelling labels.now }
-        ensures { IsCheapestStep (client_of self.now) (label_of labels.now) height result }
+    /// The least cost at which an accepted step leads to the height from an offer.
+    fn cheapest_step(&self, offers: &[Offer], height: Height) -> Option<Cost>
+        requires { All (IsOffer self.now.book) offers.now }
+        ensures { OffersLead (client_of self.now) offers.now height
+            (λ label. IsCheapestStep (client_of self.now) label height result) }
     {
+        let target = self.target(height);
         let mut best = None;
-        for trusted in self.steps_into(height) {
-            if let Some(cost) = label_at(labels, trusted) {
-                best = Some(cheaper(best, self.after_step(cost, trusted, height)));
+        for offer in offers {
+            if let Some(fee) = target.fee_from(offer.place) {
+                best = Some(cheaper(best, offer.label.cost.after_update(fee)));
             }
         }
         best
     }
 
-    /// The cost of the height by the labels of the heights below it.
-    fn cost_of(&self, labels: &[Label], height: Height) -> Option<Cost>
-        requires { IsLabelling labels.now }
-        ensures { IsRaised (client_of self.now) (label_of labels.now) height result }
+    /// The cost of the height by the offers below it.
+    fn cost_of(&self, offers: &[Offer], height: Height) -> Option<Cost>
+        requires { All (IsOffer self.now.book) offers.now }
+        ensures { OffersLead (client_of self.now) offers.now height
+            (λ label. IsRaised (client_of self.now) label height result) }
     {
         if self.is_source(height) {
             return Some(Cost::ZERO);
         }
-        self.cheapest_step(labels, height)
+        self.cheapest_step(offers, height)
     }
 
     /// The exact labelling.
@@ -53,10 +58,15 @@ impl<A: Allocator + Copy> Planner<'_, A> {
         ensures exact { IfOk result (λ labelling. IsExact (client_of self.now) (label_of labelling)) }
         ensures labelling { IfOk result IsLabelling }
     {
+        let records = self.records();
         let mut labels = Vec::new(alloc);
-        for known in self.records() {
-            let height = known.height();
-            if let Some(cost) = self.cost_of(labels.as_slice(), height) {
+        let mut offers = Vec::new(alloc);
+        let mut by_set = vec![in alloc; None; self.book().sets().len() + 1]?;
+        for place in 0..records.len() {
+            let height = records[place].height();
+            if let Some(cost) = self.cost_of(offers.as_slice(), height) {
+                let label = Label { height, cost };
+                self.add_offer(&mut offers, by_set.as_mut_slice(), Offer { place, label })?;
                 labels.push(Label { height, cost })?;
             }
         }

@@ -1,18 +1,19 @@
 //! What the planner looks up.
-ghost use Rattle.std.specs.Prelude.{◌≡◌, ◌<◌, ◌^◌, ◌↔◌, IsTrue};
-ghost use Rattle.rb_book.specs.Book.{heights_of};
-ghost use Rattle.rb_graph.specs.Shown.{steps_left};
-ghost use Rattle.rb_step.specs.LightClient.{IsOrderly};
+ghost use Rattle.std.specs.Prelude.{◌≡◌, ◌↔◌, ◌<◌, IfSome, IsTrue, map};
+ghost use Rattle.std.specs.List.Sorted.{IsStrictlyIncreasing};
+ghost use Rattle.rb_book.specs.Book.{height_of, heights_of, is_at, is_below};
+ghost use Rattle.rb_book.specs.Search.{IsPlace};
+ghost use Rattle.rb_graph.specs.StepTable.{IsStepFee};
 ghost use Rattle.rb_step.specs.Fee.{fee_limit};
-ghost use Rattle.rb_step.specs.View.{client_of};
-ghost use Rattle.rb_plan.specs.Order.{after_update};
+ghost use Rattle.rb_step.specs.LightClient.{IsOrderly};
+ghost use Rattle.rb_step.specs.View.{IsView, client_of};
 ghost use Rattle.rb_plan.specs.Labelling.{IsSource};
-ghost use Rattle.rb_plan.specs.Lookups.{AreAllKnown, AreStepsInto};
+ghost use Rattle.rb_plan.specs.Lookups.{AreAllKnown};
+ghost use Rattle.rb_plan.specs.Offers.{target_of};
 
-use crate::cost::Cost;
 use rb_base::Height;
-use rb_book::Known;
-use rb_graph::{Graph, Steps};
+use rb_book::{ChainBook, Known};
+use rb_graph::{Graph, Target};
 use rb_step::ClientView;
 use rb_step::laws::views_are_orderly;
 use std::alloc::{Allocator, Global};
@@ -30,7 +31,7 @@ impl<'a, A: Allocator> Model for Planner<'a, A> {
     ghost use Rattle.std.specs.Prelude.{◌≡◌};
     ghost use Rattle.rb_book.specs.Book.{heights_of};
     ghost use Rattle.rb_step.specs.LightClient.{IsOrderly};
-    ghost use Rattle.rb_step.specs.View.{View, client_of};
+    ghost use Rattle.rb_step.specs.View.{View, IsView, client_of};
     ghost use Rattle.rb_plan.specs.Lookups.{AreAllKnown};
 
     ghost Value = { View };
@@ -38,7 +39,8 @@ impl<'a, A: Allocator> Model for Planner<'a, A> {
     ghost view = { λ p. p.view.now };
 
     ghost invariant = { λ p. (p.graph.now ≡ p.view.now.book) × (p.records.now ≡ p.view.now.book.records)
-        × IsOrderly (client_of p.view.now) × AreAllKnown (client_of p.view.now) (heights_of p.view.now.book) };
+        × IsOrderly (client_of p.view.now) × AreAllKnown (client_of p.view.now) (heights_of p.view.now.book)
+        × IsView p.view.now };
 }
 
 impl<'a, A: Allocator + Copy> Planner<'a, A> {
@@ -55,11 +57,19 @@ impl<'a, A: Allocator + Copy> Planner<'a, A> {
         }
     }
 
+    /// The book.
+    pub fn book(&self) -> &'a ChainBook<A>
+        ensures { result.now ≡ self.now.book }
+    {
+        self.graph.book()
+    }
+
     /// The known records, by rising height.
     pub fn records(&self) -> &'a [Known]
         ensures value { result.now ≡ self.now.book.records }
         ensures known { AreAllKnown (client_of self.now) (heights_of self.now.book) }
         ensures orderly { IsOrderly (client_of self.now) }
+        ensures view { IsView self.now }
     {
         self.records
     }
@@ -71,30 +81,39 @@ impl<'a, A: Allocator + Copy> Planner<'a, A> {
         self.view.is_source(height)
     }
 
-    /// The trusted heights of the accepted steps into the height, by rising height.
-    pub fn steps_into(&self, height: Height) -> Steps<'a, A>
-        ensures steps { AreStepsInto (client_of self.now) height (steps_left result) }
+    /// The height, for single steps into it.
+    pub fn target(&self, height: Height) -> Target<'a, A>
+        ensures target { result ≡ target_of self.now height }
         ensures orderly { IsOrderly (client_of self.now) }
     {
+        let view = self.view;
         self.graph
-            .steps_into(height, &self.view.options(), &self.view.window())
+            .target(height, view.options(), view.window(), view.fees())
     }
 
-    /// The fee of the update from the trusted height to the height.
-    #[tactic(auto, unfolding(rb_step::specs::View::client_of))]
-    fn fee(&self, trusted: Height, height: Height) -> u64
-        ensures value { result ≡ (client_of self.now).fee trusted height }
-        ensures bound { result < fee_limit }
+    /// The fee of the step from the record at a trusted height to the target, where the client
+    /// accepts it.
+    pub fn fee_from(&self, target: &Target<'_, A>, trusted: Height) -> Option<u64>
+        requires { target.now.book ≡ self.now.book }
+        ensures value { IsStepFee target.now trusted result }
+        ensures bound { IfSome result (λ fee. fee < fee_limit) }
     {
-        self.graph.charge(&self.view.fees(), trusted, height)
+        match record_place(self.records(), trusted) {
+            Ok(place) => target.fee_from(place),
+            Err(_) => None,
+        }
     }
+}
 
-    /// The cost with one more update: the step to the height from the trusted one.
-    pub fn after_step(&self, cost: Cost, trusted: Height, height: Height) -> Cost
-        requires fee { cost.fee < 2 ^ 63 }
-        requires count { cost.count < 2 ^ 63 }
-        ensures { result ≡ after_update cost ((client_of self.now).fee trusted height) }
-    {
-        cost.after_update(self.fee(trusted, height))
-    }
+/// The place of the record at a height, or else the place where one belongs.
+fn record_place(records: &[Known], height: Height) -> Result<usize, usize>
+    requires { IsStrictlyIncreasing (map height_of records.now) }
+    ensures { IsPlace (is_at height) (is_below height) records.now result }
+{
+    records.binary_search_by_key(
+        &height,
+        |known: &Known| -> Height
+            ensures { result ≡ height_of known.now }
+        { known.height() },
+    )
 }

@@ -1,0 +1,65 @@
+-- the labelled records from which steps are tried
+use Rattle.std.specs.Prelude.{◌≡◌, ℕ, ◌+◌, ◌<◌, ◌^◌, ◌⊎◌, List, Some, All, Contains, IsSomeAnd, length, position, slice_get, unwrap_or}
+use Rattle.rb_book.specs.Book.{Book, Known, has_hash}
+use Rattle.rb_graph.specs.StepTable.{Target}
+use Rattle.rb_step.specs.LightClient.{Client}
+use Rattle.rb_step.specs.View.{View}
+use Rattle.rb_plan.specs.declared.cost.Cost.{Cost}
+use Rattle.rb_plan.specs.declared.offers.Offer.{Offer}
+use Rattle.rb_plan.specs.Order.{CostsAtMost, after_update}
+use Rattle.rb_plan.specs.Labelling.{Labels}
+use Rattle.rb_plan.specs.Raised.{IsCheapestStep, IsRaised}
+
+-- the offer's place is that of the record at its height, and its numbers are small
+pub record IsOffer (book : Book) (o : Offer) : Type 0 where
+  pub placed : IsSomeAnd (slice_get book.records o.place) (λ k. k.height ≡ o.label.height)
+  pub fee : o.label.cost.fee < 2 ^ 63
+  pub count : o.label.cost.count < 2 ^ 63
+
+-- the place of the set that a record names as its next, or the number of sets where the book doesn't know it
+abbrev pub next_slot : Book → Known → ℕ
+next_slot book k = unwrap_or (position (has_hash k.record_of.next) book.sets) (length book.sets)
+
+-- the records at two places name the same next set
+abbrev pub NamesSame : Book → ℕ → ℕ → Type 0
+NamesSame book p q =
+    (k l : Known) → slice_get book.records p ≡ Some k → slice_get book.records q ≡ Some l → k.record_of.next ≡ l.record_of.next
+
+-- the first names the same set as the other, and costs no more
+abbrev pub Serves : Book → Offer → Offer → Type 0
+Serves book o other = NamesSame book o.place other.place × CostsAtMost o.label.cost other.label.cost
+
+-- the offers are those before and the new one, or some of these that serve for all
+pub record IsTakenIn (book : Book) (before : List Offer) (new : Offer) (after : List Offer) : Type 0 where
+  pub drawn : All (λ o. Contains before o ⊎ (new ≡ o)) after
+  pub serve : All (λ other. (o : Offer) × Contains after o × Serves book o other) before
+  pub serves_new : (o : Offer) × Contains after o × Serves book o new
+
+-- the offers are the new one, and some of those before that serve for all of these
+pub record IsAdded (book : Book) (before : List Offer) (offer : Offer) (after : List Offer) : Type 0 where
+  pub drawn : All (λ o. Contains before o ⊎ (offer ≡ o)) after
+  pub serve : All (λ other. (o : Offer) × Contains after o × Contains before o × Serves book o other) before
+  pub added : Contains after offer
+
+-- the offers are labels
+abbrev pub AreDrawn : Labels → List Offer → Type 0
+AreDrawn label offers = All (λ o. label o.label.height ≡ Some o.label.cost) offers
+
+-- from one of the offers an accepted step leads to the height for no more than from this label
+abbrev pub IsServed : Client → List Offer → ℕ → Cost → ℕ → Type 0
+IsServed client offers t c h =
+    (o : Offer) × Contains offers o × client.Accepts o.label.height h
+    × CostsAtMost (after_update o.label.cost (client.fee o.label.height h)) (after_update c (client.fee t h))
+
+-- so it is for each label from which an accepted step leads to the height
+abbrev pub AreEnough : Client → Labels → List Offer → ℕ → Type 0
+AreEnough client label offers h = (t : ℕ) (c : Cost) → label t ≡ Some c → client.Accepts t h → IsServed client offers t c h
+
+-- the least cost of a step from one of the offers is that of a step from any label, and the cost of the height by the
+-- offers that by all labels, whatever labels the offers are drawn from and are enough for
+abbrev pub OffersLead : Client → List Offer → ℕ → (Labels → Type 0) → Type 0
+OffersLead client offers h P = (label : Labels) → AreDrawn label offers → AreEnough client label offers h → P label
+
+-- a height, as the view's client is to reach it
+abbrev pub target_of : View → ℕ → Target
+target_of v h = record { book = v.book; options = v.options; window = v.window; fees = v.fees; height = h }

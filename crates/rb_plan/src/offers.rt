@@ -1,0 +1,127 @@
+//! The labelled records from which steps are tried: of those that name one set the cheapest.
+ghost use Rattle.std.specs.Prelude.{◌≡◌, ◌↔◌, ◌<◌, IsTrue, All, OnOk, Some, IfSome, IsSomeAnd, length, set, slice_get};
+ghost use Rattle.std.specs.Option.{option_flatten};
+ghost use Rattle.rb_plan.specs.Order.{IsCheaper};
+ghost use Rattle.rb_plan.specs.Offers.{IsOffer, NamesSame, IsTakenIn, IsAdded, next_slot};
+
+use crate::cost::Cost;
+use crate::labelling::Label;
+use crate::planner::Planner;
+use std::alloc::{AllocError, Allocator};
+
+/// A label, and the place of its record.
+#[derive(Clone, Copy, Debug)]
+pub struct Offer {
+    pub place: usize,
+    pub label: Label,
+}
+
+/// Whether the cost is lower than that of the offer at a place.
+fn is_cheaper(cost: Cost, offers: &[Offer], at: usize) -> bool
+    requires { at < length offers.now }
+    ensures { IsSomeAnd (slice_get offers.now at) (λ o. IsTrue result ↔ IsCheaper cost o.label.cost) }
+{
+    cost.is_cheaper_than(offers[at].label.cost)
+}
+
+/// Where the offer of a slot was put, if one was.
+fn kept_at(by_set: &[Option<usize>], slot: usize) -> Option<usize>
+    ensures { result ≡ option_flatten (slice_get by_set.now slot) }
+{
+    match by_set.get(slot) {
+        Some(at) => *at,
+        None => None,
+    }
+}
+
+/// Keeps where the offer of a slot is put.
+fn keep_at(by_set: &mut [Option<usize>], slot: usize, at: usize)
+    ensures { by_set.new ≡ set by_set.old slot (Some at) }
+{
+    if slot < by_set.len() {
+        by_set[slot] = Some(at);
+    }
+}
+
+impl<A: Allocator + Copy> Planner<'_, A> {
+    /// Whether two records name the same next set.
+    fn names_same(&self, place: usize, other: usize) -> bool
+        requires place { place < length self.now.book.records }
+        requires other { other < length self.now.book.records }
+        ensures { IsTrue result → NamesSame self.now.book place other × NamesSame self.now.book other place }
+    {
+        let records = self.records();
+        records[place].record().next() == records[other].record().next()
+    }
+
+    /// The slot of the set that the record at a place names as its next: the set's place, or the
+    /// number of sets where the book doesn't know it.
+    fn next_slot(&self, place: usize) -> usize
+        requires { place < length self.now.book.records }
+        ensures { IsSomeAnd (slice_get self.now.book.records place) (λ k. result ≡ next_slot self.now.book k) }
+    {
+        let known = self.records()[place];
+        match self.book().set_place(known.record().next()) {
+            Some(set) => set,
+            None => self.book().sets().len(),
+        }
+    }
+
+    /// The place of an offer whose record names the same set as the record at a place, if it stands
+    /// at the place given.
+    fn same_set(&self, offers: &[Offer], at: Option<usize>, place: usize) -> Option<usize>
+        requires offers { All (IsOffer self.now.book) offers.now }
+        requires place { place < length self.now.book.records }
+        ensures { IfSome result (λ at. IsSomeAnd (slice_get offers.now at)
+            (λ o. NamesSame self.now.book o.place place × NamesSame self.now.book place o.place)) }
+    {
+        let at = at?;
+        if at < offers.len() && self.names_same(offers[at].place, place) {
+            return Some(at);
+        }
+        None
+    }
+
+    /// Takes an offer in. Where there is one whose record names the same set, the cheaper of the two
+    /// stays; `by_set` tells by the set's slot where to look for it.
+    fn take_in(
+        &self,
+        offers: &mut Vec<Offer, A>,
+        by_set: &mut [Option<usize>],
+        offer: Offer,
+    ) -> Result<(), AllocError>
+        requires offers { All (IsOffer self.now.book) offers.now.items }
+        requires offer { IsOffer self.now.book offer }
+        ensures { OnOk result (IsTakenIn self.now.book offers.old.items offer offers.new.items) }
+    {
+        let cost = offer.label.cost;
+        let slot = self.next_slot(offer.place);
+        let Some(at) = self.same_set(offers.as_slice(), kept_at(by_set, slot), offer.place) else {
+            keep_at(by_set, slot, offers.len());
+            offers.push(offer)?;
+            return Ok(());
+        };
+        if is_cheaper(cost, offers.as_slice(), at) {
+            offers[at] = offer;
+        }
+        Ok(())
+    }
+
+    /// Adds the offer of a record above all others. The one before is taken in only now, since a
+    /// record right below a header is judged by another rule.
+    pub fn add_offer(
+        &self,
+        offers: &mut Vec<Offer, A>,
+        by_set: &mut [Option<usize>],
+        offer: Offer,
+    ) -> Result<(), AllocError>
+        requires offers { All (IsOffer self.now.book) offers.now.items }
+        ensures { OnOk result (IsAdded self.now.book offers.old.items offer offers.new.items) }
+    {
+        if let Some(last) = offers.pop() {
+            self.take_in(offers, by_set, last)?;
+        }
+        offers.push(offer)?;
+        Ok(())
+    }
+}
