@@ -2,7 +2,7 @@
 use Rattle.std.specs.Prelude.{ℕ, List, [], ◌∷◌, map, codes, Result, Ok, not, ◌==◌}
 use Rattle.rb_base.specs.Fraction.{one_third}
 use Rattle.rb_batch.specs.Limits.{TransactionLimits}
-use Rattle.rb_super.specs.declared.script.ClientConfig.{ClientConfig}
+use Rattle.rb_events.specs.declared.config.ClientConfig.{ClientConfig}
 use Rattle.rb_fields.specs.Faults.{Fault, ◌>>=◌, check}
 use Rattle.rb_fields.specs.Places.{element}
 use Rattle.rb_fields.specs.Fields.{Field, Section, only, needs, optional, or_default, number, within, three_integers, fee_table, trust, max_number}

@@ -1,12 +1,13 @@
 -- The tables of events.
 use Rattle.std.specs.Prelude.{ℕ, List, [], ◌∷◌, ◌++◌, codes, Option, Some, None, option_map, unwrap_or, slice_get, Result, Ok, ◌==◌, if◌then◌else◌}
+use Rattle.std.specs.declared.alloc.Global.{Global}
 use Rattle.std.specs.Str.{bytes_eq}
 use Rattle.rb_valset.specs.ValidatorSet.{set_hash}
 use Rattle.rb_book.specs.declared.vote.Vote.{Vote}
 use Rattle.rb_book.specs.declared.vote.Vote.TheVariants.{Commit, Nil, Absent, Bad}
-use Rattle.rb_super.specs.declared.script.ClientConfig.{ClientConfig}
-use Rattle.rb_super.specs.declared.script.Event.{Event}
-use Rattle.rb_super.specs.declared.script.Event.TheVariants.{SetSeen, HeaderSeen, StoredSeen}
+use Rattle.rb_events.specs.declared.config.ClientConfig.{ClientConfig}
+use Rattle.rb_events.specs.declared.observation.Observation.{Observation}
+use Rattle.rb_events.specs.declared.observation.Observation.TheVariants.{SetSeen, HeaderSeen, StoredSeen}
 use Rattle.rb_fields.specs.Faults.{Fault, ◌>>=◌, fault}
 use Rattle.rb_fields.specs.Fields.{Field, Section, text, only, needs, optional, or_default, height, time, hash, zero_hash}
 use Rattle.rb_fields.specs.declared.fault.FaultName.TheVariants.{BadKind, BadVotes}
@@ -62,7 +63,7 @@ votes f = do
 abbrev pub set_keys : List (List ℕ)
 set_keys = codes "kind" ∷ codes "chain" ∷ codes "name" ∷ codes "validators" ∷ []
 
-unfoldable pub set_seen : List (List ℕ) → Names → Section → Result (Event × Names) Fault
+unfoldable pub set_seen : List (List ℕ) → Names → Section → Result (Observation Global × Names) Fault
 set_seen chains names s = do
   _ ← only set_keys s
   chain ← needs (codes "chain") (reference chains) s
@@ -73,7 +74,7 @@ set_seen chains names s = do
 abbrev pub header_keys : List (List ℕ)
 header_keys = codes "kind" ∷ codes "chain" ∷ codes "height" ∷ codes "time" ∷ codes "root" ∷ codes "set" ∷ codes "next" ∷ codes "votes" ∷ []
 
-unfoldable pub header_seen : List (List ℕ) → Names → Section → Result (Event × Names) Fault
+unfoldable pub header_seen : List (List ℕ) → Names → Section → Result (Observation Global × Names) Fault
 header_seen chains names s = do
   _ ← only header_keys s
   chain ← needs (codes "chain") (reference chains) s
@@ -100,7 +101,7 @@ tracked_by clients i = unwrap_or (option_map (λ c. c.tracks) (slice_get clients
 abbrev pub stored_keys : List (List ℕ)
 stored_keys = codes "kind" ∷ codes "client" ∷ codes "height" ∷ codes "time" ∷ codes "root" ∷ codes "next" ∷ []
 
-unfoldable pub stored_seen : List ClientConfig → Names → Section → Result (Event × Names) Fault
+unfoldable pub stored_seen : List ClientConfig → Names → Section → Result (Observation Global × Names) Fault
 stored_seen clients names s = do
   _ ← only stored_keys s
   client ← needs (codes "client") (reference (client_ids clients)) s
@@ -110,13 +111,13 @@ stored_seen clients names s = do
   next ← needs (codes "next") (set_reference (names (tracked_by clients client))) s
   Ok (StoredSeen client at (record { time = time; root = root; next = next }), names)
 
-abbrev pub event_of_kind : Kind → List (List ℕ) → List ClientConfig → Names → Section → Result (Event × Names) Fault
+abbrev pub event_of_kind : Kind → List (List ℕ) → List ClientConfig → Names → Section → Result (Observation Global × Names) Fault
 event_of_kind kinds.Set chains clients names s = set_seen chains names s
 event_of_kind kinds.Header chains clients names s = header_seen chains names s
 event_of_kind kinds.Stored chains clients names s = stored_seen clients names s
 
 -- the keys of a table depend on its kind, which is read first
-unfoldable pub event : List (List ℕ) → List ClientConfig → Names → Section → Result (Event × Names) Fault
+unfoldable pub event : List (List ℕ) → List ClientConfig → Names → Section → Result (Observation Global × Names) Fault
 event chains clients names s = do
   kind ← needs (codes "kind") kind s
   event_of_kind kind chains clients names s

@@ -1,4 +1,5 @@
-pub use Rattle.rb_super.specs.Script
+pub use Rattle.rb_events.specs.Config
+pub use Rattle.rb_events.specs.Script
 pub use Rattle.rb_fields.specs.Faults
 pub mod Limits
 pub mod Documents

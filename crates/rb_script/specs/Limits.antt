@@ -22,3 +22,7 @@ max_turns = 1
 -- goals and events of all turns
 abbrev pub max_entries : ℕ
 max_entries = 200000
+
+-- records of a book
+abbrev pub max_records : ℕ
+max_records = 1024

@@ -1,13 +1,14 @@
 -- The script of a text.
 use Rattle.std.specs.Prelude.{ℕ, List, [], ◌∷◌, codes, Result, Ok}
+use Rattle.std.specs.declared.alloc.Global.{Global}
 use Rattle.toml.specs.Data.{Items, no_items}
 use Rattle.toml.specs.View.{items_view}
-use Rattle.rb_super.specs.Script.{Script}
+use Rattle.rb_events.specs.Script.{Script}
 use Rattle.rb_fields.specs.Faults.{Fault, ◌>>=◌}
 use Rattle.rb_fields.specs.Fields.{Section, only, needs, optional, or_default, number, array, elements, in_sequence}
 use Rattle.rb_fields.specs.declared.fault.FaultName.TheVariants.{BadVersion}
 use Rattle.rb_script.specs.declared.script.Tables.{Tables as CodeTables}
-use Rattle.rb_script.specs.Limits.{max_chains, max_clients, max_paths, max_turns, max_entries}
+use Rattle.rb_script.specs.Limits.{max_chains, max_clients, max_paths, max_turns, max_entries, max_records}
 use Rattle.rb_script.specs.Documents.{document}
 use Rattle.rb_script.specs.Names.{no_names}
 use Rattle.rb_script.specs.Clients.{chain, client}
@@ -40,16 +41,19 @@ abbrev pub opening : Reading
 opening = record { names = no_names; room = max_entries }
 
 -- each table beside those before it
-unfoldable pub script : Section → Result Script Fault
+unfoldable pub script : Section → Result (Script Global) Fault
 script s = do
   t ← tables s
   chains ← elements chain (codes "chain") [] t.chains
   clients ← elements (client chains) (codes "client") [] t.clients
   turns ← in_sequence (turn chains clients) (codes "turn") opening [] t.turns
-  Ok (record { chains = chains; clients = clients; turns = turns.0 })
+  Ok (record {
+    config = record { limit = max_records; chains = chains; clients = clients; paths = [] };
+    turns = turns.0;
+  })
 
 -- the script of a text, or its first fault
-unfoldable pub script_of : List ℕ → Result Script Fault
+unfoldable pub script_of : List ℕ → Result (Script Global) Fault
 script_of bytes = do
   s ← document bytes
   script s

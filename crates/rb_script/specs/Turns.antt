@@ -1,14 +1,15 @@
 -- The tables of goals and turns.
 use Rattle.std.specs.Prelude.{ℕ, ◌+◌, ◌-◌, List, [], ◌∷◌, codes, Option, Some, None, Result, Ok, Bool, not, ◌==◌, nat_le}
+use Rattle.std.specs.declared.alloc.Global.{Global}
 use Rattle.std.specs.List.{list_any}
 use Rattle.toml.specs.Data.{Items, no_items}
 use Rattle.toml.specs.View.{items_view}
 use Rattle.rb_base.specs.Window.{Span}
-use Rattle.rb_plan.specs.declared.goal.Goal.{Goal}
-use Rattle.rb_plan.specs.declared.goal.Goal.TheVariants.{Exactly, AtLeast}
-use Rattle.rb_super.specs.declared.script.ClientConfig.{ClientConfig}
-use Rattle.rb_super.specs.declared.script.Asked.{Asked}
-use Rattle.rb_super.specs.Script.{Turn}
+use Rattle.rb_events.specs.declared.goal.Goal.{Goal}
+use Rattle.rb_events.specs.declared.goal.Goal.TheVariants.{Exactly, AtLeast}
+use Rattle.rb_events.specs.declared.config.ClientConfig.{ClientConfig}
+use Rattle.rb_events.specs.declared.script.Asked.{Asked}
+use Rattle.rb_events.specs.Script.{Turn}
 use Rattle.rb_fields.specs.Faults.{Fault, ◌>>=◌, fault, check}
 use Rattle.rb_fields.specs.Places.{child}
 use Rattle.rb_fields.specs.Fields.{Field, Section, items, items_count, only, needs, optional, or_default, height, time, elements, in_sequence}
@@ -89,12 +90,12 @@ pub record Reading : Type 0 where
 abbrev pub reading_view : CodeReading → Reading
 reading_view r = record { names = names_of r.names; room = r.room }
 
-unfoldable pub turn : List (List ℕ) → List ClientConfig → Reading → Section → Result (Turn × Reading) Fault
+unfoldable pub turn : List (List ℕ) → List ClientConfig → Reading → Section → Result (Turn Global × Reading) Fault
 turn chains clients reading s = do
   f ← frame reading.room s
   goals ← elements (asked clients) (child s.path (codes "goal")) [] f.goals
   events ← in_sequence (event chains clients) (child s.path (codes "event")) reading.names [] f.events
   Ok (
-    record { window = f.window; goals = goals; events = events.0 },
+    record { window = f.window; goals = goals; events = events.0; settlements = [] },
     record { names = events.1; room = reading.room - (items_count f.goals + items_count f.events) },
   )

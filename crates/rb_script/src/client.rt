@@ -9,8 +9,8 @@ ghost use Rattle.rb_script.specs.Clients.{chain, chain_keys, limits, client, cli
 use crate::named::{new_identifier, reference};
 use rb_base::{ChainId, ClientId, Fraction, Options, Period};
 use rb_batch::Limits;
+use rb_events::ClientConfig;
 use rb_fields::{FaultName, Field, MAX_NUMBER, RunError, Section, element_path, section_at};
-use rb_super::ClientConfig;
 use std::alloc::Global;
 use toml::Value;
 

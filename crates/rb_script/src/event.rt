@@ -11,8 +11,8 @@ use crate::names::{SetNames, needed_set_hash, needed_set_name};
 use crate::set::needed_validators;
 use rb_base::ChainId;
 use rb_book::{Header, Record, Vote};
+use rb_events::{ClientConfig, Observation};
 use rb_fields::{FaultName, Field, RunError, Section, element_path, section_at};
-use rb_super::{ClientConfig, Event};
 use toml::Value;
 
 /// The kinds of event.
@@ -95,7 +95,7 @@ fn read_set(
     section: &Section<'_>,
     chains: &[ChainId],
     names: &mut SetNames,
-) -> Result<Event, RunError>
+) -> Result<Observation, RunError>
     ensures { Gives (λ e. (e, names_of names.new)) result (set_seen chains.now (names_of names.old) (section_view section.now)) }
 {
     only_set_keys(section)?;
@@ -103,7 +103,7 @@ fn read_set(
     let name = needed_set_name(section, chain, names)?;
     let set = needed_validators(section)?;
     names.add(chain, name, *set.hash())?;
-    Ok(Event::SetSeen { chain, set })
+    Ok(Observation::SetSeen { chain, set })
 }
 
 fn only_header_keys(section: &Section<'_>) -> Result<(), RunError>
@@ -119,7 +119,7 @@ fn read_header(
     section: &Section<'_>,
     chains: &[ChainId],
     names: &SetNames,
-) -> Result<Event, RunError>
+) -> Result<Observation, RunError>
     ensures { Gives (λ e. (e, names_of names.now)) result (header_seen chains.now (names_of names.now) (section_view section.now)) }
 {
     only_header_keys(section)?;
@@ -131,7 +131,7 @@ fn read_header(
     let next = needed_set_hash(section, "next", chain, names)?;
     let votes = needed_votes(section)?;
     let header = Header::new(height, Record::new(time, root, next), set, votes);
-    Ok(Event::HeaderSeen { chain, header })
+    Ok(Observation::HeaderSeen { chain, header })
 }
 
 fn only_stored_keys(section: &Section<'_>) -> Result<(), RunError>
@@ -153,7 +153,7 @@ fn read_stored(
     section: &Section<'_>,
     clients: &[ClientConfig],
     names: &SetNames,
-) -> Result<Event, RunError>
+) -> Result<Observation, RunError>
     ensures { Gives (λ e. (e, names_of names.now)) result (stored_seen clients.now (names_of names.now) (section_view section.now)) }
 {
     only_stored_keys(section)?;
@@ -164,7 +164,7 @@ fn read_stored(
     let chain = tracked_by(clients, client);
     let next = needed_set_hash(section, "next", chain, names)?;
     let record = Record::new(time, root, next);
-    Ok(Event::StoredSeen {
+    Ok(Observation::StoredSeen {
         client,
         height,
         record,
@@ -177,7 +177,7 @@ fn read_event(
     chains: &[ChainId],
     clients: &[ClientConfig],
     names: &mut SetNames,
-) -> Result<Event, RunError>
+) -> Result<Observation, RunError>
     ensures { Gives (λ e. (e, names_of names.new)) result (event chains.now clients.now (names_of names.old) (section_view section.now)) }
 {
     match needed_kind(section)? {
@@ -195,7 +195,7 @@ fn read_event_at(
     chains: &[ChainId],
     clients: &[ClientConfig],
     names: &mut SetNames,
-) -> Result<Event, RunError>
+) -> Result<Observation, RunError>
     ensures { Gives (λ e. (e, names_of names.new)) result (next_in_sequence (event chains.now clients.now) path.now index (names_of names.old) (view value.now)) }
 {
     let alloc = names.alloc;
@@ -211,7 +211,7 @@ pub fn read_events(
     chains: &[ChainId],
     clients: &[ClientConfig],
     names: &mut SetNames,
-) -> Result<Vec<Event>, RunError>
+) -> Result<Vec<Observation>, RunError>
     ensures { Gives (λ v. (v.items, names_of names.new)) result (in_sequence (event chains.now clients.now) path.now (names_of names.old) [] (items_view items.now)) }
 {
     let mut events = Vec::with_capacity(names.alloc, items.len())?;

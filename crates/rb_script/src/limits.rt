@@ -16,3 +16,6 @@ pub const MAX_TURNS: usize = 1;
 
 /// Goals and events of all turns.
 pub const MAX_ENTRIES: usize = 200_000;
+
+/// Records of a book.
+pub const MAX_RECORDS: usize = 1024;

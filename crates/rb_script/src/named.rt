@@ -8,8 +8,8 @@ ghost use Rattle.rb_fields.specs.Fields.{field_view, section_view, needs};
 ghost use Rattle.rb_script.specs.Named.{reference, new_identifier};
 
 use rb_base::ChainId;
+use rb_events::ClientConfig;
 use rb_fields::{FaultName, Field, RunError, Section};
-use rb_super::ClientConfig;
 
 /// What has an identifier (ICS 24): a chain and a client of a script.
 pub trait Named {

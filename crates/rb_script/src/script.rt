@@ -1,7 +1,7 @@
 //! The script of a text.
 ghost use Rattle.std.specs.Prelude.{◌≡◌, [], IfOk, codes, map};
 ghost use Rattle.toml.specs.View.{items_view, table_view};
-ghost use Rattle.rb_super.specs.Script.{IsScript, script_view, turn_view};
+ghost use Rattle.rb_events.specs.Script.{IsScript, IsOfUpdates, script_view, turn_view};
 ghost use Rattle.rb_fields.specs.Faults.{Gives};
 ghost use Rattle.rb_fields.specs.Fields.{section_view, only, in_sequence};
 ghost use Rattle.rb_script.specs.Documents.{whole};
@@ -10,12 +10,12 @@ ghost use Rattle.rb_script.specs.Scripts.{script, script_of, tables, tables_view
 
 use crate::client::{read_chains, read_clients};
 use crate::document::read_table;
-use crate::limits::{MAX_CHAINS, MAX_CLIENTS, MAX_ENTRIES, MAX_PATHS, MAX_TURNS};
+use crate::limits::{MAX_CHAINS, MAX_CLIENTS, MAX_ENTRIES, MAX_PATHS, MAX_RECORDS, MAX_TURNS};
 use crate::names::SetNames;
 use crate::turn::{Reading, read_turn_at};
 use rb_base::ChainId;
+use rb_events::{ClientConfig, Config, Script, Turn};
 use rb_fields::{FaultName, RunError, Section};
-use rb_super::{ClientConfig, Script, Turn};
 use std::alloc::Global;
 use toml::{Table, Value};
 
@@ -96,20 +96,25 @@ fn read_document(alloc: Global, table: &Table) -> Result<Script, RunError>
         &mut opening(alloc),
     )?;
     Ok(Script {
-        chains,
-        clients,
+        config: Config {
+            limit: MAX_RECORDS,
+            chains,
+            clients,
+            paths: Vec::new(alloc),
+        },
         turns,
     })
 }
 
 /// Reads the script that a text holds, or answers the first fault of the text, in the order of
 /// docs/FORMATS.md: the text as a whole, then each table by its keys, then what concerns several of
-/// them. In every script that it gives, identifiers differ, and what is named is there. `NoMemory`
-/// is answered where a growth is refused.
+/// them. In every script that it gives, identifiers differ, and what is named is there; so far it has
+/// no paths and no settlements. `NoMemory` is answered where a growth is refused.
 #[tactic(auto, using(rb_fields::proofs::Steps::steps), unfolding(crate::specs::Scripts::script_of))]
 pub fn read_script(alloc: Global, bytes: &[u8]) -> Result<Script, RunError>
     ensures read { Gives script_view result (script_of bytes.now) }
     ensures form { IfOk result (λ s. IsScript (script_view s)) }
+    ensures updates { IfOk result (λ s. IsOfUpdates (script_view s)) }
 {
     let table = read_table(alloc, bytes)?;
     read_document(alloc, &table)

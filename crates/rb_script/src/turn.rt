@@ -1,7 +1,7 @@
 //! The goals and turns of a script.
 ghost use Rattle.std.specs.Prelude.{◌≡◌, ◌+◌, ◌≤◌, [], IfOk, codes, length};
 ghost use Rattle.toml.specs.View.{view, items_view};
-ghost use Rattle.rb_super.specs.Script.{turn_view};
+ghost use Rattle.rb_events.specs.Script.{turn_view};
 ghost use Rattle.rb_fields.specs.Faults.{Gives};
 ghost use Rattle.rb_fields.specs.Fields.{section_view, only, optional, at_element, elements, next_in_sequence};
 ghost use Rattle.rb_script.specs.Turns.{asked, goal_keys, is_asked, maybe_height, turn, turn_keys, frame, frame_view, reading_view};
@@ -10,9 +10,8 @@ use crate::event::read_events;
 use crate::named::reference;
 use crate::names::SetNames;
 use rb_base::{ChainId, Height, Window};
+use rb_events::{Asked, ClientConfig, Goal, Turn};
 use rb_fields::{FaultName, RunError, Section, child_path, element_path, section_at};
-use rb_plan::Goal;
-use rb_super::{Asked, ClientConfig, Turn};
 use std::alloc::Global;
 use toml::Value;
 
@@ -162,6 +161,7 @@ fn read_turn(
         window: frame.window,
         goals,
         events,
+        settlements: Vec::new(section.alloc),
     })
 }
 

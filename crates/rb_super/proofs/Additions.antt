@@ -1,5 +1,5 @@
 -- What a book does with a set, a record or a header.
-use Rattle.std.proofs.Common.{◌≡◌, ℕ, Bool, true, false, cond, List, [], ◌∷◌, ◌++◌, Option, Some, None, IsSome, is_some, take, drop, count_by, refl, sym, subst}
+use Rattle.std.proofs.Common.{◌≡◌, ℕ, Bool, true, false, cond, List, [], ◌∷◌, ◌++◌, Option, Some, None, IsSome, is_some, take, drop, count_by, refl, sym, ap, ◌∙◌, subst}
 use Rattle.std.specs.List.{find}
 use Rattle.std.specs.Option.{option_map}
 use Rattle.std.proofs.lemmas.Bool.{eq-eqb}
@@ -11,18 +11,20 @@ use Rattle.rb_book.specs.Book.{Known, Book, is_at, is_below, set_of, record_at, 
 use Rattle.rb_book.specs.Intake.{IsRefusal, with_set, with_record, with_header, after_set, after_record, after_header}
 use Rattle.rb_book.specs.declared.error.BookError.{BookError}
 use Rattle.rb_book.specs.declared.error.BookError.TheVariants.{UnknownSet, WrongVerdictCount, BadVote, Conflict, TimeOrder, Full, HashClash, NoMemory}
+use Rattle.rb_events.specs.declared.refusal.Refusal.{Refusal}
+use Rattle.rb_events.specs.Refusal.{of_book, book_refusal}
 use Rattle.rb_super.specs.State.{KeepsRecords}
 
 -- the refusal that a book gives is the one that is due, unless memory was wanting
-pub due : (e : BookError) (due : Option BookError) → (e ≡ NoMemory → ⊥) → IsRefusal e due → Some e ≡ due
-due UnknownSet d not_memory r = sym r
-due WrongVerdictCount d not_memory r = sym r
-due (BadVote index) d not_memory r = sym r
-due (Conflict height) d not_memory r = sym r
-due (TimeOrder height) d not_memory r = sym r
-due Full d not_memory r = sym r
-due HashClash d not_memory r = sym r
-due NoMemory d not_memory r = absurd (not_memory refl)
+pub due : (e : BookError) (d : Option BookError) (r : Refusal) → of_book e ≡ Some r → IsRefusal e d → Some r ≡ book_refusal d
+due UnknownSet d r told is = sym told ∙ ap book_refusal (sym is)
+due WrongVerdictCount d r told is = sym told ∙ ap book_refusal (sym is)
+due (BadVote index) d r told is = sym told ∙ ap book_refusal (sym is)
+due (Conflict height) d r told is = sym told ∙ ap book_refusal (sym is)
+due (TimeOrder height) d r told is = sym told ∙ ap book_refusal (sym is)
+due Full d r told is = sym told ∙ ap book_refusal (sym is)
+due HashClash d r told is = sym told ∙ ap book_refusal (sym is)
+due NoMemory d r told is = absurd cc
 
 -- ---- what is found in a list is found in it with one more value
 

@@ -11,7 +11,7 @@ use Rattle.rb_batch.specs.Laws.{LeastCutIsOne}
 use Rattle.rb_batch.specs.Limits.{TransactionLimits, IsTooBig}
 use Rattle.rb_batch.specs.declared.transaction.Transaction.{Transaction}
 use Rattle.rb_book.specs.Book.{Book}
-use Rattle.rb_plan.specs.declared.goal.Goal.{Goal}
+use Rattle.rb_events.specs.declared.goal.Goal.{Goal}
 use Rattle.rb_plan.specs.Labelling.{label_of}
 use Rattle.rb_plan.specs.Laws.{AnswersAreOne}
 use Rattle.rb_plan.specs.Least.{IsUnreachable}
@@ -19,11 +19,11 @@ use Rattle.rb_plan.specs.Order.{cost_of}
 use Rattle.rb_step.specs.LightClient.{Update, Client}
 use Rattle.rb_step.specs.View.{View, client_of}
 use Rattle.rb_super.specs.declared.report.PricedUpdate.{PricedUpdate}
-use Rattle.rb_super.specs.declared.script.ClientConfig.{ClientConfig}
+use Rattle.rb_events.specs.declared.config.ClientConfig.{ClientConfig}
 use Rattle.rb_super.specs.Laws.{ReportIsOne}
 use Rattle.rb_super.specs.Priced.{priced_by}
 use Rattle.rb_super.specs.Report.{Sending, nothing, too_big, batched, Plan, Planned, Outcome, held, idle, planned, ClientReport, TurnReport, Report}
-use Rattle.rb_super.specs.Script.{Turn}
+use Rattle.rb_events.specs.Script.{Turn}
 use Rattle.rb_super.specs.State.{KnownClient, State, opening, book_at}
 use Rattle.rb_super.specs.Turns.{before_plans, view_of, update_of, gas_of, IsSending, IsPlan, IsPlanned, IsOutcome, IsClientReport, IsTurnReport, AreTurnReports, after_turn}
 use Rattle.rb_super.proofs.OneLabelling.{one_labelling}
@@ -146,14 +146,14 @@ module _ (one : AnswersAreOne) (cuts : LeastCutIsOne) where
       let rest = one_row window books cs rs qs a.1 b.1 in
       λ i. record { id = ids i; outcome = outcomes i } ∷ rest i
 
-  pub one_turn : (s : State) (t : Turn) (r q : TurnReport) → IsTurnReport s t r → IsTurnReport s t q → r ≡ q
+  pub one_turn : {A : Type 0} → (s : State) (t : Turn A) (r q : TurnReport) → IsTurnReport s t r → IsTurnReport s t q → r ≡ q
   one_turn s t r q a b =
       let windows : r.window_back ≡ q.window_back = a.window ∙ sym b.window in
       let refused : r.refused ≡ q.refused = a.refused ∙ sym b.refused in
       let clients = one_row (before_plans s t).window (before_plans s t).books (before_plans s t).clients r.clients q.clients a.clients b.clients in
       λ i. record { window_back = windows i; refused = refused i; clients = clients i }
 
-  one_run : (s : State) (ts : List Turn) (r q : Report) → AreTurnReports s ts r → AreTurnReports s ts q → r ≡ q
+  one_run : {A : Type 0} → (s : State) (ts : List (Turn A)) (r q : Report) → AreTurnReports s ts r → AreTurnReports s ts q → r ≡ q
   one_run s [] [] [] a b = refl
   one_run s [] [] (q ∷ qs) a b = absurd b
   one_run s [] (r ∷ rs) qs a b = absurd a

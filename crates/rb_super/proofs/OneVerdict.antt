@@ -9,7 +9,7 @@ use Rattle.rb_cert.specs.declared.verdict.Verdict2.{Verdict2}
 use Rattle.rb_cert.specs.declared.verdict.Verdict2.TheVariants.{Yes, No}
 use Rattle.rb_cert.specs.Judgement.{Judges}
 use Rattle.rb_cert.specs.Refusal.{check_of, IsEarlierPlace, IsJudgedBefore, IsFirst}
-use Rattle.rb_plan.specs.declared.goal.Goal.{Goal}
+use Rattle.rb_events.specs.declared.goal.Goal.{Goal}
 use Rattle.rb_plan.specs.Labelling.{Labels}
 use Rattle.rb_plan.specs.Laws.{AnswersAreOne}
 use Rattle.rb_step.specs.LightClient.{Update, Client}
@@ -17,7 +17,7 @@ use Rattle.rb_step.specs.View.{View, client_of}
 use Rattle.rb_super.specs.Judging.{Leads, IsPlanPhase, view_in, planned_goal, IsVerdictFor}
 use Rattle.rb_super.specs.Laws.{VerdictIsOne}
 use Rattle.rb_super.specs.Report.{TurnReport}
-use Rattle.rb_super.specs.Script.{Script, Turn}
+use Rattle.rb_events.specs.Script.{Script, Turn}
 use Rattle.rb_super.specs.State.{KnownClient, State, opening}
 use Rattle.rb_super.specs.Turns.{before_plans, after_turn}
 use Rattle.rb_super.proofs.OneReport.{one_turn}
@@ -95,13 +95,13 @@ one_for_goal view (Some goal) labels claim (Some v) (Some w) a b = ap (λ x. Som
 -- ---- where the client stands
 
 module _ (one : AnswersAreOne) (cuts : LeastCutIsOne) where
-  one_end : (s : State) (ts : List Turn) (a b : State) → Leads s ts a → Leads s ts b → a ≡ b
+  one_end : {A : Type 0} → (s : State) (ts : List (Turn A)) (a b : State) → Leads s ts a → Leads s ts b → a ≡ b
   one_end s [] a b p q = sym p ∙ q
   one_end s (t ∷ ts) a b p q =
       let same : p.0 ≡ q.0 = one_turn one cuts s t p.0 q.0 p.1 q.1 in
       one_end (after_turn s t q.0) ts a b (subst (λ (r : TurnReport). Leads (after_turn s t r) ts a) same p.2) q.2
 
-  one_phase : (script : Script) (turn : ℕ) (s u : State) → IsPlanPhase script turn s → IsPlanPhase script turn u → s ≡ u
+  one_phase : {A : Type 0} → (script : Script A) (turn : ℕ) (s u : State) → IsPlanPhase script turn s → IsPlanPhase script turn u → s ≡ u
   one_phase script turn s u a b =
       let begun = one_end (opening script) _ a.begun b.begun a.earlier b.earlier in
       let this : a.this ≡ b.this = same_Some a.this b.this (sym a.is ∙ b.is) in

@@ -5,18 +5,18 @@ use Rattle.std.specs.Option.{option_map}
 use Rattle.rb_batch.specs.Laws.{LeastCutIsOne}
 use Rattle.rb_cert.specs.declared.verdict.Verdict2.{Verdict2}
 use Rattle.rb_cert.specs.declared.verdict.Verdict2.TheVariants.{Yes}
-use Rattle.rb_plan.specs.declared.goal.Goal.{Goal}
+use Rattle.rb_events.specs.declared.goal.Goal.{Goal}
 use Rattle.rb_plan.specs.Answer.{Shows}
 use Rattle.rb_plan.specs.Labelling.{Labels, IsExact}
 use Rattle.rb_plan.specs.Laws.{AnswersAreOne}
 use Rattle.rb_plan.specs.Least.{IsUnreachable}
 use Rattle.rb_step.specs.LightClient.{Update}
 use Rattle.rb_step.specs.View.{View, client_of}
-use Rattle.rb_super.specs.declared.script.ClientConfig.{ClientConfig}
+use Rattle.rb_events.specs.declared.config.ClientConfig.{ClientConfig}
 use Rattle.rb_super.specs.Goal.{goal_of}
 use Rattle.rb_super.specs.Judging.{Leads, IsPlanPhase, view_in, planned_goal, claim_in, IsReported}
 use Rattle.rb_super.specs.Report.{Plan, Planned, planned, TurnReport, Report}
-use Rattle.rb_super.specs.Script.{Script, Turn}
+use Rattle.rb_events.specs.Script.{Script, Turn}
 use Rattle.rb_super.specs.State.{KnownClient, State, opening}
 use Rattle.rb_super.specs.Turns.{update_of, IsPlan, IsPlanned, IsOutcome, IsClientReport, IsTurnReport, AreTurnReports, IsReportOf, after_turn}
 use Rattle.rb_super.proofs.OneReport.{one_turn}
@@ -32,7 +32,7 @@ zipped_at R (p ∷ xs) (q ∷ ys) zero x y all a b =
 zipped_at R (p ∷ xs) (q ∷ ys) (suc i) x y all a b = zipped_at R xs ys i x y all.1 a b
 
 -- the turn's report is one in the state that the turns before it lead to
-reported_at : AnswersAreOne → LeastCutIsOne → (s : State) (ts : List Turn) (rs : Report) (i : ℕ) (u : State) (t : Turn) (r : TurnReport)
+reported_at : {A : Type 0} → AnswersAreOne → LeastCutIsOne → (s : State) (ts : List (Turn A)) (rs : Report) (i : ℕ) (u : State) (t : Turn A) (r : TurnReport)
     → AreTurnReports s ts rs → Leads s (take i ts) u → slice_get ts i ≡ Some t → slice_get rs i ≡ Some r → IsTurnReport u t r
 reported_at one cuts s [] rs i u t r all leads at is = cc
 reported_at one cuts s (x ∷ ts) [] i u t r all leads at is = absurd all
@@ -40,7 +40,7 @@ reported_at one cuts s (x ∷ ts) (y ∷ rs) zero u t r all leads at is =
     let turn : x ≡ t = cc in
     let report : y ≡ r = cc in
     subst (λ (z : TurnReport). IsTurnReport u t z) report
-    (subst (λ (z : Turn). IsTurnReport u z y) turn (subst (λ (z : State). IsTurnReport z x y) leads all.0))
+    (subst (λ (z : Turn _). IsTurnReport u z y) turn (subst (λ (z : State). IsTurnReport z x y) leads all.0))
 reported_at one cuts s (x ∷ ts) (y ∷ rs) (suc i) u t r all leads at is =
     let same : y ≡ leads.0 = one_turn one cuts s x y leads.0 all.0 leads.1 in
     reported_at one cuts (after_turn s x leads.0) ts rs i u t r (subst (λ (z : TurnReport). AreTurnReports (after_turn s x z) ts rs) same all.1) leads.2 at is
@@ -56,7 +56,7 @@ shown config v p is = shown_by p.plan is.plan
 goal_planned : (c : KnownClient) (v : View) (p : Planned) → IsOutcome c v (planned p) → planned_goal c v ≡ Some p.goal
 goal_planned c v p is = ap (λ b. cond (is_some b) None (goal_of c.asked c.config.refresh v)) is.0 ∙ is.1
 
-pub own_answer : AnswersAreOne → LeastCutIsOne → (script : Script) (turn client : ℕ) (labels : Labels) (claim : Option (List Update)) (s : State) (verdict : Option Verdict2)
+pub own_answer : {A : Type 0} → AnswersAreOne → LeastCutIsOne → (script : Script A) (turn client : ℕ) (labels : Labels) (claim : Option (List Update)) (s : State) (verdict : Option Verdict2)
     → IsPlanPhase script turn s → client < length s.clients
     → IfSome (slice_get s.clients client) (λ c. (goal : Goal) → planned_goal c (view_in s c) ≡ Some goal → IsExact (client_of (view_in s c)) labels
     → Shows (client_of (view_in s c)) goal claim → verdict ≡ Some Yes)

@@ -4,7 +4,7 @@ use Rattle.std.specs.Option.{option_map}
 use Rattle.std.proofs.lemmas.List.Elements.{All-map, All-head, All-tail}
 use Rattle.std.proofs.lemmas.List.Sums.{sum_by-cons}
 use Rattle.rb_plan.specs.declared.cost.Cost.{Cost}
-use Rattle.rb_plan.specs.declared.goal.Goal.{Goal}
+use Rattle.rb_events.specs.declared.goal.Goal.{Goal}
 use Rattle.rb_plan.specs.declared.labelling.Label.{Label}
 use Rattle.rb_plan.specs.Labelling.{IsLabelling, IsExact, label_of}
 use Rattle.rb_plan.specs.Least.{IsLeast}
@@ -12,7 +12,7 @@ use Rattle.rb_plan.specs.Order.{IsCheaper, CostsAtMost, cost_of}
 use Rattle.rb_step.specs.LightClient.{Update, Client, total_fee}
 use Rattle.rb_step.specs.View.{View, client_of}
 use Rattle.rb_plan.proofs.Costs.{same_cost}
-use Rattle.rb_super.specs.declared.script.ClientConfig.{ClientConfig}
+use Rattle.rb_events.specs.declared.config.ClientConfig.{ClientConfig}
 use Rattle.rb_super.specs.declared.report.PricedUpdate.{PricedUpdate}
 use Rattle.rb_super.specs.Priced.{priced_by}
 use Rattle.rb_super.specs.Report.{Plan}

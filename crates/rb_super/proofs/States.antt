@@ -10,9 +10,10 @@ use Rattle.std.proofs.lemmas.Option.{slice_get-get_or}
 use Rattle.rb_book.specs.Book.{Book, record_at}
 use Rattle.rb_step.specs.View.{AreKnown}
 use Rattle.rb_super.specs.Report.{Outcome, held, idle, planned, ClientReport}
-use Rattle.rb_super.specs.Script.{Script, IsScript, IsClient}
-use Rattle.rb_super.specs.declared.script.ClientConfig.{ClientConfig}
-use Rattle.rb_super.specs.State.{KnownClient, State, opening, new_client, empty_book, book_at, with_book, changed, tracked, with_height, KeepsRecords, IsKnownClient, IsState}
+use Rattle.rb_events.specs.Config.{IsClient}
+use Rattle.rb_events.specs.Script.{Script, IsScript}
+use Rattle.rb_events.specs.declared.config.ClientConfig.{ClientConfig}
+use Rattle.rb_super.specs.State.{KnownClient, State, opening, new_client, new_book, empty_book, book_at, with_book, changed, tracked, with_height, KeepsRecords, IsKnownClient, IsState}
 use Rattle.rb_super.specs.Turns.{after_outcome, after_reports}
 
 -- ---- one book changes
@@ -104,11 +105,12 @@ none_known b = record { rising = λ k lt. absurd (omega arith); recorded = λ k 
 new_known : (chains : ℕ) (books : List Book) (c : ClientConfig) → length books ≡ chains → IsClient chains c → IsKnownClient books (new_client c)
 new_known chains books c e fine = record { chain = subst (λ n. c.tracks < n) (sym e) fine.tracks; stored = none_known (book_at books c.tracks) }
 
-pub IsState-opening : (s : Script) → IsScript s → IsState (opening s)
+pub IsState-opening : {A : Type 0} (s : Script A) → IsScript s → IsState (opening s)
 IsState-opening s script = record {
-  clients = All-map (IsKnownClient (opening s).books) new_client s.clients
-      (All-weaker (IsClient (length s.chains)) (λ c. IsKnownClient (opening s).books (new_client c))
-      (λ c. new_known (length s.chains) (opening s).books c (length-replicate (length s.chains) empty_book)) s.clients script.clients);
+  clients = All-map (IsKnownClient (opening s).books) new_client s.config.clients
+      (All-weaker (IsClient (length s.config.chains)) (λ c. IsKnownClient (opening s).books (new_client c))
+      (λ c. new_known (length s.config.chains) (opening s).books c (length-replicate (length s.config.chains) (new_book s.config.limit))) s.config.clients
+      script.config.clients);
 }
 
 -- ---- by the parts of a state

@@ -4,18 +4,16 @@ use Rattle.std.specs.List.{AllZip, slice_get}
 use Rattle.std.specs.Option.{option_map, option_map_or, option_to_list}
 use Rattle.std.proofs.lemmas.List.{drop_more, length-set, drop-map, append-nil}
 use Rattle.std.proofs.lemmas.List.Elements.{All-head, All-drop}
-use Rattle.rb_book.specs.declared.error.BookError.{BookError}
-use Rattle.rb_super.specs.declared.script.Asked.{Asked}
-use Rattle.rb_super.specs.declared.script.Event.{Event}
-use Rattle.rb_super.specs.declared.script.Event.TheVariants.{SetSeen, HeaderSeen, StoredSeen}
-use Rattle.rb_super.specs.declared.report.RefusedEvent.{RefusedEvent}
+use Rattle.rb_events.specs.declared.script.Asked.{Asked}
+use Rattle.rb_events.specs.declared.observation.Observation.{Observation}
+use Rattle.rb_events.specs.declared.observation.Observation.TheVariants.{SetSeen, HeaderSeen, StoredSeen, Sent, Received, AckWritten, Cleared, Closed}
 use Rattle.rb_super.specs.Report.{ClientReport, TurnReport, Report}
 use Rattle.rb_book.specs.Intake.{after_set, after_header, after_record}
 use Rattle.rb_base.specs.Window.{Span}
-use Rattle.rb_super.specs.declared.script.Turn.{Turn as CodeTurn}
-use Rattle.rb_super.specs.Script.{Turn, turn_view}
+use Rattle.rb_events.specs.declared.script.Turn.{Turn as CodeTurn}
+use Rattle.rb_events.specs.Script.{Turn, turn_view}
 use Rattle.rb_super.specs.State.{KnownClient, State, book_at, tracked, with_height, changed, goes_back, after_window, after_asked, judged, observed, after}
-use Rattle.rb_super.specs.Turns.{refusals, before_events, before_plans, after_outcome, after_reports, after_turn, IsTurnReport, AreTurnReports}
+use Rattle.rb_super.specs.Turns.{before_events, before_plans, after_outcome, after_reports, after_turn, IsTurnReport, AreTurnReports}
 
 -- ---- as many books and clients as before
 
@@ -34,60 +32,33 @@ pub record HasSizesOf (s t : State) : Type 0 where
   pub books : length t.books ≡ length s.books
   pub clients : length t.clients ≡ length s.clients
 
-sizes-observed : (s : State) (event : Event) → HasSizesOf s (observed s event)
+sizes-observed : {A : Type 0} → (s : State) (event : Observation A) → HasSizesOf s (observed s event)
 sizes-observed s (SetSeen chain set) = record { books = length-set s.books chain (after_set (book_at s.books chain) set); clients = refl }
 sizes-observed s (HeaderSeen chain header) = record { books = length-set s.books chain (after_header (book_at s.books chain) header); clients = refl }
 sizes-observed s (StoredSeen client height r) = record {
   books = length-set s.books (tracked s.clients client) (after_record (book_at s.books (tracked s.clients client)) height r);
   clients = length-changed (λ (c : KnownClient). record c { stored = with_height height c.stored }) s.clients client;
 }
+sizes-observed s (Sent path sequence block timeout_height timeout_time) = record { books = refl; clients = refl }
+sizes-observed s (Received path sequence block) = record { books = refl; clients = refl }
+sizes-observed s (AckWritten path sequence block) = record { books = refl; clients = refl }
+sizes-observed s (Cleared path sequence) = record { books = refl; clients = refl }
+sizes-observed s (Closed path) = record { books = refl; clients = refl }
 
 either_state : (P : State → Type 0) (b : Bool) (s t : State) → P s → P t → P (cond b s t)
 either_state P true s t p q = p
 either_state P false s t p q = q
 
-pub sizes-after : (s : State) (event : Event) → HasSizesOf s (after s event)
+pub sizes-after : {A : Type 0} → (s : State) (event : Observation A) → HasSizesOf s (after s event)
 sizes-after s event =
     either_state (HasSizesOf s) (is_some (judged s event)) s (observed s event) (record { books = refl; clients = refl }) (sizes-observed s event)
 
-sizes-events : (s : State) (events : List Event) → HasSizesOf s (fold after s events)
+sizes-events : {A : Type 0} → (s : State) (events : List (Observation A)) → HasSizesOf s (fold after s events)
 sizes-events s [] = record { books = refl; clients = refl }
 sizes-events s (event ∷ events) =
     let step = sizes-after s event in
     let rest = sizes-events (after s event) events in
     record { books = rest.books ∙ step.books; clients = rest.clients ∙ step.clients }
-
--- ---- one event more
-
-next_refusals : (number : ℕ) (s : State) (events : List Event) (i : ℕ) (event : Event) → i < length events → event ≡ get_or events i event
-    → refusals number s (drop i events) ≡ option_to_list (option_map (λ error. record { event = number; error = error }) (judged s event)) ++ refusals (number + 1) (after s event) (drop (i + 1) events)
-next_refusals number s events i event lt at =
-    rw (drop_more events i event lt) (
-    ap (λ (e : Event). option_to_list (option_map (λ error. record { event = number; error = error }) (judged s e)) ++ refusals (number + 1) (after s e) (drop (i + 1) events)) (sym at))
-
--- one that is refused, and one that is not
-pub refused_more : (refused : List RefusedEvent) (number : ℕ) (s t : State) (events : List Event) (event : Event) (error : BookError) (all : List RefusedEvent)
-    → number < length events → event ≡ get_or events number event → Some error ≡ judged s event → t ≡ after s event
-    → refused ++ refusals number s (drop number events) ≡ all
-    → (refused ++ record { event = number; error = error } ∷ []) ++ refusals (number + 1) t (drop (number + 1) events) ≡ all
-refused_more refused number s t events event error all lt at e f so_far =
-    let rest = refusals (number + 1) t (drop (number + 1) events) in
-    let next : refusals number s (drop number events) ≡ record { event = number; error = error } ∷ rest =
-    next_refusals number s events number event lt at
-    ∙ ap (λ o. option_to_list (option_map (λ error. record { event = number; error = error }) o) ++ refusals (number + 1) (after s event) (drop (number + 1) events)) (sym e)
-    ∙ ap (λ u. record { event = number; error = error } ∷ refusals (number + 1) u (drop (number + 1) events)) (sym f) in
-    append_assoc refused (record { event = number; error = error } ∷ []) rest ∙ ap (λ xs. refused ++ xs) (sym next) ∙ so_far
-
-pub accepted_more : (refused : List RefusedEvent) (number : ℕ) (s t : State) (events : List Event) (event : Event) (all : List RefusedEvent)
-    → number < length events → event ≡ get_or events number event → None ≡ judged s event → t ≡ after s event
-    → refused ++ refusals number s (drop number events) ≡ all
-    → refused ++ refusals (number + 1) t (drop (number + 1) events) ≡ all
-accepted_more refused number s t events event all lt at e f so_far =
-    let next : refusals number s (drop number events) ≡ refusals (number + 1) t (drop (number + 1) events) =
-    next_refusals number s events number event lt at
-    ∙ ap (λ o. option_to_list (option_map (λ error. record { event = number; error = error }) o) ++ refusals (number + 1) (after s event) (drop (number + 1) events)) (sym e)
-    ∙ ap (λ u. refusals (number + 1) u (drop (number + 1) events)) (sym f) in
-    ap (λ xs. refused ++ xs) (sym next) ∙ so_far
 
 -- ---- one client more
 
@@ -143,11 +114,11 @@ sizes-window s window =
     either_state (HasSizesOf s) (goes_back s.window window) s (record s { window = window }) (record { books = refl; clients = refl })
     (record { books = refl; clients = refl })
 
-pub sizes-before_events : (s : State) (turn : Turn) → HasSizesOf s (before_events s turn)
+pub sizes-before_events : {A : Type 0} → (s : State) (turn : Turn A) → HasSizesOf s (before_events s turn)
 sizes-before_events s turn =
     HasSizesOf-trans s (after_window s turn.window) (before_events s turn) (sizes-window s turn.window) (sizes-asked (after_window s turn.window) turn.goals)
 
-pub sizes-before_plans : (s : State) (turn : Turn) → HasSizesOf s (before_plans s turn)
+pub sizes-before_plans : {A : Type 0} → (s : State) (turn : Turn A) → HasSizesOf s (before_plans s turn)
 sizes-before_plans s turn = HasSizesOf-trans s (before_events s turn) (before_plans s turn) (sizes-before_events s turn) (sizes-events (before_events s turn) turn.events)
 
 -- ---- after a turn
@@ -157,7 +128,7 @@ length-after_reports [] rs = refl
 length-after_reports (c ∷ cs) [] = refl
 length-after_reports (c ∷ cs) (r ∷ rs) = ap (λ n. suc n) (length-after_reports cs rs)
 
-pub sizes-after_turn : (s : State) (turn : Turn) (r : TurnReport) → HasSizesOf s (after_turn s turn r)
+pub sizes-after_turn : {A : Type 0} → (s : State) (turn : Turn A) (r : TurnReport) → HasSizesOf s (after_turn s turn r)
 sizes-after_turn s turn r =
     let before = sizes-before_plans s turn in
     record { books = before.books; clients = length-after_reports (before_plans s turn).clients r.clients ∙ before.clients }
@@ -165,30 +136,30 @@ sizes-after_turn s turn r =
 -- ---- one turn more
 
 -- what is left to report in a state completes what was reported since the start
-abbrev pub Continues : State → List Turn → Report → State → List Turn → Type 0
+abbrev pub Continues : {A : Type 0} → State → List (Turn A) → Report → State → List (Turn A) → Type 0
 Continues start turns done s left = (rest : Report) → AreTurnReports s left rest → AreTurnReports start turns (done ++ rest)
 
-pub turns_more : (start s next : State) (turns left : List Turn) (done : Report) (t : Turn) (r : TurnReport) → IsTurnReport s t r → next ≡ after_turn s t r
+pub turns_more : {A : Type 0} → (start s next : State) (turns left : List (Turn A)) (done : Report) (t : Turn A) (r : TurnReport) → IsTurnReport s t r → next ≡ after_turn s t r
     → Continues start turns done s (t ∷ left) → Continues start turns (done ++ r ∷ []) next left
 turns_more start s next turns left done t r here is continues rest reports =
     subst (AreTurnReports start turns) (sym (append_assoc done (r ∷ []) rest))
     (continues (r ∷ rest) (here, subst (λ (u : State). AreTurnReports u left rest) is reports))
 
 -- the turn at a place, as a script's view has it
-pub turn_at : (turns items : List CodeTurn) (i : ℕ) (t : CodeTurn) → items ≡ turns → i < length items → t ≡ get_or items i t
+pub turn_at : {A : Type 0} → (turns items : List (CodeTurn A)) (i : ℕ) (t : CodeTurn A) → items ≡ turns → i < length items → t ≡ get_or items i t
     → map turn_view (drop i turns) ≡ turn_view t ∷ map turn_view (drop (i + 1) turns)
 turn_at turns items i t same lt at =
     ap (λ xs. map turn_view (drop i xs)) (sym same)
     ∙ ap (map turn_view) (drop_more items i t lt)
-    ∙ ap (λ (p : CodeTurn × List CodeTurn). turn_view p.0 ∷ map turn_view (drop (i + 1) p.1)) (λ j. (sym at j, same j))
+    ∙ ap (λ (p : CodeTurn _ × List (CodeTurn _)). turn_view p.0 ∷ map turn_view (drop (i + 1) p.1)) (λ j. (sym at j, same j))
 
-pub turn_of_all : (P : Turn → Type 0) (turns items : List CodeTurn) (i : ℕ) (t : CodeTurn) → All P (map turn_view turns) → items ≡ turns → i < length items → t ≡ get_or items i t → P (turn_view t)
+pub turn_of_all : {A : Type 0} → (P : Turn A → Type 0) (turns items : List (CodeTurn A)) (i : ℕ) (t : CodeTurn A) → All P (map turn_view turns) → items ≡ turns → i < length items → t ≡ get_or items i t → P (turn_view t)
 turn_of_all P turns items i t all same lt at =
     let rest = turn_at turns items i t same lt at in
     All-head P (turn_view t) (map turn_view (drop (i + 1) turns))
     (subst (All P) (drop-map turn_view i turns ∙ rest) (All-drop P i (map turn_view turns) all))
 
 -- no turn is left
-pub turns_done : (start s : State) (turns : List Turn) (done : Report) (left : List Turn) → left ≡ [] → Continues start turns done s left → AreTurnReports start turns done
+pub turns_done : {A : Type 0} → (start s : State) (turns : List (Turn A)) (done : Report) (left : List (Turn A)) → left ≡ [] → Continues start turns done s left → AreTurnReports start turns done
 turns_done start s turns done left none continues =
     subst (AreTurnReports start turns) (append-nil done) (continues [] (subst (λ ts. AreTurnReports s ts []) (sym none) tt))

@@ -5,10 +5,10 @@ use Rattle.std.proofs.lemmas.List.{get_or_default, set-get_or, get_or-set_same}
 use Rattle.rb_book.specs.Book.{Book, record_at}
 use Rattle.rb_book.specs.Header.{Record}
 use Rattle.rb_book.specs.Intake.{record_refusal, after_record}
-use Rattle.rb_book.specs.declared.error.BookError.{BookError}
-use Rattle.rb_super.specs.declared.script.ClientConfig.{ClientConfig}
-use Rattle.rb_super.specs.declared.script.Event.TheVariants.{StoredSeen}
-use Rattle.rb_super.specs.State.{KnownClient, State, empty_book, book_at, tracked, changed, with_height, with_book, judged, observed, after, KeepsRecords, IsKnownClient, IsState}
+use Rattle.rb_events.specs.declared.refusal.Refusal.{Refusal}
+use Rattle.rb_events.specs.Refusal.{book_refusal}
+use Rattle.rb_events.specs.declared.config.ClientConfig.{ClientConfig}
+use Rattle.rb_super.specs.State.{KnownClient, State, empty_book, book_at, tracked, changed, with_height, with_book, judged_stored, observed_stored, unless, KeepsRecords, IsKnownClient, IsState}
 use Rattle.rb_super.proofs.States.{changed_at, tracked_at, client_with_height, known_client, IsState-set_book, IsState-set_client}
 
 -- a client, the chain that it tracks, and the chain's book, at their places
@@ -34,7 +34,7 @@ IsAt-found s t place c d config b seen state inside first second its known =
       book = known;
     }
 
-none_of : (o : Option BookError) → false ≡ is_some o → None ≡ o
+none_of : (o : Option Refusal) → false ≡ is_some o → None ≡ o
 none_of None e = refl
 none_of (Some x) e = cc
 
@@ -45,29 +45,29 @@ module _ (s : State) (place : ℕ) (c : KnownClient) (chain : ℕ) (b : Book) (a
   its_book : book_at s.books (tracked s.clients place) ≡ b
   its_book = ap (book_at s.books) its_chain ∙ get_or_default s.books chain empty_book b at.chain_within ∙ sym at.book
 
-  pub judged_stored : record_refusal b height r ≡ judged s (StoredSeen place height r)
-  judged_stored = sym (ap (λ x. record_refusal x height r) its_book)
+  pub judged_at : book_refusal (record_refusal b height r) ≡ judged_stored s place height r
+  judged_at = sym (ap (λ x. book_refusal (record_refusal x height r)) its_book)
 
-  after_by : (o : Option BookError) → o ≡ record_refusal b height r → cond (is_some o) s (observed s (StoredSeen place height r)) ≡ after s (StoredSeen place height r)
-  after_by o due = ap (λ p. cond (is_some p) s (observed s (StoredSeen place height r))) (due ∙ judged_stored)
+  after_by : (o : Option Refusal) → o ≡ book_refusal (record_refusal b height r) → cond (is_some o) s (observed_stored s place height r) ≡ unless (judged_stored s place height r) s (observed_stored s place height r)
+  after_by o due = ap (λ p. cond (is_some p) s (observed_stored s place height r)) (due ∙ judged_at)
 
   -- a refused one leaves the book as it was
-  pub after_refused : (d : Book) (o : Option BookError) → o ≡ record_refusal b height r → true ≡ is_some o → d ≡ cond (is_some o) b (after_record b height r)
-      → record s { books = set s.books chain d } ≡ after s (StoredSeen place height r)
+  pub after_refused : (d : Book) (o : Option Refusal) → o ≡ book_refusal (record_refusal b height r) → true ≡ is_some o → d ≡ cond (is_some o) b (after_record b height r)
+      → record s { books = set s.books chain d } ≡ unless (judged_stored s place height r) s (observed_stored s place height r)
   after_refused d o due is_refused known =
       let same : d ≡ b = known ∙ ap (λ t. cond t b (after_record b height r)) (sym is_refused) in
       ap (λ (bs : List Book). record s { books = bs }) (ap (set s.books chain) (same ∙ at.book) ∙ set-get_or s.books chain b)
-      ∙ ap (λ t. cond t s (observed s (StoredSeen place height r))) is_refused ∙ after_by o due
+      ∙ ap (λ t. cond t s (observed_stored s place height r)) is_refused ∙ after_by o due
 
-  pub judged_accepted : (o : Option BookError) → o ≡ record_refusal b height r → false ≡ is_some o → None ≡ judged s (StoredSeen place height r)
-  judged_accepted o due accepted = none_of o accepted ∙ due ∙ judged_stored
+  pub judged_accepted : (o : Option Refusal) → o ≡ book_refusal (record_refusal b height r) → false ≡ is_some o → None ≡ judged_stored s place height r
+  judged_accepted o due accepted = none_of o accepted ∙ due ∙ judged_at
 
   -- an accepted one is known, and its height is stored
-  pub after_accepted : (d : Book) (k : KnownClient) (o : Option BookError) → o ≡ record_refusal b height r → false ≡ is_some o → d ≡ cond (is_some o) b (after_record b height r)
-      → k ≡ record c { stored = with_height height c.stored } → record s { books = set s.books chain d; clients = set s.clients place k } ≡ after s (StoredSeen place height r)
+  pub after_accepted : (d : Book) (k : KnownClient) (o : Option Refusal) → o ≡ book_refusal (record_refusal b height r) → false ≡ is_some o → d ≡ cond (is_some o) b (after_record b height r)
+      → k ≡ record c { stored = with_height height c.stored } → record s { books = set s.books chain d; clients = set s.clients place k } ≡ unless (judged_stored s place height r) s (observed_stored s place height r)
   after_accepted d k o due accepted is stored =
       ap (λ (p : List Book × List KnownClient). record s { books = p.0; clients = p.1 }) (λ i. (books i, clients i))
-      ∙ ap (λ t. cond t s (observed s (StoredSeen place height r))) accepted ∙ after_by o due
+      ∙ ap (λ t. cond t s (observed_stored s place height r)) accepted ∙ after_by o due
     where
       known : d ≡ after_record b height r
       known = is ∙ ap (λ t. cond t b (after_record b height r)) (sym accepted)

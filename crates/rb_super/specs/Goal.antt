@@ -3,8 +3,8 @@ use Rattle.std.specs.Prelude.{ℕ, ◌+◌, ◌-◌, ◌==◌, Bool, false, not,
 use Rattle.std.specs.Option.{option_map, option_map_or, option_or, option_and_then}
 use Rattle.rb_book.specs.Book.{Known, record_at, height_of, time_of}
 use Rattle.rb_book.specs.Header.{Record}
-use Rattle.rb_plan.specs.declared.goal.Goal.{Goal}
-use Rattle.rb_plan.specs.declared.goal.Goal.TheVariants.{AtLeast}
+use Rattle.rb_events.specs.declared.goal.Goal.{Goal}
+use Rattle.rb_events.specs.declared.goal.Goal.TheVariants.{AtLeast}
 use Rattle.rb_step.specs.View.{View}
 
 -- the record of the greatest stored height

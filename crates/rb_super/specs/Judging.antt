@@ -3,29 +3,29 @@ use Rattle.std.specs.Option.{option_map}
 use Rattle.std.specs.Prelude.{◌≡◌, ℕ, List, [], ◌∷◌, take, map, slice_get, Option, Some, None, is_some, if◌then◌else◌}
 use Rattle.rb_cert.specs.declared.verdict.Verdict2.{Verdict2}
 use Rattle.rb_cert.specs.Judgement.{Judges}
-use Rattle.rb_plan.specs.declared.goal.Goal.{Goal}
+use Rattle.rb_events.specs.declared.goal.Goal.{Goal}
 use Rattle.rb_plan.specs.Answer.{Shows}
 use Rattle.rb_plan.specs.Labelling.{Labels, IsSound, label_of}
 use Rattle.rb_step.specs.LightClient.{Update}
 use Rattle.rb_step.specs.View.{View, client_of}
 use Rattle.rb_super.specs.Goal.{goal_of}
 use Rattle.rb_super.specs.Report.{Plan, Planned, planned, ClientReport, TurnReport, Report}
-use Rattle.rb_super.specs.Script.{Script, Turn}
+use Rattle.rb_events.specs.Script.{Script, Turn}
 use Rattle.rb_super.specs.State.{KnownClient, State, opening, book_at}
 use Rattle.rb_super.specs.Turns.{before_plans, view_of, update_of, IsTurnReport, after_turn}
 
 -- ---- where a client stands
 
 -- the turns lead from the one state to the other, each by a report of it in the state that those before it left
-abbrev pub Leads : State → List Turn → State → Type 0
+abbrev pub Leads : {A : Type 0} → State → List (Turn A) → State → Type 0
 Leads s [] u = s ≡ u
 Leads s (t ∷ ts) u = (r : TurnReport) × IsTurnReport s t r × Leads (after_turn s t r) ts u
 
 -- the state in which the clients of a script's turn are planned; turns are counted from 0
-pub record IsPlanPhase (script : Script) (turn : ℕ) (s : State) : Type 0 where
+pub record IsPlanPhase {A : Type 0} (script : Script A) (turn : ℕ) (s : State) : Type 0 where
   pub begun : State
   pub earlier : Leads (opening script) (take turn script.turns) begun
-  pub this : Turn
+  pub this : Turn A
   pub is : slice_get script.turns turn ≡ Some this
   pub taken_in : s ≡ before_plans begun this
 
@@ -33,7 +33,7 @@ abbrev pub view_in : State → KnownClient → View
 view_in s c = view_of s.window (book_at s.books c.config.tracks) c
 
 -- a client, by its place, and its view, where the turn's clients are planned
-pub record IsClientIn (script : Script) (turn client : ℕ) (c : KnownClient) (v : View) : Type 0 where
+pub record IsClientIn {A : Type 0} (script : Script A) (turn client : ℕ) (c : KnownClient) (v : View) : Type 0 where
   pub state : State
   pub phase : IsPlanPhase script turn state
   pub is : slice_get state.clients client ≡ Some c
@@ -59,14 +59,14 @@ pub record IsRight (c : KnownClient) (v : View) (labels : Labels) (claim : Optio
   pub shows : Shows (client_of v) goal claim
 
 -- the verdict on an answer for a script's client in a turn
-pub record IsVerdictOn (script : Script) (turn client : ℕ) (labels : Labels) (claim : Option (List Update)) (verdict : Option Verdict2) : Type 0 where
+pub record IsVerdictOn {A : Type 0} (script : Script A) (turn client : ℕ) (labels : Labels) (claim : Option (List Update)) (verdict : Option Verdict2) : Type 0 where
   pub known : KnownClient
   pub view : View
   pub is : IsClientIn script turn client known view
   pub judged : IsVerdictFor view (planned_goal known view) labels claim verdict
 
 -- the answer is right for it
-pub record IsRightIn (script : Script) (turn client : ℕ) (labels : Labels) (claim : Option (List Update)) : Type 0 where
+pub record IsRightIn {A : Type 0} (script : Script A) (turn client : ℕ) (labels : Labels) (claim : Option (List Update)) : Type 0 where
   pub known : KnownClient
   pub view : View
   pub is : IsClientIn script turn client known view

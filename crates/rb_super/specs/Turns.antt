@@ -5,7 +5,7 @@ use Rattle.std.specs.Option.{option_map, option_and_then, option_to_list}
 use Rattle.rb_base.specs.Window.{Span}
 use Rattle.rb_batch.specs.Cut.{IsLeastCut, IsFirstTooBig}
 use Rattle.rb_book.specs.Book.{Book}
-use Rattle.rb_plan.specs.declared.goal.Goal.{Goal}
+use Rattle.rb_events.specs.declared.goal.Goal.{Goal}
 use Rattle.rb_plan.specs.Labelling.{IsLabelling, IsExact, label_of}
 use Rattle.rb_plan.specs.Least.{IsLeast, IsUnreachable}
 use Rattle.rb_plan.specs.Order.{cost_of}
@@ -13,29 +13,29 @@ use Rattle.rb_plan.specs.ProofHeight.{IsProofHeight}
 use Rattle.rb_step.specs.Fee.{fee_at}
 use Rattle.rb_step.specs.LightClient.{Update}
 use Rattle.rb_step.specs.View.{View, client_of}
-use Rattle.rb_super.specs.declared.script.ClientConfig.{ClientConfig}
-use Rattle.rb_super.specs.declared.script.Event.{Event}
+use Rattle.rb_events.specs.declared.config.ClientConfig.{ClientConfig}
+use Rattle.rb_events.specs.declared.observation.Observation.{Observation}
 use Rattle.rb_super.specs.declared.report.PricedUpdate.{PricedUpdate}
 use Rattle.rb_super.specs.declared.report.RefusedEvent.{RefusedEvent}
 use Rattle.rb_super.specs.Goal.{goal_of}
 use Rattle.rb_super.specs.Report.{Batch, Sending, nothing, too_big, batched, Plan, Planned, Outcome, held, idle, planned, ClientReport, TurnReport, Report}
-use Rattle.rb_super.specs.Script.{Script, Turn}
+use Rattle.rb_events.specs.Script.{Script, Turn}
 use Rattle.rb_super.specs.State.{KnownClient, State, opening, book_at, goes_back, after_window, after_asked, judged, after}
 
 -- ---- observations
 
 -- the refused ones of a turn's events, from a number on, each with its number
-abbrev pub refusals : ℕ → State → List Event → List RefusedEvent
+abbrev pub refusals : {A : Type 0} → ℕ → State → List (Observation A) → List RefusedEvent
 refusals number s [] = []
 refusals number s (event ∷ events) =
-    option_to_list (option_map (λ error. record { event = number; error = error }) (judged s event))
+    option_to_list (option_map (λ refusal. record { event = number; refusal = refusal }) (judged s event))
     ++ refusals (number + 1) (after s event) events
 
 -- the state in which a turn's clients are planned
-abbrev pub before_events : State → Turn → State
+abbrev pub before_events : {A : Type 0} → State → Turn A → State
 before_events s turn = fold after_asked (after_window s turn.window) turn.goals
 
-abbrev pub before_plans : State → Turn → State
+abbrev pub before_plans : {A : Type 0} → State → Turn A → State
 before_plans s turn = fold after (before_events s turn) turn.events
 
 -- ---- a client
@@ -112,20 +112,20 @@ after_reports (c ∷ cs) (r ∷ rs) = after_outcome c r.outcome ∷ after_report
 
 -- ---- turns
 
-pub record IsTurnReport (s : State) (turn : Turn) (r : TurnReport) : Type 0 where
+pub record IsTurnReport {A : Type 0} (s : State) (turn : Turn A) (r : TurnReport) : Type 0 where
   pub window : r.window_back ≡ goes_back s.window turn.window
   pub refused : r.refused ≡ refusals 0 (before_events s turn) turn.events
   pub clients : AllZip (IsClientReport (before_plans s turn).window (before_plans s turn).books) (before_plans s turn).clients r.clients
 
-abbrev pub after_turn : State → Turn → TurnReport → State
+abbrev pub after_turn : {A : Type 0} → State → Turn A → TurnReport → State
 after_turn s turn r = record (before_plans s turn) { clients = after_reports (before_plans s turn).clients r.clients }
 
 -- one report for each turn, in the state that the turns before it leave
-abbrev pub AreTurnReports : State → List Turn → Report → Type 0
+abbrev pub AreTurnReports : {A : Type 0} → State → List (Turn A) → Report → Type 0
 AreTurnReports s [] [] = Unit {0}
 AreTurnReports s [] (r ∷ rs) = ⊥
 AreTurnReports s (t ∷ ts) [] = ⊥
 AreTurnReports s (t ∷ ts) (r ∷ rs) = IsTurnReport s t r × AreTurnReports (after_turn s t r) ts rs
 
-abbrev pub IsReportOf : Script → Report → Type 0
+abbrev pub IsReportOf : {A : Type 0} → Script A → Report → Type 0
 IsReportOf script report = AreTurnReports (opening script) script.turns report

@@ -7,9 +7,9 @@ ghost use Rattle.rb_super.specs.State.{new_client, with_height};
 ghost use Rattle.rb_super.specs.Turns.{view_of, opened, after_outcome};
 
 use crate::report::{Outcome, Plan, Planned, Sending};
-use crate::script::ClientConfig;
 use rb_base::{Height, Window};
 use rb_book::ChainBook;
+use rb_events::ClientConfig;
 use rb_plan::Goal;
 use rb_step::ClientView;
 use std::alloc::{AllocError, Global};

@@ -12,15 +12,17 @@ mod planning;
 mod report;
 mod reporting;
 mod run;
-mod script;
 mod sending;
 mod state;
 mod verdict;
 
 pub use judging::judge;
+pub use rb_events::{
+    Asked, ClientConfig, Config, Observation, PathConfig, Refusal, Script, Settlement, Turn,
+    is_script,
+};
 pub use report::{
     Batch, ClientReport, Outcome, Plan, Planned, PricedUpdate, RefusedEvent, Report, Sending,
     TurnReport,
 };
 pub use run::run_script;
-pub use script::{Asked, ClientConfig, Event, Script, Turn};

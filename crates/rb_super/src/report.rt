@@ -1,7 +1,7 @@
 //! What a run reports.
 use rb_base::{ClientId, Height};
 use rb_batch::Transaction;
-use rb_book::BookError;
+use rb_events::Refusal;
 use rb_plan::{Cost, Goal, Labelling, Update};
 
 /// The report of a run, turn by turn.
@@ -23,7 +23,7 @@ pub struct TurnReport {
 #[derive(Clone, Copy, Debug, PartialEq, Eq)]
 pub struct RefusedEvent {
     pub event: usize,
-    pub error: BookError,
+    pub refusal: Refusal,
 }
 
 /// A client in a turn, by its identifier, and what came of it.

@@ -6,6 +6,7 @@ ghost use Rattle.rb_super.specs.State.{IsKnownClient};
 ghost use Rattle.rb_super.specs.Turns.{IsClientReport, after_reports};
 
 use crate::client::KnownClient;
+use crate::intake::new_book;
 use crate::planning::outcome_of;
 use crate::report::ClientReport;
 use rb_base::Window;
@@ -25,7 +26,7 @@ fn report_client(
     ensures books { OnOk result (books.new.items ≡ books.old.items) }
 {
     let config = client.config();
-    let book = mem::replace(&mut books[config.tracks], ChainBook::new(alloc));
+    let book = mem::replace(&mut books[config.tracks], new_book(alloc, 1)?);
     let (outcome, book) = outcome_of(alloc, client, window, book)?;
     books[config.tracks] = book;
     Ok(ClientReport {

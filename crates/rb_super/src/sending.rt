@@ -6,8 +6,8 @@ ghost use Rattle.rb_super.specs.Report.{sending_view};
 ghost use Rattle.rb_super.specs.Turns.{gas_of, IsSending};
 
 use crate::report::{Batch, Sending};
-use crate::script::ClientConfig;
 use rb_batch::{BatchError, Msg, cut};
+use rb_events::ClientConfig;
 use rb_plan::{Goal, Update, proof_height};
 use rb_step::ClientView;
 use std::alloc::{AllocError, Global};

@@ -1,24 +1,24 @@
 //! What is known between two events.
-ghost use Rattle.std.specs.Prelude.{◌≡◌, ◌<◌, length, replicate, fold, map, slice_get, Some, All, IfOk, IfSome, OnOk};
+ghost use Rattle.std.specs.Prelude.{◌≡◌, ◌<◌, ◌≤◌, length, replicate, fold, map, slice_get, Some, All, IfOk, IfSome, OnOk};
 ghost use Rattle.std.specs.List.{AllZip};
 ghost use Rattle.rb_plan.specs.Answer.{labels_of, claim_of, Shows};
 ghost use Rattle.rb_plan.specs.Labelling.{IsExact};
 ghost use Rattle.rb_step.specs.View.{client_of};
 ghost use Rattle.rb_super.specs.Judging.{view_in, planned_goal, IsVerdictFor, IsRight};
 ghost use Rattle.rb_super.specs.Report.{client_report_view, turn_report_view};
-ghost use Rattle.rb_super.specs.Script.{IsEvent, IsTurn, turn_view, script_view, IsScript};
-ghost use Rattle.rb_super.specs.State.{empty_book, new_client, opening, goes_back, after_window, after_asked, judged, after};
+ghost use Rattle.rb_events.specs.Script.{IsSeen, IsTurn, turn_view, script_view, IsScript};
+ghost use Rattle.rb_super.specs.State.{new_book, new_client, opening, goes_back, after_window, after_asked, judged_set, judged_header, judged_stored, observed_set, observed_header, observed_stored, unless, judged, after};
 ghost use Rattle.rb_super.specs.Turns.{refusals, IsClientReport, before_events, before_plans, after_reports, IsTurnReport, after_turn};
 
 use crate::client::KnownClient;
-use crate::intake::{add_header, add_record, add_set};
+use crate::intake::{add_header, add_record, add_set, new_book};
 use crate::report::{ClientReport, RefusedEvent, TurnReport};
 use crate::reporting::{close_clients, report_clients};
-use crate::script::{Asked, ClientConfig, Event, Script, Turn};
 use crate::verdict::verdict_on;
 use rb_base::{Height, Moment, Window};
-use rb_book::{BookError, ChainBook, Header, Record};
+use rb_book::{ChainBook, Header, Record};
 use rb_cert::Verdict2;
+use rb_events::{Asked, ClientConfig, Observation, Refusal, Script, Turn};
 use rb_plan::{Answer, Goal};
 use rb_valset::ValidatorSet;
 use std::alloc::{AllocError, Global};
@@ -42,13 +42,14 @@ impl Model for State {
     ghost invariant = { λ s. states.IsState (record { window = s.window; books = s.books.items; clients = s.clients.items }) };
 }
 
-/// A book for each chain, which knows nothing.
-fn empty_books(alloc: Global, chains: usize) -> Result<Vec<ChainBook>, AllocError>
-    ensures { IfOk result (λ books. books.items ≡ replicate chains empty_book) }
+/// A book for each chain, which knows nothing, for so many records.
+fn empty_books(alloc: Global, chains: usize, limit: usize) -> Result<Vec<ChainBook>, AllocError>
+    requires { (1 ≤ limit) × (limit ≤ 4096) }
+    ensures { IfOk result (λ books. books.items ≡ replicate chains (new_book limit)) }
 {
     let mut books = Vec::with_capacity(alloc, chains)?;
     for _ in 0..chains {
-        books.push(ChainBook::new(alloc))?;
+        books.push(new_book(alloc, limit)?)?;
     }
     Ok(books)
 }
@@ -72,8 +73,8 @@ impl State {
     {
         Ok(State {
             window: Window::at(Moment::new(0).unwrap()),
-            books: empty_books(alloc, script.chains.len())?,
-            clients: new_clients(alloc, script.clients.as_slice())?,
+            books: empty_books(alloc, script.config.chains.len(), script.config.limit)?,
+            clients: new_clients(alloc, script.config.clients.as_slice())?,
         })
     }
 
@@ -101,10 +102,10 @@ impl State {
         &mut self,
         chain: usize,
         set: &ValidatorSet,
-    ) -> Result<Option<BookError>, AllocError>
+    ) -> Result<Option<Refusal>, AllocError>
         requires { chain < length self.old.books }
-        ensures judged { IfOk result (λ refusal. refusal ≡ judged self.old (Event.SetSeen chain set.now)) }
-        ensures after { OnOk result (self.new ≡ after self.old (Event.SetSeen chain set.now)) }
+        ensures judged { IfOk result (λ refusal. refusal ≡ judged_set self.old chain set.now) }
+        ensures after { OnOk result (self.new ≡ unless (judged_set self.old chain set.now) self.old (observed_set self.old chain set.now)) }
     {
         add_set(&mut self.books[chain], set)
     }
@@ -113,10 +114,10 @@ impl State {
         &mut self,
         chain: usize,
         header: &Header,
-    ) -> Result<Option<BookError>, AllocError>
+    ) -> Result<Option<Refusal>, AllocError>
         requires { chain < length self.old.books }
-        ensures judged { IfOk result (λ refusal. refusal ≡ judged self.old (Event.HeaderSeen chain header.now)) }
-        ensures after { OnOk result (self.new ≡ after self.old (Event.HeaderSeen chain header.now)) }
+        ensures judged { IfOk result (λ refusal. refusal ≡ judged_header self.old chain header.now) }
+        ensures after { OnOk result (self.new ≡ unless (judged_header self.old chain header.now) self.old (observed_header self.old chain header.now)) }
     {
         add_header(&mut self.books[chain], header)
     }
@@ -126,10 +127,10 @@ impl State {
         client: usize,
         height: Height,
         entry: Record,
-    ) -> Result<Option<BookError>, AllocError>
+    ) -> Result<Option<Refusal>, AllocError>
         requires { client < length self.old.clients }
-        ensures judged { IfOk result (λ refusal. refusal ≡ judged self.old (Event.StoredSeen client height entry)) }
-        ensures after { OnOk result (self.new ≡ after self.old (Event.StoredSeen client height entry)) }
+        ensures judged { IfOk result (λ refusal. refusal ≡ judged_stored self.old client height entry) }
+        ensures after { OnOk result (self.new ≡ unless (judged_stored self.old client height entry) self.old (observed_stored self.old client height entry)) }
     {
         let chain = self.clients[client].config().tracks;
         let refusal = add_record(&mut self.books[chain], height, entry)?;
@@ -141,19 +142,24 @@ impl State {
     }
 
     /// Takes in an event, or tells why it is refused; one that is refused changes nothing.
-    fn observe(&mut self, event: &Event) -> Result<Option<BookError>, AllocError>
-        requires { IsEvent (length self.old.books) (length self.old.clients) event.now }
+    fn observe(&mut self, event: &Observation) -> Result<Option<Refusal>, AllocError>
+        requires { IsSeen (length self.old.books) (length self.old.clients) 0 event.now }
         ensures judged { IfOk result (λ refusal. refusal ≡ judged self.old event.now) }
         ensures after { OnOk result (self.new ≡ after self.old event.now) }
     {
         match event {
-            Event::SetSeen { chain, set } => self.observe_set(*chain, set),
-            Event::HeaderSeen { chain, header } => self.observe_header(*chain, header),
-            Event::StoredSeen {
+            Observation::SetSeen { chain, set } => self.observe_set(*chain, set),
+            Observation::HeaderSeen { chain, header } => self.observe_header(*chain, header),
+            Observation::StoredSeen {
                 client,
                 height,
                 record,
             } => self.observe_stored(*client, *height, *record),
+            Observation::Sent { .. }
+            | Observation::Received { .. }
+            | Observation::AckWritten { .. }
+            | Observation::Cleared { .. }
+            | Observation::Closed { .. } => Ok(None),
         }
     }
 
@@ -171,16 +177,16 @@ impl State {
     fn observe_all(
         &mut self,
         alloc: Global,
-        events: &[Event],
+        events: &[Observation],
     ) -> Result<Vec<RefusedEvent>, AllocError>
-        requires { All (IsEvent (length self.old.books) (length self.old.clients)) events.now }
+        requires { All (IsSeen (length self.old.books) (length self.old.clients) 0) events.now }
         ensures refused { IfOk result (λ refused. refused.items ≡ refusals 0 self.old events.now) }
         ensures after { OnOk result (self.new ≡ fold after self.old events.now) }
     {
         let mut refused = Vec::new(alloc);
         for (event, seen) in events.iter().enumerate() {
-            if let Some(error) = self.observe(seen)? {
-                refused.push(RefusedEvent { event, error })?;
+            if let Some(refusal) = self.observe(seen)? {
+                refused.push(RefusedEvent { event, refusal })?;
             }
         }
         Ok(refused)
@@ -193,7 +199,7 @@ impl State {
         alloc: Global,
         turn: &Turn,
     ) -> Result<(bool, Vec<RefusedEvent>), AllocError>
-        requires { IsTurn (length self.old.books) (length self.old.clients) (turn_view turn.now) }
+        requires { IsTurn (length self.old.books) (length self.old.clients) 0 (turn_view turn.now) }
         ensures back { IfOk result (λ r. r.0 ≡ goes_back self.old.window turn.now.window) }
         ensures refused { IfOk result (λ r. r.1.items ≡ refusals 0 (before_events self.old (turn_view turn.now)) turn.now.events.items) }
         ensures after { OnOk result (self.new ≡ before_plans self.old (turn_view turn.now)) }
@@ -232,7 +238,7 @@ impl State {
         alloc: Global,
         turn: &Turn,
     ) -> Result<(State, TurnReport), AllocError>
-        requires { IsTurn (length self.books) (length self.clients) (turn_view turn.now) }
+        requires { IsTurn (length self.books) (length self.clients) 0 (turn_view turn.now) }
         ensures report { IfOk result (λ r. IsTurnReport self (turn_view turn.now) (turn_report_view r.1)) }
         ensures after { IfOk result (λ r. r.0 ≡ after_turn self (turn_view turn.now) (turn_report_view r.1)) }
     {

@@ -1,5 +1,6 @@
 -- Where a certificate's turn and client are in a script, and what a yes says.
 use Rattle.std.proofs.Common.{◌≡◌, ℕ, ◌-◌, ◌<◌, Bool, true, List, Option, Some, None, Result, Ok, codes, length, map, refl, sym, ap, ◌∙◌, subst}
+use Rattle.std.specs.declared.alloc.Global.{Global}
 use Rattle.std.specs.List.{position}
 use Rattle.std.specs.Option.{unwrap_or}
 use Rattle.std.specs.Result.{result_ok}
@@ -10,32 +11,32 @@ use Rattle.rb_cert.specs.declared.verdict.Verdict2.TheVariants.{Yes, No}
 use Rattle.rb_fields.specs.Faults.{Fault, ◌>>=◌, fault, check}
 use Rattle.rb_fields.specs.declared.fault.FaultName.TheVariants.{NoSuchTurn, UnknownIdentifier}
 use Rattle.rb_fields.specs.declared.fault.RunError.{RunError}
-use Rattle.rb_super.specs.declared.script.ClientConfig.{ClientConfig}
-use Rattle.rb_super.specs.Script.{Script}
+use Rattle.rb_events.specs.declared.config.ClientConfig.{ClientConfig}
+use Rattle.rb_events.specs.Script.{Script}
 use Rattle.rb_text.specs.Certificates.{Certificate}
 use Rattle.rb_script.specs.Named.{known}
 use Rattle.rb_text.specs.Verdicts.{Case, case_in, case_of, is_yes, IsRightCase, IsCertified}
 
-abbrev made : Script → Certificate → ℕ → ℕ → Case
+abbrev made : Script Global → Certificate → ℕ → ℕ → Case
 made s k turn client = record { script = s; certificate = k; turn = turn; client = client }
 
-abbrev looked_up : Script → Certificate → Bool → Option ℕ → Result Case Fault
+abbrev looked_up : Script Global → Certificate → Bool → Option ℕ → Result Case Fault
 looked_up s k within place = check within NoSuchTurn (codes "turn") >>= λ _. known (codes "client") place >>= λ client. Ok (made s k (k.turn - 1) client)
 
-abbrev clients_place : Script → Certificate → Option ℕ
-clients_place s k = position (bytes_eq k.client) (map (λ (c : ClientConfig). c.id) s.clients)
+abbrev clients_place : Script Global → Certificate → Option ℕ
+clients_place s k = position (bytes_eq k.client) (map (λ (c : ClientConfig). c.id) s.config.clients)
 
-looked_up_in : (s : Script) (k : Certificate) (turn : ℕ) (place : Option ℕ) → turn ≡ k.turn - 1 → turn < length s.turns → clients_place s k ≡ place → case_in s k ≡ looked_up s k true place
+looked_up_in : (s : Script Global) (k : Certificate) (turn : ℕ) (place : Option ℕ) → turn ≡ k.turn - 1 → turn < length s.turns → clients_place s k ≡ place → case_in s k ≡ looked_up s k true place
 unfolding case_in
 looked_up_in s k turn place named within at =
     let first = lt-ltb (k.turn - 1) (length s.turns) (subst (λ n. n < length s.turns) named within) in
     ap (λ (p : Bool × Option ℕ). looked_up s k p.0 p.1) (λ i. (first i, at i))
 
-pub case-found : (s : Script) (k : Certificate) (turn client : ℕ) → turn ≡ k.turn - 1 → turn < length s.turns → position (bytes_eq k.client) (map (λ (c : ClientConfig). c.id) s.clients) ≡ Some client
+pub case-found : (s : Script Global) (k : Certificate) (turn client : ℕ) → turn ≡ k.turn - 1 → turn < length s.turns → position (bytes_eq k.client) (map (λ (c : ClientConfig). c.id) s.config.clients) ≡ Some client
     → case_in s k ≡ Ok (record { script = s; certificate = k; turn = turn; client = client })
 case-found s k turn client named within at = looked_up_in s k turn (Some client) named within at ∙ ap (λ n. Ok (made s k n client)) (sym named)
 
-pub case-unknown : (s : Script) (k : Certificate) (turn : ℕ) → turn ≡ k.turn - 1 → turn < length s.turns → position (bytes_eq k.client) (map (λ (c : ClientConfig). c.id) s.clients) ≡ None
+pub case-unknown : (s : Script Global) (k : Certificate) (turn : ℕ) → turn ≡ k.turn - 1 → turn < length s.turns → position (bytes_eq k.client) (map (λ (c : ClientConfig). c.id) s.config.clients) ≡ None
     → case_in s k ≡ fault UnknownIdentifier (codes "client")
 case-unknown s k turn named within at = looked_up_in s k turn None named within at
 

@@ -1,12 +1,12 @@
 -- The text of a report (own choice): lines that end with one LF, numbers as plain decimals.
-use Rattle.std.specs.Prelude.{ℕ, ◌+◌, Bool, if◌then◌else◌, List, [], ◌∷◌, ◌++◌, codes, Option, Some, None, unwrap_or}
+use Rattle.std.specs.Prelude.{ℕ, ◌+◌, Bool, if◌then◌else◌, List, [], ◌∷◌, ◌++◌, codes, Option, Some, None}
 use Rattle.std.specs.Fmt.{decimal}
 use Rattle.std.specs.List.{flat_map}
 use Rattle.rb_batch.specs.declared.transaction.Transaction.{Transaction}
-use Rattle.rb_book.specs.Refusal.{number_of, name_of}
+use Rattle.rb_events.specs.Refusal.{number_of, name_of}
 use Rattle.rb_plan.specs.declared.cost.Cost.{Cost}
-use Rattle.rb_plan.specs.declared.goal.Goal.{Goal}
-use Rattle.rb_plan.specs.declared.goal.Goal.TheVariants.{Exactly, AtLeast}
+use Rattle.rb_events.specs.declared.goal.Goal.{Goal}
+use Rattle.rb_events.specs.declared.goal.Goal.TheVariants.{Exactly, AtLeast}
 use Rattle.rb_plan.specs.declared.labelling.Label.{Label}
 use Rattle.rb_super.specs.declared.report.PricedUpdate.{PricedUpdate}
 use Rattle.rb_super.specs.declared.report.RefusedEvent.{RefusedEvent}
@@ -17,10 +17,9 @@ use Rattle.rb_super.specs.Report.{Sending, nothing, too_big, batched, Plan, Outc
 abbrev pub window_line : List ℕ
 window_line = codes "refused window 806 WindowBack\n"
 
--- want of memory, which no report tells, has no number
 abbrev pub refused_line : RefusedEvent → List ℕ
 refused_line r =
-    codes "refused event " ++ decimal r.event ++ codes " " ++ decimal (unwrap_or (number_of r.error) 0) ++ codes " " ++ name_of r.error ++ codes "\n"
+    codes "refused event " ++ decimal r.event ++ codes " " ++ decimal (number_of r.refusal) ++ codes " " ++ name_of r.refusal ++ codes "\n"
 
 abbrev pub held_line : List ℕ → ℕ → List ℕ
 held_line id batch = codes "client " ++ id ++ codes " held " ++ decimal batch ++ codes "\n"

@@ -1,5 +1,6 @@
 -- What certifying promises, and the line that it writes (own choice): it ends with one LF, its numbers are plain decimals.
 use Rattle.std.specs.Prelude.{◌≡◌, ℕ, ◌-◌, ◌⊎◌, Bool, true, false, nat_lt, List, [], ◌++◌, length, map, codes, Option, Some, None, Result, Ok, Err}
+use Rattle.std.specs.declared.alloc.Global.{Global}
 use Rattle.std.specs.Fmt.{decimal}
 use Rattle.std.specs.Io.KnownBytes.{Appends}
 use Rattle.std.specs.List.{position}
@@ -13,10 +14,10 @@ use Rattle.rb_cert.specs.declared.verdict.Verdict2.TheVariants.{Yes, No}
 use Rattle.rb_fields.specs.Faults.{Fault, ◌>>=◌, check}
 use Rattle.rb_fields.specs.declared.fault.FaultName.TheVariants.{NoSuchTurn, NoGoal}
 use Rattle.rb_plan.specs.Labelling.{label_of}
-use Rattle.rb_super.specs.declared.script.ClientConfig.{ClientConfig}
+use Rattle.rb_events.specs.declared.config.ClientConfig.{ClientConfig}
 use Rattle.rb_super.specs.Judging.{IsVerdictOn, IsRightIn, IsReported}
 use Rattle.rb_super.specs.Report.{Report}
-use Rattle.rb_super.specs.Script.{Script, script_view}
+use Rattle.rb_events.specs.Script.{Script, script_view}
 use Rattle.rb_text.specs.declared.case.Case.{Case as CodeCase}
 use Rattle.rb_text.specs.Certificates.{Certificate, certificate_of, certificate_view}
 use Rattle.rb_script.specs.Named.{known}
@@ -46,7 +47,7 @@ is_yes (No reason) = false
 
 -- a script, a certificate, and the places of the certificate's turn and client in the script
 pub record Case : Type 0 where
-  pub script : Script
+  pub script : Script Global
   pub certificate : Certificate
   pub turn : ℕ
   pub client : ℕ
@@ -55,10 +56,10 @@ abbrev pub case_view : CodeCase → Case
 case_view c = record { script = script_view c.script; certificate = certificate_view c.certificate; turn = c.turn; client = c.client }
 
 -- both texts are read, the script first; then the turn is looked up, and then the client
-unfoldable pub case_in : Script → Certificate → Result Case Fault
+unfoldable pub case_in : Script Global → Certificate → Result Case Fault
 case_in s c = do
   _ ← check (nat_lt (c.turn - 1) (length s.turns)) NoSuchTurn (codes "turn")
-  client ← known (codes "client") (position (bytes_eq c.client) (map (λ (k : ClientConfig). k.id) s.clients))
+  client ← known (codes "client") (position (bytes_eq c.client) (map (λ (k : ClientConfig). k.id) s.config.clients))
   Ok (record { script = s; certificate = c; turn = c.turn - 1; client = client })
 
 unfoldable pub case_of : List ℕ → List ℕ → Result Case Fault

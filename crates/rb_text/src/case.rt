@@ -3,7 +3,7 @@ ghost use Rattle.std.specs.Prelude.{◌≡◌, ◌<◌, Ok, Some, None, length, 
 ghost use Rattle.rb_fields.specs.declared.fault.Fault.{Fault as CodeFault};
 ghost use Rattle.rb_fields.specs.Faults.{Gives, fault_view};
 ghost use Rattle.rb_super.specs.Report.{Report};
-ghost use Rattle.rb_super.specs.Script.{IsScript, script_view};
+ghost use Rattle.rb_events.specs.Script.{IsScript, IsOfUpdates, script_view};
 ghost use Rattle.rb_super.specs.Turns.{IsReportOf};
 ghost use Rattle.rb_text.specs.Certificates.{certificate_view};
 ghost use Rattle.rb_text.specs.Verdicts.{case_view, case_in, case_of, IsVerdictOf, IsRightCase, IsReportedCase, no_goal};
@@ -30,13 +30,16 @@ fn case_in(alloc: Global, script: Script, certificate: Certificate) -> Result<Ca
     ensures read { Gives case_view result (case_in (script_view script) (certificate_view certificate)) }
     ensures script { IfOk result (λ c. c.script ≡ script) }
     ensures turn { IfOk result (λ c. c.turn < length script.turns.items) }
-    ensures client { IfOk result (λ c. c.client < length script.clients.items) }
+    ensures client { IfOk result (λ c. c.client < length script.config.clients.items) }
 {
     let turn = certificate.turn.saturating_sub(1) as usize;
     if turn >= script.turns.len() {
         return Err(fault_at(alloc, "turn", FaultName::NoSuchTurn));
     }
-    match place_of(certificate.client.as_str(), script.clients.as_slice()) {
+    match place_of(
+        certificate.client.as_str(),
+        script.config.clients.as_slice(),
+    ) {
         Some(client) => Ok(Case {
             script,
             certificate,
@@ -53,8 +56,9 @@ fn case_in(alloc: Global, script: Script, certificate: Certificate) -> Result<Ca
 pub(crate) fn read_case(alloc: Global, script: &[u8], certificate: &[u8]) -> Result<Case, RunError>
     ensures read { Gives case_view result (case_of script.now certificate.now) }
     ensures script { IfOk result (λ c. IsScript (script_view c.script)) }
+    ensures updates { IfOk result (λ c. IsOfUpdates (script_view c.script)) }
     ensures turn { IfOk result (λ c. c.turn < length c.script.turns.items) }
-    ensures client { IfOk result (λ c. c.client < length c.script.clients.items) }
+    ensures client { IfOk result (λ c. c.client < length c.script.config.clients.items) }
 {
     let script = read_script(alloc, script)?;
     let certificate = read_certificate(alloc, certificate)?;
@@ -64,8 +68,9 @@ pub(crate) fn read_case(alloc: Global, script: &[u8], certificate: &[u8]) -> Res
 /// The verdict on the certificate's answer; a fault where its client is held or idle in its turn.
 pub(crate) fn judge_case(alloc: Global, case: &Case) -> Result<Verdict2, RunError>
     requires script { IsScript (script_view case.now.script) }
+    requires updates { IsOfUpdates (script_view case.now.script) }
     requires turn { case.now.turn < length case.now.script.turns.items }
-    requires client { case.now.client < length case.now.script.clients.items }
+    requires client { case.now.client < length case.now.script.config.clients.items }
     ensures judged { IfOk result (λ verdict. IsVerdictOf (case_view case.now) (Some verdict)) }
     ensures right { result ≡ Ok Verdict2.Yes → IsRightCase (case_view case.now) }
     ensures accepts { (report : Report) → IsReportOf (script_view case.now.script) report

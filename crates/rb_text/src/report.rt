@@ -18,8 +18,8 @@ fn push_refused(text: &mut String, refused: &RefusedEvent) -> Result<(), AllocEr
     ensures { OnOk result (string_bytes text.new ≡ string_bytes text.old ++ refused_line refused.now) }
 {
     let event = refused.event;
-    let number = refused.error.number().unwrap_or(0);
-    let name = refused.error.name();
+    let number = refused.refusal.number();
+    let name = refused.refusal.name();
     writeln!(text, "refused event {event} {number} {name}")
 }
 

@@ -1,6 +1,6 @@
 use Rattle.std.proofs.Common.{◌<◌, sym, subst}
 use Rattle.rb_plan.specs.Answer.{labels_of, claim_of}
-use Rattle.rb_super.specs.Script.{script_view}
+use Rattle.rb_events.specs.Script.{script_view}
 use Rattle.rb_super.proofs.OwnAnswers.{own_answer}
 use Rattle.rb_super.proofs.Phases.{right_in}
 use Rattle.rb_super.proofs.judging.judge.Goals as goal

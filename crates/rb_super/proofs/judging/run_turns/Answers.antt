@@ -1,5 +1,5 @@
 use Rattle.std.proofs.Common.{ℕ, length, ap, sym, subst, ◌∙◌, refl}
-use Rattle.rb_super.specs.Script.{IsTurn, script_view, turn_view}
+use Rattle.rb_events.specs.Script.{IsTurn, script_view, turn_view}
 use Rattle.rb_super.specs.State.{State, opening}
 use Rattle.rb_super.specs.Report.{turn_report_view}
 use Rattle.rb_super.proofs.Phases.{leads_on}
@@ -9,9 +9,9 @@ use Rattle.rb_super.proofs.judging.run_turns.Goals as goal
 pub run_turn-requires : goal.run_turn-requires
 run_turn-requires c =
     let script = c.args.script.now in
-    let P : ℕ × ℕ → Type 0 = λ p. IsTurn p.0 p.1 (turn_view c.turn-item.result) in
+    let P : ℕ × ℕ → Type 0 = λ p. IsTurn p.0 p.1 0 (turn_view c.turn-item.result) in
     subst P (λ i. (sym c.loop-turn.invariant.books i, sym c.loop-turn.invariant.clients i))
-    (turn_of_all (IsTurn (length script.chains.items) (length script.clients.items)) c.args.turns.now c.args.turns.now c.loop-turn.turn-index
+    (turn_of_all (IsTurn (length script.config.chains.items) (length script.config.clients.items) 0) c.args.turns.now c.args.turns.now c.loop-turn.turn-index
     c.turn-item.result c.requires.turns refl c.loop-turn-test.true c.turn-item.is)
 
 pub loop-turn-preserved : goal.loop-turn-preserved

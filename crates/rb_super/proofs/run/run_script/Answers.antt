@@ -1,18 +1,19 @@
 use Rattle.std.proofs.Common.{ℕ, ◌+◌, length, map, drop, subst, sym, ap, ◌∙◌, [], ◌∷◌, arith}
 use Rattle.std.proofs.lemmas.List.{map-append, drop_all}
 use Rattle.rb_super.specs.Report.{turn_report_view}
-use Rattle.rb_super.specs.Script.{IsTurn, script_view, turn_view}
+use Rattle.rb_events.specs.Script.{IsTurn, script_view, turn_view}
 use Rattle.rb_super.specs.State.{State, opening}
 use Rattle.rb_super.proofs.Steps.{Continues, turn_at, turn_of_all, turns_more, turns_done, sizes-after_turn}
+use Rattle.rb_super.proofs.Phases.{of_updates}
 use Rattle.rb_super.proofs.run.run_script.Goals as goal
 
 pub run_turn-requires : goal.run_turn-requires
 run_turn-requires c =
     let script = c.args.script.now in
-    let P : ℕ × ℕ → Type 0 = λ p. IsTurn p.0 p.1 (turn_view c.turn-item.result) in
+    let P : ℕ × ℕ → Type 0 = λ p. IsTurn p.0 p.1 0 (turn_view c.turn-item.result) in
     subst P (λ i. (sym c.loop-turn.invariant.books i, sym c.loop-turn.invariant.clients i))
-    (turn_of_all (IsTurn (length script.chains.items) (length script.clients.items)) script.turns.items c.deref-turn-items.result.now c.loop-turn.turn-index
-    c.turn-item.result c.requires.turns c.deref-turn-items.ensures.value c.loop-turn-test.true c.turn-item.is)
+    (turn_of_all (IsTurn (length script.config.chains.items) (length script.config.clients.items) 0) script.turns.items c.deref-turn-items.result.now c.loop-turn.turn-index
+    c.turn-item.result (of_updates (script_view script) c.requires.script c.requires.updates) c.deref-turn-items.ensures.value c.loop-turn-test.true c.turn-item.is)
 
 pub loop-turn-preserved : goal.loop-turn-preserved
 loop-turn-preserved c =

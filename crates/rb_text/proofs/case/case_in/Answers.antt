@@ -3,8 +3,8 @@ use Rattle.std.specs.List.{position}
 use Rattle.std.specs.Str.{bytes_eq}
 use Rattle.std.proofs.lemmas.List.{length-map}
 use Rattle.rb_fields.specs.declared.fault.FaultName.TheVariants.{UnknownIdentifier}
-use Rattle.rb_super.specs.declared.script.ClientConfig.{ClientConfig}
-use Rattle.rb_super.specs.Script.{script_view, turn_view}
+use Rattle.rb_events.specs.declared.config.ClientConfig.{ClientConfig}
+use Rattle.rb_events.specs.Script.{script_view, turn_view}
 use Rattle.rb_text.specs.Certificates.{certificate_view}
 use Rattle.rb_text.proofs.Cases.{case-found, case-unknown}
 use Rattle.rb_fields.proofs.Steps.{fails-at}

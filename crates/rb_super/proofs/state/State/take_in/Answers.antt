@@ -1,6 +1,7 @@
 use Rattle.std.proofs.Common.{◌≡◌, length, All, List, ℕ, ap, sym, subst, ◌∙◌, fold}
-use Rattle.rb_super.specs.declared.script.Event.{Event}
-use Rattle.rb_super.specs.Script.{turn_view, IsEvent}
+use Rattle.std.specs.declared.alloc.Global.{Global}
+use Rattle.rb_events.specs.declared.observation.Observation.{Observation}
+use Rattle.rb_events.specs.Script.{turn_view, IsSeen}
 use Rattle.rb_super.specs.State.{State, after_asked}
 use Rattle.rb_super.specs.Turns.{before_events}
 use Rattle.rb_super.proofs.Steps.{sizes-before_events}
@@ -16,5 +17,5 @@ observe_all-requires c =
     let sizes = sizes-before_events s t in
     let books : length s.books ≡ length c.ask_all.new.self.books = sym (ap (λ (u : State). length u.books) same ∙ sizes.books) in
     let clients : length s.clients ≡ length c.ask_all.new.self.clients = sym (ap (λ (u : State). length u.clients) same ∙ sizes.clients) in
-    let P : ℕ × ℕ × List Event → Type 0 = λ p. All (IsEvent p.0 p.1) p.2 in
+    let P : ℕ × ℕ × List (Observation Global) → Type 0 = λ p. All (IsSeen p.0 p.1 0) p.2 in
     subst P (λ i. (books i, clients i, sym c.as_slice-2.ensures.value i)) c.requires.events
