@@ -1,0 +1,14 @@
+//! What a part of a path owes.
+ghost use Rattle.std.specs.Prelude.{◌≡◌, IfOk};
+
+use crate::seen::Scan;
+use rb_scan::{Part, PathView, ScanError, owed_part};
+use std::alloc::Allocator;
+
+/// What a part of a path owes as the path is seen. `NoMemory` where a growth is refused.
+pub fn scan<A: Allocator + Copy>(view: &PathView<A>, part: Part) -> Result<Scan<A>, ScanError>
+    ensures { IfOk result (λ scan. scan ≡ record { view = view.now; part = part }) }
+{
+    let owed = owed_part(view, part)?;
+    Ok(Scan::new(view.copy()?, part, owed))
+}
