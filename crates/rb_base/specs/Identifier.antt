@@ -1,4 +1,4 @@
--- identifiers of chains, clients and paths (ICS 24, host requirements: identifiers)
+-- identifiers of chains, clients and paths (ICS 24, host requirements, for the characters; the lengths are our own: ICS 24 has 9 to 64 for clients)
 use Rattle.std.specs.Prelude.{◌≡◌, ℕ, ◌-◌, ◌≤◌, ◌||◌, ◌==◌, IsTrue, List, ◌++◌, length, take, drop, replicate, All, codes}
 use Rattle.std.specs.List.{list_any}
 use Rattle.std.specs.Char.{is_ascii_alphanumeric}

@@ -7,7 +7,7 @@ use std::fmt;
 use std::marker::Model;
 
 /// The identifier of a chain: 1 to 64 characters out of letters, digits and
-/// `. _ + - # [ ] < >` (ICS 24).
+/// `. _ + - # [ ] < >` (ICS 24 for the characters; own choice of the length).
 #[derive(Clone, Copy, Debug, PartialEq, Eq, PartialOrd, Ord, Hash)]
 pub struct ChainId {
     text: Identifier,
@@ -52,7 +52,7 @@ impl fmt::Display for ChainId {
 }
 
 /// The identifier of a client: 1 to 64 characters out of letters, digits and
-/// `. _ + - # [ ] < >` (ICS 24).
+/// `. _ + - # [ ] < >` (ICS 24 for the characters; own choice of the length).
 #[derive(Clone, Copy, Debug, PartialEq, Eq, PartialOrd, Ord, Hash)]
 pub struct ClientId {
     text: Identifier,
@@ -97,7 +97,7 @@ impl fmt::Display for ClientId {
 }
 
 /// The identifier of a path: 1 to 64 characters out of letters, digits and
-/// `. _ + - # [ ] < >` (ICS 24).
+/// `. _ + - # [ ] < >` (ICS 24 for the characters; own choice of the length).
 #[derive(Clone, Copy, Debug, PartialEq, Eq, PartialOrd, Ord, Hash)]
 pub struct PathId {
     text: Identifier,

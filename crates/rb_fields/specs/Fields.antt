@@ -150,7 +150,7 @@ pub record Section : Type 0 where
 abbrev pub section_view : CodeSection → Section
 section_view s = record { path = s.path.now; members = table_view s.table.now }
 
--- the first of the members, which ascend by their bytes, that is none of these keys
+-- the first of the members, which ascend by their bytes (`is_sorted` of toml), that is none of these keys
 abbrev pub unknown_key : List (List ℕ) → Members → Option (List ℕ)
 unknown_key keys no_members = None
 unknown_key keys (member k d ms) = if list_any (λ known. bytes_eq known k) keys then unknown_key keys ms else Some k

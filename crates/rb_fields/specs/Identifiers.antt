@@ -1,4 +1,4 @@
--- Whether a text is an identifier (ICS 24), as a test.
+-- Whether a text is an identifier, as a test (the characters: ICS 24; the length: own choice).
 use Rattle.std.specs.Prelude.{ℕ, Bool, ◌&&◌, ◌||◌, ◌==◌, nat_le, List, length, codes}
 use Rattle.std.specs.List.{list_all, list_any}
 use Rattle.std.specs.Char.{is_ascii_alphanumeric}

@@ -231,7 +231,7 @@ impl<'a> Field<'a> {
 }
 
 /// Whether the text is an identifier: 1 to 64 characters out of letters, digits and
-/// `. _ + - # [ ] < >` (ICS 24).
+/// `. _ + - # [ ] < >` (ICS 24 for the characters; own choice of the length).
 pub fn is_identifier(text: &str) -> bool
     ensures { result ≡ is_identifier text.now }
 {

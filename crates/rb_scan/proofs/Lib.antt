@@ -4,3 +4,4 @@ pub mod Kept
 pub mod Least
 pub mod Within
 pub mod Replaced
+pub mod ReadyAfter

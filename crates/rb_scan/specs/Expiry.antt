@@ -1,4 +1,4 @@
--- when a packet has expired, and from which height on that can be proved (ICS 4, timeouts; equality and the lesser height: own choice)
+-- when a packet has expired, and from which height on that can be proved (ICS 4, timeouts: equality expires; own choice: the lesser height, and that a packet with no timeout, which ICS 4 refuses to send, is accepted and never expires)
 use Rattle.std.specs.Prelude.{ℕ, ◌-◌, Bool, false, ◌||◌, nat_le, List, length, find, Option, Some, None, min, slice_get, if◌then◌else◌}
 use Rattle.std.specs.Option.{option_map}
 use Rattle.rb_scan.specs.Packet.{Packet}

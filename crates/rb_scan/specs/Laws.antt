@@ -1,11 +1,11 @@
 -- laws of what a path owes
-use Rattle.std.specs.Prelude.{◌≡◌, ◌≢◌, ℕ, ◌<◌, ◌≤◌, ◌||◌, nat_lt, Bool, true, false, All, Some, None, [], length, map, List}
+use Rattle.std.specs.Prelude.{◌≡◌, ◌≢◌, ℕ, ◌<◌, ◌≤◌, ◌||◌, nat_lt, Bool, true, false, All, Some, None, [], ◌∷◌, ◌++◌, length, map, List}
 use Rattle.std.specs.List.{range_with_len}
 use Rattle.rb_scan.specs.Packet.{Packet}
 use Rattle.rb_scan.specs.Path.{Path, IsPath}
 use Rattle.rb_scan.specs.Owed.{message_of, is_done_at, next_sequence, messages, ready}
 use Rattle.rb_scan.specs.declared.path.Order.{Order}
-use Rattle.rb_scan.specs.declared.path.Order.TheVariants.{Ordered}
+use Rattle.rb_scan.specs.declared.path.Order.TheVariants.{Ordered, Unordered}
 use Rattle.rb_scan.specs.declared.message.Kind.{Kind}
 use Rattle.rb_scan.specs.declared.message.Kind.TheVariants.{Receive, Timeout}
 use Rattle.rb_scan.specs.declared.message.PacketMsg.{PacketMsg}
@@ -44,3 +44,19 @@ ReadyReceivesAreConsecutive =
     (path : Path) (reach : ℕ) → path.order ≡ Ordered
     → let kept = ready (messages path Receive) Ordered (Some reach)
     in map (λ (m : PacketMsg). m.sequence) kept ≡ range_with_len (next_sequence path Receive) (length kept)
+
+-- a message is ready after those that stand before it: its floor is within reach and, in an ORDERED run, where it is no
+-- timeout, so is each earlier floor of its kind
+abbrev pub IsReadyAfter : Order → ℕ → List PacketMsg → PacketMsg → Type 0
+IsReadyAfter Unordered reach earlier m = m.floor ≤ reach
+IsReadyAfter Ordered reach earlier m =
+    (m.floor ≤ reach) × (m.kind ≢ Timeout → All (λ (e : PacketMsg). e.kind ≡ m.kind → e.floor ≤ reach) earlier)
+
+-- of no message none is kept; each further one is kept, after those that are kept of the earlier ones, exactly where it
+-- is ready after them
+abbrev pub ReadyIsAllBefore : Type 0
+ReadyIsAllBefore =
+    (order : Order) (reach : ℕ) (earlier : List PacketMsg) (m : PacketMsg)
+    → (ready [] order (Some reach) ≡ [])
+    × ((IsReadyAfter order reach earlier m → ready (earlier ++ m ∷ []) order (Some reach) ≡ ready earlier order (Some reach) ++ m ∷ [])
+    × ((¬ IsReadyAfter order reach earlier m) → ready (earlier ++ m ∷ []) order (Some reach) ≡ ready earlier order (Some reach)))

@@ -1,5 +1,5 @@
 //! Laws of what a path owes, which hold by their proofs alone.
-ghost use Rattle.rb_scan.specs.Laws.{NextIsLeast, SettledIsNotOwed, TimeoutReplacesReceives, ReadyIsWithinReach, ReadyReceivesAreConsecutive};
+ghost use Rattle.rb_scan.specs.Laws.{NextIsLeast, SettledIsNotOwed, TimeoutReplacesReceives, ReadyIsWithinReach, ReadyReceivesAreConsecutive, ReadyIsAllBefore};
 
 /// The sequence from which on an ORDERED path's run of a kind stands is the least at which a
 /// message of that kind is waited for.
@@ -25,4 +25,11 @@ pub fn ready_is_within_reach()
 /// The ready receives of an ORDERED path stand in consecutive rising sequences.
 pub fn ready_receives_are_consecutive()
     ensures { ReadyReceivesAreConsecutive }
+{}
+
+/// A message of a list is ready exactly where its floor is within reach and, in an ORDERED run of
+/// receives or of acknowledgements, so is each earlier floor of its kind; what is ready keeps the
+/// list's order.
+pub fn ready_is_all_before()
+    ensures { ReadyIsAllBefore }
 {}
