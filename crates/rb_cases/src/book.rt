@@ -8,20 +8,20 @@ use std::fmt::Display;
 use std::process::Abort;
 use std::test::Fail;
 
-const THREE: &[Vote] = &[Vote::Commit, Vote::Commit, Vote::Commit, Vote::Absent];
+pub const THREE: &[Vote] = &[Vote::Commit, Vote::Commit, Vote::Commit, Vote::Absent];
 
 const SHORT: &[Vote] = &[Vote::Commit, Vote::Commit, Vote::Commit];
 
 const BAD: &[Vote] = &[Vote::Commit, Vote::Nil, Vote::Bad, Vote::Bad];
 
-const ZERO: [u8; 32] = [0; 32];
+pub const ZERO: [u8; 32] = [0; 32];
 
-fn entry(seconds: u64, next: [u8; 32]) -> Result<Record, Fail> {
+pub fn entry(seconds: u64, next: [u8; 32]) -> Result<Record, Fail> {
     Ok(Record::new(second(seconds)?, ZERO, next))
 }
 
 /// Validators of power 10, whose keys are the numbers from one up to another.
-fn make_numbered_set<A: Allocator + Copy>(
+pub fn make_numbered_set<A: Allocator + Copy>(
     alloc: A,
     from: u32,
     to: u32,
@@ -35,7 +35,7 @@ fn make_numbered_set<A: Allocator + Copy>(
     Ok(ValidatorSet::new(alloc, members)?)
 }
 
-fn make_header<A: Allocator + Copy>(
+pub fn make_header<A: Allocator + Copy>(
     alloc: A,
     at: u64,
     seconds: u64,
@@ -167,12 +167,12 @@ fn check_told(rt: &impl Abort, book: &ChainBook, set: &ValidatorSet) -> Result<(
 #[test]
 fn takes_headers_in(rt: HostRuntime) -> Result<(), Fail> {
     let set = make_numbered_set(rt.alloc(), 0, 4)?;
-    let mut book = ChainBook::new(rt.alloc());
+    let mut book = ChainBook::new(rt.alloc())?;
     add_first_set(&rt, rt.alloc(), &mut book, &set)?;
     let offers = offers(height(2)?, height(5)?);
     check_offers(&rt, rt.alloc(), &mut book, &set, &offers)?;
     check_told(&rt, &book, &set)?;
-    assert!(rt; book.copy()? == book && ChainBook::new(rt.alloc()) != book);
+    assert!(rt; book.copy()? == book && ChainBook::new(rt.alloc())? != book);
     Ok(())
 }
 
@@ -203,8 +203,8 @@ fn fill<A: Allocator + Copy>(rt: &impl Abort, mut book: ChainBook<A>) -> Result<
 
 #[test]
 fn holds_so_many_records(rt: HostRuntime) -> Result<(), Fail> {
-    let usual = fill(&rt, ChainBook::new(rt.alloc()))?;
-    let most = fill(&rt, ChainBook::with_limit(rt.alloc(), 4096))?;
+    let usual = fill(&rt, ChainBook::new(rt.alloc())?)?;
+    let most = fill(&rt, ChainBook::with_limit(rt.alloc(), 4096)?)?;
     assert_same(&rt, &"records", &(usual, most), &(1024, 4096));
     Ok(())
 }
@@ -222,7 +222,7 @@ fn add_numbered_set(
 /// An equal set is taken in at any time, another one only below the limit.
 #[test]
 fn holds_so_many_sets(rt: HostRuntime) -> Result<(), Fail> {
-    let mut book = ChainBook::new(rt.alloc());
+    let mut book = ChainBook::new(rt.alloc())?;
     for number in 0..1024 {
         let answer = add_numbered_set(&mut book, rt.alloc(), number, number + 1)?;
         assert_same(&rt, &number, &answer, &Ok(()));
@@ -277,8 +277,11 @@ fn build_both<'a>(
     heap: &'a Refusing<Global>,
     ample: &'a Refusing<Global>,
 ) -> Result<(), Fail> {
-    let mut book = ChainBook::new(heap);
-    let mut same = ChainBook::new(ample);
+    let Ok(mut book) = ChainBook::new(heap) else {
+        assert!(rt; heap.has_refused());
+        return Ok(());
+    };
+    let mut same = ChainBook::new(ample)?;
     for number in 0..4 {
         add_to_both(rt, (heap, ample), number, &mut book, &mut same)?;
     }
@@ -290,39 +293,19 @@ fn build_both<'a>(
 /// Each growth refused in turn, until none is.
 #[test]
 fn stays_where_memory_is_refused(rt: HostRuntime) -> Result<(), Fail> {
-    let ample = Refusing::new(rt.alloc(), 0);
-    for refused in 1..=17 {
-        let heap = Refusing::new(rt.alloc(), refused);
+    let (ample, counted) = (Refusing::new(rt.alloc(), 0), Refusing::new(rt.alloc(), 0));
+    build_both(&rt, &counted, &ample)?;
+    let growths = counted.growths();
+    assert!(rt; growths > 0);
+    for before in 0..=growths {
+        let heap = Refusing::new(rt.alloc(), before.saturating_add(1));
         build_both(&rt, &heap, &ample)?;
-        let growths = heap.growths();
-        assert!(rt;
-            heap.has_refused() == (refused < 17),
-            "{refused} of {growths}"
-        );
+        assert_same(&rt, &before, &heap.has_refused(), &(before < growths));
     }
     Ok(())
 }
 
-/// A refusal's text, and the same of its number and name.
-fn check_text(rt: &impl Abort, alloc: Global, refusal: BookError, text: &str) -> Result<(), Fail> {
-    let number = refusal.number().ok_or("number")?;
-    let name = refusal.name();
-    assert_same(
-        rt,
-        &"text",
-        &format!(in alloc; "{refusal}")?.as_str(),
-        &text,
-    );
-    assert_same(
-        rt,
-        &"name",
-        &format!(in alloc; "{number} {name}")?.as_str(),
-        &text,
-    );
-    Ok(())
-}
-
-/// The refusals that a number and a name are printed of.
+/// Refusals, and what is printed of them.
 fn refusals(five: Height) -> [(BookError, &'static str); 7] {
     [
         (BookError::UnknownSet, "401 UnknownSet"),
@@ -338,7 +321,8 @@ fn refusals(five: Height) -> [(BookError, &'static str); 7] {
 #[test]
 fn prints(rt: HostRuntime) -> Result<(), Fail> {
     for (refusal, text) in refusals(height(5)?) {
-        check_text(&rt, rt.alloc(), refusal, text)?;
+        let printed = format!(in rt.alloc(); "{refusal}")?;
+        assert_same(&rt, &"text", &printed.as_str(), &text);
     }
     Ok(())
 }

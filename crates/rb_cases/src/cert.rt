@@ -207,7 +207,7 @@ fn add_block(book: &mut ChainBook, alloc: Global, block: &Block) -> Result<(), F
 }
 
 fn make_book(alloc: Global, chain: &[Block]) -> Result<ChainBook, Fail> {
-    let mut book = ChainBook::new(alloc);
+    let mut book = ChainBook::new(alloc)?;
     for block in chain {
         add_block(&mut book, alloc, block)?;
     }

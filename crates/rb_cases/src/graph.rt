@@ -63,7 +63,7 @@ fn add_header<L: Allocator + Copy>(
 
 /// A book of these headers, and a record at 4 that names an unknown set.
 fn make_book<L: Allocator + Copy>(alloc: L) -> Result<ChainBook<L>, Fail> {
-    let mut book = ChainBook::new(alloc);
+    let mut book = ChainBook::new(alloc)?;
     book.add_record(height(4)?, Record::new(second(40)?, [0; 32], [7; 32]))?;
     for (number, own, next, votes) in HEADERS {
         add_header(&mut book, alloc, *number, (own, next), votes)?;
@@ -322,33 +322,27 @@ fn use_table<L: Allocator + Copy>(alloc: L, book: ChainBook<L>) -> Result<bool, 
     share_copy(alloc, &graph)
 }
 
-/// Whether use of a table failed with this growth refused; where it did not, it was right.
-fn fails_at(rt: &impl Abort, alloc: Global, growth: u64) -> Result<bool, Fail> {
-    let heap = Refusing::new(alloc, growth);
-    let used = use_table(&heap, make_book(&heap)?);
-    assert!(rt; used.unwrap_or(true), "{growth}");
-    Ok(used.is_err())
+/// Whether a table was made and shared with this growth refused, and the growths of the book and of
+/// all. What is made is right.
+fn use_on(rt: &impl Abort, alloc: Global, refused: u64) -> Result<(bool, u64, u64), Fail> {
+    let heap = Refusing::new(alloc, refused);
+    let book = make_book(&heap)?;
+    let earlier = heap.growths();
+    let used = use_table(&heap, book);
+    assert_same(rt, &refused, &used.unwrap_or(true), &true);
+    Ok((used.is_ok(), earlier, heap.growths()))
 }
 
-/// Each growth after the book's refused in turn: an error, or the right answer where a smaller block
-/// does.
+/// Each growth after the book's is refused in turn, until a run meets no refusal. A refused one is an
+/// error, but where the list asks again for less, which makes the growths more.
 #[test]
 fn fails_where_memory_is_refused(rt: HostRuntime) -> Result<(), Fail> {
-    let ample = Refusing::new(rt.alloc(), 0);
-    let book = make_book(&ample)?;
-    let earlier = ample.growths();
-    assert!(rt; use_table(&ample, book)?);
-    let mut has_failed = false;
-    for growth in earlier..ample.growths() {
-        has_failed |= fails_at(&rt, rt.alloc(), growth + 1)?;
+    let (is_used, earlier, growths) = use_on(&rt, rt.alloc(), 0)?;
+    assert!(rt; is_used && earlier < growths);
+    for before in earlier..=growths {
+        let (is_used, _, asked) = use_on(&rt, rt.alloc(), before.saturating_add(1))?;
+        let is_met = before == growths || asked > growths;
+        assert_same(&rt, &before, &is_used, &is_met);
     }
-    assert!(rt; has_failed);
-    Ok(())
-}
-
-#[test]
-fn is_of_no_other_book(rt: HostRuntime) -> Result<(), Fail> {
-    let graph = make_graph(rt.alloc())?;
-    assert!(rt; !graph.is_of(&ChainBook::new(rt.alloc())));
     Ok(())
 }

@@ -13,6 +13,10 @@ mod cert;
 #[cfg(test)]
 mod graph;
 #[cfg(test)]
+mod lanes;
+#[cfg(test)]
+mod machine;
+#[cfg(test)]
 mod make;
 #[cfg(test)]
 mod merkle;
@@ -21,6 +25,12 @@ mod plan;
 #[cfg(test)]
 mod scan;
 #[cfg(test)]
+mod shared_book;
+#[cfg(test)]
 mod step;
 #[cfg(test)]
+mod turns;
+#[cfg(test)]
 mod valset;
+#[cfg(test)]
+mod wire;

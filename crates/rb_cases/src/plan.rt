@@ -115,7 +115,7 @@ fn add_header<A: Allocator + Copy>(
 }
 
 fn make_graph<A: Allocator + Copy>(alloc: A, world: &World) -> Result<Graph<A>, Fail> {
-    let mut book = ChainBook::new(alloc);
+    let mut book = ChainBook::new(alloc)?;
     for (number, members) in world.headers {
         add_header(&mut book, alloc, *number, members)?;
     }

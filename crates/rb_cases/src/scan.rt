@@ -589,24 +589,6 @@ fn survives_each_refused_growth(rt: HostRuntime) -> Result<(), Fail> {
     Ok(())
 }
 
-#[test]
-fn keeps_ranges_and_prints(rt: HostRuntime) -> Result<(), Fail> {
-    let top = 9_223_372_036_854_775_807;
-    assert!(rt; Sequence::new(0).is_none() && Sequence::new(top + 1).is_none());
-    assert_same(
-        &rt,
-        &"top",
-        &Sequence::new(top).ok_or("sequence")?.get(),
-        &top,
-    );
-    let sequence = Sequence::new(12).ok_or("sequence")?;
-    let text = format!(in rt.alloc(); "{sequence}")?;
-    assert_same(&rt, &"sequence", &text.as_str(), &"12");
-    let text = format!(in rt.alloc(); "{}", ScanError::NoMemory)?;
-    assert_same(&rt, &"error", &text.as_str(), &"no memory");
-    Ok(())
-}
-
 /// Times that do not rise, and a packet below the first, make no path.
 #[test]
 fn knows_paths(rt: HostRuntime) -> Result<(), Fail> {

@@ -239,25 +239,6 @@ fn judges_steps(rt: HostRuntime) -> Result<(), Fail> {
     Ok(())
 }
 
-const REASONS: &[(Reason, &str)] = &[
-    (Reason::HeightOrder, "501 HeightOrder"),
-    (Reason::Expired, "502 Expired"),
-    (Reason::TimeNotLater, "503 TimeNotLater"),
-    (Reason::FromFuture, "504 FromFuture"),
-    (Reason::TrustedSetUnknown, "505 TrustedSetUnknown"),
-    (Reason::WrongNextSet, "506 WrongNextSet"),
-    (Reason::NotTwoThirds, "507 NotTwoThirds"),
-];
-
-#[test]
-fn names_reasons(rt: HostRuntime) -> Result<(), Fail> {
-    for (reason, text) in REASONS {
-        let (number, name) = (reason.number(), reason.name());
-        assert_eq!(rt; format!(in rt.alloc(); "{number} {name}")?.as_str(), *text);
-    }
-    Ok(())
-}
-
 const B: &[(u8, u64)] = &[(0xb1, 10), (0xb2, 10), (0xb3, 10), (0xb4, 10)];
 
 /// A header of the set, signed by three. Height h has the time 10 h seconds.
@@ -292,7 +273,7 @@ fn add_header(
 /// Headers 1 and 4 of the set A, where 4 names B, and header 5 of B, each signed by three; and a
 /// record at 7 that names an unknown set.
 fn make_book(alloc: Global) -> Result<ChainBook, Fail> {
-    let mut book = ChainBook::new(alloc);
+    let mut book = ChainBook::new(alloc)?;
     add_header(&mut book, alloc, 1, A, A)?;
     add_header(&mut book, alloc, 4, A, B)?;
     add_header(&mut book, alloc, 5, B, B)?;

@@ -3,6 +3,7 @@ use rb_base::{Counted, Fault, Faulty};
 use rb_fields::RunError;
 use rb_text::plan_over;
 use std::alloc::{AllocError, Global};
+use std::process::Abort;
 use std::test::Fail;
 
 /// What is written for a script, and after it the error, if there is one.
@@ -467,20 +468,68 @@ fn plans(rt: HostRuntime) -> Result<(), Fail> {
     Ok(())
 }
 
-/// A writer that fails at each of its calls in turn has taken a beginning of the report.
+/// Plans over a writer that takes a byte a call and fails at this one, counted from 1: it has taken a byte
+/// of the report at each call before. Whether the report is written whole.
+fn is_written(
+    rt: &impl Abort,
+    alloc: Global,
+    (script, report): (&str, &str),
+    failing: u64,
+) -> Result<bool, Fail> {
+    let mut writer = Counted::new(Faulty::new(alloc, 1, failing, Fault::Zero));
+    let planned = plan_over(alloc, script.as_bytes(), &mut writer);
+    let faulty = writer.into_inner();
+    let taken = (failing.saturating_sub(1) as usize).min(report.len());
+    assert_eq!(rt; faulty.bytes(), &report.as_bytes()[..taken], "{failing}");
+    match planned {
+        Ok(()) => Ok(true),
+        Err(RunError::Device) => Ok(false),
+        Err(_) => Err(Fail::from("another error")),
+    }
+}
+
+/// A writer that fails at each of its calls in turn, until the report is written before that call.
 #[test]
 fn tells_that_the_writer_failed(rt: HostRuntime) -> Result<(), Fail> {
     let alloc = rt.alloc();
     let script = joined(alloc, ONE_STEP)?;
-    let report = answer_to(alloc, script.as_bytes())?;
-    for failing in 1..=40 {
-        let faulty = Faulty::new(alloc, 10, failing, Fault::Zero);
-        let mut writer = Counted::new(faulty);
-        let planned = plan_over(alloc, script.as_bytes(), &mut writer);
-        let faulty = writer.into_inner();
-        assert!(rt; report.as_bytes().starts_with(faulty.bytes()));
-        assert_eq!(rt; planned.is_ok(), faulty.bytes().len() == report.len());
-        assert_eq!(rt; matches!(planned, Err(RunError::Device)), planned.is_err());
+    let report = report_of(alloc, &[ASKED, LABELS, PLAN])?;
+    let length = report.len() as u64;
+    for before in 0..=length {
+        let failing = before.saturating_add(1);
+        let is_whole = is_written(&rt, alloc, (script.as_str(), report.as_str()), failing)?;
+        assert_eq!(rt; is_whole, before == length, "{before} of {length}");
     }
+    Ok(())
+}
+
+/// Whether a beginning of a script is planned: then its report is whole; else a fault is told, and
+/// nothing is written.
+fn is_planned(rt: &impl Abort, alloc: Global, beginning: &[u8]) -> bool {
+    let mut writer = Counted::new(Vec::new(alloc));
+    let planned = plan_over(alloc, beginning, &mut writer);
+    let written = writer.into_inner();
+    let length = beginning.len();
+    match planned {
+        Ok(()) => {
+            assert!(rt; written.ends_with(b"end\n"), "{length}");
+            true
+        }
+        Err(error) => {
+            assert!(rt; written.is_empty(), "{length}");
+            assert!(rt; matches!(error, RunError::Fault(_)), "{length}");
+            false
+        }
+    }
+}
+
+#[test]
+fn plans_or_tells_a_fault_of_each_beginning(rt: HostRuntime) -> Result<(), Fail> {
+    let script = edited(rt.alloc(), Base::Three, &[])?;
+    let mut is_whole = false;
+    for length in 0..=script.len() {
+        is_whole = is_planned(&rt, rt.alloc(), &script.as_bytes()[..length]);
+    }
+    assert!(rt; is_whole);
     Ok(())
 }

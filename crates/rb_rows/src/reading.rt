@@ -2,7 +2,7 @@ use rb_base::{FeeTable, Fraction, Height, Moment, Window};
 use rb_book::Vote;
 use rb_plan::Goal;
 use rb_script::read_script;
-use rb_super::{ClientConfig, Event, Script, Turn};
+use rb_super::{ClientConfig, Observation, Script, Turn};
 use rb_valset::{Validator, ValidatorSet};
 use std::alloc::Global;
 use std::process::Abort;
@@ -484,9 +484,9 @@ fn is_script(
     refresh: u64,
     goal: Goal,
 ) -> Result<(), Fail> {
-    assert_eq!(rt; script.chains.len(), 2);
-    assert_eq!(rt; script.chains[1].as_str(), "beta");
-    let client = script.clients.first().ok_or("client")?;
+    assert_eq!(rt; script.config.chains.len(), 2);
+    assert_eq!(rt; script.config.chains[1].as_str(), "beta");
+    let client = script.config.clients.first().ok_or("client")?;
     is_client(rt, client, gas, trust, refresh)?;
     is_turn(rt, script.turns.first().ok_or("turn")?, goal)
 }
@@ -524,7 +524,11 @@ fn reads_inline_tables(rt: HostRuntime) -> Result<(), Fail> {
 #[test]
 fn reads_no_tables(rt: HostRuntime) -> Result<(), Fail> {
     let script = read_script(rt.alloc(), b"version = 1")?;
-    assert!(rt; script.chains.is_empty() && script.clients.is_empty() && script.turns.is_empty());
+    assert!(rt;
+        script.config.chains.is_empty()
+            && script.config.clients.is_empty()
+            && script.turns.is_empty()
+    );
     Ok(())
 }
 
@@ -536,8 +540,8 @@ fn first_set(alloc: Global) -> Result<ValidatorSet, Fail> {
     Ok(ValidatorSet::new(alloc, members)?)
 }
 
-fn is_set_seen(rt: &impl Abort, event: &Event, of: &ValidatorSet) -> Result<(), Fail> {
-    let Event::SetSeen { chain, set } = event else {
+fn is_set_seen(rt: &impl Abort, event: &Observation, of: &ValidatorSet) -> Result<(), Fail> {
+    let Observation::SetSeen { chain, set } = event else {
         return Err("set".into());
     };
     assert_eq!(rt; *chain, 0);
@@ -545,8 +549,8 @@ fn is_set_seen(rt: &impl Abort, event: &Event, of: &ValidatorSet) -> Result<(), 
     Ok(())
 }
 
-fn is_stored_seen(rt: &impl Abort, event: &Event, next: &[u8; 32]) -> Result<(), Fail> {
-    let Event::StoredSeen {
+fn is_stored_seen(rt: &impl Abort, event: &Observation, next: &[u8; 32]) -> Result<(), Fail> {
+    let Observation::StoredSeen {
         client,
         height,
         record,
@@ -561,8 +565,8 @@ fn is_stored_seen(rt: &impl Abort, event: &Event, next: &[u8; 32]) -> Result<(),
     Ok(())
 }
 
-fn is_header_seen(rt: &impl Abort, event: &Event, set: &[u8; 32]) -> Result<(), Fail> {
-    let Event::HeaderSeen { chain, header } = event else {
+fn is_header_seen(rt: &impl Abort, event: &Observation, set: &[u8; 32]) -> Result<(), Fail> {
+    let Observation::HeaderSeen { chain, header } = event else {
         return Err("header".into());
     };
     assert_eq!(rt; (*chain, header.height().get()), (0, 2));
