@@ -66,26 +66,59 @@ fn judge_then_put<A: Allocator + Copy>(
     Ok(Ok(()))
 }
 
+/// An offer to a shared book, judged and put, and to another, added.
+fn offer_to_both(
+    rt: &impl Abort,
+    alloc: Global,
+    shared: &mut SharedBook,
+    book: &mut ChainBook,
+    offer: &Offer,
+) -> Result<(), Fail> {
+    let set = make_numbered_set(alloc, 0, 4)?;
+    let header = make_header(alloc, offer.at, offer.seconds, &set, THREE)?;
+    let answer = judge_then_put(alloc, shared, offer)?;
+    let added = book.add_header(header);
+    assert_same(rt, &offer.seconds, &answer, &offer.wanted);
+    assert_same(rt, &offer.seconds, &added, &offer.wanted);
+    Ok(())
+}
+
+/// The same, and what was shared before stays as it was.
+fn share_then_offer(
+    rt: &impl Abort,
+    alloc: Global,
+    shared: &mut SharedBook,
+    book: &mut ChainBook,
+    offer: &Offer,
+) -> Result<(), Fail> {
+    let before = shared.share()?;
+    let copy = book.copy()?;
+    offer_to_both(rt, alloc, shared, book, offer)?;
+    assert!(rt; *shared.book() == *book);
+    assert!(rt; *before.book() == copy);
+    Ok(())
+}
+
 /// Judged and put, a book becomes what additions make of another; what was shared before stays.
 #[test]
 fn puts_what_it_judged(rt: HostRuntime) -> Result<(), Fail> {
     let alloc = rt.alloc();
     let set = make_numbered_set(alloc, 0, 4)?;
     let mut book = ChainBook::new(alloc)?;
-    let mut shared = SharedBook::new(alloc, ChainBook::new(alloc)?)?;
+    let mut shared = start(alloc)?;
     shared.set_apart_for(&set)?;
     shared.put_set(set.copy()?);
-    book.add_set(set.copy()?)?;
+    book.add_set(set)?;
     for offer in &offers()? {
-        let before = shared.share()?;
-        let copy = book.copy()?;
-        let answer = judge_then_put(alloc, &mut shared, offer)?;
-        let header = make_header(alloc, offer.at, offer.seconds, &set, THREE)?;
-        let added = book.add_header(header);
-        assert_same(&rt, &offer.seconds, &answer, &offer.wanted);
-        assert_same(&rt, &offer.seconds, &added, &offer.wanted);
-        assert!(rt; *shared.book() == book && *before.book() == copy);
+        share_then_offer(&rt, alloc, &mut shared, &mut book, offer)?;
     }
+    Ok(())
+}
+
+/// A record above all that is known.
+#[test]
+fn puts_a_record_on_top(rt: HostRuntime) -> Result<(), Fail> {
+    let mut shared = start(rt.alloc())?;
     shared.set_apart()?;
     shared.put_record(height(9)?, entry(90, ZERO)?);
     assert_same(&rt, &"top", &shared.book().top(), &Some(height(9)?));
@@ -149,18 +182,18 @@ fn stays_where_a_copy_is_refused(rt: HostRuntime) -> Result<(), Fail> {
     Err(Fail::from("each of a hundred growths was refused"))
 }
 
-/// Validators from one number up to another, and what a book answers to their set.
-const SETS: &[(u32, u32, Result<(), BookError>)] = &[
-    (0, 10_000, Ok(())),
-    (10_000, 20_000, Ok(())),
-    (20_000, 30_000, Ok(())),
-    (30_000, 40_000, Ok(())),
-    (40_000, 50_000, Ok(())),
-    (50_000, 60_000, Ok(())),
-    (60_000, 65_537, Err(BookError::Full)),
-    (59_000, 65_536, Ok(())),
-    (65_536, 65_537, Err(BookError::Full)),
-    (1, 9_000, Ok(())),
+/// Validators from one number up to another, and whether a book has room for their addresses.
+const SETS: &[(u32, u32, bool)] = &[
+    (0, 10_000, true),
+    (10_000, 20_000, true),
+    (20_000, 30_000, true),
+    (30_000, 40_000, true),
+    (40_000, 50_000, true),
+    (50_000, 60_000, true),
+    (60_000, 65_537, false),
+    (59_000, 65_536, true),
+    (65_536, 65_537, false),
+    (1, 9_000, true),
 ];
 
 /// A book that had no room for the addresses of its sets counts them by its sets.
@@ -168,14 +201,15 @@ const SETS: &[(u32, u32, Result<(), BookError>)] = &[
 fn counts_without_addresses(rt: HostRuntime) -> Result<(), Fail> {
     let mut book = ChainBook::new(rt.alloc())?;
     let mut without = ChainBook::new(rt.alloc())?;
-    for (from, to, wanted) in SETS {
+    for (from, to, fits) in SETS {
         let set = make_numbered_set(rt.alloc(), *from, *to)?;
         let answer = without.judge_set(&set);
         if answer.is_ok() {
             without.put_set(set.copy()?);
         }
         let added = book.add_set(set);
-        assert_same(&rt, from, &(added, answer), &(*wanted, *wanted));
+        let wanted = if *fits { Ok(()) } else { Err(BookError::Full) };
+        assert_same(&rt, from, &(added, answer), &(wanted, wanted));
     }
     assert!(rt; book == without);
     Ok(())

@@ -4,15 +4,11 @@
 //! height h has the time 10 h seconds. So a step is accepted where its trusted height is live (1,000 s),
 //! and costs the base, 3 for the commit votes and 4 + 4 for the two sets: 111 or, at a base of 200, 211.
 use crate::make::{assert_same, height, make_set, options, second};
-use rb_base::{ChainId, ClientId, FeeTable, PathId, Window};
+use rb_base::{ChainId, ClientId, FeeTable, Window};
 use rb_batch::Limits;
 use rb_book::{Header, Record, Vote};
-use rb_events::{
-    Asked, ClientConfig, Config, Goal, Observation, PathConfig, PathGas, Script, Settlement, Turn,
-    is_script,
-};
+use rb_events::{Asked, ClientConfig, Config, Goal, Observation, Script, Turn, is_script};
 use rb_plan::Label;
-use rb_scan::{Order, Sequence};
 use rb_super::{ClientReport, Outcome, Plan, Planned, Report, Sending, TurnReport, run_script};
 use std::alloc::{AllocError, Global};
 use std::fmt::Write;
@@ -380,97 +376,6 @@ fn run_row(rt: &impl Abort, alloc: Global, row: &Row) -> Result<(), Fail> {
 fn runs_turns(rt: HostRuntime) -> Result<(), Fail> {
     for row in [TWO_CHAINS, ONE_CHAIN] {
         run_row(&rt, rt.alloc(), &row)?;
-    }
-    Ok(())
-}
-
-/// What breaks a script.
-#[derive(Clone, Copy, Debug)]
-enum Flaw {
-    None,
-    TwoGoals,
-    NoSuchChain,
-    NoSuchClient,
-    NoSuchPath,
-    SettlesNoClient,
-    TwoChainsOfOneName,
-    HostIsTracked,
-    BookOfNoRecords,
-    BookOfTooMany,
-    /// Its forward client is hosted on the source.
-    TurnedPath,
-    TooManyTurns,
-}
-
-fn path(forward: usize, back: usize) -> Result<PathConfig, Fail> {
-    Ok(PathConfig {
-        id: PathId::new("p0").ok_or("id")?,
-        source: 0,
-        destination: 1,
-        order: Order::Unordered,
-        first: Sequence::new(1).ok_or("sequence")?,
-        forward,
-        back,
-        gas: PathGas::new(1, 2, 3).ok_or("gas")?,
-    })
-}
-
-/// The script of two chains with a path and a flaw.
-fn flawed(alloc: Global, flaw: Flaw) -> Result<Script, Fail> {
-    let mut script = script(alloc, &TWO_CHAINS)?;
-    script.config.paths.push(path(0, 1)?)?;
-    match flaw {
-        Flaw::None => {}
-        Flaw::TwoGoals => {
-            let asked = script.turns[0].goals[0];
-            script.turns[0].goals.push(asked)?;
-        }
-        Flaw::NoSuchChain => script.turns[1].events.push(block(alloc, 2, 1, 0)?)?,
-        Flaw::NoSuchClient => script.turns[0].goals[0].client = 2,
-        Flaw::NoSuchPath => script.turns[1]
-            .events
-            .push(Observation::Closed { path: 1 })?,
-        Flaw::SettlesNoClient => script.turns[0].settlements.push(Settlement {
-            client: 2,
-            batch: 1,
-            done: 0,
-        })?,
-        Flaw::TwoChainsOfOneName => script.config.chains[1] = script.config.chains[0],
-        Flaw::HostIsTracked => script.config.clients[0].host = 0,
-        Flaw::BookOfNoRecords => script.config.limit = 0,
-        Flaw::BookOfTooMany => script.config.limit = 4097,
-        Flaw::TurnedPath => script.config.paths[0] = path(1, 0)?,
-        Flaw::TooManyTurns => {
-            for _ in 0..500 {
-                let row = &TWO_CHAINS.turns[3];
-                script.turns.push(turn(alloc, row)?)?;
-            }
-        }
-    }
-    Ok(script)
-}
-
-#[test]
-fn knows_scripts(rt: HostRuntime) -> Result<(), Fail> {
-    for flaw in [
-        Flaw::None,
-        Flaw::TwoGoals,
-        Flaw::NoSuchChain,
-        Flaw::NoSuchClient,
-        Flaw::NoSuchPath,
-        Flaw::SettlesNoClient,
-        Flaw::TwoChainsOfOneName,
-        Flaw::HostIsTracked,
-        Flaw::BookOfNoRecords,
-        Flaw::BookOfTooMany,
-        Flaw::TurnedPath,
-        Flaw::TooManyTurns,
-    ] {
-        let script = flawed(rt.alloc(), flaw)?;
-        assert!(rt;
-            is_script(&script) == matches!(flaw, Flaw::None),
-            "{flaw:?}"
-        );
     }
     Ok(())
 }
