@@ -25,11 +25,7 @@ mod plan;
 #[cfg(test)]
 mod scan;
 #[cfg(test)]
-mod shared_book;
-#[cfg(test)]
 mod step;
-#[cfg(test)]
-mod turns;
 #[cfg(test)]
 mod valset;
 #[cfg(test)]
