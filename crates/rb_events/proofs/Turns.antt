@@ -1,5 +1,5 @@
 -- The turns of a script, as they lie in memory and without that.
-use Rattle.std.proofs.Common.{◌≡◌, ℕ, ◌+◌, ◌<◌, ◌≤◌, List, [], ◌∷◌, map, length, get_or, sum_by, All, refl, sym, subst, ap, ◌∙◌, arith}
+use Rattle.std.proofs.Common.{◌≡◌, ℕ, ◌+◌, ◌≤◌, List, [], ◌∷◌, map, length, sum_by, All, refl, sym, subst, ap, ◌∙◌, arith}
 use Rattle.std.proofs.lemmas.List.{length-map, get_or-map}
 use Rattle.std.proofs.lemmas.List.Elements.{All-map}
 use Rattle.std.proofs.lemmas.List.Sums.{sum_by-cons}
@@ -7,7 +7,7 @@ use Rattle.rb_events.specs.declared.script.Script.{Script as CodeScript}
 use Rattle.rb_events.specs.declared.script.Turn.{Turn as CodeTurn}
 use Rattle.rb_events.specs.Config.{IsConfig, config_view}
 use Rattle.rb_events.specs.Limits.{max_turns, max_entries}
-use Rattle.rb_events.specs.Script.{Turn, turn_view, script_view, IsTurn, IsTurnOf, IsScript, entry_count}
+use Rattle.rb_events.specs.Script.{turn_view, script_view, IsTurn, IsTurnOf, IsScript, IsOfUpdates, entry_count}
 
 sum_by-map : {X Y : Type 0} (f : Y → ℕ) (g : X → Y) (xs : List X) → sum_by f (map g xs) ≡ sum_by (λ x. f (g x)) xs
 sum_by-map f g [] = refl
@@ -35,3 +35,13 @@ module _ {A : Type 0} (s : CodeScript A) (turns : List (CodeTurn A)) (same : tur
   its_turns is = subst (All (IsTurnOf s.config)) (sym same) (λ k d lt.
       subst (IsTurn (length s.config.chains.items) (length s.config.clients.items) (length s.config.paths.items)) (get_or-map turn_view s.turns.items k d (turn_view d) lt)
       (is.turns k (turn_view d) (omega (arith, lt, length-map s.turns.items turn_view))))
+
+-- a script without paths and settlements
+module _ {A : Type 0} (s : CodeScript A) where
+  pub of_updates : length s.config.paths.items ≡ 0 → All (λ (t : CodeTurn A). length t.settlements.items ≡ 0) s.turns.items → IsOfUpdates (script_view s)
+  of_updates none all = record { paths = none; settlements = All-map (λ t. length t.settlements ≡ 0) turn_view s.turns.items all }
+
+  pub no_settlements : IsOfUpdates (script_view s) → All (λ (t : CodeTurn A). length t.settlements.items ≡ 0) s.turns.items
+  no_settlements is = λ k d lt.
+      subst (λ t. length t.settlements ≡ 0) (get_or-map turn_view s.turns.items k d (turn_view d) lt)
+      (is.settlements k (turn_view d) (omega (arith, lt, length-map s.turns.items turn_view)))

@@ -19,7 +19,7 @@ mod verdict;
 pub use judging::judge;
 pub use rb_events::{
     Asked, ClientConfig, Config, Observation, PathConfig, Refusal, Script, Settlement, Turn,
-    is_script,
+    is_of_updates, is_script,
 };
 pub use report::{
     Batch, ClientReport, Outcome, Plan, Planned, PricedUpdate, RefusedEvent, Report, Sending,

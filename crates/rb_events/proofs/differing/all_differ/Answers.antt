@@ -1,4 +1,4 @@
-use Rattle.std.proofs.Common.{AllPairs, take, subst, refl, rules, arith}
+use Rattle.std.proofs.Common.{AllPairs, subst, refl, rules, arith}
 use Rattle.std.proofs.lemmas.Bool.{false≢true}
 use Rattle.std.proofs.lemmas.List.{take_all}
 use Rattle.rb_events.proofs.Pairs.{pairs_more, pairs_before}
