@@ -9,3 +9,5 @@ pub mod Targets
 pub mod Again
 pub mod Stored
 pub mod Walks
+pub mod MarkedVoters
+pub mod LookedUp

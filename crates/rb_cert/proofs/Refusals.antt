@@ -27,7 +27,7 @@ pub bind_is : {A B : Type 0} (o : Option A) (f : A → Option B) (x : A) → o �
 bind_is {A} o f x e = ap (λ (p : Option A). p >>= f) e
 
 -- what a search finds stands at the place that it finds
-found_at : {X : Type 0} (p : X → Bool) (xs : List X) (i : ℕ) → position p xs ≡ Some i → find p xs ≡ slice_get xs i
+pub found_at : {X : Type 0} (p : X → Bool) (xs : List X) (i : ℕ) → position p xs ≡ Some i → find p xs ≡ slice_get xs i
 found_at p xs i at =
     elim (cases_lt (position_or_len p xs) (length xs)) [
       | inl less ↦ (let here : position p xs ≡ Some (position_or_len p xs) = cond-true _ _ _ (lt-ltb _ _ less) in find_at p xs ∙ ap (slice_get xs) (same_Some (position_or_len p xs) i (sym here ∙ at)))

@@ -1,13 +1,13 @@
 -- The steps to a header that is known with its own set.
-use Rattle.std.proofs.Common.{◌≡◌, ℕ, List, ap, sym, ◌∙◌, refl, subst, arith, Option, Some, None}
+use Rattle.std.proofs.Common.{◌≡◌, ◌≢◌, ℕ, ◌+◌, ◌⊎◌, ◌↔◌, List, inl, inr, ap, sym, ◌∙◌, refl, subst, arith, Option, Some, None, slice_get}
 use Rattle.std.specs.List.{Contains}
-use Rattle.std.specs.Option.{IsSomeAnd, option_map_or}
+use Rattle.std.specs.Option.{IsSomeAnd, IfSome, option_map_or}
 use Rattle.std.proofs.lemmas.List.Elements.{All-contains}
 use Rattle.std.proofs.lemmas.Option.{none-some, same_Some}
 use Rattle.rb_base.specs.Fraction.{Exceeds, two_thirds}
 use Rattle.rb_valset.specs.Validator.{Member}
 use Rattle.rb_valset.specs.ValidatorSet.{total_of}
-use Rattle.rb_book.specs.Book.{Known, header_height, record_at, header_at, set_of}
+use Rattle.rb_book.specs.Book.{Known, header_height, has_hash, record_at, header_at, set_of}
 use Rattle.rb_book.specs.Header.{Header, IsSignedBy}
 use Rattle.rb_book.specs.Invariant.{IsBacked}
 use Rattle.rb_step.specs.Fee.{fee_of}
@@ -19,9 +19,11 @@ use Rattle.rb_step.proofs.Orderly.{bind_some}
 use Rattle.rb_plan.specs.Labelling.{Labels}
 use Rattle.rb_plan.proofs.Lookups.{find-at}
 use Rattle.rb_cert.specs.Checks.{AreStepsIntoLow}
+use Rattle.rb_cert.specs.Places.{IsMarked}
+use Rattle.rb_cert.specs.Refused.{IsJudgedBy, AreRefused}
 use Rattle.rb_cert.specs.Target.{IsTarget}
 use Rattle.rb_cert.proofs.Known.{headers_rise}
-use Rattle.rb_cert.proofs.Refusals.{bind_is, record_is}
+use Rattle.rb_cert.proofs.Refusals.{bind_is, found_at, record_is}
 
 module _ (v : View) (view : IsView v) where
   header_is : (header : Header) → Contains v.book.headers header → header_at v.book header.height ≡ Some header
@@ -47,6 +49,33 @@ module _ (v : View) (view : IsView v) where
       → fee_of v.fees (step_of k.height k.record_of (set_of v.book k.record_of.next) header own) ≡ (client_of v).fee k.height header.height
   unfolding client_of
   fee_to k header own there target = sym (ap (λ (o : Option Step). option_map_or (fee_of v.fees) o 0) (step_to k header own there target))
+
+  -- a step that isn't adjacent is refused where the header's commit voters hold too little of the record's next set
+  refused_by_set : (k : Known) (header : Header) (own next : List Member) → Contains v.book.records k → IsTarget v.book header own → k.height + 1 ≢ header.height → set_of v.book k.record_of.next ≡ Some next
+      → ¬ Exceeds (signed_power next own header) (total_of next) v.options.trust → ¬ (client_of v).Accepts k.height header.height
+  unfolding client_of
+  refused_by_set k header own next there target apart known few accepted =
+      let throughout : IsSomeAnd (Some (step_of k.height k.record_of (set_of v.book k.record_of.next) header own)) (AcceptsWithin v.options v.window) =
+      subst (λ (o : Option Step). IsSomeAnd o (AcceptsWithin v.options v.window)) (step_to k header own there target) accepted in
+      let a : Accepts v.options v.window.until (step_of k.height k.record_of (set_of v.book k.record_of.next) header own) = throughout v.window.until (view.window, omega arith) in
+      few (subst (λ (o : Option (List Member)). IfSome o (λ n. Exceeds (signed_power n own header) (total_of n) v.options.trust)) known (a.trusted_signed (λ adjacent. apart (sym adjacent))))
+
+  -- so one more set refuses all steps that are judged by it
+  pub ruled_out_more : (header : Header) (own next : List Member) (set : ℕ) (words marked : List ℕ) → IsTarget v.book header own → slice_get v.book.sets set ≡ Some next
+      → ¬ Exceeds (signed_power next own header) (total_of next) v.options.trust → ((p : ℕ) → IsMarked marked p ↔ (IsMarked words p ⊎ (p ≡ set))) → AreRefused words v header.height → AreRefused marked v header.height
+  ruled_out_more header own next set words marked target at few more so_far n other n_there n_by mark accepted = go ((more other).0 mark)
+    where
+      go : IsMarked words other ⊎ (other ≡ set) → ⊥
+      go (inl before) = so_far n other n_there n_by before accepted
+      go (inr same) =
+          let by : IsJudgedBy v n header.height set = subst (IsJudgedBy v n header.height) same n_by in
+          refused_by_set n header own next n_there target by.not_adjacent (found_at (has_hash n.record_of.next) v.book.sets set by.place ∙ at) few accepted
+
+  -- nor is the step from one record
+  pub ruled_out : (k : Known) (header : Header) (own next : List Member) (set : ℕ) → Contains v.book.records k → IsTarget v.book header own → IsJudgedBy v k header.height set → slice_get v.book.sets set ≡ Some next
+      → ¬ Exceeds (signed_power next own header) (total_of next) v.options.trust → ¬ (client_of v).Accepts k.height header.height
+  ruled_out k header own next set there target by at few accepted =
+      refused_by_set k header own next there target by.not_adjacent (found_at (has_hash k.record_of.next) v.book.sets set by.place ∙ at) few accepted
 
   -- an accepted step to a header is signed by two thirds of the header's own set, which is known
   record IsOwnSigned (header : Header) : Type 0 where

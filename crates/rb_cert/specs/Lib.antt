@@ -12,6 +12,8 @@ pub mod Judgement
 pub mod Places
 pub mod Refused
 pub mod Target
+pub mod Voters
+pub mod Trusted
 pub mod Accepted
 pub mod Checks
 pub mod Laws

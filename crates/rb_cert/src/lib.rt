@@ -10,8 +10,10 @@ mod places;
 mod refused;
 mod target;
 mod ties;
+mod trusted;
 mod updates;
 mod verdict;
+mod voters;
 
 pub use judgement::certify;
 pub use verdict::{Reason, Verdict2};

@@ -1,28 +1,46 @@
 //! Steps to a header that is at hand with its own set.
 ghost use Rattle.std.specs.Prelude.{◌≡◌, ◌<◌, ◌↔◌, IsTrue, Contains};
+ghost use Rattle.std.specs.Option.{option_copied};
+ghost use Rattle.rb_book.specs.Book.{set_of};
 ghost use Rattle.rb_step.specs.Fee.{fee_limit};
 ghost use Rattle.rb_step.specs.View.{IsView, client_of};
 ghost use Rattle.rb_cert.specs.Target.{IsTarget};
+ghost use Rattle.rb_cert.specs.Trusted.{IsNextOf};
 
 use rb_book::{Header, Known};
 use rb_step::{ClientView, accepts_in};
 use rb_valset::ValidatorSet;
 use std::alloc::Allocator;
 
-/// The fee of the step from the known record.
+/// The next set of the known record, whose place is `next`.
+fn next_set<'a, A: Allocator + Copy>(
+    view: &ClientView<'a, A>,
+    known: &Known,
+    next: Option<usize>,
+) -> Option<&'a ValidatorSet<A>>
+    requires { IsNextOf view.now known.now next }
+    ensures { option_copied result ≡ set_of view.now.book known.now.record_of.next }
+{
+    let place = next?;
+    Some(&view.book().sets()[place])
+}
+
+/// The fee of the step from the known record, whose next set's place is `next`.
 pub(crate) fn fee_from<A: Allocator + Copy>(
     view: &ClientView<'_, A>,
     known: &Known,
+    next: Option<usize>,
     header: &Header<A>,
     own: &ValidatorSet<A>,
 ) -> u64
     requires view { IsView view.now }
     requires known { Contains view.now.book.records known.now }
+    requires next { IsNextOf view.now known.now next }
     requires target { IsTarget view.now.book header.now own.now }
     ensures value { result ≡ (client_of view.now).fee known.now.height header.now.height }
     ensures bound { result < fee_limit }
 {
-    let next = view.book().set(known.record().next());
+    let next = next_set(view, known, next);
     let validators = own.size() + next.map_or(0, |next| next.size());
     view.fees()
         .charge(header.commits() as u64, validators as u64)

@@ -1,5 +1,6 @@
 //! One bit a column.
 ghost use Rattle.std.specs.Prelude.{◌≡◌, ◌<◌, ◌≤◌, Bool, true, false, length, count_by, replicate, drop, slice_set, slice_index_or, IfOk};
+ghost use Rattle.std.specs.Int.{from_bool};
 
 use std::alloc::{AllocError, Allocator, Global};
 use std::marker::Model;
@@ -12,14 +13,14 @@ pub struct Plane<A: Allocator = Global> {
 }
 
 impl<A: Allocator> Model for Plane<A> {
-    ghost use Rattle.std.specs.Prelude.{◌≤◌, List, Bool, length};
+    ghost use Rattle.std.specs.Prelude.{◌≤◌, List, Bool, All, length};
     ghost use Rattle.rb_lanes.specs.Lanes.{bits_of, max_columns};
 
     ghost Value = { List Bool };
 
     ghost view = { λ p. bits_of p.bytes.items };
 
-    ghost invariant = { λ p. length p.bytes.items ≤ max_columns };
+    ghost invariant = { λ p. (length p.bytes.items ≤ max_columns) × All (λ byte. byte ≤ 1) p.bytes.items };
 }
 
 impl<A: Allocator> Plane<A> {
@@ -55,6 +56,16 @@ impl<A: Allocator> Plane<A> {
         ensures { result ≡ slice_index_or self.now column false }
     {
         column < self.bytes.len() && self.bytes[column] == 1
+    }
+
+    /// The byte of a column: 1 where its bit is set and else 0, as past the last column.
+    pub(crate) fn byte(&self, column: usize) -> u8
+        ensures { result ≡ from_bool (slice_index_or self.now column false) }
+    {
+        match self.bytes.get(column) {
+            Some(byte) => *byte,
+            None => 0,
+        }
     }
 
     /// How many bits are set.

@@ -70,15 +70,15 @@ pub fn plain_sum<A: Allocator>(powers: &Powers<A>, plane: &Plane<A>) -> u64
     sum
 }
 
-/// The sum of the powers, each beside its column, whose column's bit is set. No step depends on a
-/// bit, so that scattered bits cost no more than others.
+/// The sum of the powers, each beside its column, whose column's bit is set. Each is multiplied by
+/// its column's byte, so that no jump depends on a bit and scattered bits cost no more than others.
 pub(crate) fn member_sum<A: Allocator>(members: &[(u32, u64)], plane: &Plane<A>) -> u64
     requires { sum_by (λ (m : ℕ × ℕ). m.1) members.now ≤ max_total }
     ensures { result ≡ member_total members.now plane.now }
 {
     let mut sum = 0;
     for (column, power) in members {
-        sum += *power * u64::from(plane.get(*column as usize));
+        sum += *power * u64::from(plane.byte(*column as usize));
     }
     sum
 }

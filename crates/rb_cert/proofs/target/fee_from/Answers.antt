@@ -13,6 +13,5 @@ returns-clause-value g c =
     let k = c.args.known.now in
     let header = c.args.header.now in
     let own = c.args.own.now in
-    let next : option_copied c.set-next.result ≡ set_of v.book k.record_of.next = rw (c.book.ensures.value, c.next.ensures, c.record.ensures) at c.set-next.ensures.value in
-    let charged : c.charge.result ≡ fee_of v.fees (step_of k.height k.record_of (option_copied c.set-next.result) header own) = search rules in
-    charged ∙ ap (λ (o : Option (List Member)). fee_of v.fees (step_of k.height k.record_of o header own)) next ∙ fee_to v c.requires.view k header own c.requires.known c.requires.target
+    let charged : c.charge.result ≡ fee_of v.fees (step_of k.height k.record_of (option_copied c.next_set-next.result) header own) = search rules in
+    charged ∙ ap (λ (o : Option (List Member)). fee_of v.fees (step_of k.height k.record_of o header own)) c.next_set-next.ensures ∙ fee_to v c.requires.view k header own c.requires.known c.requires.target

@@ -1,0 +1,66 @@
+-- What is looked up of the records, up to a place and of all.
+use Rattle.std.proofs.Common.{◌≡◌, ◌≢◌, ℕ, ◌+◌, ◌<◌, ◌≤◌, ◌⊎◌, ◌↔◌, List, length, get_or, set, inl, inr, ap, sym, ◌∙◌, refl, subst, arith, Option, Some, None, slice_get, get_or-set_same, get_or-set_other}
+use Rattle.std.specs.Option.{IsSomeAnd}
+use Rattle.std.proofs.lemmas.List.{length-set}
+use Rattle.std.proofs.lemmas.Option.{none-some, same_Some, slice_get_within, slice_get-get_or, get_or_from_slice_get}
+use Rattle.rb_book.specs.Book.{Known}
+use Rattle.rb_step.specs.LightClient.{IsOrderly}
+use Rattle.rb_step.specs.View.{View, IsView, client_of}
+use Rattle.rb_plan.specs.declared.cost.Cost.{Cost}
+use Rattle.rb_plan.specs.Labelling.{Labels}
+use Rattle.rb_plan.specs.Order.{CostsAtMost, after_update}
+use Rattle.rb_cert.specs.Refusal.{IsTooHigh}
+use Rattle.rb_cert.specs.declared.trusted.Trusted.{Trusted}
+use Rattle.rb_cert.specs.Trusted.{IsLookedUp, AreLookedUp, LeadsLower}
+use Rattle.rb_cert.proofs.Rising.{earlier_or_here}
+
+module _ (v : View) (label : Labels) where
+  pub cost_of_live : (k : Known) (o : Option Cost) → (client_of v).IsLive k.height → o ≡ label k.height → (c : Cost) → (o ≡ Some c) ↔ ((client_of v).IsLive k.height × (label k.height ≡ Some c))
+  cost_of_live k o live same c = (λ e. (live, sym same ∙ e), λ p. same ∙ p.1)
+
+  pub cost_of_dead : (k : Known) → ¬ (client_of v).IsLive k.height → (c : Cost) → (None ≡ Some c) ↔ ((client_of v).IsLive k.height × (label k.height ≡ Some c))
+  cost_of_dead k dead c = (λ e. absurd (none-some c e), λ p. absurd (dead p.0))
+
+  abbrev pub AreLookedUpBefore : List Trusted → ℕ → Type 0
+  AreLookedUpBefore found i = (p : ℕ) (k : Known) (t : Trusted) → p < i → slice_get v.book.records p ≡ Some k → slice_get found p ≡ Some t → IsLookedUp v label k t
+
+  pub one_more : (found : List Trusted) (i : ℕ) (x : Known) (t : Trusted) → slice_get v.book.records i ≡ Some x → IsLookedUp v label x t → AreLookedUpBefore found i → AreLookedUpBefore (set found i t) (i + 1)
+  one_more found i x t at is so_far p k y less at' entry = go (earlier_or_here p i less)
+    where
+      within : p < length found
+      within = let l : p < length (set found i t) = slice_get_within (set found i t) p y entry in omega (arith, l, length-set found i t)
+
+      go : (p < i) ⊎ (i ≡ p) → IsLookedUp v label k y
+      go (inl before) =
+          let apart : p ≢ i = omega arith in
+          let read : get_or found p y ≡ y = sym (get_or-set_other found i p t y apart) ∙ get_or_from_slice_get (set found i t) p y y entry in
+          so_far p k y before at' (slice_get-get_or found p y within ∙ ap Some read)
+      go (inr same) =
+          let here : y ≡ t = sym (get_or_from_slice_get (set found i t) p y y entry) ∙ ap (λ (j : ℕ). get_or (set found i t) j y) (sym same) ∙ get_or-set_same found i t y (omega (arith, within, same)) in
+          let known : x ≡ k = same_Some x k (sym at ∙ ap (slice_get v.book.records) same ∙ at') in
+          subst (IsLookedUp v label k) (sym here) (subst (λ (z : Known). IsLookedUp v label z t) known is)
+
+  pub all_looked_up : (found : List Trusted) (i : ℕ) → length v.book.records ≤ i → AreLookedUpBefore found i → AreLookedUp found v label
+  all_looked_up found i whole so_far p k t at entry =
+      let l : p < length v.book.records = slice_get_within v.book.records p k at in
+      so_far p k t (omega (arith, l, whole)) at entry
+
+  -- a step leads there for less from what was looked up where it does by the labels
+  module _ (orderly : IsOrderly (client_of v)) (k : Known) (t : Trusted) (looked : IsLookedUp v label k t) (h : ℕ) (o : Option Cost) (is : o ≡ label h) where
+    pub too_high : LeadsLower t.cost ((client_of v).fee k.height h) o → (client_of v).Accepts k.height h → IsTooHigh (client_of v) label k.height h
+    too_high lower accepted = go t.cost refl lower
+      where
+        go : (from : Option Cost) → t.cost ≡ from → LeadsLower from ((client_of v).fee k.height h) o → IsTooHigh (client_of v) label k.height h
+        go None e never = absurd never
+        go (Some c) e above =
+            let found : (client_of v).IsLive k.height × (label k.height ≡ Some c) = (looked.cost c).0 e in
+            (c, found.1, accepted, λ low. above (subst (λ (x : Option Cost). IsSomeAnd x (λ d. CostsAtMost d (after_update c ((client_of v).fee k.height h)))) (sym is) low))
+
+    pub leads_lower : IsTooHigh (client_of v) label k.height h → LeadsLower t.cost ((client_of v).fee k.height h) o × (client_of v).Accepts k.height h
+    leads_lower (c, labelled, accepted, above) =
+        let from : t.cost ≡ Some c = (looked.cost c).1 (orderly.trusts_live k.height h accepted, labelled) in
+        let lower : LeadsLower (Some c) ((client_of v).fee k.height h) o = λ low. above (subst (λ (x : Option Cost). IsSomeAnd x (λ d. CostsAtMost d (after_update c ((client_of v).fee k.height h)))) is low) in
+        (subst (λ (x : Option Cost). LeadsLower x ((client_of v).fee k.height h) o) (sym from) lower, accepted)
+
+pub places_few : (v : View) → IsView v → length v.book.records ≤ 4096
+places_few v view = omega (arith, view.book.few_records, view.book.limit.1)
