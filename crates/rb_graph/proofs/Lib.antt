@@ -15,3 +15,4 @@ pub mod Numbering
 pub mod Room
 pub mod OwnPlace
 pub mod Targets
+pub mod Finishing

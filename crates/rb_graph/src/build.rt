@@ -1,5 +1,5 @@
 //! What a step table keeps, made from its book.
-ghost use Rattle.std.specs.Prelude.{◌≡◌, ◌<◌, map, length, slice_get, IfOk, Some, All, Contains};
+ghost use Rattle.std.specs.Prelude.{◌≡◌, ◌<◌, map, length, slice_get, IfOk, Some, All, Contains, IsTrue, ◌↔◌};
 ghost use Rattle.std.specs.Option.{option_copied, option_map};
 ghost use Rattle.rb_book.specs.Invariant.{IsBook, IsBacked};
 ghost use Rattle.rb_book.specs.Header.{IsSignedBy};
@@ -12,6 +12,7 @@ use crate::source::Kept;
 use rb_base::{Fraction, Height};
 use rb_book::{ChainBook, Header, Known};
 use rb_lanes::{Columns, Plane, Tally};
+use rb_step::{is_signed_by_two_thirds, signed_power};
 use rb_valset::ValidatorSet;
 use std::alloc::{AllocError, Allocator};
 
@@ -142,4 +143,67 @@ pub fn kept_of<A: Allocator + Copy>(
         ))?;
     }
     Ok(Kept::new(own.size(), is_signed, signed))
+}
+
+/// The signed power of a header in a set, where a lower record names the set, by the members one
+/// after the other.
+#[tactic(auto, unfolding(crate::specs::Kept::kept_power))]
+fn plain_power<A: Allocator + Copy>(
+    book: &ChainBook<A>,
+    header: &Header<A>,
+    own: &ValidatorSet<A>,
+    set: &ValidatorSet<A>,
+    lowest: Option<Height>,
+) -> Option<u64>
+    requires own { own.now ≡ own_set book.now header.now }
+    requires signed { IsSignedBy header.now own.now }
+    requires lowest { lowest ≡ first_naming book.now set.now }
+    ensures { result ≡ kept_power book.now header.now set.now }
+{
+    match lowest {
+        Some(lowest) if lowest < header.height() => Some(signed_power(set, own, header)),
+        _ => None,
+    }
+}
+
+/// Whether these are the signed powers of a header, one for each set of the book.
+fn are_powers<A: Allocator + Copy>(
+    book: &ChainBook<A>,
+    header: &Header<A>,
+    own: &ValidatorSet<A>,
+    lowest: &[Option<Height>],
+    signed: &[Option<u64>],
+) -> bool
+    requires own { own.now ≡ own_set book.now header.now }
+    requires signed { IsSignedBy header.now own.now }
+    requires lowest { lowest.now ≡ map (first_naming book.now) book.now.sets }
+    ensures { IsTrue result ↔ (signed.now ≡ map (kept_power book.now header.now) book.now.sets) }
+{
+    if signed.len() != lowest.len() {
+        return false;
+    }
+    for (place, set) in book.sets().iter().enumerate() {
+        if signed[place] != plain_power(book, header, own, set, lowest[place]) {
+            return false;
+        }
+    }
+    true
+}
+
+/// Whether this is what is kept of a header. Takes no memory.
+#[tactic(auto, unfolding(crate::specs::Kept::kept_of))]
+pub fn is_kept_of<A: Allocator + Copy>(
+    book: &ChainBook<A>,
+    header: &Header<A>,
+    lowest: &[Option<Height>],
+    kept: &Kept<A>,
+) -> bool
+    requires backed { IsBacked book.now header.now }
+    requires lowest { lowest.now ≡ map (first_naming book.now) book.now.sets }
+    ensures { IsTrue result ↔ (kept.now ≡ kept_of book.now header.now) }
+{
+    let own = own_set(book, header);
+    kept.size() == own.size()
+        && kept.is_signed() == is_signed_by_two_thirds(header, own)
+        && are_powers(book, header, own, lowest, kept.signed())
 }

@@ -1,0 +1,119 @@
+//! A book whose rows are to be made.
+ghost use Rattle.std.specs.Prelude.{◌≡◌, ◌<◌, All, IfOk, Some, length, map, slice_get};
+ghost use Rattle.rb_book.specs.Invariant.{IsBacked};
+ghost use Rattle.rb_graph.specs.Kept.{first_naming};
+ghost use Rattle.rb_graph.specs.Frame.{IsRowOf, IsWhole};
+
+use crate::build::{first_namings, kept_of, next_places};
+use crate::frame_row::FrameRow;
+use crate::numbers::{number_sets, tallies_of};
+use rb_base::Height;
+use rb_book::{ChainBook, Header};
+use rb_lanes::{Columns, Tally};
+use std::alloc::{AllocError, Allocator, Global};
+use std::marker::Model;
+
+/// A book, with what its rows are made from. Each row is made by itself, so that many threads that
+/// are lent the frame can make rows side by side.
+#[derive(Drop)]
+pub struct Frame<A: Allocator = Global> {
+    pub(crate) book: ChainBook<A>,
+    pub(crate) next_places: Vec<Option<usize>, A>,
+    lowest: Vec<Option<Height>, A>,
+    columns: Columns<A>,
+    tallies: Vec<Tally<A>, A>,
+}
+
+impl<A: Allocator> Model for Frame<A> {
+    ghost use Rattle.std.specs.Prelude.{◌≡◌, map, All};
+    ghost use Rattle.rb_book.specs.Book.{Book};
+    ghost use Rattle.rb_graph.specs.Kept as tables;
+    ghost use Rattle.rb_graph.specs.Numbering as numbers;
+
+    ghost Value = { Book };
+
+    ghost view = { λ f. f.book };
+
+    ghost invariant = { λ f. (f.next_places.items ≡ tables.next_places f.book)
+        × (f.lowest.items ≡ map (tables.first_naming f.book) f.book.sets)
+        × All (numbers.AreNumbered f.columns) f.book.sets
+        × (f.tallies.items ≡ map (numbers.entries_of f.columns) f.book.sets) };
+}
+
+impl<A: Allocator + Copy> Frame<A> {
+    /// The frame of a book. The book is given up where memory is wanting.
+    pub fn from_book(alloc: A, book: ChainBook<A>) -> Result<Frame<A>, AllocError>
+        ensures { IfOk result (λ frame. frame ≡ book) }
+    {
+        let next_places = next_places(alloc, &book)?;
+        let lowest = first_namings(alloc, &book)?;
+        let columns = number_sets(alloc, book.sets())?;
+        let tallies = tallies_of(alloc, &columns, book.sets())?;
+        Ok(Frame {
+            book,
+            next_places,
+            lowest,
+            columns,
+            tallies,
+        })
+    }
+
+    /// The number of rows: one for each header. Takes no memory.
+    pub fn rows(&self) -> usize
+        ensures { result ≡ length self.now.headers }
+    {
+        self.book.headers().len()
+    }
+
+    /// The book.
+    pub fn book(&self) -> &ChainBook<A>
+        ensures { result.now ≡ self.now }
+    {
+        &self.book
+    }
+
+    /// The header at a place.
+    pub(crate) fn header(&self, place: usize) -> &Header<A>
+        requires { place < length self.now.headers }
+        ensures header { slice_get self.now.headers place ≡ Some result.now }
+        ensures backed { IsBacked self.now result.now }
+    {
+        &self.book.headers()[place]
+    }
+
+    /// For each set, by its place, the height of the lowest record that names it.
+    pub(crate) fn lowest(&self) -> &[Option<Height>]
+        ensures { result.now ≡ map (first_naming self.now) self.now.sets }
+    {
+        self.lowest.as_slice()
+    }
+
+    /// Makes the row of the header at a place.
+    pub fn row(&self, n: usize) -> Result<FrameRow<A>, AllocError>
+        requires { n < length self.now.headers }
+        ensures number { IfOk result (λ row. row.number ≡ n) }
+        ensures row { IfOk result (λ row. IsRowOf self.now row) }
+    {
+        let kept = kept_of(
+            *self.lowest.allocator(),
+            &self.book,
+            self.header(n),
+            self.lowest.as_slice(),
+            &self.columns,
+            self.tallies.as_slice(),
+        )?;
+        Ok(FrameRow::new(n, kept))
+    }
+
+    /// Makes all rows, one after the other.
+    pub(crate) fn all_rows(&self) -> Result<Vec<FrameRow<A>, A>, AllocError>
+        ensures right { IfOk result (λ rows. All (IsRowOf self.now) rows.items) }
+        ensures whole { IfOk result (λ rows. IsWhole (length self.now.headers) rows.items) }
+    {
+        let mut rows = Vec::with_capacity(*self.lowest.allocator(), self.rows())?;
+        for n in 0..self.rows() {
+            rows.push(self.row(n)?)?;
+        }
+        Ok(rows)
+    }
+}

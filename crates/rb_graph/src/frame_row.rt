@@ -1,0 +1,59 @@
+//! A row of a step table by itself.
+ghost use Rattle.std.specs.Prelude.{◌≡◌, ◌↔◌, IsTrue};
+ghost use Rattle.rb_graph.specs.Frame.{IsRowOf};
+
+use crate::build::is_kept_of;
+use crate::frame::Frame;
+use crate::source::Kept;
+use std::alloc::{Allocator, Global};
+use std::marker::Model;
+
+/// A row that was made of a frame, with its number.
+#[derive(Debug, Drop)]
+pub struct FrameRow<A: Allocator = Global> {
+    number: usize,
+    kept: Kept<A>,
+}
+
+impl<A: Allocator> Model for FrameRow<A> {
+    ghost use Rattle.rb_graph.specs.Frame as frame;
+
+    ghost Value = { frame.FrameRow };
+
+    ghost view = { λ r. record { number = r.number; kept = r.kept } };
+}
+
+impl<A: Allocator> FrameRow<A> {
+    pub(crate) fn new(number: usize, kept: Kept<A>) -> FrameRow<A>
+        ensures { result ≡ record { number = number; kept = kept } }
+    {
+        FrameRow { number, kept }
+    }
+
+    /// The row's number: the place of its header among the book's headers.
+    pub fn number(&self) -> usize
+        ensures { result ≡ self.now.number }
+    {
+        self.number
+    }
+
+    pub(crate) fn into_kept(self) -> Kept<A>
+        ensures { result ≡ self.kept }
+    {
+        self.kept
+    }
+}
+
+impl<A: Allocator + Copy> FrameRow<A> {
+    /// Whether this is the frame's row of its number, by their contents. Takes no memory: the frame's
+    /// own row is summed anew, one look-up for each member of each set that a lower record names.
+    pub fn is_of(&self, frame: &Frame<A>) -> bool
+        ensures { IsTrue result ↔ IsRowOf frame.now self.now }
+    {
+        if frame.rows() <= self.number {
+            return false;
+        }
+        let header = frame.header(self.number);
+        is_kept_of(frame.book(), header, frame.lowest(), &self.kept)
+    }
+}
