@@ -1,0 +1,4 @@
+pub mod Totals
+pub mod Claiming
+pub mod Counting
+pub mod Shifting

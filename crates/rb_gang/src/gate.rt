@@ -1,0 +1,31 @@
+//! What is called round each job.
+
+/// A job. Objects are named by their numbers in a script's order.
+#[derive(Clone, Copy, Debug, PartialEq, Eq)]
+pub enum Place {
+    /// The row of this number is made.
+    Row(usize),
+    /// A part of a path is scanned: 0 for its packets, 1 for its channel.
+    Scan(usize, usize),
+    /// A client is planned.
+    Plan(usize),
+    /// A client's finding was taken.
+    Taken(usize),
+}
+
+/// Whoever does a job calls `before` as it begins and `after` as it ends.
+pub trait Gate {
+    fn before(&self, place: Place);
+
+    fn after(&self, place: Place);
+}
+
+/// A gate that does nothing.
+#[derive(Clone, Copy, Debug, PartialEq, Eq)]
+pub struct OpenGate;
+
+impl Gate for OpenGate {
+    fn before(&self, _place: Place) {}
+
+    fn after(&self, _place: Place) {}
+}
