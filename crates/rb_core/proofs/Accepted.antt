@@ -15,7 +15,9 @@ use Rattle.rb_core.specs.Draft.{Job, Draft}
 use Rattle.rb_core.specs.Event.{Event, Window, Asked, SetSeen, HeaderSeen, StoredSeen, Sent, Received, AckWritten, Cleared, Closed, Scanned, Planned, Settled}
 use Rattle.rb_core.specs.Scan.{Scan}
 use Rattle.rb_core.specs.Machine.{Scans, State, no_scans, scan_of, with_scan, is_view, is_scanned, is_missed, all_scanned, plan_number, job_of, client_view, max_events, is_known, is_held, is_job, refusal_beside, refusal_of, accepted, after}
-use Rattle.rb_core.specs.Refusal.{Refusal, UnknownObject, Stale, Busy, Repeat, OutOfOrder, WindowBack, NotOwed, LogFull, refused_if}
+use Rattle.rb_events.specs.declared.refusal.Refusal.{Refusal}
+use Rattle.rb_events.specs.declared.refusal.Refusal.TheVariants.{UnknownObject, Stale, Busy, Repeat, OutOfOrder, WindowBack, NotOwed, LogFull}
+use Rattle.rb_core.specs.Refusal.{refused_if}
 use Rattle.rb_core.specs.Same.{same_job, same_job-Decides}
 use Rattle.rb_core.specs.Standing.{OpenBatch, KnownClient, KnownPath, Standing, open_batch, after_settled, goes_back, path_view, judged, changed, standing_after}
 

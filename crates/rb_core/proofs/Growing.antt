@@ -20,7 +20,9 @@ use Rattle.rb_valset.specs.Validator.{Member}
 use Rattle.rb_valset.specs.ValidatorSet.{set_hash}
 use Rattle.rb_core.specs.Event.{Event, Window, Asked, SetSeen, HeaderSeen, StoredSeen, Sent, Received, AckWritten, Cleared, Closed, Scanned, Planned, Settled}
 use Rattle.rb_core.specs.Machine.{State, opening, refusal_of, accepted, after, state_of}
-use Rattle.rb_core.specs.Refusal.{Refusal, OutOfOrder, Repeat, refused_if}
+use Rattle.rb_events.specs.declared.refusal.Refusal.{Refusal}
+use Rattle.rb_events.specs.declared.refusal.Refusal.TheVariants.{OutOfOrder, Repeat}
+use Rattle.rb_core.specs.Refusal.{refused_if}
 use Rattle.rb_core.specs.Standing.{OpenBatch, KnownPath, Standing, empty_book, book_at, tracked, view_of_path, path_view, changed, with_book, with_path, with_packet, new_packet, marked, with_mark, mark_of, open_batch, after_message, after_messages, after_settled, settled_messages, received_refusal, written_refusal, cleared_refusal}
 use Rattle.rb_core.specs.Task.{Message}
 use Rattle.rb_core.specs.Views.{ViewsNeverComeBack}

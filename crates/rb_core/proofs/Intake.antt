@@ -10,7 +10,7 @@ use Rattle.rb_book.specs.Header.{Record, Header, is_bad, same_record, same_heade
 use Rattle.rb_book.specs.Intake.{unless, unless_none, breaker, set_refusal_beside, set_refusal, record_refusal_beside, record_refusal, header_refusal_beside, header_refusal_under, header_refusal}
 use Rattle.rb_book.specs.declared.error.BookError.{BookError}
 use Rattle.rb_book.specs.declared.error.BookError.TheVariants.{UnknownSet, WrongVerdictCount, BadVote, Conflict, TimeOrder, Full, HashClash, NoMemory}
-use Rattle.rb_core.specs.Refusal.{of_book}
+use Rattle.rb_events.specs.Refusal.{of_book}
 
 -- the refusal of a book is one of the relayer's
 Named : Option BookError → Type 0

@@ -17,3 +17,9 @@ pub mod Logs
 pub mod Growing
 pub mod Apart
 pub mod RightAnswers
+pub mod Places
+pub mod Counted
+pub mod Replaced
+pub mod Stored
+pub mod Settled
+pub mod Within

@@ -19,11 +19,15 @@ use Rattle.rb_scan.specs.declared.scan.Part.{Part}
 use Rattle.rb_scan.specs.declared.scan.Part.TheVariants.{Packets, Channel}
 use Rattle.rb_step.specs.View.{client_of}
 use Rattle.rb_core.specs.Batches.{batch_open, Carries, MessagesAreInOneBatch, SettledMessagesAreGone}
-use Rattle.rb_core.specs.Config.{ClientConfig, PathConfig, Config, part_for}
+use Rattle.rb_events.specs.Config.{Config}
+use Rattle.rb_events.specs.declared.config.ClientConfig.{ClientConfig}
+use Rattle.rb_events.specs.declared.config.PathConfig.{PathConfig}
+use Rattle.rb_core.specs.Config.{part_for}
 use Rattle.rb_core.specs.Draft.{IsPlan, IsPlanned, IsAnswer, Draft, IsDraft}
 use Rattle.rb_core.specs.Event.{Event, IsEvent, Window, Asked, SetSeen, HeaderSeen, StoredSeen, Sent, Received, AckWritten, Cleared, Closed, Scanned, Planned, Settled}
 use Rattle.rb_core.specs.Machine.{State, opening, knows_client, is_known, refusal_beside, refusal_of, accepted, after, state_of}
-use Rattle.rb_core.specs.Refusal.{Refusal, UnknownObject, LogFull, Repeat, OutOfOrder}
+use Rattle.rb_events.specs.declared.refusal.Refusal.{Refusal}
+use Rattle.rb_events.specs.declared.refusal.Refusal.TheVariants.{UnknownObject, LogFull, Repeat, OutOfOrder}
 use Rattle.rb_core.specs.Standing.{OpenBatch, KnownClient, KnownPath, Standing, opening_standing, new_path, new_client, view_of_path, owed_at, path_task, path_tasks, task_in, judged, changed, changed_at, with_path, new_packet, batch_opened, with_batch, after_answer, open_batch, settled_refusal, settled_refusal_of, settled_messages, after_batch, after_messages, after_settled, sent_refusal, with_height}
 use Rattle.rb_core.specs.Task.{PathTask, Message, message_on, ready_on, messages_of}
 use Rattle.rb_core.proofs.Drafted.{IsDrafted, drafted}

@@ -24,11 +24,15 @@ use Rattle.rb_step.specs.LightClient.{Update, Runs, IsOrderly}
 use Rattle.rb_step.specs.View.{View, IsView, client_of}
 use Rattle.rb_valset.specs.Validator.{Member}
 use Rattle.rb_valset.specs.ValidatorSet.{set_hash}
-use Rattle.rb_core.specs.Config.{ClientConfig, PathConfig, Config, IsClient, IsConfig}
+use Rattle.rb_events.specs.Config.{Config, IsClient}
+use Rattle.rb_events.specs.declared.config.ClientConfig.{ClientConfig}
+use Rattle.rb_events.specs.declared.config.PathConfig.{PathConfig}
+use Rattle.rb_core.specs.Config.{IsSetUp}
 use Rattle.rb_core.specs.Draft.{IsPlan, IsPlanned, IsAnswer, Draft, IsDraft, Job}
 use Rattle.rb_core.specs.Event.{Event, IsEvent, Window, Asked, SetSeen, HeaderSeen, StoredSeen, Sent, Received, AckWritten, Cleared, Closed, Scanned, Planned, Settled}
 use Rattle.rb_core.specs.Machine.{State, opening, job_of, refusal_of, accepted, after, state_of}
-use Rattle.rb_core.specs.Refusal.{Refusal, OutOfOrder}
+use Rattle.rb_events.specs.declared.refusal.Refusal.{Refusal}
+use Rattle.rb_events.specs.declared.refusal.Refusal.TheVariants.{OutOfOrder}
 use Rattle.rb_core.specs.Standing.{OpenBatch, KnownClient, KnownPath, Standing, empty_book, new_client, new_path, opening_standing, book_at, tracked, view_of_path, view_of, task_in, changed, changed_at, with_book, with_client, with_path, with_height, with_packet, new_packet, marked, with_mark, mark_of, batch_opened, with_batch, after_answer, after_batch, after_message, after_messages, settled_updates, settled_messages, sent_refusal}
 use Rattle.rb_core.specs.Task.{Message, messages_of}
 use Rattle.rb_core.specs.Views.{ClientViewsAreViews, PathViewsArePaths}
@@ -367,11 +371,11 @@ module _ (finds : FindsWhatWasAdded) (stays : StaysABook) (orderly : ViewsAreOrd
 
   -- ---- before the first event
 
-  new_clients : (config : Config) (books : List Book) (cs : List ClientConfig) → length books ≡ length config.chains → AllByRecursion (IsClient (length config.chains)) cs → AllByRecursion (IsSoundClient books) (map new_client cs)
-  new_clients config books [] long all = tt
-  new_clients config books (c ∷ cs) long all = (
-    record { tracks = subst (λ n. c.tracks < n) (sym long) all.0.tracks; fees = all.0.fees; rising = λ k lt. absurd (omega arith); recorded = tt; updates = λ b e. absurd (none-some b e); apart = λ b e. absurd (none-some b e) },
-    new_clients config books cs long all.1,
+  new_clients : (config : Config) (books : List Book) (cs : List ClientConfig) → length books ≡ length config.chains → AllByRecursion (IsClient (length config.chains)) cs → AllByRecursion (λ (c : ClientConfig). IsFeeTable c.fees) cs → AllByRecursion (IsSoundClient books) (map new_client cs)
+  new_clients config books [] long all fees = tt
+  new_clients config books (c ∷ cs) long all fees = (
+    record { tracks = subst (λ n. c.tracks < n) (sym long) all.0.tracks; fees = fees.0; rising = λ k lt. absurd (omega arith); recorded = tt; updates = λ b e. absurd (none-some b e); apart = λ b e. absurd (none-some b e) },
+    new_clients config books cs long all.1 fees.1,
   )
 
   new_paths : (ps : List PathConfig) → AllByRecursion IsSoundPath (map new_path ps)
@@ -382,15 +386,15 @@ module _ (finds : FindsWhatWasAdded) (stays : StaysABook) (orderly : ViewsAreOrd
   new_books zero limit within = tt
   new_books (suc n) limit within = (empty_is_book limit within, new_books n limit within)
 
-  opening_sound : (config : Config) → IsConfig config → IsSound (opening config).standing
+  opening_sound : (config : Config) → IsSetUp config → IsSound (opening config).standing
   opening_sound config is = record {
     window = λ w e. absurd (none-some w e);
-    books = new_books (length config.chains) config.limit is.limit;
-    clients = new_clients config (opening_standing config).books config.clients (length-replicate (length config.chains) (empty_book config.limit)) (recursion_from_All (IsClient (length config.chains)) config.clients is.clients);
+    books = new_books (length config.chains) config.limit is.rules.limit;
+    clients = new_clients config (opening_standing config).books config.clients (length-replicate (length config.chains) (empty_book config.limit)) (recursion_from_All (IsClient (length config.chains)) config.clients is.rules.clients) (recursion_from_All (λ (c : ClientConfig). IsFeeTable c.fees) config.clients is.fees);
     paths = new_paths config.paths;
   }
 
-  sound_after : (config : Config) (es : List Event) → IsConfig config → All IsEvent es → IsSound (state_of config es).standing
+  sound_after : (config : Config) (es : List Event) → IsSetUp config → All IsEvent es → IsSound (state_of config es).standing
   sound_after config es is are = events_sound (opening config) es (opening_sound config is) (recursion_from_All IsEvent es are)
 
   -- ---- the laws

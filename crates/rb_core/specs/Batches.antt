@@ -13,7 +13,8 @@ use Rattle.rb_scan.specs.declared.message.Kind.{Kind}
 use Rattle.rb_scan.specs.declared.message.Kind.TheVariants.{Receive}
 use Rattle.rb_scan.specs.declared.path.Order.TheVariants.{Ordered}
 use Rattle.rb_step.specs.View.{client_of}
-use Rattle.rb_core.specs.Config.{Config, IsConfig}
+use Rattle.rb_events.specs.Config.{Config}
+use Rattle.rb_core.specs.Config.{IsSetUp}
 use Rattle.rb_core.specs.Draft.{Draft, IsDraft}
 use Rattle.rb_core.specs.Event.{Event, IsEvent, Planned, Settled}
 use Rattle.rb_core.specs.Machine.{Opened, refusal_of, reply_of, after, state_of}
@@ -95,7 +96,7 @@ AreApart m n = (m.path ≡ n.path) × (m.packet.kind ≡ n.packet.kind) × (m.pa
 -- no message stands twice in an open batch
 abbrev pub MessagesStandOnce : Type 0
 MessagesStandOnce =
-    (config : Config) (events : List Event) → IsConfig config → All IsEvent events
+    (config : Config) (events : List Event) → IsSetUp config → All IsEvent events
     → (client : ℕ) (b : OpenBatch) → batch_open (state_of config events).standing client ≡ Some b → AllPairs AreApart b.messages
 
 -- once it was settled it is in no open batch any more, whatever happens later

@@ -11,11 +11,13 @@ use Rattle.rb_scan.specs.declared.message.PacketMsg.{PacketMsg}
 use Rattle.rb_scan.specs.declared.path.Order.{Order}
 use Rattle.rb_scan.specs.declared.path.Order.TheVariants.{Ordered, Unordered}
 use Rattle.rb_scan.specs.declared.scan.Part.TheVariants.{Packets, Channel}
-use Rattle.rb_core.specs.Config.{ClientConfig, Config}
+use Rattle.rb_events.specs.Config.{Config}
+use Rattle.rb_events.specs.declared.config.ClientConfig.{ClientConfig}
 use Rattle.rb_core.specs.Draft.{batched, Planned as Answer, Job, Draft}
 use Rattle.rb_core.specs.Event.{Event, Window, Asked, StoredSeen, Sent, Received, AckWritten, Cleared, Closed, Scanned, Planned, Settled}
 use Rattle.rb_core.specs.Machine.{State, Opened, client_view, client_view_refusal, path_view_refusal, max_events, refusal_of, reply_of, state_of}
-use Rattle.rb_core.specs.Refusal.{Refusal, Conflict, UnknownObject, Stale, Busy, Repeat, OutOfOrder, WindowBack, NotOwed, LogFull}
+use Rattle.rb_events.specs.declared.refusal.Refusal.{Refusal}
+use Rattle.rb_events.specs.declared.refusal.Refusal.TheVariants.{Conflict, UnknownObject, Stale, Busy, Repeat, OutOfOrder, WindowBack, NotOwed, LogFull}
 use Rattle.rb_core.specs.Standing.{KnownClient, path_view, view_of_path, after_message}
 use Rattle.rb_core.specs.Task.{PathTask, Message}
 

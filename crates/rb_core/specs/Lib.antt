@@ -1,4 +1,3 @@
-pub mod Gas
 pub mod Config
 pub mod Refusal
 pub mod Reach
@@ -16,3 +15,9 @@ pub mod Examples
 pub mod Views
 pub mod Steps
 pub mod Log
+pub mod Seen
+pub mod Marked
+pub mod Held
+pub mod Known
+pub mod Refused
+pub mod Replied

@@ -8,11 +8,14 @@ use Rattle.rb_scan.specs.Same.{same_path}
 use Rattle.rb_scan.specs.declared.message.PacketMsg.{PacketMsg}
 use Rattle.rb_scan.specs.declared.scan.Part.{Part}
 use Rattle.rb_scan.specs.declared.scan.Part.TheVariants.{Packets, Channel}
-use Rattle.rb_core.specs.Config.{Config, part_for}
+use Rattle.rb_events.specs.Config.{Config}
+use Rattle.rb_core.specs.Config.{part_for}
 use Rattle.rb_core.specs.Draft.{Job, Draft}
 use Rattle.rb_core.specs.Event.{Event, Window, Asked, SetSeen, HeaderSeen, StoredSeen, Sent, Received, AckWritten, Cleared, Closed, Scanned, Planned, Settled}
 use Rattle.rb_core.specs.Scan.{Scan}
-use Rattle.rb_core.specs.Refusal.{Refusal, UnknownObject, Stale, Busy, Repeat, OutOfOrder, NotOwed, LogFull, refused_if}
+use Rattle.rb_events.specs.declared.refusal.Refusal.{Refusal}
+use Rattle.rb_events.specs.declared.refusal.Refusal.TheVariants.{UnknownObject, Stale, Busy, Repeat, OutOfOrder, NotOwed, LogFull}
+use Rattle.rb_core.specs.Refusal.{refused_if}
 use Rattle.rb_core.specs.Same.{same_job}
 use Rattle.rb_core.specs.Standing.{OpenBatch, KnownClient, KnownPath, Standing, opening_standing, path_view, owed_at, path_tasks, task_of, judged, changed, batch_opened}
 

@@ -3,7 +3,7 @@ use Rattle.std.specs.Prelude.{◌≡◌, ◌==◌, ◌&&◌, Bool, false, Option
 use Rattle.std.proofs.Common.{ap, nat_eq}
 use Rattle.std.specs.Bool.{Decides, beq}
 use Rattle.std.specs.Option.{option_eq}
-use Rattle.std.specs.Cmp.{booleans_Decides, unsigned_Decides}
+use Rattle.std.specs.Cmp.{IsPartialEquivalence, IsEquivalence, decided, partial_equiv_from_equiv, booleans_Decides, unsigned_Decides}
 use Rattle.std.specs.Cmp.Lexicographic.{pointwise}
 use Rattle.std.proofs.lemmas.Bool.Decides.{Decides-and, Decides-like}
 use Rattle.std.proofs.lemmas.Slice.Eq.{slice_eq-Decides}
@@ -23,7 +23,7 @@ use Rattle.rb_scan.specs.declared.message.PacketMsg.{PacketMsg}
 use Rattle.rb_scan.specs.declared.path.Order.{Order}
 use Rattle.rb_scan.specs.declared.path.Order.TheVariants.{Ordered, Unordered}
 use Rattle.rb_step.specs.View.{View}
-use Rattle.rb_core.specs.Gas.{PathGas}
+use Rattle.rb_events.specs.Gas.{PathGas}
 use Rattle.rb_core.specs.Draft.{Job}
 use Rattle.rb_core.specs.Task.{PathTask, Task}
 
@@ -144,7 +144,7 @@ same_packet_message-Decides m n =
     (λ e. ((ap (λ (x : PacketMsg). x.kind) e, ap (λ (x : PacketMsg). x.sequence) e), ap (λ (x : PacketMsg). x.floor) e))
     (Decides-and _ _ (Decides-and _ _ (kinds_Decides m.kind n.kind) (unsigned_Decides m.sequence n.sequence)) (unsigned_Decides m.floor n.floor))
 
-same_path_task-Decides : (p q : PathTask) → Decides (same_path_task p q) (p ≡ q)
+pub same_path_task-Decides : (p q : PathTask) → Decides (same_path_task p q) (p ≡ q)
 same_path_task-Decides p q =
     Decides-like _ (λ e i. record { path = e.0.0.0 i; order = e.0.0.1 i; gas = e.0.1 i; owed = e.1 i })
     (λ e. (((ap (λ (x : PathTask). x.path) e, ap (λ (x : PathTask). x.order) e), ap (λ (x : PathTask). x.gas) e), ap (λ (x : PathTask). x.owed) e))
@@ -165,3 +165,17 @@ same_job-Decides j k =
     Decides-like _ (λ e i. record { client = e.0.0.0 i; task = e.0.0.1 i; plan = e.0.1 i; held = e.1 i })
     (λ e. (((ap (λ (x : Job). x.client) e, ap (λ (x : Job). x.task) e), ap (λ (x : Job). x.plan) e), ap (λ (x : Job). x.held) e))
     (Decides-and _ _ (Decides-and _ _ (Decides-and _ _ (unsigned_Decides j.client k.client) (same_task-Decides j.task k.task)) (unsigned_Decides j.plan k.plan)) (booleans_Decides j.held k.held))
+
+-- ---- so each is an equality
+
+pub same_path_task-equiv : IsEquivalence same_path_task
+same_path_task-equiv = decided same_path_task same_path_task-Decides
+
+pub same_path_task-laws : IsPartialEquivalence same_path_task
+same_path_task-laws = partial_equiv_from_equiv same_path_task-equiv
+
+pub same_job-equiv : IsEquivalence same_job
+same_job-equiv = decided same_job same_job-Decides
+
+pub same_job-laws : IsPartialEquivalence same_job
+same_job-laws = partial_equiv_from_equiv same_job-equiv

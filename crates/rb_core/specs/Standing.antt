@@ -19,10 +19,16 @@ use Rattle.rb_scan.specs.declared.path.Order.TheVariants.{Ordered}
 use Rattle.rb_scan.specs.declared.scan.Part.{Part}
 use Rattle.rb_step.specs.LightClient.{Update}
 use Rattle.rb_step.specs.View.{View}
-use Rattle.rb_core.specs.Config.{ClientConfig, PathConfig, Config, part_for}
+use Rattle.rb_events.specs.Config.{Config}
+use Rattle.rb_events.specs.declared.config.ClientConfig.{ClientConfig}
+use Rattle.rb_events.specs.declared.config.PathConfig.{PathConfig}
+use Rattle.rb_core.specs.Config.{part_for}
 use Rattle.rb_core.specs.Draft.{Sending, nothing, too_big, batched, Plan, Planned as Answer}
 use Rattle.rb_core.specs.Event.{Event, Window, Asked, SetSeen, HeaderSeen, StoredSeen, Sent, Received, AckWritten, Cleared, Closed, Scanned, Planned, Settled}
-use Rattle.rb_core.specs.Refusal.{Refusal, Full, Repeat, OutOfOrder, WindowBack, of_book, refused_if}
+use Rattle.rb_events.specs.Refusal.{of_book}
+use Rattle.rb_events.specs.declared.refusal.Refusal.{Refusal}
+use Rattle.rb_events.specs.declared.refusal.Refusal.TheVariants.{Full, Repeat, OutOfOrder, WindowBack}
+use Rattle.rb_core.specs.Refusal.{refused_if}
 use Rattle.rb_core.specs.Task.{PathTask, Task, Message}
 
 -- a batch that was opened: its number, the height that it proves its packets at, its messages, the updates first, and its

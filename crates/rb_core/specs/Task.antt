@@ -14,7 +14,7 @@ use Rattle.rb_scan.specs.declared.path.Order.{Order}
 use Rattle.rb_step.specs.Fee.{fee_at}
 use Rattle.rb_step.specs.LightClient.{Update}
 use Rattle.rb_step.specs.View.{View}
-use Rattle.rb_core.specs.Gas.{PathGas, gas_for}
+use Rattle.rb_events.specs.Gas.{PathGas, gas_for}
 
 -- a path, by its place, as one of its clients has it: its order, its gas, and the messages that it owes that client
 pub record PathTask : Type 0 where

@@ -1,8 +1,8 @@
 //! The messages that follow the updates of a client.
-ghost use Rattle.std.specs.Prelude.{◌≡◌, ◌≤◌};
-ghost use Rattle.rb_core.specs.Gas.{max_gas, gas_for};
+ghost use Rattle.std.specs.Prelude.{◌≡◌, ◌≤◌, ◌^◌};
+ghost use Rattle.rb_events.specs.Gas.{gas_for};
 
-use crate::gas::PathGas;
+use rb_events::PathGas;
 use rb_scan::PacketMsg;
 use std::marker::Model;
 
@@ -15,23 +15,22 @@ pub struct Message {
 }
 
 impl Model for Message {
-    ghost use Rattle.std.specs.Prelude.{◌≤◌};
-    ghost use Rattle.rb_core.specs.Gas.{max_gas};
+    ghost use Rattle.std.specs.Prelude.{◌≤◌, ◌^◌};
     ghost use Rattle.rb_core.specs.Task as tasks;
 
     ghost Value = { tasks.Message };
 
     ghost view = { λ m. record { path = m.path; packet = m.packet; gas = m.gas } };
 
-    ghost invariant = { λ m. m.gas ≤ max_gas };
+    ghost invariant = { λ m. m.gas ≤ 10 ^ 9 };
 
     ghost inverse = { λ m. record { path = m.path; packet = m.packet; gas = m.gas } };
 }
 
 impl Message {
     /// The message on a path with this gas.
-    pub(crate) fn new(path: usize, gas: &PathGas, packet: PacketMsg) -> Message
-        ensures { result ≡ record { path = path; packet = packet; gas = gas_for gas.now packet.kind } }
+    pub(crate) fn new(path: usize, gas: PathGas, packet: PacketMsg) -> Message
+        ensures { result ≡ record { path = path; packet = packet; gas = gas_for gas packet.kind } }
     {
         Message {
             path,
@@ -57,7 +56,7 @@ impl Message {
     /// The gas that it takes.
     pub fn gas(&self) -> u64
         ensures value { result ≡ self.now.gas }
-        ensures range { result ≤ max_gas }
+        ensures range { result ≤ 10 ^ 9 }
     {
         self.gas
     }

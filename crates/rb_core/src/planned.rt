@@ -75,6 +75,15 @@ impl<A: Allocator> Plan<A> {
     {
         &self.sending
     }
+
+    /// The updates, the packet messages, and how they are sent.
+    pub fn into_parts(self) -> (Vec<Update, A>, Vec<Message, A>, Sending<A>)
+        ensures updates { result.0.items ≡ self.updates }
+        ensures messages { result.1.items ≡ self.messages }
+        ensures sending { sending_view result.2 ≡ self.sending }
+    {
+        (self.updates, self.messages, self.sending)
+    }
 }
 
 impl<A: Allocator + Copy> Plan<A> {
@@ -138,6 +147,13 @@ impl<A: Allocator> Planned<A> {
         ensures { option_copied result ≡ self.now.plan }
     {
         self.plan.as_ref()
+    }
+
+    /// The plan alone.
+    pub fn into_plan(self) -> Option<Plan<A>>
+        ensures { result ≡ self.plan }
+    {
+        self.plan
     }
 }
 

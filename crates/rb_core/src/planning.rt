@@ -2,10 +2,10 @@
 ghost use Rattle.std.specs.Prelude.{◌≡◌, ◌+◌, ◌<◌, ◌++◌, [], length, map, IfOk, OnOk};
 ghost use Rattle.std.specs.Bool.{OnTrue, OnFalse};
 ghost use Rattle.rb_plan.specs.Goal.{Meets};
+ghost use Rattle.rb_plan.specs.Labelling.{IsExact, IsLabelling, label_of};
 ghost use Rattle.rb_step.specs.View.{client_of};
 ghost use Rattle.rb_core.specs.Draft.{IsSending, IsAnswer};
 ghost use Rattle.rb_core.specs.Planning.{IsPlannedFor, IsPlannedIf};
-ghost use Rattle.rb_core.specs.Reach.{IsReach};
 ghost use Rattle.rb_core.specs.Sent.{sending_view};
 ghost use Rattle.rb_core.specs.Task.{Message, gas_of, gases, messages_of};
 
@@ -17,7 +17,7 @@ use crate::task::{Task, ready_messages};
 use rb_base::Height;
 use rb_batch::{BatchError, Msg, cut};
 use rb_graph::Graph;
-use rb_plan::{Answer, Goal, Update, label, plan, proof_height, top_reachable};
+use rb_plan::{Answer, Goal, Labelling, Update, label, plan_by, proof_height, top_reachable};
 use std::alloc::{AllocError, Allocator};
 
 /// Puts the gas of each update to the end of a list.
@@ -105,13 +105,16 @@ fn planned<A: Allocator + Copy>(
     alloc: A,
     task: &Task<A>,
     graph: &Graph<A>,
+    labelling: Labelling<A>,
     goal: Goal,
     messages: Vec<Message, A>,
 ) -> Result<Planned<A>, AllocError>
-    requires { graph.now ≡ task.now.view.book }
+    requires table { graph.now ≡ task.now.view.book }
+    requires labels { IsLabelling labelling }
+    requires exact { IsExact (client_of task.now.view) (label_of labelling) }
     ensures { IfOk result (IsPlannedFor task.now goal messages.items) }
 {
-    match plan(alloc, task.view(), graph, goal)? {
+    match plan_by(alloc, task.view(), graph, labelling, goal)? {
         Answer::Plan { updates, labelling } => {
             let sending = sending(alloc, task, &goal, updates.as_slice(), messages.as_slice())?;
             let sent = Plan::new(updates, messages, sending);
@@ -136,32 +139,22 @@ fn messages_of<A: Allocator + Copy>(
     ready_messages(alloc, task.paths(), &reach)
 }
 
-/// The greatest height that the client can be brought to.
-fn reach<A: Allocator + Copy>(
-    alloc: A,
-    task: &Task<A>,
-    graph: &Graph<A>,
-) -> Result<Option<Height>, AllocError>
-    requires { graph.now ≡ task.now.view.book }
-    ensures { IfOk result (IsReach (client_of task.now.view)) }
-{
-    let labelling = label(alloc, task.view(), graph)?;
-    Ok(top_reachable(&labelling))
-}
-
 /// What is planned for a goal, if there is one.
 fn planned_if<A: Allocator + Copy>(
     alloc: A,
     task: &Task<A>,
     graph: &Graph<A>,
+    labelling: Labelling<A>,
     goal: Option<Goal>,
     messages: Vec<Message, A>,
 ) -> Result<Option<Planned<A>>, AllocError>
-    requires { graph.now ≡ task.now.view.book }
+    requires table { graph.now ≡ task.now.view.book }
+    requires labels { IsLabelling labelling }
+    requires exact { IsExact (client_of task.now.view) (label_of labelling) }
     ensures { IfOk result (IsPlannedIf task.now goal messages.items) }
 {
     match goal {
-        Some(goal) => Ok(Some(planned(alloc, task, graph, goal, messages)?)),
+        Some(goal) => Ok(Some(planned(alloc, task, graph, labelling, goal, messages)?)),
         None => Ok(None),
     }
 }
@@ -176,9 +169,10 @@ pub fn answer<A: Allocator + Copy>(
     requires { graph.now ≡ task.now.view.book }
     ensures { IfOk result (IsAnswer task.now) }
 {
-    let reach = reach(alloc, task, graph)?;
+    let labelling = label(alloc, task.view(), graph)?;
+    let reach = top_reachable(&labelling);
     let messages = messages_of(alloc, task, reach)?;
     let goal = first_goal(task, messages.as_slice());
-    let outcome = planned_if(alloc, task, graph, goal, messages)?;
+    let outcome = planned_if(alloc, task, graph, labelling, goal, messages)?;
     Ok(outcome)
 }

@@ -1,13 +1,15 @@
 //! What a plan for a client goes by.
-ghost use Rattle.std.specs.Prelude.{◌≡◌, ◌++◌, map, IfOk, OnOk};
+ghost use Rattle.std.specs.Prelude.{◌≡◌, ◌↔◌, ◌++◌, map, IsTrue, IfOk, OnOk};
+ghost use Rattle.std.specs.Cmp.Lexicographic.{pointwise};
 ghost use Rattle.std.specs.List.{flat_map};
 ghost use Rattle.rb_scan.specs.Owed.{ready};
+ghost use Rattle.rb_core.specs.Same.{same_packet_message, same_path_task};
 ghost use Rattle.rb_core.specs.Task.{message_on, ready_on};
 
-use crate::gas::PathGas;
 use crate::message::Message;
 use rb_base::{FeeTable, Height};
 use rb_batch::Limits;
+use rb_events::PathGas;
 use rb_plan::Goal;
 use rb_scan::{Order, PacketMsg, ScanError, ready};
 use rb_step::ClientView;
@@ -74,6 +76,45 @@ impl<A: Allocator> PathTask<A> {
     }
 }
 
+impl<A: Allocator> PathTask<A> {
+    fn is_same(&self, other: &PathTask<A>) -> bool
+        ensures { result ≡ same_path_task self.now other.now }
+    {
+        self.path == other.path
+            && self.order == other.order
+            && self.gas == other.gas
+            && same_messages(self.owed.as_slice(), other.owed.as_slice())
+    }
+}
+
+impl<A: Allocator> PartialEq for PathTask<A> {
+    ghost use Rattle.rb_core.specs.Same.{same_path_task, same_path_task-laws};
+
+    ghost eq = { same_path_task };
+
+    ghost laws = { same_path_task-laws };
+
+    fn eq(&self, other: &PathTask<A>) -> bool
+        ensures value { result ≡ same_path_task self.now other.now }
+        ensures equal { IsTrue result ↔ (self.now ≡ other.now) }
+    {
+        self.is_same(other)
+    }
+}
+
+impl<A: Allocator> Eq for PathTask<A> {
+    ghost use Rattle.rb_core.specs.Same.{same_path_task-equiv};
+
+    ghost laws = { same_path_task-equiv };
+}
+
+/// Whether two lists of messages are equal.
+pub(crate) fn same_messages(messages: &[PacketMsg], others: &[PacketMsg]) -> bool
+    ensures { result ≡ pointwise same_packet_message messages.now others.now }
+{
+    messages == others
+}
+
 impl<A: Allocator + Copy> PathTask<A> {
     /// An equal one, on the same allocator.
     pub fn copy(&self) -> Result<PathTask<A>, AllocError>
@@ -102,7 +143,7 @@ impl<A: Allocator + Copy> PathTask<A> {
     fn message(&self, packet: PacketMsg) -> Message
         ensures { result ≡ message_on self.now packet }
     {
-        Message::new(self.path, &self.gas, packet)
+        Message::new(self.path, self.gas, packet)
     }
 
     /// Puts the ready messages to the end of a list.

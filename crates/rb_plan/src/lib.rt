@@ -17,6 +17,6 @@ pub use batch::{gas_of, proof_height};
 pub use cost::Cost;
 pub use labelling::{Label, Labelling, are_labels, top_reachable};
 pub use labels::label;
-pub use planning::plan;
+pub use planning::{plan, plan_by};
 pub use rb_events::Goal;
 pub use update::Update;
