@@ -1,0 +1,65 @@
+-- Reports, without where they lie in memory.
+use Rattle.std.specs.Prelude.{ℕ, Bool, List, Option}
+use Rattle.rb_batch.specs.declared.transaction.Transaction.{Transaction}
+use Rattle.rb_plan.specs.declared.cost.Cost.{Cost}
+use Rattle.rb_events.specs.declared.goal.Goal.{Goal}
+use Rattle.rb_plan.specs.declared.labelling.Label.{Label}
+use Rattle.rb_step.specs.LightClient.{Update}
+use Rattle.rb_events.specs.declared.refusal.Refusal.{Refusal}
+use Rattle.rb_core.specs.Task.{Message}
+
+-- an event that was refused, by its number in its turn, from 0
+pub record RefusedEvent : Type 0 where
+  pub event : ℕ
+  pub refusal : Refusal
+
+pub record PricedUpdate : Type 0 where
+  pub update : Update
+  pub fee : ℕ
+
+pub record Batch : Type 0 where
+  pub number : ℕ
+  pub proof : ℕ
+  pub transactions : List Transaction
+
+pub data Sending : Type 0 where
+  nothing : Sending
+  too_big : ℕ → Sending
+  batched : Batch → Sending
+
+pub record Plan : Type 0 where
+  pub updates : List PricedUpdate
+  pub total : Cost
+  pub messages : List Message
+  pub sending : Sending
+
+pub record Planned : Type 0 where
+  pub goal : Goal
+  pub labels : List Label
+  pub plan : Option Plan
+
+pub data Outcome : Type 0 where
+  held : ℕ → Outcome
+  idle : Outcome
+  planned : Planned → Outcome
+
+pub record ClientReport : Type 0 where
+  pub id : List ℕ
+  pub outcome : Outcome
+
+-- a settlement, its client by its identifier, and why it was refused, if it was
+pub record SettlementReport : Type 0 where
+  pub id : List ℕ
+  pub batch : ℕ
+  pub done : ℕ
+  pub refusal : Option Refusal
+
+pub record TurnReport : Type 0 where
+  pub window_back : Bool
+  pub refused : List RefusedEvent
+  pub clients : List ClientReport
+  pub settlements : List SettlementReport
+
+-- the report of each turn
+abbrev pub Report : Type 0
+Report = List TurnReport
