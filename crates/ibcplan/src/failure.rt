@@ -15,6 +15,12 @@ pub enum Failure<'a> {
     /// A file can't be read.
     #[error("device\n{file}: {error}\nGive the path of a file that can be read, or - for standard input.")]
     Unreadable { file: &'a str, error: io::Error },
+    /// A file or a folder of answers can't be read.
+    #[error("device\n{file}: {error}\nThe folder of answers has a folder for each client, each path and each chain that is tracked.")]
+    UnreadableAnswers { file: String, error: io::Error },
+    /// Answers are refused.
+    #[error("{0}")]
+    RefusedAnswers(String),
     /// The content of a file is refused.
     #[error("{fault}\n{flaw}")]
     Refused { fault: Fault, flaw: Flaw<'a> },
@@ -39,13 +45,25 @@ impl<'a> Failure<'a> {
         }
     }
 
+    /// Why a file or a folder of answers isn't read.
+    pub fn of_file(file: String, error: io::Error) -> Failure<'a> {
+        if error.kind() == io::ErrorKind::OutOfMemory {
+            Failure::NoMemory
+        } else {
+            Failure::UnreadableAnswers { file, error }
+        }
+    }
+
     /// The status that the program ends with.
     pub fn status(&self) -> u8
         ensures { IsFailureStatus result }
     {
         match self {
-            Failure::Refused { .. } => status::REFUSED,
-            Failure::Unreadable { .. } | Failure::Unwritten | Failure::NoMemory => status::FAILED,
+            Failure::Refused { .. } | Failure::RefusedAnswers(_) => status::REFUSED,
+            Failure::Unreadable { .. }
+            | Failure::UnreadableAnswers { .. }
+            | Failure::Unwritten
+            | Failure::NoMemory => status::FAILED,
         }
     }
 }

@@ -63,7 +63,8 @@ fn bytes_at(rt: &HostRuntime, path: &str) -> io::Result<Vec<u8>> {
     }
 }
 
-fn bytes_of<R: Read + Drop>(alloc: Global, reader: R) -> io::Result<Vec<u8>> {
+/// The bytes of a reader, up to one past what a text may have.
+pub fn bytes_of<R: Read + Drop>(alloc: Global, reader: R) -> io::Result<Vec<u8>> {
     let mut bytes = Vec::new(alloc);
     reader.take(MOST_BYTES).read_to_end(&mut bytes)?;
     Ok(bytes)

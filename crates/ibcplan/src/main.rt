@@ -6,6 +6,7 @@
 mod advice;
 mod failure;
 mod flaw;
+mod importing;
 mod input;
 mod perform;
 mod status;

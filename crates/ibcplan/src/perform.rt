@@ -3,12 +3,15 @@ ghost use Rattle.std.specs.Prelude.{◌≡◌, ◌⊎◌, false, IfOk};
 ghost use Rattle.ibcplan.specs.Status.{IsPlanned, IsConfirmed, IsDenied};
 
 use crate::failure::Failure;
+use crate::importing::imported;
 use crate::input::Input;
 use crate::status;
 use crate::task::Task;
 use clap::error::ErrorKind;
-use rb_base::{Counted, Sink};
+use rb_base::{Counted, Sink, write_whole};
 use rb_fields::RunError;
+use rb_output::{commands_of, json_of};
+use rb_super::run_script;
 use rb_text::{certify_over, plan_over, read_script};
 use std::alloc::Global;
 use std::io;
@@ -54,6 +57,21 @@ fn outcome_of<'a>(rt: &HostRuntime, task: Task<'a>) -> Result<u8, Failure<'a>> {
             let script = Input::read(rt, script)?;
             plan(rt.alloc(), &script, &mut output)?
         }
+        Task::PlanJson { script } => {
+            let script = Input::read(rt, script)?;
+            let text = planned_text(rt.alloc(), &script, Form::Json)?;
+            write(&text, &mut output)?
+        }
+        Task::Commands { script } => {
+            let script = Input::read(rt, script)?;
+            let text = planned_text(rt.alloc(), &script, Form::Commands)?;
+            write(&text, &mut output)?
+        }
+        Task::Import { setup, folder } => {
+            let setup = Input::read(rt, setup)?;
+            let script = imported(rt, &setup, folder)?;
+            write(&script, &mut output)?
+        }
         Task::Certify {
             script,
             certificate,
@@ -75,6 +93,41 @@ fn plan<'a, W: Sink>(alloc: Global, script: &Input<'a>, output: &mut W) -> Resul
     match plan_over(alloc, script.bytes(), output) {
         Ok(()) => Ok(status::DONE),
         Err(error) => Err(Failure::of_run(alloc, error, script)),
+    }
+}
+
+/// What a report is written as, beside its own text.
+#[derive(Clone, Copy)]
+enum Form {
+    Json,
+    Commands,
+}
+
+/// The report of the script that a file holds, in another form.
+fn planned_text<'a>(alloc: Global, input: &Input<'a>, form: Form) -> Result<String, Failure<'a>> {
+    match form_of(alloc, input.bytes(), form) {
+        Ok(text) => Ok(text),
+        Err(error) => Err(Failure::of_run(alloc, error, input)),
+    }
+}
+
+/// Reads a script, runs it, and puts its report into a form.
+fn form_of(alloc: Global, bytes: &[u8], form: Form) -> Result<String, RunError> {
+    let script = read_script(alloc, bytes)?;
+    let report = run_script(alloc, &script)?;
+    match form {
+        Form::Json => Ok(json_of(alloc, &report)?),
+        Form::Commands => Ok(commands_of(alloc, &script, &report)?),
+    }
+}
+
+/// Writes a text that was made in memory.
+fn write<'a, W: Sink>(script: &String, output: &mut W) -> Result<u8, Failure<'a>>
+    requires { W.is_broken output.old ≡ false }
+{
+    match write_whole(output, script.as_bytes()) {
+        Ok(()) => Ok(status::DONE),
+        Err(_) => Err(Failure::Unwritten),
     }
 }
 

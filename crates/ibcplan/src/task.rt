@@ -11,6 +11,19 @@ pub enum Task<'a> {
     Plan {
         script: &'a str,
     },
+    /// Write a script's report as JSON.
+    PlanJson {
+        script: &'a str,
+    },
+    /// Write the commands for a script's plans.
+    Commands {
+        script: &'a str,
+    },
+    /// Write the script that a setup and the answers in a folder make.
+    Import {
+        setup: &'a str,
+        folder: &'a str,
+    },
     /// Judge a certificate.
     Certify {
         script: &'a str,
@@ -20,9 +33,19 @@ pub enum Task<'a> {
 
 const PLAN: &str = "plan";
 
+const COMMANDS: &str = "commands";
+
+const JSON: &str = "json";
+
+const IMPORT: &str = "import";
+
 const CERTIFY: &str = "certify";
 
 const SCRIPT: &str = "SCRIPT";
+
+const SETUP: &str = "SETUP";
+
+const FOLDER: &str = "FOLDER";
 
 const CERT: &str = "CERT";
 
@@ -44,6 +67,17 @@ const AFTER_PLAN: &str = "Examples:
   ibcplan plan examples/smallest.toml
   ibcplan plan - < examples/smallest.toml > report.txt";
 
+const AFTER_COMMANDS: &str = "Examples:
+  ibcplan commands examples/smallest.toml
+  ibcplan commands examples/smallest.toml > updates.sh";
+
+const AFTER_IMPORT: &str = "Examples:
+  ibcplan import examples/import/setup.toml examples/import/answers > script.toml
+  ibcplan import setup.toml answers | ibcplan plan -
+
+FOLDER has a folder for each client, each path and each chain that is tracked, by
+its identifier, with saved answers in files *.json. Signatures aren't verified.";
+
 const AFTER_CERTIFY: &str = "Examples:
   ibcplan certify examples/smallest.toml examples/smallest.certificate
   ibcplan certify examples/smallest.toml - < examples/smallest.certificate
@@ -59,11 +93,24 @@ fn file<'a>(alloc: Global, name: &'a str, help: &'a str) -> Arg<'a> {
 
 fn plan_command<'a>(alloc: Global) -> Result<Command<'a>, AllocError> {
     let script = file(alloc, SCRIPT, "The script's file; - for standard input");
+    let json = Arg::new(alloc, JSON)
+        .long("json")
+        .action(ArgAction::SetTrue)
+        .help("Writes the report as JSON");
     Command::new(alloc, PLAN)
         .about(
             "Writes the report of a script: for each turn and client the cheapest list of updates",
         )
         .after_help(AFTER_PLAN)
+        .arg(script)?
+        .arg(json)
+}
+
+fn commands_command<'a>(alloc: Global) -> Result<Command<'a>, AllocError> {
+    let script = file(alloc, SCRIPT, "The script's file; - for standard input");
+    Command::new(alloc, COMMANDS)
+        .about("Writes the commands (of Hermes) that submit the updates of a script's plans")
+        .after_help(AFTER_COMMANDS)
         .arg(script)
 }
 
@@ -81,6 +128,20 @@ fn certify_command<'a>(alloc: Global) -> Result<Command<'a>, AllocError> {
         .arg(certificate)
 }
 
+fn import_command<'a>(alloc: Global) -> Result<Command<'a>, AllocError> {
+    let setup = file(
+        alloc,
+        SETUP,
+        "A script without events; - for standard input",
+    );
+    let folder = file(alloc, FOLDER, "The folder of the answers of nodes");
+    Command::new(alloc, IMPORT)
+        .about("Writes the script that the saved answers of nodes make")
+        .after_help(AFTER_IMPORT)
+        .arg(setup)?
+        .arg(folder)
+}
+
 fn command_line<'a>(alloc: Global) -> Result<Command<'a>, AllocError> {
     Command::new(alloc, "ibcplan")
         .version("0.1.0")
@@ -89,6 +150,8 @@ fn command_line<'a>(alloc: Global) -> Result<Command<'a>, AllocError> {
         .subcommand_required(true)
         .arg_required_else_help(true)
         .subcommand(plan_command(alloc)?)?
+        .subcommand(commands_command(alloc)?)?
+        .subcommand(import_command(alloc)?)?
         .subcommand(certify_command(alloc)?)
 }
 
@@ -103,6 +166,11 @@ fn twice_standard_input(alloc: Global) -> Result<Error, AllocError> {
 /// The task of words that were parsed, or none where one is missing.
 fn task_of<'a>(matches: &ArgMatches<'a>) -> Option<Task<'a>> {
     let (name, given) = matches.subcommand()?;
+    if name == IMPORT {
+        let setup = given.get_str(SETUP)?;
+        let folder = given.get_str(FOLDER)?;
+        return Some(Task::Import { setup, folder });
+    }
     let script = given.get_str(SCRIPT)?;
     if name == CERTIFY {
         let certificate = given.get_str(CERT)?;
@@ -110,6 +178,10 @@ fn task_of<'a>(matches: &ArgMatches<'a>) -> Option<Task<'a>> {
             script,
             certificate,
         })
+    } else if name == COMMANDS {
+        Some(Task::Commands { script })
+    } else if given.get_flag(JSON) {
+        Some(Task::PlanJson { script })
     } else {
         Some(Task::Plan { script })
     }

@@ -1,0 +1,149 @@
+//! Importing: the files of a folder are read, and the script that they make is written.
+use crate::failure::Failure;
+use crate::input::{Input, bytes_of};
+use rb_import::{
+    ImportError, Saved, SavedAnswers, SavedError, Setup, compose, read_saved, read_setup,
+};
+use std::alloc::{AllocError, Global};
+use std::fs::File;
+use std::{fs, io};
+
+/// The text of the script that a setup and the answers in a folder make.
+pub fn imported<'a>(
+    rt: &HostRuntime,
+    input: &Input<'a>,
+    folder: &str,
+) -> Result<String, Failure<'a>> {
+    let alloc = rt.alloc();
+    let setup = match read_setup(alloc, input.bytes()) {
+        Ok(setup) => setup,
+        Err(error) => return Err(Failure::of_run(alloc, error, input)),
+    };
+    let answers = read_answers(rt, &setup, folder)?;
+    match compose(alloc, &setup, &answers) {
+        Ok(text) => Ok(text),
+        Err(error) => Err(refusal(alloc, &error)),
+    }
+}
+
+/// Why answers make no script, as a text of its own.
+fn refusal<'a>(alloc: Global, error: &ImportError<'_>) -> Failure<'a> {
+    match error {
+        ImportError::NoMemory => Failure::NoMemory,
+        ImportError::Problem(problem) => refused(format!(in alloc; "{problem}")),
+    }
+}
+
+fn refused<'a>(text: Result<String, AllocError>) -> Failure<'a> {
+    match text {
+        Ok(text) => Failure::RefusedAnswers(text),
+        Err(_) => Failure::NoMemory,
+    }
+}
+
+/// Reads the answers of the chains that clients track, of the clients and of the paths, each from
+/// the folder of its identifier.
+fn read_answers<'a>(
+    rt: &HostRuntime,
+    setup: &Setup,
+    folder: &str,
+) -> Result<SavedAnswers, Failure<'a>> {
+    let alloc = rt.alloc();
+    let mut chains = Vec::new(alloc);
+    for (place, chain) in setup.chains.iter().enumerate() {
+        let is_tracked = setup.clients.iter().any(|client| client.tracks == place);
+        let id = chain.as_str();
+        add_folder(
+            rt,
+            folder,
+            if is_tracked { Some(id) } else { None },
+            &mut chains,
+        )?;
+    }
+    let mut clients = Vec::new(alloc);
+    for client in &setup.clients {
+        add_folder(rt, folder, Some(client.id.as_str()), &mut clients)?;
+    }
+    let mut paths = Vec::new(alloc);
+    for path in &setup.paths {
+        add_folder(rt, folder, Some(path.id.as_str()), &mut paths)?;
+    }
+    Ok(SavedAnswers {
+        chains,
+        clients,
+        paths,
+    })
+}
+
+/// Adds the answers in the folder of an identifier, or none where there is no identifier.
+fn add_folder<'a>(
+    rt: &HostRuntime,
+    folder: &str,
+    id: Option<&str>,
+    answers: &mut Vec<Vec<Saved>>,
+) -> Result<(), Failure<'a>> {
+    let saved = match id {
+        Some(id) => read_folder(rt, folder, id)?,
+        None => Vec::new(rt.alloc()),
+    };
+    match answers.push(saved) {
+        Ok(()) => Ok(()),
+        Err(_) => Err(Failure::NoMemory),
+    }
+}
+
+/// Reads the answers in the folder of an identifier: its files `*.json`, by name.
+fn read_folder<'a>(rt: &HostRuntime, folder: &str, id: &str) -> Result<Vec<Saved>, Failure<'a>> {
+    let Ok(path) = format!(in rt.alloc(); "{folder}/{id}") else {
+        return Err(Failure::NoMemory);
+    };
+    let names = match names_in(rt, path.as_str()) {
+        Ok(names) => names,
+        Err(error) => return Err(Failure::of_file(path, error)),
+    };
+    let mut answers = Vec::new(rt.alloc());
+    for name in &names {
+        let saved = read_file(rt, path.as_str(), name.as_str())?;
+        if answers.push(saved).is_err() {
+            return Err(Failure::NoMemory);
+        }
+    }
+    Ok(answers)
+}
+
+/// The names of a folder's files `*.json`, in the order of their bytes.
+fn names_in(rt: &HostRuntime, path: &str) -> io::Result<Vec<String>> {
+    let mut names = Vec::new(rt.alloc());
+    for entry in fs::read_dir(rt, path)? {
+        let entry = entry?;
+        if entry.file_name().ends_with(".json") {
+            names.push(String::from_str(rt.alloc(), entry.file_name())?)?;
+        }
+    }
+    names.sort_unstable();
+    Ok(names)
+}
+
+/// Reads the answer in a file.
+fn read_file<'a>(rt: &HostRuntime, folder: &str, name: &str) -> Result<Saved, Failure<'a>> {
+    let alloc = rt.alloc();
+    let Ok(file) = format!(in alloc; "{folder}/{name}") else {
+        return Err(Failure::NoMemory);
+    };
+    let bytes = match read_bytes(rt, file.as_str()) {
+        Ok(bytes) => bytes,
+        Err(error) => return Err(Failure::of_file(file, error)),
+    };
+    match read_saved(alloc, file, bytes.as_slice()) {
+        Ok(saved) => Ok(saved),
+        Err(SavedError::Flaw { file, flaw }) => {
+            let advice = flaw.name.advice();
+            Err(refused(format!(in alloc; "refused {flaw}\n{file}: {advice}")))
+        }
+        Err(SavedError::NoMemory) => Err(Failure::NoMemory),
+    }
+}
+
+fn read_bytes(rt: &HostRuntime, path: &str) -> io::Result<Vec<u8>> {
+    bytes_of(rt.alloc(), File::open(rt, path)?)
+}

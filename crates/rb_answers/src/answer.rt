@@ -1,0 +1,91 @@
+//! An answer, known by what is in it.
+use crate::client::{ClientState, ConsensusPage, read_client_state, read_consensus_states};
+use crate::commit::{SignedHeader, read_commit};
+use crate::flaw::{AnswerError, Flaw, FlawName};
+use crate::object::Object;
+use crate::packets::{PacketPage, read_transactions};
+use crate::place::{Key, Part, Place};
+use crate::validators::{ValidatorsPage, read_page};
+use serde_json::Value;
+use std::alloc::Global;
+
+/// What a node answered.
+#[derive(Drop)]
+pub enum Answer {
+    /// To `/commit`.
+    Commit(SignedHeader),
+    /// To `/validators`.
+    Validators(ValidatorsPage),
+    /// To `client_states/ID`.
+    ClientState(ClientState),
+    /// To `consensus_states/ID`.
+    ConsensusStates(ConsensusPage),
+    /// To `/tx_search`.
+    Transactions(PacketPage),
+}
+
+/// Reads an answer: JSON, which is known by its members. `Flaw` is the first thing that is wrong
+/// with it, `NoMemory` comes where a growth is refused.
+pub fn read_answer(alloc: Global, bytes: &[u8]) -> Result<Answer, AnswerError> {
+    let value = read_json(alloc, bytes)?;
+    if is_error(&value) {
+        return Err(whole(FlawName::NodeError));
+    }
+    match value.get("result") {
+        Some(result) => read_result(alloc, &Object::new(result, Part::Result)),
+        None => read_state(alloc, &Object::new(&value, Part::Answer)),
+    }
+}
+
+fn read_json(alloc: Global, bytes: &[u8]) -> Result<Value, AnswerError> {
+    match Value::from_slice(alloc, bytes) {
+        Ok(value) => Ok(value),
+        Err(error) if error.is_memory() => Err(AnswerError::NoMemory),
+        Err(_) => Err(whole(FlawName::NotJson)),
+    }
+}
+
+/// Whether the answer tells an error: a member `error` of CometBFT's, or `code` and `message` of the
+/// REST gateway's.
+fn is_error(value: &Value) -> bool {
+    match value.get("error") {
+        Some(error) => !error.is_null(),
+        None => value.get("code").is_some() && value.get("message").is_some(),
+    }
+}
+
+/// Reads the `result` of one of CometBFT's answers.
+fn read_result(alloc: Global, answer: &Object<'_>) -> Result<Answer, AnswerError> {
+    if answer.value.get("signed_header").is_some() {
+        Ok(Answer::Commit(read_commit(alloc, answer)?))
+    } else if answer.value.get("validators").is_some() {
+        Ok(Answer::Validators(read_page(alloc, answer)?))
+    } else if answer.value.get("txs").is_some() {
+        Ok(Answer::Transactions(read_transactions(alloc, answer)?))
+    } else {
+        Err(whole(FlawName::UnknownShape))
+    }
+}
+
+/// Reads one of the REST gateway's answers.
+fn read_state(alloc: Global, answer: &Object<'_>) -> Result<Answer, AnswerError> {
+    if answer.value.get("client_state").is_some() {
+        Ok(Answer::ClientState(read_client_state(answer)?))
+    } else if answer.value.get("consensus_states").is_some() {
+        Ok(Answer::ConsensusStates(read_consensus_states(alloc, answer)?))
+    } else {
+        Err(whole(FlawName::UnknownShape))
+    }
+}
+
+/// The flaw of this name at the whole answer.
+fn whole(name: FlawName) -> AnswerError {
+    AnswerError::Flaw(Flaw {
+        name,
+        place: Place {
+            part: Part::Answer,
+            index: None,
+            key: Key::Whole,
+        },
+    })
+}

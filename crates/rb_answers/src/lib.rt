@@ -1,0 +1,24 @@
+//! Answers of nodes, as CometBFT's RPC and ibc-go's REST gateway give them: signed headers, pages
+//! of validators, client states, consensus states and the events of packets; or what is wrong with
+//! an answer, and where.
+#![tactic(auto)]
+
+mod answer;
+mod client;
+mod commit;
+mod duration;
+mod flaw;
+mod object;
+mod packets;
+mod place;
+mod revision;
+mod validators;
+
+pub use answer::{Answer, read_answer};
+pub use client::{ClientState, ConsensusPage, ConsensusState, TrustLevel};
+pub use commit::{BlockIdFlag, Signature, SignedHeader};
+pub use flaw::{AnswerError, Flaw, FlawName};
+pub use packets::{PacketEvent, PacketKind, PacketPage, RevisionHeight};
+pub use place::{Key, Part, Place};
+pub use revision::revision_of;
+pub use validators::ValidatorsPage;

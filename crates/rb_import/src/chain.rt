@@ -1,0 +1,387 @@
+//! The sets and headers of a chain: each height once, rising, and each header with its set.
+ghost use Rattle.std.specs.Prelude.{◌≡◌, ◌<◌, length, map, IfOk, OnOk, IfSome, IfNone};
+ghost use Rattle.std.specs.List.Sorted.{IsStrictlyIncreasing};
+ghost use Rattle.rb_valset.specs.ValidatorSet.{set_hash};
+
+use crate::error::{ImportError, ProblemName};
+use crate::repeat::repeated;
+use crate::saved::Saved;
+use rb_answers::{Answer, Signature, SignedHeader, ValidatorsPage};
+use rb_base::Height;
+use rb_valset::{Validator, ValidatorSet};
+use std::alloc::{AllocError, Global};
+use std::collections::BTreeMap;
+
+/// An answer of `/commit` and its file.
+#[derive(Clone, Copy)]
+pub struct Commit<'a> {
+    pub file: &'a str,
+    pub header: &'a SignedHeader,
+}
+
+/// An answer of `/validators` and its file.
+#[derive(Clone, Copy)]
+struct Page<'a> {
+    file: &'a str,
+    page: &'a ValidatorsPage,
+}
+
+/// A set that was seen, and a file that has validators of it.
+#[derive(Drop)]
+pub struct SeenSet<'a> {
+    pub file: &'a str,
+    pub set: ValidatorSet,
+}
+
+/// Sets that were seen, each once.
+#[derive(Drop)]
+pub struct SeenSets<'a> {
+    pub sets: Vec<SeenSet<'a>>,
+    places: BTreeMap<[u8; 32], usize>,
+}
+
+impl<'a> SeenSets<'a> {
+    /// The set of this hash, where it was seen.
+    pub fn with_hash(&self, hash: &[u8; 32]) -> Option<&SeenSet<'a>>
+        ensures { IfSome result (λ seen. set_hash seen.now.set ≡ hash.now) }
+    {
+        let seen = self.sets.get(*self.places.get(hash)?)?;
+        if seen.set.hash() == hash {
+            Some(seen)
+        } else {
+            None
+        }
+    }
+
+    /// Keeps a set, if it is new.
+    fn add(&mut self, seen: SeenSet<'a>) -> Result<(), ImportError<'a>> {
+        let hash = *seen.set.hash();
+        if self.places.contains_key(&hash) {
+            return Ok(());
+        }
+        self.places.insert(hash, self.sets.len())?;
+        self.sets.push(seen)?;
+        Ok(())
+    }
+}
+
+/// What was seen of a chain: its commits by rising height, and its sets.
+#[derive(Drop)]
+pub struct SeenChain<'a> {
+    pub commits: Vec<Commit<'a>>,
+    pub sets: SeenSets<'a>,
+}
+
+/// What the answers of a chain tell, by its identifier: each height has one header, and the heights
+/// rise.
+pub fn seen_chain<'a>(
+    alloc: Global,
+    id: &'a str,
+    answers: &'a [Saved],
+) -> Result<SeenChain<'a>, ImportError<'a>>
+    ensures { IfOk result (λ chain. IsStrictlyIncreasing (map (λ c. c.header.now.height) chain.commits.items)) }
+{
+    let commits = commits_of(alloc, id, answers)?;
+    judge_heights(alloc, id, commits.as_slice())?;
+    let pages = pages_of(alloc, answers)?;
+    let mut sets = SeenSets {
+        sets: Vec::new(alloc),
+        places: BTreeMap::new(alloc),
+    };
+    add_sets(alloc, id, pages.as_slice(), commits.as_slice(), &mut sets)?;
+    judge_signatures(id, commits.as_slice(), &sets)?;
+    Ok(SeenChain { commits, sets })
+}
+
+/// The commits by rising height.
+fn commits_of<'a>(
+    alloc: Global,
+    id: &'a str,
+    answers: &'a [Saved],
+) -> Result<Vec<Commit<'a>>, ImportError<'a>> {
+    let mut commits = Vec::new(alloc);
+    for saved in answers {
+        let file = saved.file.as_str();
+        match &saved.answer {
+            Answer::Commit(header) => {
+                let commit = Commit { file, header };
+                judge_chain(id, &commit)?;
+                commits.push(commit)?;
+            }
+            Answer::Validators(_) => {}
+            _ => return Err(ImportError::at(ProblemName::WrongFolder, id, 0, file)),
+        }
+    }
+    commits.sort_by_key(|commit: &Commit| commit.header.height)?;
+    Ok(commits)
+}
+
+/// Refuses a commit of another chain.
+fn judge_chain<'a>(id: &'a str, commit: &Commit<'a>) -> Result<(), ImportError<'a>>
+    ensures { OnOk result (commit.now.header.now.chain ≡ id.entry.now) }
+{
+    if commit.header.chain.as_str() == id {
+        Ok(())
+    } else {
+        let height = commit.header.height.get();
+        Err(ImportError::at(ProblemName::OtherChain, id, height, commit.file))
+    }
+}
+
+/// Refuses two commits of one height.
+fn judge_heights<'a>(
+    alloc: Global,
+    id: &'a str,
+    commits: &[Commit<'a>],
+) -> Result<(), ImportError<'a>>
+    ensures { OnOk result (IsStrictlyIncreasing (map (λ c. c.header.now.height) commits.now)) }
+{
+    let heights = heights_of(alloc, commits)?;
+    match repeated(heights.as_slice()) {
+        Some(place) => Err(two_commits(id, &commits[place], &commits[place + 1])),
+        None => Ok(()),
+    }
+}
+
+fn heights_of(alloc: Global, commits: &[Commit]) -> Result<Vec<Height>, AllocError>
+    ensures { IfOk result (λ heights. heights.items ≡ map (λ c. c.header.now.height) commits.now) }
+{
+    commits
+        .iter()
+        .map(|commit| commit.header.height)
+        .collect(alloc)
+}
+
+fn two_commits<'a>(id: &'a str, commit: &Commit<'a>, other: &Commit<'a>) -> ImportError<'a> {
+    let height = commit.header.height.get();
+    ImportError::between(ProblemName::TwoAnswers, id, height, commit.file, other.file)
+}
+
+/// The pages by rising height.
+fn pages_of<'a>(alloc: Global, answers: &'a [Saved]) -> Result<Vec<Page<'a>>, ImportError<'a>> {
+    let mut pages = Vec::new(alloc);
+    for saved in answers {
+        if let Answer::Validators(page) = &saved.answer {
+            let file = saved.file.as_str();
+            pages.push(Page { file, page })?;
+        }
+    }
+    pages.sort_by_key(|page: &Page| page.page.height)?;
+    Ok(pages)
+}
+
+/// The commit at the height of a page, if there is one.
+fn commit_of<'a>(commits: &[Commit<'a>], page: &Page<'a>) -> Option<Commit<'a>> {
+    let place = commits
+        .binary_search_by_key(&page.page.height, |commit: &Commit| commit.header.height)
+        .ok()?;
+    commits.get(place).copied()
+}
+
+/// The first of these pages and those after it that are of its height.
+fn of_height<'a, 'b>(pages: &'b [Page<'a>]) -> &'b [Page<'a>] {
+    let Some(first) = pages.first() else {
+        return pages;
+    };
+    let count = pages
+        .iter()
+        .take_while(|page| page.page.height == first.page.height)
+        .count();
+    pages.get(..count).unwrap_or(pages)
+}
+
+/// Whether the page before is of another height.
+fn is_first(pages: &[Page], place: usize) -> bool
+    requires { place < length pages.now }
+{
+    if place == 0 {
+        return true;
+    }
+    let before = pages[place - 1].page;
+    let page = pages[place].page;
+    before.height != page.height
+}
+
+/// Adds the sets of pages that stand by rising height.
+fn add_sets<'a>(
+    alloc: Global,
+    id: &'a str,
+    pages: &[Page<'a>],
+    commits: &[Commit<'a>],
+    sets: &mut SeenSets<'a>,
+) -> Result<(), ImportError<'a>> {
+    for place in 0..pages.len() {
+        if is_first(pages, place) {
+            add_set(alloc, id, of_height(&pages[place..]), commits, sets)?;
+        }
+    }
+    Ok(())
+}
+
+/// Adds the set of the pages of one height. Pages that are missing are asked for only where there is
+/// a commit of that height; the set has to be that commit's.
+fn add_set<'a>(
+    alloc: Global,
+    id: &'a str,
+    pages: &[Page<'a>],
+    commits: &[Commit<'a>],
+    sets: &mut SeenSets<'a>,
+) -> Result<(), ImportError<'a>> {
+    let Some(first) = pages.first() else {
+        return Ok(());
+    };
+    let commit = commit_of(commits, first);
+    let members = members_of(alloc, id, pages)?;
+    if (members.len() as u64) < first.page.total {
+        return missing_page(id, first, commit);
+    }
+    let set = set_of(alloc, id, first, members)?;
+    judge_set(id, first, commit, &set)?;
+    sets.add(SeenSet {
+        file: first.file,
+        set,
+    })
+}
+
+/// Pages are missing, which matters where there is a commit.
+fn missing_page<'a>(
+    id: &'a str,
+    page: &Page<'a>,
+    commit: Option<Commit<'a>>,
+) -> Result<(), ImportError<'a>> {
+    match commit {
+        Some(commit) => Err(ImportError::between(
+            ProblemName::MissingPage,
+            id,
+            page.page.height.get(),
+            commit.file,
+            page.file,
+        )),
+        None => Ok(()),
+    }
+}
+
+/// The validators of pages of one height, at most as many as they tell.
+fn members_of<'a>(
+    alloc: Global,
+    id: &'a str,
+    pages: &[Page<'a>],
+) -> Result<Vec<Validator>, ImportError<'a>> {
+    let mut members = Vec::new(alloc);
+    let mut before: Option<Page<'a>> = None;
+    for page in pages {
+        if let Some(lower) = before {
+            if lower.page.total != page.page.total {
+                return Err(two_pages(ProblemName::OtherTotal, id, &lower, page));
+            }
+        }
+        members.extend_from_slice(page.page.validators.as_slice())?;
+        if members.len() as u64 > page.page.total {
+            let lower = before.unwrap_or(*page);
+            return Err(two_pages(ProblemName::TooManyValidators, id, &lower, page));
+        }
+        before = Some(*page);
+    }
+    Ok(members)
+}
+
+fn two_pages<'a>(
+    name: ProblemName,
+    id: &'a str,
+    page: &Page<'a>,
+    other: &Page<'a>,
+) -> ImportError<'a> {
+    ImportError::between(name, id, page.page.height.get(), page.file, other.file)
+}
+
+fn set_of<'a>(
+    alloc: Global,
+    id: &'a str,
+    page: &Page<'a>,
+    members: Vec<Validator>,
+) -> Result<ValidatorSet, ImportError<'a>> {
+    match ValidatorSet::new(alloc, members) {
+        Ok(set) => Ok(set),
+        Err(rb_valset::ValsetError::NoMemory) => Err(ImportError::NoMemory),
+        Err(_) => {
+            let height = page.page.height.get();
+            Err(ImportError::at(ProblemName::BadSet, id, height, page.file))
+        }
+    }
+}
+
+/// Refuses a set that isn't that of the commit at its height.
+fn judge_set<'a>(
+    id: &'a str,
+    page: &Page<'a>,
+    commit: Option<Commit<'a>>,
+    set: &ValidatorSet,
+) -> Result<(), ImportError<'a>>
+    ensures { OnOk result (IfSome commit.entry (λ c. c.header.now.set ≡ set_hash set.now)) }
+{
+    match commit {
+        Some(commit) if commit.header.set != *set.hash() => Err(ImportError::between(
+            ProblemName::OtherSet,
+            id,
+            page.page.height.get(),
+            commit.file,
+            page.file,
+        )),
+        _ => Ok(()),
+    }
+}
+
+/// Refuses a header whose set wasn't seen or doesn't fit its signatures.
+fn judge_signatures<'a>(
+    id: &'a str,
+    commits: &[Commit<'a>],
+    sets: &SeenSets<'a>,
+) -> Result<(), ImportError<'a>> {
+    for commit in commits {
+        judge_commit(id, commit, sets)?;
+    }
+    Ok(())
+}
+
+/// Refuses a header whose set wasn't seen, or which has not one signature for each of its members.
+fn judge_commit<'a>(
+    id: &'a str,
+    commit: &Commit<'a>,
+    sets: &SeenSets<'a>,
+) -> Result<(), ImportError<'a>> {
+    let height = commit.header.height.get();
+    let Some(seen) = sets.with_hash(&commit.header.set) else {
+        return Err(ImportError::at(ProblemName::MissingSet, id, height, commit.file));
+    };
+    match discord(commit.header.signatures.as_slice(), &seen.set) {
+        Some(name) => Err(ImportError::between(name, id, height, commit.file, seen.file)),
+        None => Ok(()),
+    }
+}
+
+/// How signatures don't fit a set, if they don't: there is one for each member, in set order, and
+/// each that isn't absent has its member's address.
+fn discord(signatures: &[Signature], set: &ValidatorSet) -> Option<ProblemName>
+    ensures { IfNone result (length signatures.now ≡ length set.now) }
+{
+    if signatures.len() != set.size() {
+        return Some(ProblemName::SignatureCount);
+    }
+    let fits = signatures
+        .iter()
+        .zip(set.members())
+        .all(|(signature, member)| is_signer(signature, member));
+    if fits {
+        None
+    } else {
+        Some(ProblemName::OtherSigner)
+    }
+}
+
+/// Whether a signature is absent or this member's.
+fn is_signer(signature: &Signature, member: &Validator) -> bool {
+    match signature.address {
+        Some(address) => address == *member.address(),
+        None => true,
+    }
+}

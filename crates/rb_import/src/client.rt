@@ -1,0 +1,163 @@
+//! What a client has stored, and how it judges headers.
+ghost use Rattle.std.specs.Prelude.{◌≡◌, map, IfOk, OnOk};
+ghost use Rattle.std.specs.List.Sorted.{IsStrictlyIncreasing};
+
+use crate::error::{ImportError, ProblemName};
+use crate::repeat::repeated;
+use crate::saved::Saved;
+use crate::setup::ClientSetup;
+use rb_answers::{Answer, ClientState, ConsensusState, TrustLevel, revision_of};
+use rb_base::{ChainId, Height, Period};
+use std::alloc::{AllocError, Global};
+
+/// A record that a client has stored, and its file.
+#[derive(Clone, Copy)]
+pub struct Stored<'a> {
+    pub file: &'a str,
+    pub state: &'a ConsensusState,
+}
+
+/// What was seen of a client: its trusting period, its clock drift, its trust level, and its stored
+/// records by rising height.
+#[derive(Drop)]
+pub struct SeenClient<'a> {
+    pub period: Period,
+    pub drift: u64,
+    pub trust: TrustLevel,
+    pub stored: Vec<Stored<'a>>,
+}
+
+/// What the answers of a client tell, where the setup doesn't.
+pub fn seen_client<'a>(
+    alloc: Global,
+    setup: &'a ClientSetup,
+    tracked: &ChainId,
+    answers: &'a [Saved],
+) -> Result<SeenClient<'a>, ImportError<'a>> {
+    let id = setup.id.as_str();
+    let state = state_of(id, tracked, answers)?;
+    let stored = stored_of(alloc, id, answers)?;
+    judge_stored(alloc, id, tracked, stored.as_slice())?;
+    let period = setup.period.or(state.map(|state| state.period));
+    let drift = setup.drift.or(state.map(|state| state.drift));
+    let trust = setup.trust.or(state.map(|state| state.trust));
+    match (period, drift, trust) {
+        (Some(period), Some(drift), Some(trust)) => Ok(SeenClient {
+            period,
+            drift,
+            trust,
+            stored,
+        }),
+        _ => Err(ImportError::of(ProblemName::MissingClientState, id)),
+    }
+}
+
+/// The state of a client, of which there is at most one answer, on the chain that it tracks.
+fn state_of<'a>(
+    id: &'a str,
+    tracked: &ChainId,
+    answers: &'a [Saved],
+) -> Result<Option<&'a ClientState>, ImportError<'a>> {
+    let mut found: Option<(&'a str, &'a ClientState)> = None;
+    for saved in answers {
+        if let Answer::ClientState(state) = &saved.answer {
+            let file = saved.file.as_str();
+            judge_state(id, tracked, file, state)?;
+            if let Some((earlier, _)) = found {
+                let name = ProblemName::TwoAnswers;
+                return Err(ImportError::between(name, id, 0, earlier, file));
+            }
+            found = Some((file, state));
+        }
+    }
+    Ok(found.map(|(_, state)| state))
+}
+
+fn judge_state<'a>(
+    id: &'a str,
+    tracked: &ChainId,
+    file: &'a str,
+    state: &ClientState,
+) -> Result<(), ImportError<'a>> {
+    if state.chain != *tracked {
+        return Err(ImportError::at(ProblemName::OtherChain, id, 0, file));
+    }
+    if state.revision != revision_of(tracked.as_str()) {
+        return Err(ImportError::at(ProblemName::OtherRevision, id, 0, file));
+    }
+    Ok(())
+}
+
+/// The records of a client by rising height; the last page has to be there.
+fn stored_of<'a>(
+    alloc: Global,
+    id: &'a str,
+    answers: &'a [Saved],
+) -> Result<Vec<Stored<'a>>, ImportError<'a>> {
+    let mut stored = Vec::new(alloc);
+    let mut is_whole = false;
+    for saved in answers {
+        let file = saved.file.as_str();
+        match &saved.answer {
+            Answer::ConsensusStates(page) => {
+                is_whole = is_whole || page.is_last;
+                add_states(file, page.states.as_slice(), &mut stored)?;
+            }
+            Answer::ClientState(_) => {}
+            _ => return Err(ImportError::at(ProblemName::WrongFolder, id, 0, file)),
+        }
+    }
+    if !is_whole {
+        return Err(ImportError::of(ProblemName::MissingConsensusStates, id));
+    }
+    stored.sort_by_key(|stored: &Stored| stored.state.height)?;
+    Ok(stored)
+}
+
+fn add_states<'a>(
+    file: &'a str,
+    states: &'a [ConsensusState],
+    stored: &mut Vec<Stored<'a>>,
+) -> Result<(), ImportError<'a>> {
+    for state in states {
+        stored.push(Stored { file, state })?;
+    }
+    Ok(())
+}
+
+/// Refuses records of another revision than the chain's, and two of one height.
+fn judge_stored<'a>(
+    alloc: Global,
+    id: &'a str,
+    tracked: &ChainId,
+    stored: &[Stored<'a>],
+) -> Result<(), ImportError<'a>>
+    ensures { OnOk result (IsStrictlyIncreasing (map (λ s. s.state.now.height) stored.now)) }
+{
+    let revision = revision_of(tracked.as_str());
+    for record in stored {
+        if record.state.revision != revision {
+            let height = record.state.height.get();
+            return Err(ImportError::at(ProblemName::OtherRevision, id, height, record.file));
+        }
+    }
+    let heights = heights_of(alloc, stored)?;
+    match repeated(heights.as_slice()) {
+        Some(place) => Err(two_records(id, &stored[place], &stored[place + 1])),
+        None => Ok(()),
+    }
+}
+
+fn heights_of(alloc: Global, stored: &[Stored]) -> Result<Vec<Height>, AllocError>
+    ensures { IfOk result (λ heights. heights.items ≡ map (λ s. s.state.now.height) stored.now) }
+{
+    stored
+        .iter()
+        .map(|record| record.state.height)
+        .collect(alloc)
+}
+
+fn two_records<'a>(id: &'a str, record: &Stored<'a>, other: &Stored<'a>) -> ImportError<'a> {
+    let height = record.state.height.get();
+    ImportError::between(ProblemName::TwoAnswers, id, height, record.file, other.file)
+}

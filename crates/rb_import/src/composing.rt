@@ -1,0 +1,96 @@
+//! The script of a setup and of answers.
+ghost use Rattle.std.specs.Prelude.{◌≤◌, length, IfOk, string_bytes};
+
+use crate::chain::{SeenChain, seen_chain};
+use crate::client::{SeenClient, seen_client};
+use crate::error::{ImportError, ProblemName};
+use crate::packets::{SeenPacket, seen_packets};
+use crate::read::MAX_BYTES;
+use crate::saved::{Saved, SavedAnswers};
+use crate::setup::Setup;
+use crate::text::push_script;
+use std::alloc::Global;
+
+/// What was seen of the chains, clients and paths of a setup, in its order.
+#[derive(Drop)]
+pub struct Seen<'a> {
+    pub chains: Vec<SeenChain<'a>>,
+    pub clients: Vec<SeenClient<'a>>,
+    pub paths: Vec<Vec<SeenPacket<'a>>>,
+}
+
+/// The text of the script that a setup and the answers of its chains, clients and paths make. The
+/// first problem is answered: of the chains, of the clients, then of the paths, each in order.
+/// `NoMemory` comes where a growth is refused.
+pub fn compose<'a>(
+    alloc: Global,
+    setup: &'a Setup,
+    answers: &'a SavedAnswers,
+) -> Result<String, ImportError<'a>>
+    ensures size { IfOk result (λ text. length (string_bytes text) ≤ 16777216) }
+{
+    let seen = Seen {
+        chains: seen_chains(alloc, setup, answers)?,
+        clients: seen_clients(alloc, setup, answers)?,
+        paths: seen_paths(alloc, setup, answers)?,
+    };
+    let mut text = String::new(alloc);
+    push_script(&mut text, setup, &seen)?;
+    if text.len() > MAX_BYTES {
+        return Err(ImportError::of(ProblemName::ScriptTooBig, "-"));
+    }
+    Ok(text)
+}
+
+fn seen_chains<'a>(
+    alloc: Global,
+    setup: &'a Setup,
+    answers: &'a SavedAnswers,
+) -> Result<Vec<SeenChain<'a>>, ImportError<'a>> {
+    let mut chains = Vec::with_capacity(alloc, setup.chains.len())?;
+    for (place, id) in setup.chains.iter().enumerate() {
+        let chain = seen_chain(alloc, id.as_str(), answers_at(&answers.chains, place))?;
+        chains.push(chain)?;
+    }
+    Ok(chains)
+}
+
+fn seen_clients<'a>(
+    alloc: Global,
+    setup: &'a Setup,
+    answers: &'a SavedAnswers,
+) -> Result<Vec<SeenClient<'a>>, ImportError<'a>> {
+    let mut clients = Vec::with_capacity(alloc, setup.clients.len())?;
+    for (place, client) in setup.clients.iter().enumerate() {
+        if let Some(tracked) = setup.chains.get(client.tracks) {
+            let saved = answers_at(&answers.clients, place);
+            let seen = seen_client(alloc, client, tracked, saved)?;
+            clients.push(seen)?;
+        }
+    }
+    Ok(clients)
+}
+
+fn seen_paths<'a>(
+    alloc: Global,
+    setup: &'a Setup,
+    answers: &'a SavedAnswers,
+) -> Result<Vec<Vec<SeenPacket<'a>>>, ImportError<'a>> {
+    let mut paths = Vec::with_capacity(alloc, setup.paths.len())?;
+    for (place, path) in setup.paths.iter().enumerate() {
+        if let Some(dest) = setup.chains.get(path.dest) {
+            let saved = answers_at(&answers.paths, place);
+            let seen = seen_packets(alloc, path, dest, saved)?;
+            paths.push(seen)?;
+        }
+    }
+    Ok(paths)
+}
+
+/// The answers of the object at a place; none where there are none.
+fn answers_at(answers: &Vec<Vec<Saved>>, place: usize) -> &[Saved] {
+    match answers.get(place) {
+        Some(saved) => saved.as_slice(),
+        None => &[],
+    }
+}

@@ -1,0 +1,159 @@
+//! The text of what was seen.
+ghost use Rattle.std.specs.Prelude.{◌≡◌, ◌++◌, map, OnOk, string_bytes};
+ghost use Rattle.rb_answers.specs.Votes.{letter_of};
+
+use crate::chain::Commit;
+use crate::client::Stored;
+use crate::packets::SeenPacket;
+use crate::text::push_time;
+use jiff::Timestamp;
+use rb_answers::{PacketKind, Signature};
+use rb_valset::{Validator, ValidatorSet};
+use std::alloc::AllocError;
+
+/// How many bytes of a set's hash its name is made of, as hexadecimal digits.
+const NAME_BYTES: usize = 16;
+
+/// Adds bytes as hexadecimal digits.
+pub fn push_hex(text: &mut String, bytes: &[u8]) -> Result<(), AllocError> {
+    for byte in bytes {
+        write!(text, "{byte:02x}")?;
+    }
+    Ok(())
+}
+
+/// Adds the name of the set of this hash: the first 32 of its 64 hexadecimal digits.
+fn push_set_name(text: &mut String, hash: &[u8; 32]) -> Result<(), AllocError> {
+    push_hex(text, &hash[..NAME_BYTES])
+}
+
+/// Adds a reference to the set of this hash: its name where it is known, else the hash.
+pub fn push_set_reference(
+    text: &mut String,
+    hash: &[u8; 32],
+    is_known: bool,
+) -> Result<(), AllocError> {
+    if is_known {
+        push_set_name(text, hash)
+    } else {
+        push_hex(text, hash)
+    }
+}
+
+/// Adds the event of a set.
+pub fn push_set(text: &mut String, chain: &str, set: &ValidatorSet) -> Result<(), AllocError> {
+    write!(text, "  {{ kind = \"set\", chain = \"{chain}\", name = \"")?;
+    push_set_name(text, set.hash())?;
+    text.push_str("\", validators = [")?;
+    for member in set.members() {
+        push_member(text, member)?;
+    }
+    text.push_str("] },\n")
+}
+
+fn push_member(text: &mut String, member: &Validator) -> Result<(), AllocError> {
+    text.push_str("[\"")?;
+    push_hex(text, member.key().as_slice())?;
+    let power = member.power();
+    write!(text, "\", {power}], ")
+}
+
+/// Adds the event of a header.
+pub fn push_header(
+    text: &mut String,
+    chain: &str,
+    commit: &Commit<'_>,
+    is_next_known: bool,
+) -> Result<(), AllocError> {
+    let header = commit.header;
+    let height = header.height;
+    write!(
+        text,
+        "  {{ kind = \"header\", chain = \"{chain}\", height = {height}, time = \""
+    )?;
+    push_time(text, header.time)?;
+    text.push_str("\", root = \"")?;
+    push_hex(text, header.root.as_slice())?;
+    text.push_str("\", set = \"")?;
+    push_set_name(text, &header.set)?;
+    text.push_str("\", next = \"")?;
+    push_set_reference(text, &header.next, is_next_known)?;
+    text.push_str("\", votes = \"")?;
+    push_votes(text, header.signatures.as_slice())?;
+    text.push_str("\" },\n")
+}
+
+/// Adds a letter for each signature, in set order.
+fn push_votes(text: &mut String, signatures: &[Signature]) -> Result<(), AllocError>
+    ensures { OnOk result (string_bytes text.new ≡ string_bytes text.old ++ map (λ s. letter_of s.flag) signatures.now) }
+{
+    for signature in signatures {
+        text.push(signature.flag.letter())?;
+    }
+    Ok(())
+}
+
+/// Adds the event of a record that a client has stored.
+pub fn push_stored(
+    text: &mut String,
+    client: &str,
+    stored: &Stored<'_>,
+    is_next_known: bool,
+) -> Result<(), AllocError> {
+    let state = stored.state;
+    let height = state.height;
+    write!(
+        text,
+        "  {{ kind = \"stored\", client = \"{client}\", height = {height}, time = \""
+    )?;
+    push_time(text, state.time)?;
+    text.push_str("\", root = \"")?;
+    push_hex(text, state.root.as_slice())?;
+    text.push_str("\", next = \"")?;
+    push_set_reference(text, &state.next, is_next_known)?;
+    text.push_str("\" },\n")
+}
+
+/// Adds the event of a packet.
+pub fn push_packet(text: &mut String, path: &str, seen: &SeenPacket<'_>) -> Result<(), AllocError> {
+    let event = seen.event;
+    let sequence = event.sequence;
+    let block = event.block;
+    match event.kind {
+        PacketKind::Sent => {
+            write!(
+                text,
+                "  {{ kind = \"sent\", path = \"{path}\", seq = {sequence}, height = {block}"
+            )?;
+            push_timeouts(text, seen)?;
+            text.push_str(" },\n")
+        }
+        PacketKind::Received => writeln!(
+            text,
+            "  {{ kind = \"received\", path = \"{path}\", seq = {sequence}, height = {block} }},"
+        ),
+        PacketKind::AckWritten => writeln!(
+            text,
+            "  {{ kind = \"ack\", path = \"{path}\", seq = {sequence}, height = {block} }},"
+        ),
+        PacketKind::Cleared => writeln!(
+            text,
+            "  {{ kind = \"cleared\", path = \"{path}\", seq = {sequence} }},"
+        ),
+    }
+}
+
+/// Adds the timeouts of a packet that has some.
+fn push_timeouts(text: &mut String, seen: &SeenPacket<'_>) -> Result<(), AllocError> {
+    let height = seen.event.timeout_height.height;
+    if height != 0 {
+        write!(text, ", timeout_height = {height}")?;
+    }
+    let time = seen.event.timeout_time;
+    if time != 0 {
+        if let Ok(timestamp) = Timestamp::from_nanosecond(i128::from(time)) {
+            write!(text, ", timeout_time = \"{timestamp}\"")?;
+        }
+    }
+    Ok(())
+}

@@ -1,0 +1,69 @@
+//! What a setup says: a script without events.
+use rb_answers::TrustLevel;
+use rb_base::{ChainId, ClientId, Height, Moment, PathId, Period};
+
+/// The chains, clients and paths of a script, and its turns. Chains and clients are named by their
+/// places.
+#[derive(Drop)]
+pub struct Setup {
+    pub chains: Vec<ChainId>,
+    pub clients: Vec<ClientSetup>,
+    pub paths: Vec<PathSetup>,
+    pub turns: Vec<TurnSetup>,
+}
+
+/// A client. The trusting period, the clock drift and the trust level that aren't there are taken
+/// from the answer on its state.
+#[derive(Clone, Copy)]
+pub struct ClientSetup {
+    pub id: ClientId,
+    pub host: usize,
+    pub tracks: usize,
+    pub period: Option<Period>,
+    pub drift: Option<u64>,
+    pub refresh: u64,
+    pub fees: [u64; 3],
+    pub gas: [u64; 3],
+    pub limits: [u64; 3],
+    pub trust: Option<TrustLevel>,
+}
+
+/// A path: one direction of a channel. Its packets are those of `source_channel`, a port and a
+/// channel as `port/channel`, where that is there, else all that the answers tell of.
+#[derive(Drop)]
+pub struct PathSetup {
+    pub id: PathId,
+    pub source: usize,
+    pub dest: usize,
+    pub is_ordered: bool,
+    pub first: u64,
+    pub forward: usize,
+    pub back: usize,
+    pub gas: [u64; 3],
+    pub source_channel: Option<String>,
+}
+
+/// A turn without what was seen.
+#[derive(Drop)]
+pub struct TurnSetup {
+    pub from: Moment,
+    pub until: Moment,
+    pub goals: Vec<GoalSetup>,
+    pub settlements: Vec<Settlement>,
+}
+
+/// A height that a client is to have stored, or one from it on.
+#[derive(Clone, Copy)]
+pub struct GoalSetup {
+    pub client: usize,
+    pub is_exact: bool,
+    pub height: Height,
+}
+
+/// A client's batch, of which so many transactions were done.
+#[derive(Clone, Copy)]
+pub struct Settlement {
+    pub client: usize,
+    pub batch: u64,
+    pub done: u64,
+}

@@ -1,0 +1,243 @@
+//! The text of a script.
+use crate::chain::SeenChain;
+use crate::client::SeenClient;
+use crate::composing::Seen;
+use crate::event_text::{push_header, push_packet, push_set, push_stored};
+use crate::setup::{ClientSetup, GoalSetup, PathSetup, Settlement, Setup, TurnSetup};
+use jiff::Timestamp;
+use rb_base::Moment;
+use std::alloc::AllocError;
+
+const HEAD: &str = "# Signatures were not verified: headers and votes stand as the nodes gave them.
+# Written by ibcplan import.
+version = 1
+chain = [
+";
+
+/// Adds the text of a script.
+pub fn push_script(text: &mut String, setup: &Setup, seen: &Seen<'_>) -> Result<(), AllocError> {
+    text.push_str(HEAD)?;
+    for chain in &setup.chains {
+        writeln!(text, "  {{ id = \"{chain}\" }},")?;
+    }
+    text.push_str("]\n")?;
+    for (client, seen) in setup.clients.iter().zip(&seen.clients) {
+        push_client(text, setup, client, seen)?;
+    }
+    for path in &setup.paths {
+        push_path(text, setup, path)?;
+    }
+    let last = setup.turns.len().saturating_sub(1);
+    for (place, turn) in setup.turns.iter().enumerate() {
+        let is_last = place == last;
+        push_turn(text, setup, turn, if is_last { Some(seen) } else { None })?;
+    }
+    Ok(())
+}
+
+/// The identifier of the chain at a place.
+fn chain_at(setup: &Setup, place: usize) -> &str {
+    match setup.chains.get(place) {
+        Some(chain) => chain.as_str(),
+        None => "",
+    }
+}
+
+/// The identifier of the client at a place.
+fn client_at(setup: &Setup, place: usize) -> &str {
+    match setup.clients.get(place) {
+        Some(client) => client.id.as_str(),
+        None => "",
+    }
+}
+
+fn push_numbers(text: &mut String, key: &str, numbers: &[u64; 3]) -> Result<(), AllocError> {
+    let [first, second, third] = *numbers;
+    writeln!(text, "{key} = [{first}, {second}, {third}]")
+}
+
+fn push_client(
+    text: &mut String,
+    setup: &Setup,
+    client: &ClientSetup,
+    seen: &SeenClient<'_>,
+) -> Result<(), AllocError> {
+    let id = client.id.as_str();
+    let host = chain_at(setup, client.host);
+    let tracks = chain_at(setup, client.tracks);
+    writeln!(
+        text,
+        "\n[[client]]\nid = \"{id}\"\nhost = \"{host}\"\nof = \"{tracks}\""
+    )?;
+    let period = seen.period.nanoseconds();
+    let drift = seen.drift;
+    let refresh = client.refresh;
+    writeln!(
+        text,
+        "period_ns = {period}\ndrift_ns = {drift}\nrefresh_ns = {refresh}"
+    )?;
+    push_numbers(text, "fee", &client.fees)?;
+    push_numbers(text, "gas", &client.gas)?;
+    push_numbers(text, "limits", &client.limits)?;
+    let numerator = seen.trust.numerator;
+    let denominator = seen.trust.denominator;
+    writeln!(text, "trust = [{numerator}, {denominator}]")
+}
+
+fn push_path(text: &mut String, setup: &Setup, path: &PathSetup) -> Result<(), AllocError> {
+    let id = path.id.as_str();
+    let source = chain_at(setup, path.source);
+    let dest = chain_at(setup, path.dest);
+    writeln!(
+        text,
+        "\n[[path]]\nid = \"{id}\"\nsource = \"{source}\"\ndest = \"{dest}\""
+    )?;
+    let order = if path.is_ordered {
+        "ordered"
+    } else {
+        "unordered"
+    };
+    let first = path.first;
+    writeln!(text, "order = \"{order}\"\nfirst = {first}")?;
+    let forward = client_at(setup, path.forward);
+    let back = client_at(setup, path.back);
+    writeln!(text, "forward = \"{forward}\"\nback = \"{back}\"")?;
+    push_numbers(text, "gas", &path.gas)
+}
+
+/// Adds a turn, with what was seen where it is the last one.
+fn push_turn(
+    text: &mut String,
+    setup: &Setup,
+    turn: &TurnSetup,
+    seen: Option<&Seen<'_>>,
+) -> Result<(), AllocError> {
+    text.push_str("\n[[turn]]\nfrom = \"")?;
+    push_time(text, turn.from)?;
+    text.push_str("\"\nuntil = \"")?;
+    push_time(text, turn.until)?;
+    text.push_str("\"\ngoal = [\n")?;
+    for goal in &turn.goals {
+        push_goal(text, setup, goal)?;
+    }
+    text.push_str("]\n")?;
+    if let Some(seen) = seen {
+        push_events(text, setup, seen)?;
+    }
+    push_settlements(text, setup, turn.settlements.as_slice())
+}
+
+fn push_goal(text: &mut String, setup: &Setup, goal: &GoalSetup) -> Result<(), AllocError> {
+    let client = client_at(setup, goal.client);
+    let key = if goal.is_exact { "exactly" } else { "at_least" };
+    let height = goal.height;
+    writeln!(text, "  {{ client = \"{client}\", {key} = {height} }},")
+}
+
+fn push_settlements(
+    text: &mut String,
+    setup: &Setup,
+    settlements: &[Settlement],
+) -> Result<(), AllocError> {
+    if settlements.is_empty() {
+        return Ok(());
+    }
+    text.push_str("settle = [\n")?;
+    for settlement in settlements {
+        let client = client_at(setup, settlement.client);
+        let batch = settlement.batch;
+        let done = settlement.done;
+        writeln!(
+            text,
+            "  {{ client = \"{client}\", batch = {batch}, done = {done} }},"
+        )?;
+    }
+    text.push_str("]\n")
+}
+
+/// Adds what was seen: of each chain its sets and its headers, of each client what it has stored, of
+/// each path its packets.
+fn push_events(text: &mut String, setup: &Setup, seen: &Seen<'_>) -> Result<(), AllocError> {
+    text.push_str("event = [\n")?;
+    for (place, chain) in seen.chains.iter().enumerate() {
+        push_chain(text, setup, seen, place, chain)?;
+    }
+    for (client, stored) in setup.clients.iter().zip(&seen.clients) {
+        push_records(text, seen, client, stored)?;
+    }
+    for (path, packets) in setup.paths.iter().zip(&seen.paths) {
+        for packet in packets {
+            push_packet(text, path.id.as_str(), packet)?;
+        }
+    }
+    text.push_str("]\n")
+}
+
+/// Adds the sets that are named and the headers of a chain.
+fn push_chain(
+    text: &mut String,
+    setup: &Setup,
+    seen: &Seen<'_>,
+    place: usize,
+    chain: &SeenChain<'_>,
+) -> Result<(), AllocError> {
+    let id = chain_at(setup, place);
+    for set in &chain.sets.sets {
+        if is_named(setup, seen, place, chain, set.set.hash()) {
+            push_set(text, id, &set.set)?;
+        }
+    }
+    for commit in &chain.commits {
+        let is_next_known = chain.sets.with_hash(&commit.header.next).is_some();
+        push_header(text, id, commit, is_next_known)?;
+    }
+    Ok(())
+}
+
+/// Whether a header of a chain, or a record of a client that tracks it, names a set.
+fn is_named(
+    setup: &Setup,
+    seen: &Seen<'_>,
+    place: usize,
+    chain: &SeenChain<'_>,
+    hash: &[u8; 32],
+) -> bool {
+    let by_header = chain.commits.iter().any(|commit| commit.header.set == *hash
+        || commit.header.next == *hash);
+    by_header
+        || setup.clients.iter().zip(&seen.clients).any(|(client, seen)| client.tracks == place
+            && is_stored(seen, hash))
+}
+
+/// Whether a record that a client has stored names a set.
+fn is_stored(seen: &SeenClient<'_>, hash: &[u8; 32]) -> bool {
+    seen.stored.iter().any(|stored| stored.state.next == *hash)
+}
+
+/// Adds what a client has stored.
+fn push_records(
+    text: &mut String,
+    seen: &Seen<'_>,
+    client: &ClientSetup,
+    stored: &SeenClient<'_>,
+) -> Result<(), AllocError> {
+    for record in &stored.stored {
+        let is_next_known = match seen.chains.get(client.tracks) {
+            Some(chain) => chain.sets.with_hash(&record.state.next).is_some(),
+            None => false,
+        };
+        push_stored(text, client.id.as_str(), record, is_next_known)?;
+    }
+    Ok(())
+}
+
+/// Adds a moment, in RFC 3339.
+pub fn push_time(text: &mut String, moment: Moment) -> Result<(), AllocError> {
+    match i128::try_from(moment.nanoseconds()) {
+        Ok(nanoseconds) => match Timestamp::from_nanosecond(nanoseconds) {
+            Ok(timestamp) => write!(text, "{timestamp}"),
+            Err(_) => Ok(()),
+        },
+        Err(_) => Ok(()),
+    }
+}

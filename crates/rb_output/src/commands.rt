@@ -1,0 +1,115 @@
+//! The commands that a relayer (Hermes) runs for a report.
+use rb_super::{
+    ClientConfig, ClientReport, Outcome, Plan, PricedUpdate, Report, Script, TurnReport,
+};
+use std::alloc::{AllocError, Global};
+
+/// The commands for a report of this script: for each turn and client a comment line of what came of
+/// it, and after it a line for each update, in the order in which they are submitted.
+pub fn commands_of(alloc: Global, script: &Script, report: &Report) -> Result<String, AllocError> {
+    let mut text = String::new(alloc);
+    let mut number: u64 = 0;
+    for turn in &report.turns {
+        number = number.saturating_add(1);
+        push_turn(&mut text, number, script, turn)?;
+    }
+    Ok(text)
+}
+
+fn push_turn(
+    text: &mut String,
+    number: u64,
+    script: &Script,
+    turn: &TurnReport,
+) -> Result<(), AllocError> {
+    for (config, client) in script.config.clients.iter().zip(&turn.clients) {
+        push_client(text, number, host_of(script, config), client)?;
+    }
+    Ok(())
+}
+
+/// The identifier of the chain that hosts a client.
+fn host_of<'a>(script: &'a Script, config: &ClientConfig) -> &'a str {
+    match script.config.chains.get(config.host) {
+        Some(chain) => chain.as_str(),
+        None => "",
+    }
+}
+
+fn push_client(
+    text: &mut String,
+    turn: u64,
+    host: &str,
+    client: &ClientReport,
+) -> Result<(), AllocError> {
+    let id = client.id.as_str();
+    match &client.outcome {
+        Outcome::Held(batch) => writeln!(text, "# turn {turn} client {id}: held by batch {batch}"),
+        Outcome::Idle => writeln!(text, "# turn {turn} client {id}: idle"),
+        Outcome::Planned(planned) => match &planned.plan {
+            Some(plan) => push_plan(text, turn, host, id, plan),
+            None => writeln!(text, "# turn {turn} client {id}: unreachable"),
+        },
+    }
+}
+
+fn push_plan(
+    text: &mut String,
+    turn: u64,
+    host: &str,
+    id: &str,
+    plan: &Plan,
+) -> Result<(), AllocError> {
+    let fee = plan.total.fee;
+    let count = plan.total.count;
+    writeln!(
+        text,
+        "# turn {turn} client {id}: total fee {fee}, updates {count}"
+    )?;
+    for update in &plan.updates {
+        push_update(text, host, own_id(host, id), update)?;
+    }
+    Ok(())
+}
+
+/// What follows `HOST.` in a client's identifier where it begins with that and more, else the whole.
+fn own_id<'a>(host: &str, id: &'a str) -> &'a str {
+    let Some(rest) = id.strip_prefix(host) else {
+        return id;
+    };
+    match rest.strip_prefix('.') {
+        Some(own) if !own.is_empty() => own,
+        _ => id,
+    }
+}
+
+fn push_update(
+    text: &mut String,
+    host: &str,
+    id: &str,
+    priced: &PricedUpdate,
+) -> Result<(), AllocError> {
+    let height = priced.update.height();
+    let trusted = priced.update.trusted();
+    text.push_str("hermes update client --host-chain ")?;
+    push_word(text, host)?;
+    text.push_str(" --client ")?;
+    push_word(text, id)?;
+    writeln!(text, " --height {height} --trusted-height {trusted}")
+}
+
+/// Adds an identifier as a word of a shell: in single quotes where it has a character that a shell
+/// gives a meaning. Identifiers have no single quote.
+fn push_word(text: &mut String, id: &str) -> Result<(), AllocError> {
+    if id.as_bytes().iter().any(|byte| has_meaning(*byte)) {
+        write!(text, "'{id}'")
+    } else {
+        text.push_str(id)
+    }
+}
+
+/// Whether a character of identifiers has a meaning in a shell: of a comment, a pattern or a
+/// redirection.
+fn has_meaning(byte: u8) -> bool {
+    matches!(byte, b'#' | b'[' | b']' | b'<' | b'>')
+}

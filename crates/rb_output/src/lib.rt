@@ -1,0 +1,8 @@
+//! Other texts of a report: the commands that a relayer runs, and JSON.
+#![tactic(auto)]
+
+mod commands;
+mod json;
+
+pub use commands::commands_of;
+pub use json::json_of;
