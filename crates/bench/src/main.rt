@@ -4,19 +4,22 @@
 mod batch;
 mod book;
 mod certificate;
+mod gang;
 mod graph;
 mod plan;
 mod scan;
 mod share;
 
 use anyhow::{Context, Result, bail};
-use std::env;
 use std::rt::{Clock, Env};
+use std::thread::Threads;
 use std::time::Instant;
+use std::{env, thread};
 
 /// The subcommands and their numbers.
 const USAGE: &str = "bench book HEADERS SETS VALIDATORS
 bench graph HEADERS SETS VALIDATORS
+bench build HEADERS SETS VALIDATORS [WORKERS]
 bench plan HEADERS SETS VALIDATORS
 bench certify HEADERS VALIDATORS
 bench certify-labels LABELS
@@ -64,6 +67,16 @@ fn book_numbers(task: &Task) -> Result<(u32, u32, u32)> {
     Ok((number(task, 0)?, number(task, 1)?, number(task, 2)?))
 }
 
+/// The numbers of views and of their book.
+fn share_task(task: &Task) -> Result<share::Task> {
+    Ok(share::Task {
+        clients: number(task, 0)?,
+        views: number(task, 1)?,
+        headers: number(task, 2)?,
+        validators: number(task, 3)?,
+    })
+}
+
 /// Plans over a book filled with headers, and tells how long that took when the table stood.
 fn plan_timed<R: Clock + AllocGlobal>(rt: &R, task: &Task) -> Result<String> {
     let alloc = rt.alloc();
@@ -75,8 +88,19 @@ fn plan_timed<R: Clock + AllocGlobal>(rt: &R, task: &Task) -> Result<String> {
     Ok(format!(in alloc; "{updates} updates, fee {fee}, planned in {micros} us")?)
 }
 
+/// Makes a table by one worker and by the given number of them, else by as many as there are cores, and
+/// tells the times.
+fn build_timed<R: Clock + Threads + AllocGlobal + Sync>(rt: &R, task: &Task) -> Result<String> {
+    let (headers, sets, validators) = book_numbers(task)?;
+    let workers = match task.numbers.get(3) {
+        Some(workers) => *workers as usize,
+        None => thread::available_parallelism(rt)?.get(),
+    };
+    gang::compare(rt, headers, sets, validators, workers)
+}
+
 /// Does the work, and tells what was done; nothing where no such work is known.
-fn perform<R: Clock + AllocGlobal>(rt: &R, task: &Task) -> Result<Option<String>> {
+fn perform<R: Clock + Threads + AllocGlobal + Sync>(rt: &R, task: &Task) -> Result<Option<String>> {
     let alloc = rt.alloc();
     let told = match task.name.as_str() {
         "book" => {
@@ -89,6 +113,7 @@ fn perform<R: Clock + AllocGlobal>(rt: &R, task: &Task) -> Result<Option<String>
             let rows = graph::make_table(alloc, headers, sets, validators)?;
             format!(in alloc; "{rows} rows")?
         }
+        "build" => build_timed(rt, task)?,
         "plan" => plan_timed(rt, task)?,
         "certify" => {
             let holds = certificate::certify_plan(alloc, number(task, 0)?, number(task, 1)?)?;
@@ -102,18 +127,8 @@ fn perform<R: Clock + AllocGlobal>(rt: &R, task: &Task) -> Result<Option<String>
             let messages = scan::scan_path(alloc, number(task, 0)?)?;
             format!(in alloc; "{messages} messages")?
         }
-        "share" => {
-            let (clients, views) = (number(task, 0)?, number(task, 1)?);
-            let (headers, validators) = (number(task, 2)?, number(task, 3)?);
-            let equal = share::hold_views(alloc, clients, views, headers, validators)?;
-            format!(in alloc; "{equal} equal views")?
-        }
-        "share-turns" => {
-            let (clients, views) = (number(task, 0)?, number(task, 1)?);
-            let (headers, validators) = (number(task, 2)?, number(task, 3)?);
-            let equal = share::hold_turns(alloc, clients, views, headers, validators)?;
-            format!(in alloc; "{equal} equal views")?
-        }
+        "share" => share::hold_views(rt, &share_task(task)?)?,
+        "share-turns" => share::hold_turns(rt, &share_task(task)?)?,
         "batch" => {
             let transactions = batch::cut_messages(alloc, number(task, 0)?, number(task, 1)?)?;
             format!(in alloc; "{transactions} transactions")?
@@ -123,7 +138,7 @@ fn perform<R: Clock + AllocGlobal>(rt: &R, task: &Task) -> Result<Option<String>
     Ok(Some(told))
 }
 
-fn run<R: Env + Print + Clock + AllocGlobal>(rt: &R) -> Result<()> {
+fn run<R: Env + Print + Clock + Threads + AllocGlobal + Sync>(rt: &R) -> Result<()> {
     let task = read_task(rt)?;
     match perform(rt, &task)? {
         Some(told) => println!(rt; "{told}")?,

@@ -159,29 +159,27 @@ fn survives_each_refused_growth(rt: HostRuntime) -> Result<(), Fail> {
     Err(Fail::from("growths"))
 }
 
-/// Refusals with their numbers, and what is printed of them.
-const REFUSALS: &[(LanesError, Option<u16>, &str)] = &[
-    (LanesError::ColumnsFull, Some(301), "301 ColumnsFull"),
-    (LanesError::NoMemory, None, "NoMemory"),
+/// Refusals, and what is printed of them.
+const REFUSALS: &[(LanesError, &str)] = &[
+    (LanesError::ColumnsFull, "301 ColumnsFull"),
+    (LanesError::NoMemory, "NoMemory"),
 ];
 
 fn check_refusal(
     rt: &impl Abort,
     alloc: Global,
     error: LanesError,
-    number: Option<u16>,
     text: &str,
 ) -> Result<(), AllocError> {
     let printed = format!(in alloc; "{error}")?;
     assert_same(rt, &text, &printed.as_str(), &text);
-    assert_same(rt, &text, &error.number(), &number);
     Ok(())
 }
 
 #[test]
 fn prints_its_refusals(rt: HostRuntime) -> Result<(), Fail> {
-    for (error, number, text) in REFUSALS {
-        check_refusal(&rt, rt.alloc(), *error, *number, text)?;
+    for (error, text) in REFUSALS {
+        check_refusal(&rt, rt.alloc(), *error, text)?;
     }
     Ok(())
 }

@@ -11,6 +11,8 @@ mod book;
 #[cfg(test)]
 mod cert;
 #[cfg(test)]
+mod gang;
+#[cfg(test)]
 mod graph;
 #[cfg(test)]
 mod lanes;
@@ -24,6 +26,8 @@ mod merkle;
 mod plan;
 #[cfg(test)]
 mod scan;
+#[cfg(test)]
+mod shared;
 #[cfg(test)]
 mod step;
 #[cfg(test)]

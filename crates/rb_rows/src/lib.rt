@@ -1,12 +1,15 @@
 //! What no contract of the layers that read and write bytes says, by their public calls: the report that
 //! `plan_over` writes for a script, each fault with the path of what is wrong, what `certify_over` says of
-//! a certificate, and what is read of scripts, certificates and values.
+//! a certificate, and what is read of scripts, certificates and values. And the reports of scripts that
+//! are made without a text, of several turns and clients.
 #![tactic(auto)]
 
 #[cfg(test)]
 mod certificates;
 #[cfg(test)]
 mod certifying;
+#[cfg(test)]
+mod conditions;
 #[cfg(test)]
 mod detour;
 #[cfg(test)]
@@ -16,8 +19,12 @@ mod fields;
 #[cfg(test)]
 mod headers;
 #[cfg(test)]
+mod made;
+#[cfg(test)]
 mod planning;
 #[cfg(test)]
 mod reading;
 #[cfg(test)]
 mod scripts;
+#[cfg(test)]
+mod turns;

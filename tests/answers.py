@@ -1,0 +1,351 @@
+"""Made-up answers of nodes, and a plain reading of them that shares no code with the program.
+
+`make(folder, seed)` writes answers in the public shapes of CometBFT's RPC and of ibc-go's REST gateway for a pair of chains, whose
+keys, powers, set hashes, times and heights fit one another (signatures and block hashes are random); `script_of(setup, folder)`
+is the script that they make with a setup; `serve(folder)` gives them as nodes do."""
+import base64
+import contextlib
+import hashlib
+import http.server
+import json
+import random
+import threading
+import tomllib
+import urllib.parse
+from datetime import datetime, timedelta, timezone
+
+START = datetime(2026, 11, 1, 12, tzinfo=timezone.utc)
+LETTERS = {1: "A", 2: "C", 3: "N"}
+
+
+def sha(data):
+    return hashlib.sha256(data).digest()
+
+
+def varint(number):
+    out = b""
+    while number > 127:
+        out += bytes([number & 127 | 128])
+        number >>= 7
+    return out + bytes([number])
+
+
+def root(items):
+    if len(items) < 2:
+        return sha(b"".join(b"\0" + item for item in items))
+    split = 1
+    while split * 2 < len(items):
+        split *= 2
+    return sha(b"\1" + root(items[:split]) + root(items[split:]))
+
+
+def in_order(members):
+    """(power, address, key) by falling power, then rising address."""
+    return sorted(((power, sha(key)[:20], key) for key, power in members), key=lambda m: (-m[0], m[1]))
+
+
+def set_hash(members):
+    return root([b"\x0a\x22\x0a\x20" + key + b"\x10" + varint(power) for power, _, key in members])
+
+
+def stamp(time):
+    """RFC 3339 with nanoseconds, as nodes write it."""
+    return time.strftime("%Y-%m-%dT%H:%M:%S") + "." + f"{time.microsecond:06d}123".rstrip("0") + "Z"
+
+
+def upper(data):
+    return data.hex().upper()
+
+
+def write(path, value):
+    path.parent.mkdir(parents=True, exist_ok=True)
+    path.write_text(json.dumps(value))
+
+
+def renamed(folder, chance):
+    """Gives the answers below a folder names by chance, beside a file that is no answer."""
+    for path in sorted(folder.glob("*/*.json")):
+        path.rename(path.with_name(f"{chance.randbytes(6).hex()}.json"))
+    (folder / "hub-4" / "notes.txt").write_text("no answer")
+
+
+class Chain:
+    """Blocks from 1 on, whose validators change every few blocks."""
+
+    def __init__(self, chance, name, blocks, size=6, page=4):
+        self.name, self.chance, self.page = name, chance, page
+        keys = [chance.randbytes(32) for _ in range(size * 3 // 2)]
+        members = {key: chance.randint(50, 900) for key in keys[:size]}
+        self.sets, self.times, self.roots = {}, {}, {}
+        for height in range(1, blocks + 2):
+            if height % 12 == 0:
+                gone = chance.choice(sorted(members))
+                del members[gone]
+                members[chance.choice([k for k in keys if k not in members and k != gone])] = chance.randint(50, 900)
+            self.sets[height] = in_order(members.items())
+            self.times[height] = START + timedelta(seconds=6.4 * height, microseconds=chance.randint(0, 999_999))
+            self.roots[height] = chance.randbytes(32)
+
+    def revision(self):
+        return self.name.rsplit("-", 1)[1]
+
+    def some_hash(self):
+        return upper(self.chance.randbytes(32))
+
+    def commit(self, height):
+        header = {"version": {"block": "11"}, "chain_id": self.name, "height": str(height), "time": stamp(self.times[height]),
+                  "last_block_id": {"hash": self.some_hash(), "parts": {"total": 1, "hash": self.some_hash()}},
+                  "validators_hash": upper(set_hash(self.sets[height])), "next_validators_hash": upper(set_hash(self.sets[height + 1])),
+                  "consensus_hash": self.some_hash(), "app_hash": upper(self.roots[height]),
+                  "proposer_address": upper(self.sets[height][0][1])}
+        signatures = []
+        for place, (_, address, _) in enumerate(self.sets[height]):
+            flag = self.chance.choice([2] * 11 + [1, 3]) if place > 1 else 2
+            signatures.append({"block_id_flag": 1, "validator_address": "", "timestamp": "0001-01-01T00:00:00Z", "signature": None}
+                              if flag == 1 else
+                              {"block_id_flag": flag, "validator_address": upper(address), "timestamp": stamp(self.times[height]),
+                               "signature": base64.b64encode(self.chance.randbytes(64)).decode()})
+        commit = {"height": str(height), "round": 0, "block_id": {"hash": self.some_hash()}, "signatures": signatures}
+        return {"jsonrpc": "2.0", "id": -1, "result": {"signed_header": {"header": header, "commit": commit}, "canonical": True}}
+
+    def validators(self, height):
+        members = self.sets[height]
+        for begin in range(0, len(members), self.page):
+            page = [{"address": upper(address), "pub_key": {"type": "tendermint/PubKeyEd25519", "value": base64.b64encode(key).decode()},
+                     "voting_power": str(power), "proposer_priority": "-7"} for power, address, key in members[begin:begin + self.page]]
+            yield {"jsonrpc": "2.0", "id": -1, "result": {"block_height": str(height), "validators": page, "count": str(len(page)),
+                                                          "total": str(len(members))}}
+
+    def at(self, height):
+        return {"revision_number": self.revision(), "revision_height": str(height)}
+
+
+def client_state(chain, latest):
+    none = {"revision_number": "0", "revision_height": "0"}
+    state = {"@type": "/ibc.lightclients.tendermint.v1.ClientState", "chain_id": chain.name,
+             "trust_level": {"numerator": "1", "denominator": "3"}, "trusting_period": "806400s", "unbonding_period": "1209600s",
+             "max_clock_drift": "40.5s", "frozen_height": none, "latest_height": chain.at(latest)}
+    return {"client_state": state, "proof": None, "proof_height": none}
+
+
+def consensus_states(chain, heights):
+    states = [{"height": chain.at(h), "consensus_state": {
+        "@type": "/ibc.lightclients.tendermint.v1.ConsensusState", "timestamp": stamp(chain.times[h]),
+        "root": {"hash": base64.b64encode(chain.roots[h]).decode()}, "next_validators_hash": upper(set_hash(chain.sets[h + 1]))}}
+        for h in heights]
+    return {"consensus_states": states, "pagination": {"next_key": None, "total": "0"}}
+
+
+def packet_event(kind, sequence, timeout, encoded):
+    values = {"packet_data": "{}", "packet_timeout_height": "0-0" if sequence % 2 else "1-4000", "packet_timeout_timestamp": str(timeout),
+              "packet_sequence": str(sequence), "packet_src_port": "transfer", "packet_src_channel": "channel-0",
+              "packet_dst_port": "transfer", "packet_dst_channel": "channel-7"}
+    if encoded:
+        values = {base64.b64encode(k.encode()).decode(): base64.b64encode(v.encode()).decode() for k, v in values.items()}
+    return {"type": kind, "attributes": [{"key": k, "value": v, "index": True} for k, v in values.items()]}
+
+
+def tx_search(found, encoded=False):
+    txs = [{"hash": "00", "height": str(height), "index": 0, "tx_result": {"code": 0, "events": [
+        {"type": "tx", "attributes": [{"key": "fee", "value": "500uosmo", "index": True}]}, packet_event(kind, sequence, timeout, encoded)]}}
+        for height, kind, sequence, timeout in found]
+    return {"jsonrpc": "2.0", "id": -1, "result": {"txs": txs, "total_count": str(len(txs))}}
+
+
+def make(folder, seed, between=6):
+    """Writes the answers on hub-4 and zone-1, of the clients hub-on-zone and zone-on-hub and of the path transfers."""
+    chance = random.Random(seed)
+    hub, zone = Chain(chance, "hub-4", 80), Chain(chance, "zone-1", 60, page=chance.choice([2, 4, 100]))
+    seen = {hub: [1, *sorted(chance.sample(range(2, 80), between)), 80], zone: [1, *sorted(chance.sample(range(2, 60), between // 2 + 1)), 60]}
+    for chain, heights in seen.items():
+        for height in heights:
+            write(folder / chain.name / f"commit-{height}.json", chain.commit(height))
+        for height in heights + [h + 1 for h in heights[:-1]]:
+            for number, page in enumerate(chain.validators(height), 1):
+                write(folder / chain.name / f"validators-{height}-{number}.json", page)
+    for name, chain, stored in (("hub-on-zone", hub, seen[hub][:2]), ("zone-on-hub", zone, seen[zone][:2])):
+        write(folder / name / "client_state.json", client_state(chain, stored[-1]))
+        write(folder / name / "consensus_states.json", consensus_states(chain, stored))
+    later = int((START + timedelta(hours=2)).timestamp()) * 10**9 + 5
+    encoded = chance.random() < 0.5
+    sent = [(30 + s, "send_packet", s, later if s != 3 else 0) for s in range(1, chance.randint(4, 7))]
+    write(folder / "transfers" / "sent.json", tx_search(sent, encoded))
+    write(folder / "transfers" / "received.json", tx_search([(35, "recv_packet", 2, later), (35, "write_acknowledgement", 2, later)]))
+    write(folder / "transfers" / "cleared.json", tx_search([(50, "acknowledge_packet", 2, later), (51, "timeout_packet", 1, later)], encoded))
+
+
+@contextlib.contextmanager
+def serve(chance):
+    """A node of a made-up hub-4 and a gateway of the chain that hosts a client of it: their addresses, while they answer."""
+    hub, stored = Chain(chance, "hub-4", 80), [1, 30, 52]
+
+    def answer(path, asked):
+        height = int(asked.get("height", ["0"])[0])
+        if path == "/status":
+            return {"result": {"sync_info": {"latest_block_height": "80"}}}
+        if path == "/commit":
+            return hub.commit(height)
+        if path == "/validators":
+            return list(hub.validators(height))[int(asked["page"][0]) - 1]
+        if path == "/ibc/core/client/v1/client_states/hub-on-zone":
+            return client_state(hub, stored[-1])
+        if path == "/ibc/core/client/v1/consensus_states/hub-on-zone":  # a state a page
+            place = int(base64.b64decode(asked.get("pagination.key", ["MA=="])[0]))
+            page = consensus_states(hub, stored[place:place + 1])
+            if place + 1 < len(stored):
+                page["pagination"]["next_key"] = base64.b64encode(str(place + 1).encode()).decode()
+            return page
+        return {"code": 5, "message": "not found", "details": []}
+
+    class Handler(http.server.BaseHTTPRequestHandler):
+        def do_GET(self):
+            address = urllib.parse.urlsplit(self.path)
+            self.send_response(200)
+            self.end_headers()
+            self.wfile.write(json.dumps(answer(address.path, urllib.parse.parse_qs(address.query))).encode())
+
+        def log_message(self, *_):
+            pass
+
+    server = http.server.ThreadingHTTPServer(("127.0.0.1", 0), Handler)
+    threading.Thread(target=server.serve_forever, daemon=True).start()
+    try:
+        yield (f"http://127.0.0.1:{server.server_port}",) * 2
+    finally:
+        server.shutdown()
+
+
+# ---- a plain reading
+
+
+def nanoseconds(time):
+    whole, fraction = time.rstrip("Z").split(".") if "." in time else (time.rstrip("Z"), "")
+    since = datetime.strptime(whole, "%Y-%m-%dT%H:%M:%S").replace(tzinfo=timezone.utc) - datetime(1970, 1, 1, tzinfo=timezone.utc)
+    return (since.days * 86400 + since.seconds) * 10**9 + int(fraction.ljust(9, "0") or "0")
+
+
+def duration(text):
+    whole, _, fraction = text.removesuffix("s").partition(".")
+    return int(whole) * 10**9 + int(fraction.ljust(9, "0") or "0")
+
+
+def answers_in(folder):
+    return [json.loads(path.read_text()) for path in sorted(folder.glob("*.json"))]
+
+
+def chain_events(folder, name, named):
+    """The sets that headers or records name, by height, and the headers."""
+    headers, pages = {}, {}
+    for answer in answers_in(folder / name):
+        result = answer["result"]
+        if "signed_header" in result:
+            signed = result["signed_header"]
+            headers[int(signed["header"]["height"])] = signed
+        else:
+            pages.setdefault(int(result["block_height"]), []).extend(result["validators"])
+    for signed in headers.values():
+        named |= {signed["header"]["validators_hash"].lower(), signed["header"]["next_validators_hash"].lower()}
+    known = {}
+    for height in sorted(pages):
+        members = in_order([(base64.b64decode(v["pub_key"]["value"]), int(v["voting_power"])) for v in pages[height]])
+        known.setdefault(set_hash(members).hex(), members)
+    events = [{"kind": "set", "chain": name, "name": digits[:32], "validators": [[key.hex(), power] for power, _, key in members]}
+              for digits, members in known.items() if digits in named]
+    reference = {digits: digits[:32] for digits in known}
+    for height in sorted(headers):
+        header, commit = headers[height]["header"], headers[height]["commit"]
+        events.append({"kind": "header", "chain": name, "height": height, "time": nanoseconds(header["time"]),
+                       "root": header["app_hash"].lower(), "set": reference[header["validators_hash"].lower()],
+                       "next": reference.get(header["next_validators_hash"].lower(), header["next_validators_hash"].lower()),
+                       "votes": "".join(LETTERS[s["block_id_flag"]] for s in commit["signatures"])})
+    return events, reference
+
+
+KINDS = {"send_packet": "sent", "recv_packet": "received", "write_acknowledgement": "ack", "acknowledge_packet": "cleared",
+         "timeout_packet": "cleared"}
+
+
+def packet_events(folder, path):
+    found = []
+    for answer in answers_in(folder / path["id"]):
+        for tx in answer["result"]["txs"]:
+            for event in tx["tx_result"]["events"]:
+                values = {a["key"]: a["value"] for a in event["attributes"]}
+                if "cGFja2V0X3NlcXVlbmNl" in values:
+                    values = {base64.b64decode(k).decode(): base64.b64decode(v).decode() for k, v in values.items()}
+                if event["type"] in KINDS:
+                    found.append((list(KINDS.values()).index(KINDS[event["type"]]), int(tx["height"]), int(values["packet_sequence"]), event["type"], values))
+    for _, height, sequence, kind, values in sorted(found, key=lambda f: f[:3]):
+        if path.get("port", values["packet_src_port"]) != values["packet_src_port"] or sequence < path.get("first", 1):
+            continue
+        event = {"kind": KINDS[kind], "path": path["id"], "seq": sequence}
+        if KINDS[kind] != "cleared":
+            event["height"] = height
+        if kind == "send_packet":
+            limit = int(values["packet_timeout_height"].split("-")[1])
+            event |= {"timeout_height": limit} if limit else {}
+            time = int(values["packet_timeout_timestamp"])
+            event |= {"timeout_time": time} if time else {}
+        yield event
+
+
+def script_of(setup, folder):
+    """The script of a setup's text and of the answers, as TOML's values, its times in nanoseconds."""
+    script = tomllib.loads(setup)
+    records, by_chain = [], {}
+    for client in script.get("client", []):
+        states = answers_in(folder / client["id"])
+        given = next(a["client_state"] for a in states if "client_state" in a)
+        client.setdefault("period_ns", duration(given["trusting_period"]))
+        client.setdefault("drift_ns", duration(given["max_clock_drift"]))
+        client.setdefault("trust", [int(given["trust_level"][k]) for k in ("numerator", "denominator")])
+        client.setdefault("refresh_ns", 0)
+        stored = [s for a in states for s in a.get("consensus_states", [])]
+        for state in sorted(stored, key=lambda s: int(s["height"]["revision_height"])):
+            records.append((client, state))
+            by_chain.setdefault(client["of"], set()).add(state["consensus_state"]["next_validators_hash"].lower())
+    events, references = [], {}
+    for chain in script["chain"]:
+        if chain["id"] in by_chain:
+            found, references[chain["id"]] = chain_events(folder, chain["id"], by_chain[chain["id"]])
+            events += found
+    for client, state in records:
+        inner = state["consensus_state"]
+        following = inner["next_validators_hash"].lower()
+        events.append({"kind": "stored", "client": client["id"], "height": int(state["height"]["revision_height"]),
+                       "time": nanoseconds(inner["timestamp"]), "root": base64.b64decode(inner["root"]["hash"]).hex(),
+                       "next": references[client["of"]].get(following, following)})
+    for path in script.get("path", []):
+        events += packet_events(folder, path)
+        path.setdefault("first", 1)
+        path.pop("port", None), path.pop("channel", None)
+    for turn in script["turn"]:
+        turn["from"], turn["until"] = nanoseconds(turn["from"]), nanoseconds(turn["until"])
+    script["turn"][-1]["event"] = events
+    return script
+
+
+def with_numbers(script):
+    """A script's values with its times in nanoseconds."""
+    for turn in script["turn"]:
+        turn["from"], turn["until"] = nanoseconds(turn["from"]), nanoseconds(turn["until"])
+        for event in turn.get("event", []):
+            for key in ("time", "timeout_time"):
+                if key in event:
+                    event[key] = nanoseconds(event[key])
+    return script
+
+
+def in_toml(script):
+    """The text of a script's values."""
+    def text(value, key=""):
+        if isinstance(value, dict):
+            return "{ " + ", ".join(f"{k} = {text(v, k)}" for k, v in value.items()) + " }"
+        if isinstance(value, list):
+            return "[" + ", ".join(map(text, value)) + "]"
+        if key in ("from", "until", "time", "timeout_time"):
+            second, rest = divmod(value, 10**9)
+            return f'"{datetime.fromtimestamp(second, timezone.utc):%Y-%m-%dT%H:%M:%S}.{rest:09}Z"'
+        return f'"{value}"' if isinstance(value, str) else str(value)
+
+    return "".join(f"{key} = {text(value)}\n" for key, value in script.items()).encode()

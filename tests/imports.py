@@ -1,0 +1,263 @@
+"""Runs of `import` over made-up answers, compared with a plain reading of them (answers.py), and over answers that are spoiled.
+
+For each seed the script that `import` writes has the values of the plain reading, for one client, and for two clients, a path
+and two turns; `plan` of that script is what the reference planner says. Then each answer that is spoiled in one place has its
+error, which names the file, and nothing is written."""
+import json
+import random
+import re
+import shlex
+import shutil
+import subprocess
+import sys
+import tomllib
+
+import answers
+from program import TOP, Case
+
+sys.path.insert(0, str(TOP / "bench"))
+import reference
+
+EXAMPLE = TOP / "examples" / "import"
+HEAD = 'version = 1\nchain = [{ id = "hub-4" }, { id = "zone-1" }]\n'
+CLIENT = '[[client]]\nid = "%s"\nhost = "%s"\nof = "%s"\nfee = [100, 1, 1]\ngas = [100, 1, 1]\nlimits = [100000, 100, 0]\n'
+ONE = CLIENT % ("hub-on-zone", "zone-1", "hub-4")
+PATH = ('[[path]]\nid = "transfers"\nsource = "hub-4"\ndest = "zone-1"\norder = "unordered"\nforward = "hub-on-zone"\n'
+        'back = "zone-on-hub"\ngas = [5, 5, 5]\n')
+TURN = '[[turn]]\nfrom = "2026-11-01T12:09:%02dZ"\nuntil = "2026-11-01T12:09:30Z"\ngoal = [{ client = "hub-on-zone", at_least = 80 }]\n'
+GIVEN = ["", "period_ns = 800000000000000\n", "drift_ns = 7\ntrust = [2, 3]\n", "period_ns = 900000000000000\ndrift_ns = 7\ntrust = [1, 2]\n"]
+
+
+def setups(seed):
+    """The setup of one client, which is planned, and one of two clients, a path and two turns."""
+    one = HEAD + ONE + GIVEN[seed % 4] + TURN % 20
+    two = CLIENT % ("zone-on-hub", "hub-4", "zone-1") + "refresh_ns = 5\n"
+    path = PATH + ('port = "transfer"\nchannel = "channel-0"\n' if seed % 2 else "") + ("first = 2\n" if seed % 3 == 0 else "")
+    turns = TURN % 10 + 'settle = [{ client = "hub-on-zone", batch = 1, done = 2 }]\n' + TURN % 20
+    return one, HEAD + ONE + two + path + turns
+
+
+def values_of(output):
+    """The values of a script that was written."""
+    return answers.with_numbers(tomllib.loads(output.decode()))
+
+
+def seed_cases(top, seed):
+    """The scripts of a seed's answers, and the plan of the one with one client."""
+    folder = top / f"seed-{seed}"
+    answers.make(folder, seed)
+    answers.renamed(folder, random.Random(seed))
+    for number, text in enumerate(setups(seed)):
+        setup = top / f"setup-{seed}-{number}.toml"
+        setup.write_text(text)
+        script = answers.script_of(text, folder)
+        yield Case(f"import of seed {seed}, setup {number}", ["import", str(setup), str(folder)], b"", script, b"", 0, reader=values_of)
+        if number == 0:
+            toml = answers.in_toml(script)
+            yield Case(f"plan of seed {seed}", ["plan", "-"], toml, reference.report(reference.read_script(toml)).encode(), b"", 0)
+
+
+def example_cases():
+    """The answers that the README speaks of, and their report."""
+    setup, folder = EXAMPLE / "setup.toml", EXAMPLE / "answers"
+    script = answers.script_of(setup.read_text(), folder)
+    yield Case("the example's import", ["import", str(setup), str(folder)], b"", script, b"", 0, reader=values_of)
+    yield Case("the example's plan", ["plan", "-"], answers.in_toml(script), (EXAMPLE / "setup.report").read_bytes(), b"", 0)
+
+
+# ---- spoiled answers
+
+
+def at(value, path):
+    """The object or array that holds what a path names, and the last step to it."""
+    steps = [int(step) if step.isdigit() else step for step in re.findall(r"[^.\[\]]+", path)]
+    for step in steps[:-1]:
+        value = value[step]
+    return value, steps[-1]
+
+
+def gone(path):
+    def edit(value):
+        holder, step = at(value, path)
+        del holder[step]
+    return edit
+
+
+def put(path, new):
+    def edit(value):
+        holder, step = at(value, path)
+        holder[step] = new
+    return edit
+
+
+SIGNED, HEADER, COMMIT = "result.signed_header", "result.signed_header.header", "result.signed_header.commit"
+SIGNATURE, FIRST = f"{COMMIT}.signatures[0]", "result.validators[0]"
+STATE, CONSENSUS, TX, PACKET = "client_state", "consensus_states[0]", "result.txs[0]", "result.txs[0].tx_result.events[1].attributes"
+BIG, LONG = "9223372036854775808", "9223372037s"
+# by file the fields that are needed: where they stand, how a flaw names them (None: as they stand), and what is out of their range
+FIELDS = {
+    "hub-4/commit-80.json": [
+        (HEADER, None, None, None), (COMMIT, None, None, None), (f"{COMMIT}.signatures", None, None, None),
+        (f"{HEADER}.chain_id", None, "hub 4", "BadIdentifier"), (f"{HEADER}.height", None, BIG, "BadNumber"),
+        (f"{HEADER}.time", None, "1969-12-31T23:59:59Z", "BadTime"), (f"{HEADER}.app_hash", None, "", "BadHex"),
+        (f"{HEADER}.validators_hash", None, "00" * 31, "BadHex"), (f"{HEADER}.next_validators_hash", None, "0x" + "00" * 31, "BadHex"),
+        (f"{COMMIT}.height", None, "0", "BadNumber"), (f"{SIGNATURE}.block_id_flag", None, 4, "BadFlag"),
+        (f"{SIGNATURE}.validator_address", None, "00" * 32, "BadHex")],
+    "hub-4/validators-80-1.json": [
+        ("result.block_height", None, "0", "BadNumber"), ("result.total", None, "18446744073709551616", "BadNumber"),
+        (f"{FIRST}.pub_key.type", f"{FIRST}.type", "tendermint/PubKeySecp256k1", "ForeignKey"),
+        (f"{FIRST}.pub_key.value", f"{FIRST}.value", "AAAA", "BadBase64"),
+        (f"{FIRST}.voting_power", None, "1152921504606846976", "BadPower")],
+    "hub-on-zone/client_state.json": [
+        (f"{STATE}.trust_level", None, None, None), (f"{STATE}.frozen_height", None, None, None), (f"{STATE}.latest_height", None, None, None),
+        (f"{STATE}.@type", None, "/ibc.lightclients.wasm.v1.ClientState", "ForeignClient"), (f"{STATE}.chain_id", None, "a" * 65, "BadIdentifier"),
+        (f"{STATE}.trust_level.numerator", None, "-1", "BadNumber"), (f"{STATE}.trust_level.denominator", None, "1.5", "BadNumber"),
+        (f"{STATE}.trusting_period", None, LONG, "BadDuration"), (f"{STATE}.max_clock_drift", None, LONG, "BadDuration"),
+        (f"{STATE}.latest_height.revision_number", None, "four", "BadNumber"), (f"{STATE}.frozen_height.revision_number", None, "", "BadNumber"),
+        (f"{STATE}.frozen_height.revision_height", None, "-0", "BadNumber")],
+    "hub-on-zone/consensus_states.json": [
+        (f"{CONSENSUS}.height.revision_number", f"{CONSENSUS}.revision_number", "-4", "BadNumber"),
+        (f"{CONSENSUS}.height.revision_height", f"{CONSENSUS}.revision_height", "0", "BadNumber"),
+        (f"{CONSENSUS}.consensus_state.timestamp", f"{CONSENSUS}.timestamp", "yesterday", "BadTime"),
+        (f"{CONSENSUS}.consensus_state.root.hash", f"{CONSENSUS}.hash", "=" * 44, "BadBase64"),
+        (f"{CONSENSUS}.consensus_state.next_validators_hash", f"{CONSENSUS}.next_validators_hash", "g" * 64, "BadHex"),
+        ("pagination", None, None, None)],
+    "transfers/received.json": [
+        ("result.total_count", None, "many", "BadNumber"), (f"{TX}.height", None, "-1", "BadNumber"), (f"{TX}.tx_result.code", f"{TX}.code", None, None),
+        (f"{TX}.tx_result.events", f"{TX}.events", None, None), (f"{TX}.tx_result.events[0].type", f"{TX}.type", None, None),
+        (PACKET, f"{TX}.attributes", None, None)],
+}
+# file, edit of its value, and the line that tells it (None: it is taken)
+DAMAGES = [
+    ("hub-4/commit-80.json", gone("result"), "UnknownShape at -"),
+    ("hub-4/commit-80.json", gone(SIGNED), "UnknownShape at -"),
+    ("hub-4/commit-80.json", put("error", {"code": -32603, "message": "height 80 is not available"}), "NodeError at -"),
+    ("hub-4/commit-80.json", put(f"{HEADER}.height", "79"), f"OtherHeight at {COMMIT}.height"),
+    ("hub-4/commit-80.json", put(f"{HEADER}.chain_id", "hub-5"), "OtherChain at hub-4 80"),
+    ("hub-4/commit-80.json", put(f"{HEADER}.validators_hash", "00" * 32), "OtherSet at hub-4 80"),
+    ("hub-4/commit-80.json", put(f"{SIGNATURE}.validator_address", "00" * 20), "OtherSigner at hub-4 80"),
+    ("hub-4/commit-80.json", gone(f"{COMMIT}.signatures[5]"), "SignatureCount at hub-4 80"),
+    ("hub-4/validators-80-1.json", put("result.total", "5"), "OtherTotal at hub-4 80"),
+    ("hub-4/validators-80-1.json", put(f"{FIRST}.voting_power", "0"), f"BadPower at {FIRST}.voting_power"),
+    ("hub-4/validators-80-1.json", put(f"{FIRST}.voting_power", "-3"), f"BadNumber at {FIRST}.voting_power"),
+    ("hub-4/validators-80-1.json", put(f"{FIRST}.voting_power", "1"), "OtherSet at hub-4 80"),
+    ("hub-on-zone/client_state.json", put(f"{STATE}.chain_id", "hub-5"), "OtherChain at hub-on-zone 0"),
+    ("hub-on-zone/client_state.json", put(f"{STATE}.latest_height.revision_number", "5"), "OtherRevision at hub-on-zone 0"),
+    ("hub-on-zone/client_state.json", put(f"{STATE}.trust_level.denominator", "4"), f"BadTrust at {STATE}.trust_level"),
+    ("hub-on-zone/client_state.json", put(f"{STATE}.trusting_period", "336h"), f"BadDuration at {STATE}.trusting_period"),
+    ("hub-on-zone/client_state.json", put(f"{STATE}.max_clock_drift", "0.0000000001s"), f"BadDuration at {STATE}.max_clock_drift"),
+    ("hub-on-zone/client_state.json", put(f"{STATE}.frozen_height.revision_height", "1"), f"FrozenClient at {STATE}.frozen_height"),
+    ("hub-on-zone/consensus_states.json", put(f"{CONSENSUS}.height.revision_number", "1"), "OtherRevision at hub-on-zone 1"),
+    ("hub-on-zone/consensus_states.json", put("consensus_states[1].height.revision_height", "1"), "TwoAnswers at hub-on-zone 1"),
+    ("hub-on-zone/consensus_states.json", put("pagination.next_key", "AAAA"), "MissingConsensusStates at hub-on-zone"),
+    ("hub-on-zone/consensus_states.json", put("code", 5), None),
+    ("transfers/received.json", put("result.total_count", "7"), "MissingTransactions at transfers 7"),
+    ("transfers/received.json", put("result.total_count", "0"), "MissingTransactions at transfers 0"),
+    ("transfers/received.json", gone(f"{PACKET}[3]"), f"MissingField at {TX}.packet_sequence"),
+    ("transfers/received.json", put(f"{PACKET}[3].value", "two"), f"BadNumber at {TX}.packet_sequence"),
+    ("transfers/received.json", put(f"{PACKET}[3].value", "9"), "MissingSend at transfers 9"),
+    ("transfers/received.json", put(f"{TX}.tx_result.code", 11), "MissingReceive at transfers 2"),
+]
+
+
+def moved(first, second, copy=False):
+    return lambda folder: (shutil.copy if copy else shutil.move)(folder / first, folder / second)
+
+
+def written(file, text):
+    return lambda folder: (folder / file).write_text(text)
+
+
+def removed(file):
+    return lambda folder: (folder / file).unlink()
+
+
+def removed_folder(name):
+    return lambda folder: shutil.rmtree(folder / name)
+
+
+def edited(file, edit):
+    def change(folder):
+        value = json.loads((folder / file).read_text())
+        edit(value)
+        (folder / file).write_text(json.dumps(value))
+    return change
+
+
+COMMIT_FILE, PAGE_FILE, STATE_FILE = "hub-4/commit-80.json", "hub-4/validators-80-1.json", "hub-on-zone/client_state.json"
+# changes of the folder, the line that tells them, the status, and the files that are named
+CHANGES = [
+    (written(COMMIT_FILE, "{"), "refused NotJson at -", 1, [COMMIT_FILE]),
+    (written("hub-4/status.json", "{}"), "refused UnknownShape at -", 1, ["hub-4/status.json"]),
+    (written("hub-on-zone/gateway.json", '{"code": 5, "message": "client not found", "details": []}'), "refused NodeError at -", 1, ["gateway.json"]),
+    (moved(COMMIT_FILE, "hub-4/again.json", copy=True), "refused TwoAnswers at hub-4 80", 1, [COMMIT_FILE, "hub-4/again.json"]),
+    (moved(PAGE_FILE, "hub-4/again.json", copy=True), "refused TooManyValidators at hub-4 80", 1, ["hub-4/again.json"]),
+    (removed("hub-4/validators-80-2.json"), "refused MissingPage at hub-4 80", 1, [COMMIT_FILE, PAGE_FILE]),
+    (edited(PAGE_FILE, put("result.block_height", "79")), "refused MissingPage at hub-4 80", 1, [COMMIT_FILE, "hub-4/validators-80-2.json"]),
+    (removed(STATE_FILE), "refused MissingClientState at hub-on-zone", 1, ["client_states/ID"]),
+    (moved(STATE_FILE, "hub-on-zone/again.json", copy=True), "refused TwoAnswers at hub-on-zone 0", 1, [STATE_FILE, "again.json"]),
+    (removed("hub-on-zone/consensus_states.json"), "refused MissingConsensusStates at hub-on-zone", 1, ["consensus_states/ID"]),
+    (moved(STATE_FILE, "hub-4/client_state.json", copy=True), "refused WrongFolder at hub-4 0", 1, ["hub-4/client_state.json"]),
+    (moved(COMMIT_FILE, "hub-on-zone/commit.json", copy=True), "refused WrongFolder at hub-on-zone 0", 1, ["hub-on-zone/commit.json"]),
+    (moved(COMMIT_FILE, "transfers/commit.json", copy=True), "refused WrongFolder at transfers 0", 1, ["transfers/commit.json"]),
+    (edited("transfers/received.json", put(f"{PACKET}[5].value", "channel-9")), "refused TwoChannels at transfers 2", 1, ["received.json", "cleared.json"]),
+    (moved("transfers/received.json", "transfers/again.json", copy=True), "refused TwoAnswers at transfers 2", 1, ["received.json", "again.json"]),
+    (removed_folder("hub-4"), "device", 4, ["hub-4"]),
+    (removed_folder("transfers"), "device", 4, ["transfers"]),
+]
+
+
+def changes():
+    """The changes of a folder that make it refused: the line that tells them, the status, and the files that are named."""
+    for file, fields in FIELDS.items():
+        for path, told, bad, name in fields:
+            yield edited(file, gone(path)), f"refused MissingField at {told or path}", 1, [file]
+            yield edited(file, put(path, True)), f"refused WrongType at {told or path}", 1, [file]
+            if name:
+                yield edited(file, put(path, bad)), f"refused {name} at {told or path}", 1, [file]
+    for file, edit, line in DAMAGES:
+        if line:
+            yield edited(file, edit), f"refused {line}", 1, [] if "MissingConsensusStates" in line else [file]
+    yield from CHANGES
+
+
+def spoiled_cases(top):
+    """Answers that are spoiled in one place, and such as look it; setups with a fault."""
+    whole, setup, text = top / "whole", top / "setup.toml", setups(2)[1]
+    answers.make(whole, 1, between=0)
+    setup.write_text(text)
+    for number, (change, line, status, named) in enumerate(changes()):
+        folder = top / f"spoiled-{number}"
+        shutil.copytree(whole, folder)
+        change(folder)
+        words = ["import", str(setup), str(folder)]
+        yield Case(line, words, b"", b"", f"{line}\n".encode(), status, named=tuple(file.encode() for file in named))
+    for file, edit, line in DAMAGES:
+        if line is None:
+            edited(file, edit)(whole)
+    yield Case("fields that aren't needed", ["import", str(setup), str(whole)], b"", answers.script_of(text, whole), b"", 0, reader=values_of)
+    for fault, script in ((b"fault 1002 MissingKey at turn\n", HEAD + ONE), (b"fault 1003 UnknownKey at client[0].colour\n", HEAD + ONE + "colour = 1\n" + TURN % 20),
+                          (b"fault 1003 UnknownKey at turn[0].event\n", HEAD + ONE + TURN % 20 + "event = []\n")):
+        yield Case(fault.decode(), ["import", "-", str(whole)], script.encode(), b"", fault, 1)
+
+
+def import_cases(top, seeds):
+    """The runs of `import`; the files that they read are written below a folder."""
+    for seed in range(1, seeds + 1):
+        yield from seed_cases(top, seed)
+    yield from example_cases()
+    yield from spoiled_cases(top)
+
+
+def chain_cases(top, program):
+    """`import` and `plan` in a row by a shell; at last over what `examples/collect` got of made-up nodes."""
+    words = " ".join(map(shlex.quote, program))
+    folders = [(top / f"seed-{seed}", top / f"setup-{seed}-0.toml") for seed in range(1, 21)]
+    folders.append((top / "collected", top / "setup-4-0.toml"))
+    with answers.serve(random.Random(7)) as (rpc, rest):
+        subprocess.run([TOP / "examples" / "collect", top / "collected", "hub-on-zone", "hub-4", rpc, rest, "4"], check=True)
+    for folder, setup in folders:
+        toml = answers.in_toml(answers.script_of(setup.read_text(), folder))
+        report = reference.report(reference.read_script(toml)).encode()
+        line = f'{words} import "$0" "$1" | {words} plan -'
+        yield Case(f"import and plan of {folder.name}", ["sh", "-c", line, str(setup), str(folder)], b"", report, b"", 0)

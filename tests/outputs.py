@@ -1,0 +1,112 @@
+"""Runs of `plan --json` and `commands` on the rows and the examples; what they write is made here of the reports that are stored."""
+import json
+import shlex
+import tomllib
+
+from program import TOP, Case
+
+KEYS = {"label": ("labels", "height fee count"), "update": ("updates", "height trusted fee"), "tx": ("transactions", "first count gas")}
+
+
+def numbers(words):
+    return [int(word) for word in words if word.isdigit()]
+
+
+def value_of(report):
+    """The value that a report is as JSON."""
+    turns = []
+    for line in report.splitlines()[1:-1]:
+        kind, *words = line.split()
+        if kind == "turn":
+            turns.append({"window_back": False, "refused": [], "clients": []})
+        elif kind == "refused" and words[0] == "event":
+            turns[-1]["refused"].append({"event": int(words[1]), "number": int(words[2]), "name": words[3]})
+        elif kind == "client":
+            client = {"id": words[0], "outcome": words[1]}
+            if words[1] == "goal":
+                client |= {"outcome": "unreachable", "goal": {words[2]: int(words[3])}, "labels": []}
+            turns[-1]["clients"].append(client)
+        elif kind in KEYS:
+            key, names = KEYS[kind]
+            found = numbers(words)[-len(names.split()):]
+            client.setdefault(key, []).append(dict(zip(names.split(), found)))
+        elif kind == "total":
+            fee, count = numbers(words)
+            client.setdefault("updates", [])
+            client |= {"outcome": "plan", "total": {"fee": fee, "updates": count}}
+        elif kind == "toobig":
+            client["too_big"] = int(words[0])
+        elif kind == "batch":
+            client["batch"], client["proof"] = numbers(words)
+    return {"ibcplan": 1, "turns": turns}
+
+
+def word(identifier):
+    """An identifier as a word of a shell."""
+    return f"'{identifier}'" if set(identifier) & set("#[]<>") else identifier
+
+
+def commands_of(script, value):
+    """The commands for a report's value."""
+    hosts, lines = {client["id"]: client["host"] for client in script.get("client", [])}, []
+    for number, turn in enumerate(value["turns"], 1):
+        for client in turn["clients"]:
+            head = f"# turn {number} client {client['id']}: "
+            if client["outcome"] != "plan":
+                lines.append(head + client["outcome"])
+                continue
+            host = hosts[client["id"]]
+            own = client["id"].removeprefix(host + ".") or client["id"]
+            lines.append(f"{head}total fee {client['total']['fee']}, updates {client['total']['updates']}")
+            lines += [f"hermes update client --host-chain {word(host)} --client {word(own)} --height {u['height']} --trusted-height {u['trusted']}"
+                      for u in client["updates"]]
+    return "".join(line + "\n" for line in lines)
+
+
+def texts():
+    """Scripts and their reports, as they are stored."""
+    for row in sorted((TOP / "tests" / "rows").iterdir()):
+        if row.suffix == "" and row.with_name(f"{row.name}.args").read_text().split() == ["plan", "-"]:
+            yield row.read_text(), row.with_name(f"{row.name}.stdout").read_text()
+    for example in sorted((TOP / "examples").glob("*.toml")):
+        yield example.read_text(), example.with_suffix(".report").read_text()
+
+
+def telling(texts):
+    """Those of the texts whose report has a line of a kind, or an outcome, that none before has."""
+    known = set()
+    for script, report in texts:
+        kinds = {tuple(word for word in line.split()[:4:3] if not word.isdigit()) for line in report.splitlines()}
+        if kinds - known:
+            yield script, report
+        known |= kinds
+
+
+def renamed_texts(script, report):
+    """A script of a client zone-on-hub under identifiers that commands don't take as they stand, and its report."""
+    for host, own in (("hub", "hub.c0"), ("hub", "hub.#c[0]"), ("<hub>", "c0"), ("hub", "hub"), ("hub", "hub.")):
+        renamed = report.replace("client zone-on-hub", f"client {own}")
+        assert renamed != report
+        yield script.replace('"hub"', f'"{host}"').replace('"zone-on-hub"', f'"{own}"'), renamed
+
+
+def output_cases(are_few):
+    """The runs of `plan --json` and of `commands`; few of them tell as much of what is written as all."""
+    stored = [(script, report) for script, report in texts() if report]
+    stored = list(telling(stored)) if are_few else stored
+    smallest = TOP / "examples" / "smallest.toml"
+    stored += renamed_texts(smallest.read_text(), smallest.with_suffix(".report").read_text())
+    for script, report in stored:
+        value, given, what = value_of(report), script.encode(), " ".join(report.split()[:9])
+        yield Case(f"JSON of {what}", ["plan", "--json", "-"], given, value, b"", 0, reader=json.loads)
+        yield Case(f"commands of {what}", ["commands", "-"], given, commands_of(tomllib.loads(script), value).encode(), b"", 0)
+    for words in ["plan", "--json", "-"], ["commands", "-"]:
+        yield Case(f"a fault of {words[0]}", words, b"version =", b"", b"fault 1001 NotToml at -\n", 1)
+
+
+def jq_cases(program):
+    """The JSON of the examples, by a program that the shell runs, as `jq` reads and writes it."""
+    line = f'{" ".join(map(shlex.quote, program))} plan --json "$0" | jq -c .'
+    for example in sorted((TOP / "examples").glob("*.toml")):
+        value = json.dumps(value_of(example.with_suffix(".report").read_text()), separators=(",", ":"))
+        yield Case(f"JSON of {example.name} by jq", ["sh", "-c", line, str(example)], b"", f"{value}\n".encode(), b"", 0)

@@ -1,0 +1,76 @@
+"""Runs of the program in tests, as ./ibcplan builds it or as `rt try` builds it, and what they have to come to."""
+import contextlib
+import dataclasses
+import pathlib
+import re
+import subprocess
+import sys
+import tempfile
+from typing import Callable
+
+TOP = pathlib.Path(__file__).resolve().parent.parent
+CRATE = TOP / "crates" / "ibcplan"
+CASE = re.compile(rb"^case=(\S+) run=(\S+) status=(\d+).*\n", re.M)
+
+
+@dataclasses.dataclass
+class Case:
+    """A run of the program: its arguments and standard input, and what it has to write and to end with."""
+
+    what: str
+    words: list
+    given: bytes
+    output: object  # bytes, or what `reader` reads of them
+    error: bytes  # the first line of standard error
+    status: int
+    device: pathlib.Path | None = None  # what standard output is, if it isn't read
+    reader: Callable | None = None  # what reads the output, where values are compared and not bytes
+    named: tuple = ()  # what standard error has to name, in any line
+
+    def is_met_by(self, output, error, status):
+        """Whether the run went as it has to; tells where not."""
+        missing = tuple(word for word in self.named if word not in error)
+        error = b"".join(error.splitlines(keepends=True)[:1])  # more lines are for the reader
+        if self.reader and status == 0:
+            with contextlib.suppress(ValueError):
+                output = self.reader(output)
+        got, wanted = (output, error, status, missing), (self.output, self.error, self.status, ())
+        if got != wanted:
+            print(f"== {self.what}")
+        for name, one, other in zip(("output", "error", "status", "what isn't named"), got, wanted):
+            if one != other:
+                print(f"-- {name} is {one!r}"[:2000])
+                print(f"-- and not {other!r}"[:2000])
+        return got == wanted
+
+
+def run_program(program, cases):
+    """How many runs of a program don't go as they have to."""
+    wrong = 0
+    for case in cases:
+        with open(case.device, "wb") if case.device else contextlib.nullcontext(subprocess.PIPE) as output:
+            words = [*program, *case.words]
+            done = subprocess.run(words, input=case.given, stdout=output, stderr=subprocess.PIPE, timeout=120)
+        wrong += not case.is_met_by(done.stdout or b"", done.stderr, done.returncode)
+    return wrong
+
+
+def run_unproved(cases):
+    """The same, by one `rt try`: what a case writes stands below its name, what it tells above its line."""
+    with tempfile.TemporaryDirectory() as path:
+        for number, case in enumerate(cases):
+            file = pathlib.Path(path) / f"case-{number:05}"
+            file.write_bytes(case.given)
+            file.with_suffix(".args").write_text("".join(f"{word}\n" for word in case.words))
+        tried = subprocess.run(["rt", "try", "--cases", path], cwd=CRATE, capture_output=True)
+    outputs = dict(re.findall(rb"^== (case-\d{5})\n(.*?)(?=^== case-\d{5}\n|\Z)", tried.stdout, re.M | re.S))
+    told = CASE.split(tried.stderr)
+    ends = {name: (error, status) for error, name, status in zip(told[0::4], told[1::4], told[3::4])}
+    wrong = 0
+    for number, case in enumerate(cases):
+        name = f"case-{number:05}".encode()
+        error, status = ends.get(name, (b"no run", b"-1"))
+        wrong += not case.is_met_by(outputs.get(name, b""), error, int(status))
+    if not ends:
+        sys.stderr.buffer.write(tried.stderr)
+    return wrong
