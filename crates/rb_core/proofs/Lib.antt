@@ -23,3 +23,8 @@ pub mod Replaced
 pub mod Stored
 pub mod Settled
 pub mod Within
+pub mod Shown
+pub mod Copied
+pub mod Keeping
+pub mod Entries
+pub mod Rooms

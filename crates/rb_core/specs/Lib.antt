@@ -21,3 +21,7 @@ pub mod Held
 pub mod Known
 pub mod Refused
 pub mod Replied
+pub mod Kept
+pub mod Entry
+pub mod Judged
+pub mod Core

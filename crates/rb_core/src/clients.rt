@@ -1,6 +1,6 @@
 //! The clients, by their places.
 ghost use Rattle.std.specs.Prelude.{◌≡◌, ◌<◌, ℕ, length, slice_get, Some, IfSome, IsSome, IsSomeAnd, OnOk};
-ghost use Rattle.std.specs.Option.{option_map, option_and_then};
+ghost use Rattle.std.specs.Option.{option_copied, option_map, option_and_then};
 ghost use Rattle.rb_core.specs.Machine.{max_events};
 ghost use Rattle.rb_core.specs.Held.{clients_of, HasStoredRoom, HasSettleRoom};
 ghost use Rattle.rb_core.specs.Standing as standings;
@@ -28,6 +28,19 @@ pub(crate) fn tracked<A: Allocator>(clients: &[KnownClient<A>], client: usize) -
     ensures { result ≡ tracked (clients_of clients.now) client }
 {
     client_in(clients, client).config().tracks
+}
+
+/// The batch of a client that is open, if there is such a client. Takes no memory.
+pub(crate) fn open_batch<A: Allocator>(
+    clients: &[KnownClient<A>],
+    client: usize,
+) -> Option<&OpenBatch<A>>
+    ensures { option_copied result ≡ option_and_then (λ (c : standings.KnownClient). c.batch) (slice_get (clients_of clients.now) client) }
+{
+    match clients.get(client) {
+        Some(client) => client.batch(),
+        None => None,
+    }
 }
 
 /// Why a settlement would be refused. Takes no memory.

@@ -1,12 +1,12 @@
 //! What happens to a relayer.
 ghost use Rattle.std.specs.Prelude.{◌≡◌, IfOk};
+ghost use Rattle.rb_core.specs.Event.{IsEvent};
 ghost use Rattle.rb_core.specs.Seen.{event_view};
 
 use crate::drafts::Draft;
-use crate::seen::Scan;
+use crate::seen::{Scan, copy_scan};
 use rb_base::Window;
 use rb_events::{Asked, Observation, Settlement};
-use rb_scan::ScanError;
 use std::alloc::{AllocError, Allocator, Global};
 
 /// What happens to a relayer, and what it makes out itself. Chains, clients and paths are named by
@@ -27,16 +27,6 @@ pub enum Event<A: Allocator = Global> {
     Settled(Settlement),
 }
 
-/// An equal scan.
-fn copy_scan<A: Allocator + Copy>(scan: &Scan<A>) -> Result<Scan<A>, AllocError>
-    ensures { IfOk result (λ copy. copy ≡ scan.now) }
-{
-    match scan.copy() {
-        Ok(copy) => Ok(copy),
-        Err(ScanError::NoMemory) => Err(AllocError),
-    }
-}
-
 impl<A: Allocator + Copy> Event<A> {
     /// An equal event, on the allocator of this one; the book of a plan is shared. An error comes
     /// only where a growth is refused.
@@ -54,5 +44,23 @@ impl<A: Allocator + Copy> Event<A> {
             Event::Planned(draft) => Event::Planned(draft.copy()?),
             Event::Settled(settlement) => Event::Settled(*settlement),
         })
+    }
+
+    /// Tells what every event keeps. Takes no memory.
+    pub(crate) fn rules(&self)
+        ensures { IsEvent (event_view self.now) }
+    {
+        match self {
+            Event::Window(window) => {
+                window.until();
+            }
+            Event::Observed(Observation::SetSeen { set, .. }) => {
+                set.members();
+            }
+            Event::Planned(draft) => {
+                draft.answer();
+            }
+            _ => {}
+        }
     }
 }

@@ -1,12 +1,12 @@
 //! The scans of a path.
-ghost use Rattle.std.specs.Prelude.{◌≡◌};
+ghost use Rattle.std.specs.Prelude.{◌≡◌, IfOk};
 ghost use Rattle.std.specs.Option.{option_map, option_copied};
 ghost use Rattle.rb_core.specs.Machine.{no_scans, scan_of, with_scan};
 ghost use Rattle.rb_core.specs.Scan.{Scan};
 
-use crate::seen::Scan;
+use crate::seen::{Scan, copy_scan};
 use rb_scan::Part;
-use std::alloc::{Allocator, Global};
+use std::alloc::{AllocError, Allocator, Global};
 use std::marker::Model;
 
 /// Each part of a path as it was last scanned.
@@ -59,5 +59,27 @@ impl<A: Allocator> Scans<A> {
             Part::Packets => self.packets = Some(scan),
             Part::Channel => self.channel = Some(scan),
         }
+    }
+}
+
+/// An equal scan, if there is one.
+fn copy_last<A: Allocator + Copy>(scan: &Option<Scan<A>>) -> Result<Option<Scan<A>>, AllocError>
+    ensures { IfOk result (λ copy. copy ≡ scan.now) }
+{
+    Ok(match scan {
+        Some(scan) => Some(copy_scan(scan)?),
+        None => None,
+    })
+}
+
+impl<A: Allocator + Copy> Scans<A> {
+    /// Equal scans, on the same allocators. An error comes only where a growth is refused.
+    pub(crate) fn copy(&self) -> Result<Scans<A>, AllocError>
+        ensures { IfOk result (λ copy. copy ≡ self.now) }
+    {
+        Ok(Scans {
+            packets: copy_last(&self.packets)?,
+            channel: copy_last(&self.channel)?,
+        })
     }
 }

@@ -3,7 +3,7 @@ ghost use Rattle.std.specs.Prelude.{◌≡◌, IfOk};
 ghost use Rattle.rb_scan.specs.Owed.{owed_part};
 
 use rb_scan::{PacketMsg, Part, PathView, ScanError};
-use std::alloc::{Allocator, Global};
+use std::alloc::{AllocError, Allocator, Global};
 use std::marker::Model;
 
 /// The messages that a part of a path owes, with the path as it was seen.
@@ -68,5 +68,15 @@ impl<A: Allocator + Copy> Scan<A> {
             part: self.part,
             owed: Vec::from_slice(alloc, self.owed.as_slice())?,
         })
+    }
+}
+
+/// An equal scan, on the same allocator. An error comes only where a growth is refused.
+pub(crate) fn copy_scan<A: Allocator + Copy>(scan: &Scan<A>) -> Result<Scan<A>, AllocError>
+    ensures { IfOk result (λ copy. copy ≡ scan.now) }
+{
+    match scan.copy() {
+        Ok(copy) => Ok(copy),
+        Err(ScanError::NoMemory) => Err(AllocError),
     }
 }

@@ -1,0 +1,138 @@
+-- The events come back from what a log keeps of them.
+use Rattle.std.proofs.Common.{◌≡◌, ℕ, ◌<◌, Bool, true, false, cond, not, leb, ltb, List, [], ◌∷◌, ◌++◌, Option, Some, None, is_some, map, length, All, refl, sym, ap, ◌∙◌, subst}
+use Rattle.std.specs.List.{fold}
+use Rattle.std.specs.Option.{option_map, option_map_or, option_to_list}
+use Rattle.std.proofs.lemmas.Bool.{leb-false, not-false}
+use Rattle.std.proofs.lemmas.List.{map-append}
+use Rattle.std.proofs.lemmas.List.Elements.{All-append, All-cons, All-nil}
+use Rattle.std.proofs.lemmas.List.Sums.{fold-append}
+use Rattle.rb_events.specs.Config.{Config}
+use Rattle.rb_events.specs.declared.refusal.Refusal.{Refusal}
+use Rattle.rb_events.specs.declared.refusal.Refusal.TheVariants.{UnknownObject, Stale, Busy, Repeat, OutOfOrder, NotOwed, LogFull}
+use Rattle.rb_scan.specs.Same.{same_path, same_path-Decides}
+use Rattle.rb_core.specs.Core.{IsFold}
+use Rattle.rb_core.specs.Draft.{Draft}
+use Rattle.rb_core.specs.Entry.{Logged, logged_of, event_of, events_of}
+use Rattle.rb_core.specs.Event.{Event, IsEvent, Window, Asked, SetSeen, HeaderSeen, StoredSeen, Sent, Received, AckWritten, Cleared, Closed, Scanned, Planned, Settled}
+use Rattle.rb_core.specs.Log.{accepted_from, log_of, IsLog}
+use Rattle.rb_core.specs.Machine.{State, opening, plan_number, is_held, all_scanned, is_view, is_scanned, is_job, client_view, max_events, is_known, refusal_beside, refusal_of, accepted, after, state_of}
+use Rattle.rb_core.specs.Refusal.{refused_if}
+use Rattle.rb_core.specs.Same.{same_job, same_job-Decides}
+use Rattle.rb_core.specs.Scan.{Scan}
+use Rattle.rb_core.specs.Standing.{judged, path_view}
+use Rattle.rb_core.proofs.Options.{passes, tested}
+
+-- ---- events that aren't refused
+
+-- such an event is of a known object, the log has room for it, and nothing else speaks against it
+pub record IsFree (s : State) (e : Event) : Type 0 where
+  pub known : is_known s e ≡ true
+  pub few : s.front < max_events
+  pub beside : refusal_beside s e ≡ None
+
+pub free : (s : State) (e : Event) → refusal_of s e ≡ None → IsFree s e
+free s e none =
+    let first = passes (not (is_known s e)) UnknownObject _ none in
+    let second = passes (leb max_events s.front) LogFull _ first.1 in
+    record { known = not-false (is_known s e) first.0; few = leb-false max_events s.front second.0; beside = second.1 }
+
+-- how things stand doesn't speak against it either
+pub judged_free : (s : State) (e : Event) → refusal_beside s e ≡ None → judged s.standing e ≡ None
+judged_free s (Window window) e = e
+judged_free s (Asked client goal) e = e
+judged_free s (SetSeen chain set) e = e
+judged_free s (HeaderSeen chain header) e = e
+judged_free s (StoredSeen client height r) e = e
+judged_free s (Sent path sequence block timeout_height timeout_time) e = e
+judged_free s (Received path sequence block) e = e
+judged_free s (AckWritten path sequence block) e = e
+judged_free s (Cleared path sequence) e = e
+judged_free s (Closed path) e = e
+judged_free s (Scanned path scan) e = refl
+judged_free s (Planned d) e = refl
+judged_free s (Settled client number done) e = e
+
+-- ---- what a log keeps of them
+
+scan_seen : (s : State) (path : ℕ) (scan : Scan) → refusal_beside s (Scanned path scan) ≡ None → path_view s.standing path ≡ Some scan.view
+scan_seen s path scan none =
+    let is : is_view s path scan.view ≡ true = not-false (is_view s path scan.view) (passes (not (is_view s path scan.view)) (Stale s.front) _ none).0 in
+    let found = tested (same_path scan.view) (path_view s.standing path) is in
+    found.1 ∙ ap (λ v. Some v) (sym ((same_path-Decides scan.view found.0).0 found.2))
+
+draft_seen : (s : State) (d : Draft) → refusal_beside s (Planned d) ≡ None → client_view s d.job.client ≡ Some d.job
+draft_seen s d none =
+    let first = passes (ltb d.job.plan (plan_number s d.job.client)) Repeat _ none in
+    let second = passes (ltb (plan_number s d.job.client) d.job.plan) OutOfOrder _ first.1 in
+    let third = passes (is_held s d.job.client) Busy _ second.1 in
+    let fourth = passes (not (all_scanned s d.job.client)) NotOwed _ third.1 in
+    let fifth = passes (not (is_job s d.job)) (Stale s.front) None fourth.1 in
+    let found = tested (same_job d.job) (client_view s d.job.client) (not-false (is_job s d.job) fifth.0) in
+    found.1 ∙ ap (λ j. Some j) (sym ((same_job-Decides d.job found.0).0 found.2))
+
+-- an accepted event comes back
+pub event_back : (s : State) (e : Event) → refusal_beside s e ≡ None → event_of s (logged_of e) ≡ Some e
+event_back s (Window window) e = refl
+event_back s (Asked client goal) e = refl
+event_back s (SetSeen chain set) e = refl
+event_back s (HeaderSeen chain header) e = refl
+event_back s (StoredSeen client height r) e = refl
+event_back s (Sent path sequence block timeout_height timeout_time) e = refl
+event_back s (Received path sequence block) e = refl
+event_back s (AckWritten path sequence block) e = refl
+event_back s (Cleared path sequence) e = refl
+event_back s (Closed path) e = refl
+event_back s (Scanned path scan) e = ap (option_map (λ v. Scanned path (record { view = v; part = scan.part }))) (scan_seen s path scan e)
+event_back s (Planned d) e = ap (option_map (λ job. Planned (record { job = job; answer = d.answer }))) (draft_seen s d e)
+event_back s (Settled client number done) e = refl
+
+abbrev next : State → List Logged → Option Event → List Event
+next s xs o = option_map_or (λ event. event ∷ events_of (after s event) xs) o (events_of s xs)
+
+pub events-snoc : (s : State) (xs : List Logged) (x : Logged) → events_of s (xs ++ x ∷ []) ≡ events_of s xs ++ option_to_list (event_of (fold after s (events_of s xs)) x)
+events-snoc s [] x = go (event_of s x)
+  where
+    go : (o : Option Event) → next s [] o ≡ option_to_list o
+    go None = refl
+    go (Some e) = refl
+events-snoc s (y ∷ ys) x = go (event_of s y) (events-snoc s ys x) (λ t. events-snoc t ys x)
+  where
+    go : (o : Option Event) → events_of s (ys ++ x ∷ []) ≡ events_of s ys ++ option_to_list (event_of (fold after s (events_of s ys)) x)
+        → ((t : State) → events_of t (ys ++ x ∷ []) ≡ events_of t ys ++ option_to_list (event_of (fold after t (events_of t ys)) x))
+        → next s (ys ++ x ∷ []) o ≡ next s ys o ++ option_to_list (event_of (fold after s (next s ys o)) x)
+    go None here there = here
+    go (Some e) here there = ap (λ es. e ∷ es) (there (after s e))
+
+-- ---- logs
+
+-- a log with one more accepted event is one
+accepted-snoc : (s : State) (es : List Event) (e : Event) → refusal_of (fold after s es) e ≡ None → accepted_from s (es ++ e ∷ []) ≡ accepted_from s es ++ e ∷ []
+accepted-snoc s [] e none = ap (λ (o : Option Refusal). cond {A = List Event} (is_some o) [] (e ∷ [])) none
+accepted-snoc s (x ∷ es) e none = go (is_some (refusal_of s x)) (accepted-snoc (after s x) es e none)
+  where
+    go : (b : Bool) → accepted_from (after s x) (es ++ e ∷ []) ≡ accepted_from (after s x) es ++ e ∷ []
+        → cond b (accepted_from (after s x) (es ++ e ∷ [])) (x ∷ accepted_from (after s x) (es ++ e ∷ []))
+        ≡ cond b (accepted_from (after s x) es) (x ∷ accepted_from (after s x) es) ++ e ∷ []
+    go true rest = rest
+    go false rest = ap (λ ys. x ∷ ys) rest
+
+after_free : (s : State) (e : Event) → refusal_of s e ≡ None → after s e ≡ accepted s e
+after_free s e none = ap (λ (o : Option Refusal). cond (is_some o) s (accepted s e)) none
+
+-- what the entries of a log stand for, with one more accepted event
+pub settled : (config : Config) (old now : State) (xs ys : List Logged) (e : Event) → IsFold config (events_of (opening config) xs) old
+    → refusal_of old e ≡ None → IsEvent e → now ≡ accepted old e → ys ≡ xs ++ logged_of e ∷ []
+    → (events_of (opening config) ys ≡ events_of (opening config) xs ++ e ∷ []) × IsFold config (events_of (opening config) ys) now
+settled config old now xs ys e is none rule now_is ys_is =
+    let log = events_of (opening config) xs in
+    let free_there : refusal_of (state_of config log) e ≡ None = subst (λ (t : State). refusal_of t e ≡ None) is.state none in
+    let back : event_of (state_of config log) (logged_of e) ≡ Some e = event_back (state_of config log) e (free (state_of config log) e free_there).beside in
+    let more : events_of (opening config) ys ≡ log ++ e ∷ [] =
+    ap (events_of (opening config)) ys_is ∙ events-snoc (opening config) xs (logged_of e) ∙ ap (λ o. log ++ option_to_list o) back in
+    let grown : IsFold config (log ++ e ∷ []) now = record {
+      state = now_is ∙ sym (after_free old e none) ∙ ap (λ (t : State). after t e) is.state ∙ sym (fold-append after (opening config) log (e ∷ []));
+      set_up = is.set_up;
+      events = All-append IsEvent log (e ∷ []) is.events (All-cons IsEvent e [] rule (All-nil IsEvent));
+      accepted = accepted-snoc (opening config) log e free_there ∙ ap (λ es. es ++ e ∷ []) is.accepted;
+    } in
+    (more, subst (λ es. IsFold config es now) (sym more) grown)

@@ -1,0 +1,12 @@
+use Rattle.std.proofs.Common.{◌≡◌, ◌++◌, map, drop}
+use Rattle.std.specs.List.{enumerate_from, filter_map}
+use Rattle.rb_core.specs.Held.{HeldPath}
+use Rattle.rb_core.specs.Known.{standing_view, state_view}
+use Rattle.rb_core.specs.Machine.{seen_owed}
+use Rattle.rb_core.specs.Standing.{path_task, path_tasks}
+use Rattle.rb_core.proofs.client_views.path_tasks.Given as goal
+
+abbrev pub invariant-loop-place : goal.invariant-loop-place
+invariant-loop-place g l =
+    l.tasks.items ++ filter_map (path_task (seen_owed (state_view l.known)) l.client) (enumerate_from l.place (map (λ (h : HeldPath). h.path) (drop l.place l.known.paths.items)))
+    ≡ path_tasks (seen_owed (state_view l.known)) (standing_view l.known).paths l.client

@@ -1,0 +1,9 @@
+use Rattle.std.proofs.Common.{sym, ap, ◌∙◌}
+use Rattle.rb_core.specs.Core.{Core}
+use Rattle.rb_core.specs.Entry.{log_from}
+use Rattle.rb_core.proofs.machine.Core.log.Goals as goal
+
+pub returns : goal.returns
+returns g c =
+    let config = ap (λ (x : Core). x.config) (sym c.self.view_is) in
+    (λ i. log_from (config i) (c.as_slice.ensures.value i)) ∙ ap (λ (x : Core). x.log) c.self.view_is

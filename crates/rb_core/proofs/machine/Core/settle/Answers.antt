@@ -1,0 +1,54 @@
+use Rattle.std.proofs.Common.{◌≡◌, ◌++◌, ◌∷◌, ◌<◌, [], List, None, map, sym, ap, ◌∙◌, subst, arith, vec_len, vec_capacity}
+use Rattle.rb_events.specs.Config.{config_view}
+use Rattle.rb_core.specs.Core.{Core, Room, state_in}
+use Rattle.rb_core.specs.Entry.{entry_view, log_from}
+use Rattle.rb_core.specs.Event.{Event}
+use Rattle.rb_core.specs.Kept.{IsKept}
+use Rattle.rb_core.specs.Known.{state_view}
+use Rattle.rb_core.specs.Machine.{Reply, State, refusal_of, reply_of}
+use Rattle.rb_core.proofs.Entries.{settled}
+use Rattle.rb_core.proofs.Keeping.{kept_of_events}
+use Rattle.rb_core.proofs.Rooms.{has_room}
+use Rattle.rb_core.proofs.machine.Core.settle.Goals as goal
+
+pub take_in-requires-clause-kept : goal.take_in-requires-clause-kept
+take_in-requires-clause-kept g c =
+    let config = config_view c.self.inside.config in
+    subst (λ (s : State). IsKept s) (sym c.self.invariant.state) (kept_of_events config (log_from config c.self.inside.log.items) c.self.invariant.set_up)
+
+pub take_in-requires-clause-accepted : goal.take_in-requires-clause-accepted
+take_in-requires-clause-accepted g c =
+    ap (λ (s : State). refusal_of s c.args.ready.event) (c.self.invariant.state ∙ ap state_in c.self.view_is) ∙ c.requires.accepted
+
+pub take_in-requires-clause-room : goal.take_in-requires-clause-room
+take_in-requires-clause-room g c =
+    has_room c.args.self.now _ c.self.inside.known c.args.ready.event (ap (λ (x : Core). x.room) (sym c.self.view_is))
+    (c.self.invariant.state ∙ ap state_in c.self.view_is) c.requires.own_room
+
+pub take_in-requires-clause-log_room : goal.take_in-requires-clause-log_room
+take_in-requires-clause-log_room g c =
+    let left = subst (λ (x : Room). 0 < x.log) (ap (λ (x : Core). x.room) (sym c.self.view_is)) c.requires.log_room in
+    omega (arith, left)
+
+pub invariant_of-self : goal.invariant_of-self
+invariant_of-self g c =
+    let inside = c.self.inside in
+    let taken = c.take_in.ensures in
+    let accepted : refusal_of (state_view inside.known) c.args.ready.event ≡ None =
+    ap (λ (s : State). refusal_of s c.args.ready.event) (c.self.invariant.state ∙ ap state_in c.self.view_is) ∙ c.requires.accepted in
+    (settled (config_view inside.config) (state_view inside.known) (state_view c.take_in.new.known) (map entry_view inside.log.items) (map entry_view c.take_in.new.log.items) c.args.ready.event
+    c.self.invariant accepted taken.rules taken.state taken.log).1
+
+pub returns-clause-log : goal.returns-clause-log
+returns-clause-log g c =
+    let inside = c.self.inside in
+    let taken = c.take_in.ensures in
+    let accepted : refusal_of (state_view inside.known) c.args.ready.event ≡ None =
+    ap (λ (s : State). refusal_of s c.args.ready.event) (c.self.invariant.state ∙ ap state_in c.self.view_is) ∙ c.requires.accepted in
+    (settled (config_view inside.config) (state_view inside.known) (state_view c.take_in.new.known) (map entry_view inside.log.items) (map entry_view c.take_in.new.log.items) c.args.ready.event
+    c.self.invariant accepted taken.rules taken.state taken.log).0
+    ∙ ap (λ (x : Core). x.log ++ c.args.ready.event ∷ []) c.self.view_is
+
+pub returns-clause-reply : goal.returns-clause-reply
+returns-clause-reply g c =
+    c.take_in.ensures.reply ∙ ap (λ (s : State). reply_of s c.args.ready.event) (c.self.invariant.state ∙ ap state_in c.self.view_is)

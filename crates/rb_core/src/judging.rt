@@ -1,0 +1,67 @@
+//! Events are judged, and then taken in.
+ghost use Rattle.std.specs.Prelude.{◌≡◌, ◌<◌, ◌++◌, ◌∷◌, [], map, vec_len, vec_capacity, None, IfOk, IfErr};
+ghost use Rattle.rb_core.specs.Entry.{entry_view, logged_of};
+ghost use Rattle.rb_core.specs.Event as events;
+ghost use Rattle.rb_core.specs.Event.{IsEvent};
+ghost use Rattle.rb_core.specs.Kept.{IsKept};
+ghost use Rattle.rb_core.specs.Known.{state_view, HasRoom};
+ghost use Rattle.rb_core.specs.Machine.{refusal_of, accepted, reply_of};
+ghost use Rattle.rb_core.specs.Refused.{IsRefusal};
+ghost use Rattle.rb_core.specs.Replied.{reply_view};
+ghost use Rattle.rb_core.specs.Seen.{event_view};
+
+use crate::entry::Entry;
+use crate::error::CoreError;
+use crate::event::Event;
+use crate::known::Known;
+use crate::ready::Ready;
+use crate::refusing::refuse;
+use crate::reply::Reply;
+use crate::taking::{make_room, put};
+use std::alloc::Allocator;
+
+/// Judges an event, and makes what taking it in takes.
+pub(crate) fn make_ready<A: Allocator + Copy>(
+    known: &mut Known<A>,
+    log: &mut Vec<Entry<A>, A>,
+    event: Event<A>,
+) -> Result<Ready<A>, CoreError>
+    requires kept { IsKept (state_view known.old) }
+    ensures same { state_view known.new ≡ state_view known.old }
+    ensures log { log.new.items ≡ log.old.items }
+    ensures ready { IfOk result (λ ready. ready ≡ record { front = known.old.front; event = event_view event }) }
+    ensures accepted { IfOk result (λ _. refusal_of (state_view known.old) (event_view event) ≡ None) }
+    ensures room { IfOk result (λ _. HasRoom known.new (event_view event)) }
+    ensures log_room { IfOk result (λ _. vec_len log.new < vec_capacity log.new) }
+    ensures others { (other : events.Event) → HasRoom known.old other → HasRoom known.new other }
+    ensures log_others { vec_len log.old < vec_capacity log.old → vec_len log.new < vec_capacity log.new }
+    ensures refused { IfErr result (λ e. IsRefusal e (refusal_of (state_view known.old) (event_view event))) }
+{
+    if let Some(refusal) = refuse(known, &event) {
+        return Err(CoreError::Refused(refusal));
+    }
+    make_room(known, &event)?;
+    log.reserve(1)?;
+    Ok(Ready::new(known.front, event)?)
+}
+
+/// Takes in an event that was judged. Takes no memory.
+pub(crate) fn take_in<A: Allocator + Copy>(
+    known: &mut Known<A>,
+    log: &mut Vec<Entry<A>, A>,
+    ready: Ready<A>,
+) -> Reply
+    requires kept { IsKept (state_view known.old) }
+    requires accepted { refusal_of (state_view known.old) ready.event ≡ None }
+    requires room { HasRoom known.old ready.event }
+    requires log_room { vec_len log.old < vec_capacity log.old }
+    ensures state { state_view known.new ≡ accepted (state_view known.old) ready.event }
+    ensures log { map entry_view log.new.items ≡ map entry_view log.old.items ++ logged_of ready.event ∷ [] }
+    ensures rules { IsEvent ready.event }
+    ensures reply { reply_view result ≡ reply_of (state_view known.old) ready.event }
+{
+    let (event, entry) = ready.into_parts();
+    let reply = put(known, event);
+    log.push_reserved(entry);
+    reply
+}

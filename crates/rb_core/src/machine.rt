@@ -1,0 +1,187 @@
+//! The relayer machine.
+ghost use Rattle.std.specs.Prelude.{◌≡◌, ◌++◌, ◌∷◌, [], All, length, Some, IfOk, IfErr};
+ghost use Rattle.std.specs.Option.{option_copied};
+ghost use Rattle.rb_base.specs.Fee.{IsFeeTable};
+ghost use Rattle.rb_events.specs.Config.{config_view, IsConfig};
+ghost use Rattle.rb_events.specs.declared.config.ClientConfig.{ClientConfig as SetUpClient};
+ghost use Rattle.rb_core.specs.Batches.{batch_open};
+ghost use Rattle.rb_core.specs.Config.{IsSetUp};
+ghost use Rattle.rb_core.specs.Core.{state_in, refusal_in, IsReady};
+ghost use Rattle.rb_core.specs.Entry.{log_from};
+ghost use Rattle.rb_core.specs.Event.{IsEvent};
+ghost use Rattle.rb_core.specs.Judged as judged;
+ghost use Rattle.rb_core.specs.Log.{IsLog};
+ghost use Rattle.rb_core.specs.Machine.{client_view, client_view_refusal, is_scanned, path_view_refusal, reply_of};
+ghost use Rattle.rb_core.specs.Refused.{IsRefusal};
+ghost use Rattle.rb_core.specs.Replied.{reply_view};
+ghost use Rattle.rb_core.specs.Seen.{event_view};
+ghost use Rattle.rb_core.specs.Standing.{path_view};
+
+use crate::client_views::client_view;
+use crate::clients::open_batch;
+use crate::copies::{copy_known, new_known};
+use crate::entry::{Entry, copy_entries};
+use crate::error::CoreError;
+use crate::event::Event;
+use crate::job::JobView;
+use crate::judging::{make_ready, take_in};
+use crate::known::Known;
+use crate::laws::client_views_are_views;
+use crate::opened::OpenBatch;
+use crate::path_views::{is_scanned, path_view};
+use crate::ready::Ready;
+use crate::reply::Reply;
+use rb_events::{ClientConfig, Config};
+use rb_scan::{Part, PathView};
+use std::alloc::{AllocError, Allocator, Global};
+use std::marker::Model;
+
+/// What is known of chains, clients and paths, as the fold of the events that were taken in. A
+/// contract sees how it is configured, its log, and the room that it has for more.
+#[derive(Drop)]
+pub struct Core<A: Allocator = Global> {
+    alloc: A,
+    config: Config<A>,
+    known: Known<A>,
+    log: Vec<Entry<A>, A>,
+}
+
+impl<A: Allocator> Model for Core<A> {
+    ghost use Rattle.std.specs.Prelude.{◌-◌, vec_len, vec_capacity};
+    ghost use Rattle.rb_events.specs.Config.{config_view};
+    ghost use Rattle.rb_core.specs.Core as cores;
+    ghost use Rattle.rb_core.specs.Core.{IsFold};
+    ghost use Rattle.rb_core.specs.Entry.{log_from};
+    ghost use Rattle.rb_core.specs.Known.{state_view};
+
+    ghost Value = { cores.Core };
+
+    ghost view = { λ c. record { config = config_view c.config; log = log_from (config_view c.config) c.log.items; room = cores.room_of (vec_capacity c.log - vec_len c.log) c.known } };
+
+    ghost invariant = { λ c. IsFold (config_view c.config) (log_from (config_view c.config) c.log.items) (state_view c.known) };
+}
+
+/// Tells that what updates cost is given by fee tables.
+fn fee_tables(clients: &[ClientConfig])
+    ensures { All (λ (client : SetUpClient). IsFeeTable client.fees) clients.now }
+{
+    for client in clients {
+        client.fees.charge(0, 0);
+    }
+}
+
+impl<A: Allocator + Copy> Core<A> {
+    /// A core that has taken in nothing. The configuration is given up where a growth is refused.
+    pub fn new(alloc: A, config: Config<A>) -> Result<Core<A>, AllocError>
+        requires { IsConfig (config_view config) }
+        ensures config { IfOk result (λ core. core.config ≡ config_view config) }
+        ensures log { IfOk result (λ core. core.log ≡ []) }
+    {
+        let known = new_known(alloc, &config)?;
+        fee_tables(config.clients.as_slice());
+        Ok(Core {
+            alloc,
+            config,
+            known,
+            log: Vec::new(alloc),
+        })
+    }
+
+    /// An equal core: with the same configuration and the same log. Its books are shared with this
+    /// one until one of the two changes them. An error comes only where a growth is refused.
+    pub fn copy(&self) -> Result<Core<A>, AllocError>
+        ensures config { IfOk result (λ core. core.config ≡ self.now.config) }
+        ensures log { IfOk result (λ core. core.log ≡ self.now.log) }
+    {
+        Ok(Core {
+            alloc: self.alloc,
+            config: self.config.copy()?,
+            known: copy_known(self.alloc, &self.known)?,
+            log: copy_entries(self.alloc, self.log.as_slice())?,
+        })
+    }
+
+    /// Judges an event, and makes what taking it in takes. Nothing that can be seen changes, whatever
+    /// is answered. An error is the first refusal that applies; or `NoMemory`, where a growth is
+    /// refused.
+    pub fn judge(&mut self, event: Event<A>) -> Result<Ready<A>, CoreError>
+        ensures config { self.new.config ≡ self.old.config }
+        ensures log { self.new.log ≡ self.old.log }
+        ensures judged { IfOk result (λ ready. ready.event ≡ event_view event) }
+        ensures ready { IfOk result (IsReady self.new) }
+        ensures kept { (other : judged.Ready) → IsReady self.old other → IsReady self.new other }
+        ensures refused { IfErr result (λ e. IsRefusal e (refusal_in self.old (event_view event))) }
+    {
+        make_ready(&mut self.known, &mut self.log, event)
+    }
+
+    /// Takes in an event that this core judged after the events that it has taken in. Takes no
+    /// memory, and cannot fail.
+    pub fn settle(&mut self, ready: Ready<A>) -> Reply
+        requires { IsReady self.old ready }
+        ensures config { self.new.config ≡ self.old.config }
+        ensures log { self.new.log ≡ self.old.log ++ ready.event ∷ [] }
+        ensures reply { reply_view result ≡ reply_of (state_in self.old) ready.event }
+    {
+        take_in(&mut self.known, &mut self.log, ready)
+    }
+
+    /// What it was set up with. Takes no memory.
+    pub fn config(&self) -> &Config<A>
+        ensures value { config_view result.now ≡ self.now.config }
+        ensures set_up { IsSetUp self.now.config }
+    {
+        &self.config
+    }
+
+    /// How many events were taken in. Takes no memory.
+    pub fn front(&self) -> usize
+        ensures count { result ≡ length self.now.log }
+        ensures state { result ≡ (state_in self.now).front }
+        ensures events { All IsEvent self.now.log }
+        ensures accepted { IsLog self.now.config self.now.log }
+    {
+        self.known.front
+    }
+
+    /// What is kept of the events that were taken in, from which they come back. Takes no memory.
+    pub fn log(&self) -> &[Entry<A>]
+        ensures { log_from self.now.config result.now ≡ self.now.log }
+    {
+        self.log.as_slice()
+    }
+
+    /// A client as a worker gets it: what a plan for it goes by, the number of its next plan, and
+    /// whether a batch of it is open. Its book is shared. `UnknownObject` where there is no such client,
+    /// `OutOfOrder` before the first window, `NoMemory` where a growth is refused.
+    pub fn client_view(&self, client: usize) -> Result<JobView<A>, CoreError>
+        ensures view { IfOk result (λ view. client_view (state_in self.now) client ≡ Some view) }
+        ensures refused { IfErr result (λ e. IsRefusal e (client_view_refusal (state_in self.now) client)) }
+    {
+        client_views_are_views();
+        client_view(self.alloc, &self.known, client)
+    }
+
+    /// A path as it is scanned. `UnknownObject` where there is no such path, `NoMemory` where a growth
+    /// is refused.
+    pub fn path_view(&self, path: usize) -> Result<PathView<A>, CoreError>
+        ensures view { IfOk result (λ view. path_view (state_in self.now).standing path ≡ Some view) }
+        ensures refused { IfErr result (λ e. IsRefusal e (path_view_refusal (state_in self.now) path)) }
+    {
+        path_view(self.alloc, &self.known, path)
+    }
+
+    /// Whether a part of a path was scanned as the path still is. Takes no memory.
+    pub fn is_scanned(&self, path: usize, part: Part) -> bool
+        ensures { result ≡ is_scanned (state_in self.now) path part }
+    {
+        is_scanned(&self.known, path, part)
+    }
+
+    /// The batch of a client that is open, if there is such a client. Takes no memory.
+    pub fn open_batch(&self, client: usize) -> Option<&OpenBatch<A>>
+        ensures { option_copied result ≡ batch_open (state_in self.now).standing client }
+    {
+        open_batch(self.known.clients.as_slice(), client)
+    }
+}

@@ -1,0 +1,113 @@
+//! Why an event is refused.
+ghost use Rattle.std.specs.Prelude.{◌≡◌, true};
+ghost use Rattle.rb_core.specs.Kept.{IsKept};
+ghost use Rattle.rb_core.specs.Known.{state_view};
+ghost use Rattle.rb_core.specs.Machine.{is_known, is_held, scan_refusal, draft_refusal, refusal_beside, refusal_of};
+ghost use Rattle.rb_core.specs.Seen.{event_view};
+
+use crate::client_views::{is_job, plan_number};
+use crate::drafts::Draft;
+use crate::event::Event;
+use crate::known::Known;
+use crate::path_views::{all_scanned, is_scanned, is_view};
+use crate::seen::Scan;
+use rb_events::Refusal;
+use std::alloc::Allocator;
+
+/// The most events that are taken in.
+const MAX_EVENTS: usize = 1_000_000;
+
+/// Whether the chain, the client or the path of an event is there.
+fn is_known<A: Allocator + Copy>(known: &Known<A>, event: &Event<A>) -> bool
+    ensures { result ≡ is_known (state_view known.now) (event_view event.now) }
+{
+    match event {
+        Event::Window(_) => true,
+        Event::Asked(asked) => asked.client < known.clients.len(),
+        Event::Observed(observation) => known.knows_observed(observation),
+        Event::Scanned { path, .. } => *path < known.paths.len(),
+        Event::Planned(draft) => draft.job().client() < known.clients.len(),
+        Event::Settled(settlement) => settlement.client < known.clients.len(),
+    }
+}
+
+/// Why a scan would be refused.
+fn refuse_scanned<A: Allocator + Copy>(
+    known: &Known<A>,
+    path: usize,
+    scan: &Scan<A>,
+) -> Option<Refusal>
+    ensures { result ≡ scan_refusal (state_view known.now) path scan.now }
+{
+    if !is_view(known, path, scan.view()) {
+        return Some(Refusal::Stale { front: known.front });
+    }
+    if is_scanned(known, path, scan.part()) {
+        return Some(Refusal::Repeat);
+    }
+    None
+}
+
+/// Whether a client has an open batch.
+fn is_held<A: Allocator>(known: &Known<A>, client: usize) -> bool
+    ensures { result ≡ is_held (state_view known.now) client }
+{
+    match known.clients.get(client) {
+        Some(held) => held.is_held(),
+        None => false,
+    }
+}
+
+/// Why a plan would be refused.
+fn refuse_planned<A: Allocator + Copy>(known: &Known<A>, draft: &Draft<A>) -> Option<Refusal>
+    ensures { result ≡ draft_refusal (state_view known.now) draft.now }
+{
+    let job = draft.job();
+    let next = plan_number(known, job.client());
+    if job.plan() < next {
+        return Some(Refusal::Repeat);
+    }
+    if next < job.plan() {
+        return Some(Refusal::OutOfOrder);
+    }
+    if is_held(known, job.client()) {
+        return Some(Refusal::Busy);
+    }
+    if !all_scanned(known, job.client()) {
+        return Some(Refusal::NotOwed);
+    }
+    if !is_job(known, job) {
+        return Some(Refusal::Stale { front: known.front });
+    }
+    None
+}
+
+/// Why an event whose chain, client or path is there would be refused by what is known.
+fn refuse_known<A: Allocator + Copy>(known: &Known<A>, event: &Event<A>) -> Option<Refusal>
+    requires object { is_known (state_view known.now) (event_view event.now) ≡ true }
+    requires kept { IsKept (state_view known.now) }
+    ensures { result ≡ refusal_beside (state_view known.now) (event_view event.now) }
+{
+    match event {
+        Event::Window(window) => known.refuse_window(*window),
+        Event::Asked(_) => None,
+        Event::Observed(observation) => known.refuse_observed(observation),
+        Event::Scanned { path, scan } => refuse_scanned(known, *path, scan),
+        Event::Planned(draft) => refuse_planned(known, draft),
+        Event::Settled(settlement) => known.refuse_settled(*settlement),
+    }
+}
+
+/// Why an event would be refused. Takes no memory.
+pub(crate) fn refuse<A: Allocator + Copy>(known: &Known<A>, event: &Event<A>) -> Option<Refusal>
+    requires kept { IsKept (state_view known.now) }
+    ensures { result ≡ refusal_of (state_view known.now) (event_view event.now) }
+{
+    if !is_known(known, event) {
+        return Some(Refusal::UnknownObject);
+    }
+    if MAX_EVENTS <= known.front {
+        return Some(Refusal::LogFull);
+    }
+    refuse_known(known, event)
+}
