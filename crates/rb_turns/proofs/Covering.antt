@@ -9,7 +9,9 @@ use Rattle.rb_events.specs.Config.{Config}
 use Rattle.rb_core.specs.Event.{Event, IsEvent}
 use Rattle.rb_core.specs.Standing.{Standing}
 use Rattle.rb_turns.specs.Agenda.{Item, enter, ask, observe, scan, plan, settle, observations, both_parts, agenda}
-use Rattle.rb_turns.specs.Script.{Question, Settlement, Turn, IsSeen, IsTurn}
+use Rattle.rb_events.specs.declared.script.Asked.{Asked as Question}
+use Rattle.rb_events.specs.declared.script.Settlement.{Settlement}
+use Rattle.rb_turns.specs.Script.{Turn, IsSeen, IsTurn}
 
 abbrev pub Scanning : Type 1
 Scanning = ℕ → Part → Type 0

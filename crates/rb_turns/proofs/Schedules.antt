@@ -25,7 +25,9 @@ use Rattle.rb_core.proofs.Owed.{append_all}
 use Rattle.rb_turns.specs.Agenda.{Item, enter, ask, observe, scan, plan, settle, agenda, Finishes, OrderGivesReport}
 use Rattle.rb_turns.specs.Report.{held, ClientReport, TurnReport, Report}
 use Rattle.rb_turns.specs.Schedule.{Progress, World, RightDraft, Step, acts, publishes, tells, learns, scans, plans, first_world, own_scan, appended, next, same_part, if_fits, fits_scan, fits_draft, with_client_report, refused_as, draft_given, scan_taken, draft_taken, plan_done, item_done, begun, due_done, acted, step, after_steps, appends_in, FitsLog, world_after, Schedules, OwnDraftsServe}
-use Rattle.rb_turns.specs.Script.{Question, Settlement, Turn, Script, IsTurn, IsScript}
+use Rattle.rb_events.specs.declared.script.Asked.{Asked as Question}
+use Rattle.rb_events.specs.declared.script.Settlement.{Settlement}
+use Rattle.rb_turns.specs.Script.{Turn, Script, IsTurn, IsScript}
 use Rattle.rb_turns.specs.Turns.{outcome_of, after_outcome, settlement_event, id_of, IsTurnReport, after_turn, AreTurnReports}
 use Rattle.rb_turns.proofs.Covering.{Covers, Nothing, Plus, more, agenda_covers, IsItem, agenda_items, Entered, entered}
 use Rattle.rb_core.proofs.Accepted.{open_to, standing_of, front_of, scan_ok, now_scanned, still_scanned, draft_ok, plan_scanned, window_stays, window_entered}

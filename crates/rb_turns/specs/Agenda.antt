@@ -8,7 +8,9 @@ use Rattle.rb_events.specs.Config.{Config}
 use Rattle.rb_core.specs.Event.{Event}
 use Rattle.rb_core.specs.Standing.{KnownClient, Standing, goes_back, standing_after, with_client}
 use Rattle.rb_turns.specs.Report.{ClientReport, TurnReport}
-use Rattle.rb_turns.specs.Script.{Question, Settlement, Turn}
+use Rattle.rb_events.specs.declared.script.Asked.{Asked as Question}
+use Rattle.rb_events.specs.declared.script.Settlement.{Settlement}
+use Rattle.rb_turns.specs.Script.{Turn}
 use Rattle.rb_turns.specs.Turns.{after_window, after_question, refusal_at, IsClientReport, after_outcome, settlement_report, after_settlement, IsTurnReport, after_turn}
 
 -- what is next: to enter the window, to ask a client, to take in an event by its number, to scan a part of a path, to plan

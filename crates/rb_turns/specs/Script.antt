@@ -1,21 +1,11 @@
 -- Scripts, with chains, clients and paths named by their places.
 use Rattle.std.specs.Prelude.{◌≢◌, ℕ, ◌<◌, ◌≤◌, List, length, All, AllPairs}
 use Rattle.rb_base.specs.Window.{Span}
-use Rattle.rb_events.specs.declared.goal.Goal.{Goal}
 use Rattle.rb_events.specs.Config.{Config}
+use Rattle.rb_events.specs.declared.script.Asked.{Asked as Question}
+use Rattle.rb_events.specs.declared.script.Settlement.{Settlement}
 use Rattle.rb_core.specs.Config.{IsSetUp}
 use Rattle.rb_core.specs.Event.{Event, IsEvent, Window, Asked, SetSeen, HeaderSeen, StoredSeen, Sent, Received, AckWritten, Cleared, Closed, Scanned, Planned, Settled}
-
--- a goal that a client is asked for
-pub record Question : Type 0 where
-  pub client : ℕ
-  pub goal : Goal
-
--- so many transactions of a client's batch were taken
-pub record Settlement : Type 0 where
-  pub client : ℕ
-  pub batch : ℕ
-  pub done : ℕ
 
 -- the window, what is asked, what was seen before, and what was settled after
 pub record Turn : Type 0 where

@@ -1,0 +1,25 @@
+use Rattle.std.proofs.Common.{◌≡◌, List, map, refl, sym, subst}
+use Rattle.rb_core.specs.Standing.{Standing}
+use Rattle.rb_events.specs.Config.{config_view}
+use Rattle.rb_events.specs.Script.{script_view}
+use Rattle.rb_turns.specs.Script.{Turn}
+use Rattle.rb_turns.specs.Turns.{AreTurnReports}
+use Rattle.rb_turns.specs.Told.{told_as}
+use Rattle.rb_turns.specs.Views.{turn_report_view}
+use Rattle.rb_turns.proofs.Runs.{opened_standing, turns_fit, turns_for, told_turns}
+use Rattle.rb_turns.proofs.run.run_script.Goals as goal
+
+pub run_turns-requires-clause-turns : goal.run_turns-requires-clause-turns
+run_turns-requires-clause-turns g c =
+    turns_for (script_view c.args.script) c.in_ok-supervisor.supervisor c.args.script.turns.items c.in_ok-supervisor.ensures.config refl c.requires
+
+pub run_turns-requires-clause-room : goal.run_turns-requires-clause-room
+run_turns-requires-clause-room g c =
+    turns_fit c.in_ok-supervisor.supervisor (script_view c.args.script) c.args.script.turns.items c.in_ok-supervisor.ensures.config c.in_ok-supervisor.ensures.log refl c.requires
+
+pub returns-clause-turns : goal.returns-clause-turns
+returns-clause-turns g c =
+    let turns = c.args.script.turns.items in
+    let reports = map turn_report_view c.in_ok-turns.turns.items in
+    let opened = opened_standing c.in_ok-supervisor.supervisor (config_view c.args.script.config) c.in_ok-supervisor.ensures.config c.in_ok-supervisor.ensures.log in
+    subst (λ (p : Standing × List Turn). AreTurnReports p.0 p.1 reports) (λ i. (opened i, sym (told_turns turns) i)) c.in_ok-turns.ensures
