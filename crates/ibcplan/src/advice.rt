@@ -19,14 +19,19 @@ pub fn advice_for(name: FaultName) -> &'static str {
         FaultName::BadHex => "64 hexadecimal digits belong here",
         FaultName::BadTime => "a time is a text as '2026-11-22T10:00:00Z', from 1970 on",
         FaultName::BadVotes => "votes are the letters C, N, A and B",
-        FaultName::BadKind => "an event's kind is 'set', 'header' or 'stored'",
-        FaultName::BadOrder => "an order is 'ordered' or 'unordered'",
-        FaultName::SameChain => "host and of have to be two chains",
-        FaultName::WrongClient => "this client doesn't belong to the path",
-        FaultName::TooManyObjects => {
-            "there may be 64 chains, and in this version one client, one turn and no path"
+        FaultName::BadKind => {
+            "an event's kind is 'set', 'header', 'stored', 'sent', 'received', 'ack', 'cleared' or 'closed'"
         }
-        FaultName::TooManyEvents => "there may be 200,000 goals and events in all",
+        FaultName::BadOrder => "an order is 'ordered' or 'unordered'",
+        FaultName::SameChain =>
+            "host and of of a client, source and dest of a path, have to be two chains",
+        FaultName::WrongClient => {
+            "forward is a client on dest that follows source, back one on source that follows dest"
+        }
+        FaultName::TooManyObjects => {
+            "there may be 64 chains, 256 clients and 500 turns, and in this version no path and no settlement"
+        }
+        FaultName::TooManyEvents => "there may be 200,000 goals, events and settlements in all",
         FaultName::UnknownSetName => "no earlier set event of the chain has this name",
         FaultName::DuplicateSetName => "an earlier set event of the chain has this name",
         FaultName::TwoGoals =>

@@ -1,9 +1,8 @@
 //! Importing: the files of a folder are read, and the script that they make is written.
 use crate::failure::Failure;
 use crate::input::{Input, bytes_of};
-use rb_import::{
-    ImportError, Saved, SavedAnswers, SavedError, Setup, compose, read_saved, read_setup,
-};
+use rb_import::{ImportError, Saved, SavedAnswers, SavedError, compose, read_saved};
+use rb_setup::{Setup, read_setup};
 use std::alloc::{AllocError, Global};
 use std::fs::File;
 use std::{fs, io};

@@ -12,7 +12,7 @@ use rb_base::{Counted, Sink, write_whole};
 use rb_fields::RunError;
 use rb_output::{commands_of, json_of};
 use rb_super::run_script;
-use rb_text::{certify_over, plan_over, read_script};
+use rb_text::{certify_over, plan_over, read_script_to_run};
 use std::alloc::Global;
 use std::io;
 use std::io::{Printer, Write};
@@ -113,7 +113,7 @@ fn planned_text<'a>(alloc: Global, input: &Input<'a>, form: Form) -> Result<Stri
 
 /// Reads a script, runs it, and puts its report into a form.
 fn form_of(alloc: Global, bytes: &[u8], form: Form) -> Result<String, RunError> {
-    let script = read_script(alloc, bytes)?;
+    let script = read_script_to_run(alloc, bytes)?;
     let report = run_script(alloc, &script)?;
     match form {
         Form::Json => Ok(json_of(alloc, &report)?),
@@ -159,7 +159,7 @@ fn refused_input<'a, 'b>(
     script: &'b Input<'a>,
     certificate: &'b Input<'a>,
 ) -> &'b Input<'a> {
-    match read_script(alloc, script.bytes()) {
+    match read_script_to_run(alloc, script.bytes()) {
         Err(RunError::Fault(_)) => script,
         _ => certificate,
     }

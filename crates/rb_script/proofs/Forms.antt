@@ -1,9 +1,9 @@
 -- What every script that was read keeps.
-use Rattle.std.proofs.Common.{◌≡◌, ◌≢◌, ℕ, suc, ◌+◌, ◌<◌, ◌≤◌, ◌==◌, nat_le, nat_lt, not, cond, ◌||◌, List, [], ◌∷◌, ◌++◌, length, codes, get_or, Result, Ok, Err, Option, Some, None, Bool, true, false, All, AllPairs, IfOk, is_none, sum_by, refl, sym, ap, subst, ◌∙◌, arith}
+use Rattle.std.proofs.Common.{◌≡◌, ◌≢◌, ℕ, suc, ◌+◌, ◌<◌, ◌≤◌, ◌==◌, nat_le, nat_lt, not, cond, ◌||◌, ◌&&◌, List, [], ◌∷◌, ◌++◌, length, codes, get_or, Result, Ok, Err, Option, Some, None, IsSomeAnd, option_map, unwrap_or, slice_get, Bool, true, false, All, AllPairs, IfOk, is_none, sum_by, refl, sym, ap, subst, ◌∙◌, arith}
 use Rattle.std.specs.declared.alloc.Global.{Global}
 use Rattle.std.specs.List.{position, position_or_len, prefix_len}
 use Rattle.std.specs.Str.{bytes_eq}
-use Rattle.std.proofs.lemmas.Bool.{eq-eqb, leb-true, ltb-false, true≢false}
+use Rattle.std.proofs.lemmas.Bool.{and_parts, eq-eqb, eqb-true, leb-true, ltb-false, true≢false}
 use Rattle.std.proofs.lemmas.List.{length-map, get_or-map, length_push}
 use Rattle.std.proofs.lemmas.List.Sums.{sum_by_push}
 use Rattle.std.proofs.lemmas.List.Elements.{All-cons, All-push}
@@ -11,16 +11,19 @@ use Rattle.std.proofs.lemmas.List.Quantifiers.{all_pairs_push, position-Some}
 use Rattle.std.proofs.lemmas.Slice.Eq.{bytes_eq-Decides}
 use Rattle.toml.specs.Data.{Items, no_items, item}
 use Rattle.rb_base.specs.Fraction.{one_third}
-use Rattle.rb_events.specs.Script.{Script, Turn, IsScript, IsTurn, IsSeen, IsOfUpdates, entry_count, script_view}
-use Rattle.rb_events.specs.Config.{IsClient}
+use Rattle.rb_events.specs.Script.{Script, Turn, IsScript, IsTurn, IsSeen, entry_count, script_view}
+use Rattle.rb_events.specs.Config.{Config, IsConfig, IsClient, IsPathConfig}
+use Rattle.rb_events.specs.Limits.{max_chains, max_clients, max_paths, max_turns, max_entries}
 use Rattle.rb_events.specs.declared.script.Script.{Script as CodeScript}
 use Rattle.rb_events.specs.declared.config.ClientConfig.{ClientConfig}
+use Rattle.rb_events.specs.declared.config.PathConfig.{PathConfig}
 use Rattle.rb_events.specs.declared.script.Asked.{Asked}
+use Rattle.rb_events.specs.declared.script.Settlement.{Settlement}
 use Rattle.rb_events.specs.declared.observation.Observation.{Observation}
 use Rattle.rb_fields.specs.Faults.{Fault, ◌>>=◌, check, Gives}
 use Rattle.rb_fields.specs.declared.fault.RunError.{RunError}
 use Rattle.rb_fields.specs.declared.fault.FaultName.{FaultName}
-use Rattle.rb_fields.specs.declared.fault.FaultName.TheVariants.{OutOfRange, DuplicateIdentifier, SameChain, TwoGoals, TooManyEvents, TooManyObjects, BadVersion, BadWindow}
+use Rattle.rb_fields.specs.declared.fault.FaultName.TheVariants.{OutOfRange, DuplicateIdentifier, SameChain, WrongClient, TwoGoals, TooManyEvents, TooManyObjects, BadVersion, BadWindow}
 use Rattle.rb_fields.specs.Fields.{Field, Section, section_at, at_element, elements, next_in_sequence, in_sequence, identifier, needs, required, optional, or_default, only, number, fee_table, trust, max_number, height, time, hash, zero_hash, items, items_count, array}
 use Rattle.rb_fields.specs.Places.{child, element}
 use Rattle.rb_script.specs.Named.{known, reference, new_identifier}
@@ -29,10 +32,11 @@ use Rattle.rb_script.specs.declared.event.Kind.{Kind}
 use Rattle.rb_script.specs.declared.event.Kind.TheVariants as kinds
 use Rattle.rb_script.specs.Names.{Names, new_set_name, set_reference}
 use Rattle.rb_script.specs.Sets.{validators}
-use Rattle.rb_script.specs.Events.{kind, votes, set_seen, set_keys, header_seen, header_keys, stored_seen, stored_keys, tracked_by, event_of_kind, event}
-use Rattle.rb_script.specs.Turns.{Frame, Reading, asked, goal_keys, goal_of, one_goal, maybe_height, is_asked, frame, turn_keys, turn}
-use Rattle.rb_script.specs.Limits.{max_chains, max_clients, max_paths, max_turns, max_entries}
-use Rattle.rb_script.specs.Scripts.{Tables, opening, tables, top_keys, script}
+use Rattle.rb_script.specs.Paths.{path, path_keys, path_ids, order, sequence, path_gas, connects}
+use Rattle.rb_script.specs.Packets.{block, height_or_none, time_or_none, sent, sent_keys, received, ack_written, packet_keys, cleared, cleared_keys, closed, closed_keys}
+use Rattle.rb_script.specs.Events.{kind, votes, set_seen, set_keys, header_seen, header_keys, stored_seen, stored_keys, tracked_by, unnamed, event_of_kind, event}
+use Rattle.rb_script.specs.Turns.{Frame, Reading, asked, goal_keys, goal_of, one_goal, maybe_height, is_asked, settlement, settlement_keys, taken, frame, turn_keys, turn}
+use Rattle.rb_script.specs.Scripts.{Tables, opening, tables, top_keys, config, script}
 
 -- ---- steps
 
@@ -114,6 +118,7 @@ most-given most (Some f) ds h = array-most most f ds h
 record AreFew (t : Tables) : Type 0 where
   chains : items_count t.chains ≤ max_chains
   clients : items_count t.clients ≤ max_clients
+  paths : items_count t.paths ≤ max_paths
   turns : items_count t.turns ≤ max_turns
 
 tables-few : (s : Section) (t : Tables) → tables s ≡ Ok t → AreFew t
@@ -128,6 +133,7 @@ tables-few s t h =
     subst AreFew (same_ok _ t same) (record {
       chains = most-given max_chains (optional (codes "chain") s) chains e2;
       clients = most-given max_clients (optional (codes "client") s) clients e3;
+      paths = most-given max_paths (optional (codes "path") s) paths e4;
       turns = most-given max_turns (optional (codes "turn") s) turns e5;
     })))))))
 
@@ -226,12 +232,85 @@ clients-form chains ds clients h =
       All-push (IsClient (length chains)) before c kept.1 one.0,
     )) (codes "client") [] ds clients ((λ i j d lt end. absurd (omega arith)), (λ k d lt. absurd (omega arith))) h
 
--- ---- turns
-
-client-within : (clients : List ClientConfig) (s : Section) (i : ℕ) → needs (codes "client") (reference (client_ids clients)) s ≡ Ok i → i < length clients
-client-within clients s i h =
-    needs-field (codes "client") (reference (client_ids clients)) s i h
+client-within : (key : List ℕ) (clients : List ClientConfig) (s : Section) (i : ℕ) → needs key (reference (client_ids clients)) s ≡ Ok i → i < length clients
+client-within key clients s i h =
+    needs-field key (reference (client_ids clients)) s i h
     (λ f r. let within = reference-within (client_ids clients) f i r in omega (arith, length-map clients (λ (x : ClientConfig). x.id)))
+
+chain-within : (key : List ℕ) (chains : List (List ℕ)) (s : Section) (i : ℕ) → needs key (reference chains) s ≡ Ok i → i < length chains
+chain-within key chains s i h = needs-field key (reference chains) s i h (λ f r. reference-within chains f i r)
+
+-- ---- paths
+
+connected : (o : Option ClientConfig) (host tracks : ℕ) → unwrap_or (option_map (λ (c : ClientConfig). c.host == host && c.tracks == tracks) o) false ≡ true
+    → IsSomeAnd o (λ (c : ClientConfig). (c.host ≡ host) × (c.tracks ≡ tracks))
+connected (Some c) host tracks h = let parts = and_parts (c.host == host) (c.tracks == tracks) h in (eqb-true c.host host parts.0, eqb-true c.tracks tracks parts.1)
+connected None host tracks h = absurd (true≢false (sym h))
+
+path-form : (chains : List (List ℕ)) (clients : List ClientConfig) (before : List PathConfig) (s : Section) (p : PathConfig) → path chains clients before s ≡ Ok p
+    → IsPathConfig (length chains) clients p × All (λ x. x ≢ p.id) (path_ids before)
+unfolding path
+path-form chains clients before s p h =
+    pass (only path_keys s) _ p h (λ u e0 h0.
+    pass (needs (codes "id") (new_identifier (path_ids before)) s) _ p h0 (λ id e1 h1.
+    pass (needs (codes "source") (reference chains) s) _ p h1 (λ source e2 h2.
+    pass (needs (codes "dest") (reference chains) s) _ p h2 (λ destination e3 h3.
+    pass (needs (codes "order") order s) _ p h3 (λ o e4 h4.
+    pass (or_default 1 sequence (optional (codes "first") s)) _ p h4 (λ first e5 h5.
+    pass (needs (codes "forward") (reference (client_ids clients)) s) _ p h5 (λ forward e6 h6.
+    pass (needs (codes "back") (reference (client_ids clients)) s) _ p h6 (λ back e7 h7.
+    pass (needs (codes "gas") path_gas s) _ p h7 (λ gas e8 h8.
+    pass (check (not (source == destination)) SameChain s.path) _ p h8 (λ v apart h9.
+    pass (check (connects clients forward destination source && connects clients back source destination) WrongClient s.path) _ p h9 (λ w fit same.
+    let fits = and_parts (connects clients forward destination source) (connects clients back source destination) (check-passed _ WrongClient s.path w fit) in
+    subst (λ x. IsPathConfig (length chains) clients x × All (λ i. i ≢ x.id) (path_ids before)) (same_ok _ p same) (
+      record {
+        source = chain-within (codes "source") chains s source e2;
+        destination = chain-within (codes "dest") chains s destination e3;
+        different = different source destination (check-passed _ SameChain s.path v apart);
+        forward = connected (slice_get clients forward) destination source fits.0;
+        back = connected (slice_get clients back) source destination fits.1;
+      },
+      needs-field (codes "id") (new_identifier (path_ids before)) s id e1 (λ f r. new_identifier-new (path_ids before) f id r),
+    ))))))))))))
+
+abbrev ArePaths : ℕ → List ClientConfig → List PathConfig → Type 0
+ArePaths chains clients ps = AllPairs (λ p q. p.id ≢ q.id) ps × All (IsPathConfig chains clients) ps
+
+paths-form : (chains : List (List ℕ)) (clients : List ClientConfig) (ds : Items) (paths : List PathConfig) → elements (path chains clients) (codes "path") [] ds ≡ Ok paths
+    → ArePaths (length chains) clients paths
+paths-form chains clients ds paths h =
+    elements-keep (path chains clients) (ArePaths (length chains) clients) (λ before s p kept read.
+    let one = path-form chains clients before s p read in (
+      all_pairs_push (λ a b. a.id ≢ b.id) before p kept.0
+          (λ k d lt. let short : k < length (path_ids before) = omega (arith, length-map before (λ (x : PathConfig). x.id)) in
+          λ e. one.1 k d.id short (get_or-map (λ (x : PathConfig). x.id) before k d d.id lt ∙ e)),
+      All-push (IsPathConfig (length chains) clients) before p kept.1 one.0,
+    )) (codes "path") [] ds paths ((λ i j d lt end. absurd (omega arith)), (λ k d lt. absurd (omega arith))) h
+
+-- ---- what a script is set up with
+
+config-form : (t : Tables) (c : Config) → AreFew t → config t ≡ Ok c → IsConfig c
+unfolding config
+config-form t c few h =
+    pass (elements chain (codes "chain") [] t.chains) _ c h (λ chains e0 h0.
+    pass (elements (client chains) (codes "client") [] t.clients) _ c h0 (λ clients e1 h1.
+    pass (elements (path chains clients) (codes "path") [] t.paths) _ c h1 (λ paths e2 same.
+    let are_clients = clients-form chains t.clients clients e1 in
+    let are_paths = paths-form chains clients t.paths paths e2 in
+    subst IsConfig (same_ok _ c same) (record {
+      limit = (omega arith, omega arith);
+      few_chains = omega (arith, few.chains, elements-count chain (codes "chain") [] t.chains chains e0);
+      few_clients = omega (arith, few.clients, elements-count (client chains) (codes "client") [] t.clients clients e1);
+      few_paths = omega (arith, few.paths, elements-count (path chains clients) (codes "path") [] t.paths paths e2);
+      chain_ids = chains-form t.chains chains e0;
+      client_ids = are_clients.0;
+      path_ids = are_paths.0;
+      clients = are_clients.1;
+      paths = are_paths.1;
+    }))))
+
+-- ---- goals and settlements
 
 not_asked-next : (client : ℕ) (g : Asked) (gs : List Asked) (b : Bool) → (g.client == client) ≡ b → not (b || is_asked client gs) ≡ true
     → (not (is_asked client gs) ≡ true → All (λ x. x.client ≢ client) gs) → All (λ x. x.client ≢ client) (g ∷ gs)
@@ -254,7 +333,7 @@ asked-form clients before s g h =
     pass (one_goal s.path (goal_of least exact)) _ g h3 (λ goal e4 h4.
     pass (check (not (is_asked i before)) TwoGoals s.path) _ g h4 (λ v passed same.
     subst (λ x. (x.client < length clients) × All (λ y. y.client ≢ x.client) before) (same_ok _ g same)
-    (client-within clients s i e1, not_asked i before (check-passed _ TwoGoals s.path v passed))))))))
+    (client-within (codes "client") clients s i e1, not_asked i before (check-passed _ TwoGoals s.path v passed))))))))
 
 abbrev AreGoals : ℕ → List Asked → Type 0
 AreGoals clients gs = All (λ g. g.client < clients) gs × AllPairs (λ g h. g.client ≢ h.client) gs
@@ -267,21 +346,53 @@ goals-form clients path ds goals h =
       all_pairs_push (λ a b. a.client ≢ b.client) before g kept.1 (λ k d lt. one.1 k d lt),
     )) path [] ds goals ((λ k d lt. absurd (omega arith)), (λ i j d lt end. absurd (omega arith))) h
 
-chain-within : (chains : List (List ℕ)) (s : Section) (i : ℕ) → needs (codes "chain") (reference chains) s ≡ Ok i → i < length chains
-chain-within chains s i h = needs-field (codes "chain") (reference chains) s i h (λ f r. reference-within chains f i r)
+settlement-form : (clients : List ClientConfig) (before : List Settlement) (s : Section) (x : Settlement) → settlement clients before s ≡ Ok x → x.client < length clients
+unfolding settlement
+settlement-form clients before s x h =
+    pass (only settlement_keys s) _ x h (λ u e0 h0.
+    pass (needs (codes "client") (reference (client_ids clients)) s) _ x h0 (λ i e1 h1.
+    pass (needs (codes "batch") (number 1 max_number OutOfRange) s) _ x h1 (λ batch e2 h2.
+    pass (needs (codes "done") (number 0 max_number OutOfRange) s) _ x h2 (λ done e3 same.
+    subst (λ (y : Settlement). y.client < length clients) (same_ok _ x same) (client-within (codes "client") clients s i e1)))))
 
-set_seen-form : (chains : List (List ℕ)) (clients : ℕ) (names : Names) (s : Section) (x : Observation Global × Names) → set_seen chains names s ≡ Ok x → IsSeen (length chains) clients 0 x.0
+settlements-form : (clients : List ClientConfig) (path : List ℕ) (ds : Items) (settlements : List Settlement) → elements (settlement clients) path [] ds ≡ Ok settlements
+    → All (λ (x : Settlement). x.client < length clients) settlements
+settlements-form clients path ds settlements h =
+    elements-keep (settlement clients) (All (λ (x : Settlement). x.client < length clients))
+    (λ before s x kept read. All-push (λ (y : Settlement). y.client < length clients) before x kept (settlement-form clients before s x read))
+    path [] ds settlements (λ k d lt. absurd (omega arith)) h
+
+-- ---- events
+
+path-within : (paths : List PathConfig) (s : Section) (i : ℕ) → needs (codes "path") (reference (path_ids paths)) s ≡ Ok i → i < length paths
+path-within paths s i h =
+    needs-field (codes "path") (reference (path_ids paths)) s i h
+    (λ f r. let within = reference-within (path_ids paths) f i r in omega (arith, length-map paths (λ (x : PathConfig). x.id)))
+
+-- of so many chains, clients and paths
+module _ (chains clients paths : ℕ) where
+  abbrev IsSeenThere : Observation Global → Type 0
+  IsSeenThere e = IsSeen chains clients paths e
+
+  unnamed-form : (names : Names) (read : Result (Observation Global) Fault) (x : Observation Global × Names) → unnamed names read ≡ Ok x
+      → ((e : Observation Global) → read ≡ Ok e → IsSeenThere e) → IsSeenThere x.0
+  unnamed-form names read x h form =
+      pass read (λ e. Ok (e, names)) x h (λ e r same. subst (λ (y : Observation Global × Names). IsSeenThere y.0) (same_ok (e, names) x same) (form e r))
+
+set_seen-form : (chains : List (List ℕ)) (clients paths : ℕ) (names : Names) (s : Section) (x : Observation Global × Names) → set_seen chains names s ≡ Ok x
+    → IsSeen (length chains) clients paths x.0
 unfolding set_seen
-set_seen-form chains clients names s x h =
+set_seen-form chains clients paths names s x h =
     pass (only set_keys s) _ x h (λ u e0 h0.
     pass (needs (codes "chain") (reference chains) s) _ x h0 (λ chain e1 h1.
     pass (needs (codes "name") (new_set_name (names chain)) s) _ x h1 (λ name e2 h2.
     pass (needs (codes "validators") validators s) _ x h2 (λ set e3 same.
-    subst (λ y. IsSeen (length chains) clients 0 y.0) (same_ok _ x same) (chain-within chains s chain e1)))))
+    subst (λ (y : Observation Global × Names). IsSeen (length chains) clients paths y.0) (same_ok _ x same) (chain-within (codes "chain") chains s chain e1)))))
 
-header_seen-form : (chains : List (List ℕ)) (clients : ℕ) (names : Names) (s : Section) (x : Observation Global × Names) → header_seen chains names s ≡ Ok x → IsSeen (length chains) clients 0 x.0
+header_seen-form : (chains : List (List ℕ)) (clients paths : ℕ) (names : Names) (s : Section) (x : Observation Global) → header_seen chains names s ≡ Ok x
+    → IsSeen (length chains) clients paths x
 unfolding header_seen
-header_seen-form chains clients names s x h =
+header_seen-form chains clients paths names s x h =
     pass (only header_keys s) _ x h (λ u e0 h0.
     pass (needs (codes "chain") (reference chains) s) _ x h0 (λ chain e1 h1.
     pass (needs (codes "height") height s) _ x h1 (λ at e2 h2.
@@ -290,52 +401,106 @@ header_seen-form chains clients names s x h =
     pass (needs (codes "set") (set_reference (names chain)) s) _ x h4 (λ set e5 h5.
     pass (needs (codes "next") (set_reference (names chain)) s) _ x h5 (λ next e6 h6.
     pass (needs (codes "votes") votes s) _ x h6 (λ vs e7 same.
-    subst (λ y. IsSeen (length chains) clients 0 y.0) (same_ok _ x same) (chain-within chains s chain e1)))))))))
+    subst (IsSeen (length chains) clients paths) (same_ok _ x same) (chain-within (codes "chain") chains s chain e1)))))))))
 
-stored_seen-form : (chains : ℕ) (clients : List ClientConfig) (names : Names) (s : Section) (x : Observation Global × Names) → stored_seen clients names s ≡ Ok x → IsSeen chains (length clients) 0 x.0
+stored_seen-form : (chains paths : ℕ) (clients : List ClientConfig) (names : Names) (s : Section) (x : Observation Global) → stored_seen clients names s ≡ Ok x
+    → IsSeen chains (length clients) paths x
 unfolding stored_seen
-stored_seen-form chains clients names s x h =
+stored_seen-form chains paths clients names s x h =
     pass (only stored_keys s) _ x h (λ u e0 h0.
     pass (needs (codes "client") (reference (client_ids clients)) s) _ x h0 (λ i e1 h1.
     pass (needs (codes "height") height s) _ x h1 (λ at e2 h2.
     pass (needs (codes "time") time s) _ x h2 (λ t e3 h3.
     pass (or_default zero_hash hash (optional (codes "root") s)) _ x h3 (λ root e4 h4.
     pass (needs (codes "next") (set_reference (names (tracked_by clients i))) s) _ x h4 (λ next e5 same.
-    subst (λ y. IsSeen chains (length clients) 0 y.0) (same_ok _ x same) (client-within clients s i e1)))))))
+    subst (IsSeen chains (length clients) paths) (same_ok _ x same) (client-within (codes "client") clients s i e1)))))))
 
-of_kind-form : (k : Kind) (chains : List (List ℕ)) (clients : List ClientConfig) (names : Names) (s : Section) (x : Observation Global × Names) → event_of_kind k chains clients names s ≡ Ok x
-    → IsSeen (length chains) (length clients) 0 x.0
-of_kind-form kinds.Set chains clients names s x h = set_seen-form chains (length clients) names s x h
-of_kind-form kinds.Header chains clients names s x h = header_seen-form chains (length clients) names s x h
-of_kind-form kinds.Stored chains clients names s x h = stored_seen-form (length chains) clients names s x h
+module _ (chains clients : ℕ) (paths : List PathConfig) (s : Section) (x : Observation Global) where
+  abbrev Kept : Type 0
+  Kept = IsSeen chains clients (length paths) x
 
-event-form : (chains : List (List ℕ)) (clients : List ClientConfig) (names : Names) (s : Section) (x : Observation Global × Names) → event chains clients names s ≡ Ok x
-    → IsSeen (length chains) (length clients) 0 x.0
+  sent-form : sent paths s ≡ Ok x → Kept
+  unfolding sent
+  sent-form h =
+      pass (only sent_keys s) _ x h (λ u e0 h0.
+      pass (needs (codes "path") (reference (path_ids paths)) s) _ x h0 (λ i e1 h1.
+      pass (needs (codes "seq") sequence s) _ x h1 (λ seq e2 h2.
+      pass (needs (codes "height") block s) _ x h2 (λ at e3 h3.
+      pass (or_default None height_or_none (optional (codes "timeout_height") s)) _ x h3 (λ th e4 h4.
+      pass (or_default None time_or_none (optional (codes "timeout_time") s)) _ x h4 (λ tt e5 same.
+      subst (IsSeen chains clients (length paths)) (same_ok _ x same) (path-within paths s i e1)))))))
+
+  received-form : received paths s ≡ Ok x → Kept
+  unfolding received
+  received-form h =
+      pass (only packet_keys s) _ x h (λ u e0 h0.
+      pass (needs (codes "path") (reference (path_ids paths)) s) _ x h0 (λ i e1 h1.
+      pass (needs (codes "seq") sequence s) _ x h1 (λ seq e2 h2.
+      pass (needs (codes "height") block s) _ x h2 (λ at e3 same.
+      subst (IsSeen chains clients (length paths)) (same_ok _ x same) (path-within paths s i e1)))))
+
+  ack_written-form : ack_written paths s ≡ Ok x → Kept
+  unfolding ack_written
+  ack_written-form h =
+      pass (only packet_keys s) _ x h (λ u e0 h0.
+      pass (needs (codes "path") (reference (path_ids paths)) s) _ x h0 (λ i e1 h1.
+      pass (needs (codes "seq") sequence s) _ x h1 (λ seq e2 h2.
+      pass (needs (codes "height") block s) _ x h2 (λ at e3 same.
+      subst (IsSeen chains clients (length paths)) (same_ok _ x same) (path-within paths s i e1)))))
+
+  cleared-form : cleared paths s ≡ Ok x → Kept
+  unfolding cleared
+  cleared-form h =
+      pass (only cleared_keys s) _ x h (λ u e0 h0.
+      pass (needs (codes "path") (reference (path_ids paths)) s) _ x h0 (λ i e1 h1.
+      pass (needs (codes "seq") sequence s) _ x h1 (λ seq e2 same.
+      subst (IsSeen chains clients (length paths)) (same_ok _ x same) (path-within paths s i e1))))
+
+  closed-form : closed paths s ≡ Ok x → Kept
+  unfolding closed
+  closed-form h =
+      pass (only closed_keys s) _ x h (λ u e0 h0.
+      pass (needs (codes "path") (reference (path_ids paths)) s) _ x h0 (λ i e1 same.
+      subst (IsSeen chains clients (length paths)) (same_ok _ x same) (path-within paths s i e1)))
+
+-- what is seen of a script that is set up so
+abbrev IsSeenBy : Config → Observation Global → Type 0
+IsSeenBy c e = IsSeen (length c.chains) (length c.clients) (length c.paths) e
+
+of_kind-form : (k : Kind) (c : Config) (names : Names) (s : Section) (x : Observation Global × Names) → event_of_kind k c names s ≡ Ok x → IsSeenBy c x.0
+of_kind-form kinds.Set c names s x h = set_seen-form c.chains (length c.clients) (length c.paths) names s x h
+of_kind-form kinds.Header c names s x h =
+    unnamed-form (length c.chains) (length c.clients) (length c.paths) names (header_seen c.chains names s) x h (header_seen-form c.chains (length c.clients) (length c.paths) names s)
+of_kind-form kinds.Stored c names s x h =
+    unnamed-form (length c.chains) (length c.clients) (length c.paths) names (stored_seen c.clients names s) x h (stored_seen-form (length c.chains) (length c.paths) c.clients names s)
+of_kind-form kinds.Sent c names s x h =
+    unnamed-form (length c.chains) (length c.clients) (length c.paths) names (sent c.paths s) x h (sent-form (length c.chains) (length c.clients) c.paths s)
+of_kind-form kinds.Received c names s x h =
+    unnamed-form (length c.chains) (length c.clients) (length c.paths) names (received c.paths s) x h (received-form (length c.chains) (length c.clients) c.paths s)
+of_kind-form kinds.Ack c names s x h =
+    unnamed-form (length c.chains) (length c.clients) (length c.paths) names (ack_written c.paths s) x h (ack_written-form (length c.chains) (length c.clients) c.paths s)
+of_kind-form kinds.Cleared c names s x h =
+    unnamed-form (length c.chains) (length c.clients) (length c.paths) names (cleared c.paths s) x h (cleared-form (length c.chains) (length c.clients) c.paths s)
+of_kind-form kinds.Closed c names s x h =
+    unnamed-form (length c.chains) (length c.clients) (length c.paths) names (closed c.paths s) x h (closed-form (length c.chains) (length c.clients) c.paths s)
+
+event-form : (c : Config) (names : Names) (s : Section) (x : Observation Global × Names) → event c names s ≡ Ok x → IsSeenBy c x.0
 unfolding event
-event-form chains clients names s x h =
-    pass (needs (codes "kind") kind s) _ x h (λ k e0 h0. of_kind-form k chains clients names s x h0)
+event-form c names s x h = pass (needs (codes "kind") kind s) _ x h (λ k e0 h0. of_kind-form k c names s x h0)
 
-events-form : (chains : List (List ℕ)) (clients : List ClientConfig) (path : List ℕ) (names : Names) (ds : Items) (all : List (Observation Global) × Names)
-    → in_sequence (event chains clients) path names [] ds ≡ Ok all → All (IsSeen (length chains) (length clients) 0) all.0
-events-form chains clients path names ds all h =
-    in_sequence-keep (event chains clients) (All (IsSeen (length chains) (length clients) 0))
-    (λ before state s x kept read. All-push (IsSeen (length chains) (length clients) 0) before x.0 kept (event-form chains clients state s x read))
+events-form : (c : Config) (path : List ℕ) (names : Names) (ds : Items) (all : List (Observation Global) × Names) → in_sequence (event c) path names [] ds ≡ Ok all → All (IsSeenBy c) all.0
+events-form c path names ds all h =
+    in_sequence-keep (event c) (All (IsSeenBy c)) (λ before state s x kept read. All-push (IsSeenBy c) before x.0 kept (event-form c state s x read))
     path names [] ds all (λ k d lt. absurd (omega arith)) h
 
-frame-few : (room : ℕ) (s : Section) (f : Frame) → frame room s ≡ Ok f → items_count f.goals + items_count f.events ≤ room
-unfolding frame
-frame-few room s f h =
-    pass (only turn_keys s) _ f h (λ u e0 h0.
-    pass (needs (codes "from") time s) _ f h0 (λ from e1 h1.
-    pass (needs (codes "until") time s) _ f h1 (λ until e2 h2.
-    pass (or_default no_items items (optional (codes "goal") s)) _ f h2 (λ goals e3 h3.
-    pass (or_default no_items items (optional (codes "event") s)) _ f h3 (λ events e4 h4.
-    pass (check (nat_le (items_count goals + items_count events) room) TooManyEvents s.path) _ f h4 (λ v few h5.
-    pass (check (nat_le from until) BadWindow s.path) _ f h5 (λ w ordered same.
-    subst (λ (x : Frame). items_count x.goals + items_count x.events ≤ room) (same_ok _ f same)
-    (leb-true (items_count goals + items_count events) room (check-passed _ TooManyEvents s.path v few)))))))))
+-- ---- turns
 
-frame-form : (room : ℕ) (s : Section) (f : Frame) → frame room s ≡ Ok f → f.window.from ≤ f.window.until
+-- a window that doesn't end before it begins, and the room that is left
+record IsFrame (room : ℕ) (f : Frame) : Type 0 where
+  window : f.window.from ≤ f.window.until
+  left : taken f.goals f.events f.settlements + f.room ≡ room
+
+frame-form : (room : ℕ) (s : Section) (f : Frame) → frame room s ≡ Ok f → IsFrame room f
 unfolding frame
 frame-form room s f h =
     pass (only turn_keys s) _ f h (λ u e0 h0.
@@ -343,95 +508,73 @@ frame-form room s f h =
     pass (needs (codes "until") time s) _ f h1 (λ until e2 h2.
     pass (or_default no_items items (optional (codes "goal") s)) _ f h2 (λ goals e3 h3.
     pass (or_default no_items items (optional (codes "event") s)) _ f h3 (λ events e4 h4.
-    pass (check (nat_le (items_count goals + items_count events) room) TooManyEvents s.path) _ f h4 (λ v few h5.
-    pass (check (nat_le from until) BadWindow s.path) _ f h5 (λ w ordered same.
-    subst (λ (x : Frame). x.window.from ≤ x.window.until) (same_ok _ f same) (leb-true from until (check-passed _ BadWindow s.path w ordered)))))))))
+    pass (or_default no_items items (optional (codes "settle") s)) _ f h4 (λ settlements e5 h5.
+    pass (check (nat_le (taken goals events settlements) room) TooManyEvents s.path) _ f h5 (λ v few h6.
+    pass (check (nat_le from until) BadWindow s.path) _ f h6 (λ w ordered same.
+    let fits = leb-true (taken goals events settlements) room (check-passed _ TooManyEvents s.path v few) in
+    subst (IsFrame room) (same_ok _ f same) (record {
+      window = leb-true from until (check-passed _ BadWindow s.path w ordered);
+      left = omega (arith, fits);
+    })))))))))
 
-turn-form : (chains : List (List ℕ)) (clients : List ClientConfig) (reading : Reading) (s : Section) (x : Turn Global × Reading) → turn chains clients reading s ≡ Ok x
-    → IsTurn (length chains) (length clients) 0 x.0
+-- a turn keeps what every turn keeps, and takes room for its entries
+record IsTaken (c : Config) (reading : Reading) (x : Turn Global × Reading) : Type 0 where
+  turn : IsTurn (length c.chains) (length c.clients) (length c.paths) x.0
+  room : entry_count x.0 + x.1.room ≡ reading.room
+
+turn-form : (c : Config) (reading : Reading) (s : Section) (x : Turn Global × Reading) → turn c reading s ≡ Ok x → IsTaken c reading x
 unfolding turn
-turn-form chains clients reading s x h =
+turn-form c reading s x h =
     pass (frame reading.room s) _ x h (λ f e0 h0.
-    pass (elements (asked clients) (child s.path (codes "goal")) [] f.goals) _ x h0 (λ goals e1 h1.
-    pass (in_sequence (event chains clients) (child s.path (codes "event")) reading.names [] f.events) _ x h1 (λ events e2 same.
-    let asked_well = goals-form clients (child s.path (codes "goal")) f.goals goals e1 in
-    subst (λ (y : Turn Global × Reading). IsTurn (length chains) (length clients) 0 y.0) (same_ok _ x same) (record {
-      window = frame-form reading.room s f e0;
-      goals = asked_well.0;
-      once = asked_well.1;
-      events = events-form chains clients (child s.path (codes "event")) reading.names f.events events e2;
-      settlements = λ k d lt. absurd (omega arith);
-    }))))
+    pass (elements (asked c.clients) (child s.path (codes "goal")) [] f.goals) _ x h0 (λ goals e1 h1.
+    pass (in_sequence (event c) (child s.path (codes "event")) reading.names [] f.events) _ x h1 (λ events e2 h2.
+    pass (elements (settlement c.clients) (child s.path (codes "settle")) [] f.settlements) _ x h2 (λ settlements e3 same.
+    let framed = frame-form reading.room s f e0 in
+    let asked_well = goals-form c.clients (child s.path (codes "goal")) f.goals goals e1 in
+    let asked_count = elements-count (asked c.clients) (child s.path (codes "goal")) [] f.goals goals e1 in
+    let seen_count = in_sequence-count (event c) (child s.path (codes "event")) reading.names [] f.events events e2 in
+    let settled_count = elements-count (settlement c.clients) (child s.path (codes "settle")) [] f.settlements settlements e3 in
+    subst (IsTaken c reading) (same_ok _ x same) (record {
+      turn = record {
+        window = framed.window;
+        goals = asked_well.0;
+        once = asked_well.1;
+        events = events-form c (child s.path (codes "event")) reading.names f.events events e2;
+        settlements = settlements-form c.clients (child s.path (codes "settle")) f.settlements settlements e3;
+      };
+      room = omega (arith, framed.left, asked_count, seen_count, settled_count);
+    })))))
 
--- the room that a turn leaves, and that nothing is settled in it
-abbrev Takes : Reading → Turn Global × Reading → Type 0
-Takes reading x = (entry_count x.0 + x.1.room ≡ reading.room) × (length x.0.settlements ≡ 0)
+-- so do all turns
+record AreTaken (c : Config) (ts : List (Turn Global)) (reading : Reading) : Type 0 where
+  turns : All (IsTurn (length c.chains) (length c.clients) (length c.paths)) ts
+  room : sum_by entry_count ts + reading.room ≡ max_entries
 
-turn-takes : (chains : List (List ℕ)) (clients : List ClientConfig) (reading : Reading) (s : Section) (x : Turn Global × Reading) → turn chains clients reading s ≡ Ok x → Takes reading x
-unfolding turn
-turn-takes chains clients reading s x h =
-    pass (frame reading.room s) _ x h (λ f e0 h0.
-    pass (elements (asked clients) (child s.path (codes "goal")) [] f.goals) _ x h0 (λ goals e1 h1.
-    pass (in_sequence (event chains clients) (child s.path (codes "event")) reading.names [] f.events) _ x h1 (λ events e2 same.
-    let few = frame-few reading.room s f e0 in
-    let asked_count = elements-count (asked clients) (child s.path (codes "goal")) [] f.goals goals e1 in
-    let seen_count = in_sequence-count (event chains clients) (child s.path (codes "event")) reading.names [] f.events events e2 in
-    subst (Takes reading) (same_ok _ x same) (omega (arith, few, asked_count, seen_count), refl))))
-
-abbrev HasTaken : List (Turn Global) → Reading → Type 0
-HasTaken ts reading = (sum_by entry_count ts + reading.room ≡ max_entries) × All (λ (t : Turn Global). length t.settlements ≡ 0) ts
-
-turns-take : (chains : List (List ℕ)) (clients : List ClientConfig) (ds : Items) (all : List (Turn Global) × Reading)
-    → in_sequence (turn chains clients) (codes "turn") opening [] ds ≡ Ok all → HasTaken all.0 all.1
-turns-take chains clients ds all h =
-    states-keep (turn chains clients) HasTaken
+turns-form : (c : Config) (ds : Items) (all : List (Turn Global) × Reading) → in_sequence (turn c) (codes "turn") opening [] ds ≡ Ok all → AreTaken c all.0 all.1
+turns-form c ds all h =
+    states-keep (turn c) (AreTaken c)
     (λ before state s x kept read.
-    let takes = turn-takes chains clients state s x read in (
-      omega (arith, kept.0, takes.0, sum_by_push entry_count before x.0),
-      All-push (λ (t : Turn Global). length t.settlements ≡ 0) before x.0 kept.1 takes.1,
-    )) (codes "turn") opening [] ds all (refl, (λ k d lt. absurd (omega arith))) h
-
-turns-form : (chains : List (List ℕ)) (clients : List ClientConfig) (ds : Items) (all : List (Turn Global) × Reading)
-    → in_sequence (turn chains clients) (codes "turn") opening [] ds ≡ Ok all → All (IsTurn (length chains) (length clients) 0) all.0
-turns-form chains clients ds all h =
-    in_sequence-keep (turn chains clients) (All (IsTurn (length chains) (length clients) 0))
-    (λ before state s x kept read. All-push (IsTurn (length chains) (length clients) 0) before x.0 kept (turn-form chains clients state s x read))
-    (codes "turn") opening [] ds all (λ k d lt. absurd (omega arith)) h
+    let one = turn-form c state s x read in record {
+      turns = All-push (IsTurn (length c.chains) (length c.clients) (length c.paths)) before x.0 kept.turns one.turn;
+      room = omega (arith, kept.room, one.room, sum_by_push entry_count before x.0);
+    }) (codes "turn") opening [] ds all (record { turns = λ k d lt. absurd (omega arith); room = refl }) h
 
 -- ---- scripts
 
-abbrev IsRead : Script Global → Type 0
-IsRead t = IsScript t × IsOfUpdates t
-
-pub script-form : (s : Section) (t : Script Global) → script s ≡ Ok t → IsRead t
+pub script-form : (s : Section) (t : Script Global) → script s ≡ Ok t → IsScript t
 unfolding script
 script-form s t h =
     pass (tables s) _ t h (λ x e0 h0.
-    pass (elements chain (codes "chain") [] x.chains) _ t h0 (λ chains e1 h1.
-    pass (elements (client chains) (codes "client") [] x.clients) _ t h1 (λ clients e2 h2.
-    pass (in_sequence (turn chains clients) (codes "turn") opening [] x.turns) _ t h2 (λ turns e3 same.
-    let are = clients-form chains x.clients clients e2 in
+    pass (config x) _ t h0 (λ c e1 h1.
+    pass (in_sequence (turn c) (codes "turn") opening [] x.turns) _ t h1 (λ turns e2 same.
     let few = tables-few s x e0 in
-    let taken = turns-take chains clients x.turns turns e3 in
-    subst IsRead (same_ok _ t same) (
-      record {
-        config = record {
-          limit = (omega arith, omega arith);
-          few_chains = omega (arith, few.chains, elements-count chain (codes "chain") [] x.chains chains e1);
-          few_clients = omega (arith, few.clients, elements-count (client chains) (codes "client") [] x.clients clients e2);
-          few_paths = omega arith;
-          chain_ids = chains-form x.chains chains e1;
-          client_ids = are.0;
-          path_ids = λ i j d lt end. absurd (omega arith);
-          clients = are.1;
-          paths = λ k d lt. absurd (omega arith);
-        };
-        turns = turns-form chains clients x.turns turns e3;
-        few_turns = omega (arith, few.turns, in_sequence-count (turn chains clients) (codes "turn") opening [] x.turns turns e3);
-        few_entries = omega (arith, taken.0);
-      },
-      record { paths = refl; settlements = taken.1 },
-    )))))
+    let taken = turns-form c x.turns turns e2 in
+    subst IsScript (same_ok _ t same) (record {
+      config = config-form x c few e1;
+      turns = taken.turns;
+      few_turns = omega (arith, few.turns, in_sequence-count (turn c) (codes "turn") opening [] x.turns turns e2);
+      few_entries = omega (arith, taken.room);
+    }))))
 
 pub form-of : (P : Script Global → Type 0) (r : Result (CodeScript Global) RunError) (read : Result (Script Global) Fault) → Gives script_view r read
     → ((t : Script Global) → read ≡ Ok t → P t) → IfOk r (λ s. P (script_view s))

@@ -1,5 +1,7 @@
 pub mod Positions
 pub mod Documents
+pub mod DirectoriesLemmas
 pub mod NamesLemmas
 pub mod SetsLemmas
+pub mod EventsLemmas
 pub mod Forms

@@ -5,6 +5,7 @@ use Rattle.std.specs.Str.{bytes_eq}
 use Rattle.rb_valset.specs.ValidatorSet.{set_hash}
 use Rattle.rb_book.specs.declared.vote.Vote.{Vote}
 use Rattle.rb_book.specs.declared.vote.Vote.TheVariants.{Commit, Nil, Absent, Bad}
+use Rattle.rb_events.specs.Config.{Config}
 use Rattle.rb_events.specs.declared.config.ClientConfig.{ClientConfig}
 use Rattle.rb_events.specs.declared.observation.Observation.{Observation}
 use Rattle.rb_events.specs.declared.observation.Observation.TheVariants.{SetSeen, HeaderSeen, StoredSeen}
@@ -17,6 +18,7 @@ use Rattle.rb_script.specs.Named.{reference}
 use Rattle.rb_script.specs.Names.{Names, with_name, new_set_name, set_reference}
 use Rattle.rb_script.specs.Clients.{client_ids}
 use Rattle.rb_script.specs.Sets.{validators}
+use Rattle.rb_script.specs.Packets.{sent, received, ack_written, cleared, closed}
 
 -- ---- kinds and votes
 
@@ -25,6 +27,11 @@ kind_of word =
     if bytes_eq word (codes "set") then Some kinds.Set
     else if bytes_eq word (codes "header") then Some kinds.Header
     else if bytes_eq word (codes "stored") then Some kinds.Stored
+    else if bytes_eq word (codes "sent") then Some kinds.Sent
+    else if bytes_eq word (codes "received") then Some kinds.Received
+    else if bytes_eq word (codes "ack") then Some kinds.Ack
+    else if bytes_eq word (codes "cleared") then Some kinds.Cleared
+    else if bytes_eq word (codes "closed") then Some kinds.Closed
     else None
 
 abbrev pub known_kind : List ℕ → Option Kind → Result Kind Fault
@@ -58,11 +65,12 @@ votes f = do
   letters ← text f
   votes_after f.path [] letters
 
--- ---- events: what was seen, and the names that are known after it
+-- ---- events of chains and clients
 
 abbrev pub set_keys : List (List ℕ)
 set_keys = codes "kind" ∷ codes "chain" ∷ codes "name" ∷ codes "validators" ∷ []
 
+-- a set, and the names that are known after it
 unfoldable pub set_seen : List (List ℕ) → Names → Section → Result (Observation Global × Names) Fault
 set_seen chains names s = do
   _ ← only set_keys s
@@ -74,7 +82,7 @@ set_seen chains names s = do
 abbrev pub header_keys : List (List ℕ)
 header_keys = codes "kind" ∷ codes "chain" ∷ codes "height" ∷ codes "time" ∷ codes "root" ∷ codes "set" ∷ codes "next" ∷ codes "votes" ∷ []
 
-unfoldable pub header_seen : List (List ℕ) → Names → Section → Result (Observation Global × Names) Fault
+unfoldable pub header_seen : List (List ℕ) → Names → Section → Result (Observation Global) Fault
 header_seen chains names s = do
   _ ← only header_keys s
   chain ← needs (codes "chain") (reference chains) s
@@ -84,15 +92,12 @@ header_seen chains names s = do
   set ← needs (codes "set") (set_reference (names chain)) s
   next ← needs (codes "next") (set_reference (names chain)) s
   vs ← needs (codes "votes") votes s
-  Ok (
-    HeaderSeen chain (record {
-      height = at;
-      record_of = record { time = time; root = root; next = next };
-      set_hash = set;
-      votes = vs;
-    }),
-    names,
-  )
+  Ok (HeaderSeen chain (record {
+    height = at;
+    record_of = record { time = time; root = root; next = next };
+    set_hash = set;
+    votes = vs;
+  }))
 
 -- the chain that a client tracks
 abbrev pub tracked_by : List ClientConfig → ℕ → ℕ
@@ -101,7 +106,7 @@ tracked_by clients i = unwrap_or (option_map (λ c. c.tracks) (slice_get clients
 abbrev pub stored_keys : List (List ℕ)
 stored_keys = codes "kind" ∷ codes "client" ∷ codes "height" ∷ codes "time" ∷ codes "root" ∷ codes "next" ∷ []
 
-unfoldable pub stored_seen : List ClientConfig → Names → Section → Result (Observation Global × Names) Fault
+unfoldable pub stored_seen : List ClientConfig → Names → Section → Result (Observation Global) Fault
 stored_seen clients names s = do
   _ ← only stored_keys s
   client ← needs (codes "client") (reference (client_ids clients)) s
@@ -109,15 +114,26 @@ stored_seen clients names s = do
   time ← needs (codes "time") time s
   root ← or_default zero_hash hash (optional (codes "root") s)
   next ← needs (codes "next") (set_reference (names (tracked_by clients client))) s
-  Ok (StoredSeen client at (record { time = time; root = root; next = next }), names)
+  Ok (StoredSeen client at (record { time = time; root = root; next = next }))
 
-abbrev pub event_of_kind : Kind → List (List ℕ) → List ClientConfig → Names → Section → Result (Observation Global × Names) Fault
-event_of_kind kinds.Set chains clients names s = set_seen chains names s
-event_of_kind kinds.Header chains clients names s = header_seen chains names s
-event_of_kind kinds.Stored chains clients names s = stored_seen clients names s
+-- ---- events of all kinds, and the names that are known after them
+
+-- an event that gives no name
+abbrev pub unnamed : Names → Result (Observation Global) Fault → Result (Observation Global × Names) Fault
+unnamed names read = read >>= λ e. Ok (e, names)
+
+abbrev pub event_of_kind : Kind → Config → Names → Section → Result (Observation Global × Names) Fault
+event_of_kind kinds.Set c names s = set_seen c.chains names s
+event_of_kind kinds.Header c names s = unnamed names (header_seen c.chains names s)
+event_of_kind kinds.Stored c names s = unnamed names (stored_seen c.clients names s)
+event_of_kind kinds.Sent c names s = unnamed names (sent c.paths s)
+event_of_kind kinds.Received c names s = unnamed names (received c.paths s)
+event_of_kind kinds.Ack c names s = unnamed names (ack_written c.paths s)
+event_of_kind kinds.Cleared c names s = unnamed names (cleared c.paths s)
+event_of_kind kinds.Closed c names s = unnamed names (closed c.paths s)
 
 -- the keys of a table depend on its kind, which is read first
-unfoldable pub event : List (List ℕ) → List ClientConfig → Names → Section → Result (Observation Global × Names) Fault
-event chains clients names s = do
+unfoldable pub event : Config → Names → Section → Result (Observation Global × Names) Fault
+event c names s = do
   kind ← needs (codes "kind") kind s
-  event_of_kind kind chains clients names s
+  event_of_kind kind c names s

@@ -4,9 +4,13 @@ pub use Rattle.rb_fields.specs.Faults
 pub mod Limits
 pub mod Documents
 pub mod Named
+pub mod Directories
 pub mod Names
 pub mod Clients
+pub mod Paths
+pub mod Setups
 pub mod Sets
+pub mod Packets
 pub mod Events
 pub mod Turns
 pub mod Scripts

@@ -3,15 +3,18 @@ use Rattle.std.specs.Prelude.{ℕ, List, [], ◌∷◌, codes, Result, Ok}
 use Rattle.std.specs.declared.alloc.Global.{Global}
 use Rattle.toml.specs.Data.{Items, no_items}
 use Rattle.toml.specs.View.{items_view}
+use Rattle.rb_events.specs.Config.{Config}
+use Rattle.rb_events.specs.Limits.{max_chains, max_clients, max_paths, max_turns, max_entries}
 use Rattle.rb_events.specs.Script.{Script}
 use Rattle.rb_fields.specs.Faults.{Fault, ◌>>=◌}
 use Rattle.rb_fields.specs.Fields.{Section, only, needs, optional, or_default, number, array, elements, in_sequence}
 use Rattle.rb_fields.specs.declared.fault.FaultName.TheVariants.{BadVersion}
 use Rattle.rb_script.specs.declared.script.Tables.{Tables as CodeTables}
-use Rattle.rb_script.specs.Limits.{max_chains, max_clients, max_paths, max_turns, max_entries, max_records}
+use Rattle.rb_script.specs.Limits.{max_records}
 use Rattle.rb_script.specs.Documents.{document}
 use Rattle.rb_script.specs.Names.{no_names}
 use Rattle.rb_script.specs.Clients.{chain, client}
+use Rattle.rb_script.specs.Paths.{path}
 use Rattle.rb_script.specs.Turns.{Reading, turn}
 
 abbrev pub top_keys : List (List ℕ)
@@ -21,10 +24,16 @@ top_keys = codes "version" ∷ codes "chain" ∷ codes "client" ∷ codes "path"
 pub record Tables : Type 0 where
   pub chains : Items
   pub clients : Items
+  pub paths : Items
   pub turns : Items
 
 abbrev pub tables_view : CodeTables → Tables
-tables_view t = record { chains = items_view t.chains.now; clients = items_view t.clients.now; turns = items_view t.turns.now }
+tables_view t = record {
+  chains = items_view t.chains.now;
+  clients = items_view t.clients.now;
+  paths = items_view t.paths.now;
+  turns = items_view t.turns.now;
+}
 
 unfoldable pub tables : Section → Result Tables Fault
 tables s = do
@@ -32,25 +41,28 @@ tables s = do
   _ ← needs (codes "version") (number 1 1 BadVersion) s
   chains ← or_default no_items (array max_chains) (optional (codes "chain") s)
   clients ← or_default no_items (array max_clients) (optional (codes "client") s)
-  _ ← or_default no_items (array max_paths) (optional (codes "path") s)
+  paths ← or_default no_items (array max_paths) (optional (codes "path") s)
   turns ← or_default no_items (array max_turns) (optional (codes "turn") s)
-  Ok (record { chains = chains; clients = clients; turns = turns })
+  Ok (record { chains = chains; clients = clients; paths = paths; turns = turns })
+
+-- each table beside those before it
+unfoldable pub config : Tables → Result Config Fault
+config t = do
+  chains ← elements chain (codes "chain") [] t.chains
+  clients ← elements (client chains) (codes "client") [] t.clients
+  paths ← elements (path chains clients) (codes "path") [] t.paths
+  Ok (record { limit = max_records; chains = chains; clients = clients; paths = paths })
 
 -- before the first turn no set has a name
 abbrev pub opening : Reading
 opening = record { names = no_names; room = max_entries }
 
--- each table beside those before it
 unfoldable pub script : Section → Result (Script Global) Fault
 script s = do
   t ← tables s
-  chains ← elements chain (codes "chain") [] t.chains
-  clients ← elements (client chains) (codes "client") [] t.clients
-  turns ← in_sequence (turn chains clients) (codes "turn") opening [] t.turns
-  Ok (record {
-    config = record { limit = max_records; chains = chains; clients = clients; paths = [] };
-    turns = turns.0;
-  })
+  c ← config t
+  turns ← in_sequence (turn c) (codes "turn") opening [] t.turns
+  Ok (record { config = c; turns = turns.0 })
 
 -- the script of a text, or its first fault
 unfoldable pub script_of : List ℕ → Result (Script Global) Fault

@@ -1,4 +1,4 @@
--- The tables of goals and turns.
+-- The tables of goals, settlements and turns.
 use Rattle.std.specs.Prelude.{ℕ, ◌+◌, ◌-◌, List, [], ◌∷◌, codes, Option, Some, None, Result, Ok, Bool, not, ◌==◌, nat_le}
 use Rattle.std.specs.declared.alloc.Global.{Global}
 use Rattle.std.specs.List.{list_any}
@@ -7,13 +7,15 @@ use Rattle.toml.specs.View.{items_view}
 use Rattle.rb_base.specs.Window.{Span}
 use Rattle.rb_events.specs.declared.goal.Goal.{Goal}
 use Rattle.rb_events.specs.declared.goal.Goal.TheVariants.{Exactly, AtLeast}
+use Rattle.rb_events.specs.Config.{Config}
 use Rattle.rb_events.specs.declared.config.ClientConfig.{ClientConfig}
 use Rattle.rb_events.specs.declared.script.Asked.{Asked}
+use Rattle.rb_events.specs.declared.script.Settlement.{Settlement}
 use Rattle.rb_events.specs.Script.{Turn}
 use Rattle.rb_fields.specs.Faults.{Fault, ◌>>=◌, fault, check}
 use Rattle.rb_fields.specs.Places.{child}
-use Rattle.rb_fields.specs.Fields.{Field, Section, items, items_count, only, needs, optional, or_default, height, time, elements, in_sequence}
-use Rattle.rb_fields.specs.declared.fault.FaultName.TheVariants.{TwoGoals, TooManyEvents, BadWindow}
+use Rattle.rb_fields.specs.Fields.{Field, Section, items, items_count, only, needs, optional, or_default, number, height, time, elements, in_sequence, max_number}
+use Rattle.rb_fields.specs.declared.fault.FaultName.TheVariants.{OutOfRange, TwoGoals, TooManyEvents, BadWindow}
 use Rattle.rb_script.specs.declared.turn.Reading.{Reading as CodeReading}
 use Rattle.rb_script.specs.declared.turn.Frame.{Frame as CodeFrame}
 use Rattle.rb_script.specs.Named.{reference}
@@ -56,21 +58,47 @@ asked clients before s = do
   _ ← check (not (is_asked client before)) TwoGoals s.path
   Ok (record { client = client; goal = goal })
 
+-- ---- settlements
+
+abbrev pub settlement_keys : List (List ℕ)
+settlement_keys = codes "client" ∷ codes "batch" ∷ codes "done" ∷ []
+
+-- how many transactions of a client's batch were taken; those before it in the turn don't matter
+unfoldable pub settlement : List ClientConfig → List Settlement → Section → Result Settlement Fault
+settlement clients before s = do
+  _ ← only settlement_keys s
+  client ← needs (codes "client") (reference (client_ids clients)) s
+  batch ← needs (codes "batch") (number 1 max_number OutOfRange) s
+  done ← needs (codes "done") (number 0 max_number OutOfRange) s
+  Ok (record { client = client; batch = batch; done = done })
+
 -- ---- turns
 
 abbrev pub turn_keys : List (List ℕ)
-turn_keys = codes "from" ∷ codes "until" ∷ codes "goal" ∷ codes "event" ∷ []
+turn_keys = codes "from" ∷ codes "until" ∷ codes "goal" ∷ codes "event" ∷ codes "settle" ∷ []
 
--- what a turn's own keys hold
+-- what a turn's own keys hold, and room for so many goals, events and settlements after it
 pub record Frame : Type 0 where
   pub window : Span
   pub goals : Items
   pub events : Items
+  pub settlements : Items
+  pub room : ℕ
 
 abbrev pub frame_view : CodeFrame → Frame
-frame_view f = record { window = f.window; goals = items_view f.goals.now; events = items_view f.events.now }
+frame_view f = record {
+  window = f.window;
+  goals = items_view f.goals.now;
+  events = items_view f.events.now;
+  settlements = items_view f.settlements.now;
+  room = f.room;
+}
 
--- where at most so many goals and events may still stand
+-- the goals, events and settlements of a turn
+abbrev pub taken : Items → Items → Items → ℕ
+taken goals events settlements = items_count goals + items_count events + items_count settlements
+
+-- where there is room for so many of them
 unfoldable pub frame : ℕ → Section → Result Frame Fault
 frame room s = do
   _ ← only turn_keys s
@@ -78,11 +106,18 @@ frame room s = do
   until ← needs (codes "until") time s
   goals ← or_default no_items items (optional (codes "goal") s)
   events ← or_default no_items items (optional (codes "event") s)
-  _ ← check (nat_le (items_count goals + items_count events) room) TooManyEvents s.path
+  settlements ← or_default no_items items (optional (codes "settle") s)
+  _ ← check (nat_le (taken goals events settlements) room) TooManyEvents s.path
   _ ← check (nat_le from until) BadWindow s.path
-  Ok (record { window = record { from = from; until = until }; goals = goals; events = events })
+  Ok (record {
+    window = record { from = from; until = until };
+    goals = goals;
+    events = events;
+    settlements = settlements;
+    room = room - taken goals events settlements;
+  })
 
--- what the turns before leave to the next: the names that they gave, and room for so many goals and events
+-- what the turns before leave to the next: the names that they gave, and the room
 pub record Reading : Type 0 where
   pub names : Names
   pub room : ℕ
@@ -90,12 +125,13 @@ pub record Reading : Type 0 where
 abbrev pub reading_view : CodeReading → Reading
 reading_view r = record { names = names_of r.names; room = r.room }
 
-unfoldable pub turn : List (List ℕ) → List ClientConfig → Reading → Section → Result (Turn Global × Reading) Fault
-turn chains clients reading s = do
+unfoldable pub turn : Config → Reading → Section → Result (Turn Global × Reading) Fault
+turn c reading s = do
   f ← frame reading.room s
-  goals ← elements (asked clients) (child s.path (codes "goal")) [] f.goals
-  events ← in_sequence (event chains clients) (child s.path (codes "event")) reading.names [] f.events
+  goals ← elements (asked c.clients) (child s.path (codes "goal")) [] f.goals
+  events ← in_sequence (event c) (child s.path (codes "event")) reading.names [] f.events
+  settlements ← elements (settlement c.clients) (child s.path (codes "settle")) [] f.settlements
   Ok (
-    record { window = f.window; goals = goals; events = events.0; settlements = [] },
-    record { names = events.1; room = reading.room - (items_count f.goals + items_count f.events) },
+    record { window = f.window; goals = goals; events = events.0; settlements = settlements },
+    record { names = events.1; room = f.room },
   )

@@ -6,6 +6,7 @@ ghost use Rattle.rb_fields.specs.Faults.{Gives};
 ghost use Rattle.rb_fields.specs.Fields.{field_view, section_view, only, needs, optional, or_default, trust, at_element, elements};
 ghost use Rattle.rb_script.specs.Clients.{chain, chain_keys, limits, client, client_keys};
 
+use crate::directory::Directory;
 use crate::named::{new_identifier, reference};
 use rb_base::{ChainId, ClientId, Fraction, Options, Period};
 use rb_batch::Limits;
@@ -21,7 +22,7 @@ fn only_chain_keys(section: &Section<'_>) -> Result<(), RunError>
 }
 
 #[tactic(auto, using(rb_fields::proofs::Steps::steps), unfolding(crate::specs::Clients::chain))]
-fn read_chain(section: &Section<'_>, before: &[ChainId]) -> Result<ChainId, RunError>
+fn read_chain(section: &Section<'_>, before: &Directory<ChainId>) -> Result<ChainId, RunError>
     ensures { Gives (λ c. c) result (chain before.now (section_view section.now)) }
 {
     only_chain_keys(section)?;
@@ -30,22 +31,26 @@ fn read_chain(section: &Section<'_>, before: &[ChainId]) -> Result<ChainId, RunE
 }
 
 #[tactic(auto, using(rb_fields::proofs::Steps::steps))]
-fn read_chain_at(alloc: Global, value: &Value, before: &[ChainId]) -> Result<ChainId, RunError>
+fn read_chain_at(
+    alloc: Global,
+    value: &Value,
+    before: &Directory<ChainId>,
+) -> Result<ChainId, RunError>
     ensures { Gives (λ c. c) result (at_element chain (codes "chain") before.now (view value.now)) }
 {
-    let path = element_path(alloc, "chain", before.len())?;
+    let path = element_path(alloc, "chain", before.as_slice().len())?;
     let section = section_at(alloc, path.as_str(), value)?;
     read_chain(&section, before)
 }
 
 /// Reads the chains, each beside those before it.
-pub fn read_chains(alloc: Global, items: &[Value]) -> Result<Vec<ChainId>, RunError>
-    ensures { Gives (λ v. v.items) result (elements chain (codes "chain") [] (items_view items.now)) }
+pub fn read_chains(alloc: Global, items: &[Value]) -> Result<Directory<ChainId>, RunError>
+    ensures { Gives (λ d. d) result (elements chain (codes "chain") [] (items_view items.now)) }
 {
-    let mut chains = Vec::with_capacity(alloc, items.len())?;
+    let mut chains = Directory::new(alloc);
     for value in items {
-        let chain = read_chain_at(alloc, value, chains.as_slice())?;
-        chains.push(chain)?;
+        let chain = read_chain_at(alloc, value, &chains)?;
+        chains = chains.with(chain)?;
     }
     Ok(chains)
 }
@@ -104,8 +109,8 @@ fn only_client_keys(section: &Section<'_>) -> Result<(), RunError>
 #[tactic(auto, using(rb_fields::proofs::Steps::steps), unfolding(crate::specs::Clients::client))]
 fn read_client(
     section: &Section<'_>,
-    chains: &[ChainId],
-    before: &[ClientConfig],
+    chains: &Directory<ChainId>,
+    before: &Directory<ClientConfig>,
 ) -> Result<ClientConfig, RunError>
     ensures { Gives (λ c. c) result (client chains.now before.now (section_view section.now)) }
 {
@@ -139,12 +144,12 @@ fn read_client(
 fn read_client_at(
     alloc: Global,
     value: &Value,
-    chains: &[ChainId],
-    before: &[ClientConfig],
+    chains: &Directory<ChainId>,
+    before: &Directory<ClientConfig>,
 ) -> Result<ClientConfig, RunError>
     ensures { Gives (λ c. c) result (at_element (client chains.now) (codes "client") before.now (view value.now)) }
 {
-    let path = element_path(alloc, "client", before.len())?;
+    let path = element_path(alloc, "client", before.as_slice().len())?;
     let section = section_at(alloc, path.as_str(), value)?;
     read_client(&section, chains, before)
 }
@@ -153,14 +158,14 @@ fn read_client_at(
 pub fn read_clients(
     alloc: Global,
     items: &[Value],
-    chains: &[ChainId],
-) -> Result<Vec<ClientConfig>, RunError>
-    ensures { Gives (λ v. v.items) result (elements (client chains.now) (codes "client") [] (items_view items.now)) }
+    chains: &Directory<ChainId>,
+) -> Result<Directory<ClientConfig>, RunError>
+    ensures { Gives (λ d. d) result (elements (client chains.now) (codes "client") [] (items_view items.now)) }
 {
-    let mut clients = Vec::with_capacity(alloc, items.len())?;
+    let mut clients = Directory::new(alloc);
     for value in items {
-        let client = read_client_at(alloc, value, chains, clients.as_slice())?;
-        clients.push(client)?;
+        let client = read_client_at(alloc, value, chains, &clients)?;
+        clients = clients.with(client)?;
     }
     Ok(clients)
 }

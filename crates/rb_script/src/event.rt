@@ -5,10 +5,14 @@ ghost use Rattle.rb_fields.specs.Faults.{Gives};
 ghost use Rattle.rb_fields.specs.Fields.{field_view, section_view, only, needs, next_in_sequence, in_sequence};
 ghost use Rattle.rb_script.specs.Names.{names_of};
 ghost use Rattle.rb_script.specs.Events.{kind, vote_of, votes, votes_after, set_seen, set_keys, header_seen, header_keys, stored_seen, stored_keys, tracked_by, event};
+ghost use Rattle.rb_script.specs.Setups.{setup_view};
 
+use crate::directory::Directory;
 use crate::named::reference;
 use crate::names::{SetNames, needed_set_hash, needed_set_name};
+use crate::packet::{read_ack, read_cleared, read_closed, read_received, read_sent};
 use crate::set::needed_validators;
+use crate::setup::Setup;
 use rb_base::ChainId;
 use rb_book::{Header, Record, Vote};
 use rb_events::{ClientConfig, Observation};
@@ -21,6 +25,11 @@ pub enum Kind {
     Set,
     Header,
     Stored,
+    Sent,
+    Received,
+    Ack,
+    Cleared,
+    Closed,
 }
 
 #[tactic(auto, using(rb_fields::proofs::Steps::steps), unfolding(crate::specs::Events::kind))]
@@ -31,6 +40,11 @@ fn read_kind(field: &Field<'_>) -> Result<Kind, RunError>
         "set" => Ok(Kind::Set),
         "header" => Ok(Kind::Header),
         "stored" => Ok(Kind::Stored),
+        "sent" => Ok(Kind::Sent),
+        "received" => Ok(Kind::Received),
+        "ack" => Ok(Kind::Ack),
+        "cleared" => Ok(Kind::Cleared),
+        "closed" => Ok(Kind::Closed),
         _ => Err(field.fault(FaultName::BadKind)),
     }
 }
@@ -93,7 +107,7 @@ fn only_set_keys(section: &Section<'_>) -> Result<(), RunError>
 #[tactic(auto, using(rb_fields::proofs::Steps::steps), unfolding(crate::specs::Events::set_seen))]
 fn read_set(
     section: &Section<'_>,
-    chains: &[ChainId],
+    chains: &Directory<ChainId>,
     names: &mut SetNames,
 ) -> Result<Observation, RunError>
     ensures { Gives (λ e. (e, names_of names.new)) result (set_seen chains.now (names_of names.old) (section_view section.now)) }
@@ -117,10 +131,10 @@ fn only_header_keys(section: &Section<'_>) -> Result<(), RunError>
 #[tactic(auto, using(rb_fields::proofs::Steps::steps), unfolding(crate::specs::Events::header_seen))]
 fn read_header(
     section: &Section<'_>,
-    chains: &[ChainId],
+    chains: &Directory<ChainId>,
     names: &SetNames,
 ) -> Result<Observation, RunError>
-    ensures { Gives (λ e. (e, names_of names.now)) result (header_seen chains.now (names_of names.now) (section_view section.now)) }
+    ensures { Gives (λ e. e) result (header_seen chains.now (names_of names.now) (section_view section.now)) }
 {
     only_header_keys(section)?;
     let chain = reference(section, "chain", chains)?;
@@ -141,20 +155,20 @@ fn only_stored_keys(section: &Section<'_>) -> Result<(), RunError>
 }
 
 /// The chain that a client tracks.
-fn tracked_by(clients: &[ClientConfig], client: usize) -> usize
+fn tracked_by(clients: &Directory<ClientConfig>, client: usize) -> usize
     requires { client < length clients.now }
     ensures { result ≡ tracked_by clients.now client }
 {
-    clients[client].tracks
+    clients.as_slice()[client].tracks
 }
 
 #[tactic(auto, using(rb_fields::proofs::Steps::steps), unfolding(crate::specs::Events::stored_seen))]
 fn read_stored(
     section: &Section<'_>,
-    clients: &[ClientConfig],
+    clients: &Directory<ClientConfig>,
     names: &SetNames,
 ) -> Result<Observation, RunError>
-    ensures { Gives (λ e. (e, names_of names.now)) result (stored_seen clients.now (names_of names.now) (section_view section.now)) }
+    ensures { Gives (λ e. e) result (stored_seen clients.now (names_of names.now) (section_view section.now)) }
 {
     only_stored_keys(section)?;
     let client = reference(section, "client", clients)?;
@@ -171,19 +185,23 @@ fn read_stored(
     })
 }
 
-#[tactic(auto, using(rb_fields::proofs::Steps::steps), unfolding(crate::specs::Events::event))]
+#[tactic(auto, using(rb_fields::proofs::Steps::steps, crate::proofs::EventsLemmas::events), unfolding(crate::specs::Events::event))]
 fn read_event(
     section: &Section<'_>,
-    chains: &[ChainId],
-    clients: &[ClientConfig],
+    setup: &Setup,
     names: &mut SetNames,
 ) -> Result<Observation, RunError>
-    ensures { Gives (λ e. (e, names_of names.new)) result (event chains.now clients.now (names_of names.old) (section_view section.now)) }
+    ensures { Gives (λ e. (e, names_of names.new)) result (event (setup_view setup.now) (names_of names.old) (section_view section.now)) }
 {
     match needed_kind(section)? {
-        Kind::Set => read_set(section, chains, names),
-        Kind::Header => read_header(section, chains, names),
-        Kind::Stored => read_stored(section, clients, names),
+        Kind::Set => read_set(section, &setup.chains, names),
+        Kind::Header => read_header(section, &setup.chains, names),
+        Kind::Stored => read_stored(section, &setup.clients, names),
+        Kind::Sent => read_sent(section, &setup.paths),
+        Kind::Received => read_received(section, &setup.paths),
+        Kind::Ack => read_ack(section, &setup.paths),
+        Kind::Cleared => read_cleared(section, &setup.paths),
+        Kind::Closed => read_closed(section, &setup.paths),
     }
 }
 
@@ -192,31 +210,29 @@ fn read_event_at(
     path: &str,
     index: usize,
     value: &Value,
-    chains: &[ChainId],
-    clients: &[ClientConfig],
+    setup: &Setup,
     names: &mut SetNames,
 ) -> Result<Observation, RunError>
-    ensures { Gives (λ e. (e, names_of names.new)) result (next_in_sequence (event chains.now clients.now) path.now index (names_of names.old) (view value.now)) }
+    ensures { Gives (λ e. (e, names_of names.new)) result (next_in_sequence (event (setup_view setup.now)) path.now index (names_of names.old) (view value.now)) }
 {
     let alloc = names.alloc;
     let path = element_path(alloc, path, index)?;
     let section = section_at(alloc, path.as_str(), value)?;
-    read_event(&section, chains, clients, names)
+    read_event(&section, setup, names)
 }
 
 /// Reads the events of a turn, each after the names that were given before it.
 pub fn read_events(
     path: &str,
     items: &[Value],
-    chains: &[ChainId],
-    clients: &[ClientConfig],
+    setup: &Setup,
     names: &mut SetNames,
 ) -> Result<Vec<Observation>, RunError>
-    ensures { Gives (λ v. (v.items, names_of names.new)) result (in_sequence (event chains.now clients.now) path.now (names_of names.old) [] (items_view items.now)) }
+    ensures { Gives (λ v. (v.items, names_of names.new)) result (in_sequence (event (setup_view setup.now)) path.now (names_of names.old) [] (items_view items.now)) }
 {
     let mut events = Vec::with_capacity(names.alloc, items.len())?;
     for value in items {
-        let event = read_event_at(path, events.len(), value, chains, clients, names)?;
+        let event = read_event_at(path, events.len(), value, setup, names)?;
         events.push(event)?;
     }
     Ok(events)

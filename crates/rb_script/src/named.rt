@@ -7,12 +7,13 @@ ghost use Rattle.rb_fields.specs.Faults.{Gives};
 ghost use Rattle.rb_fields.specs.Fields.{field_view, section_view, needs};
 ghost use Rattle.rb_script.specs.Named.{reference, new_identifier};
 
+use crate::directory::Directory;
 use rb_base::ChainId;
-use rb_events::ClientConfig;
+use rb_events::{ClientConfig, PathConfig};
 use rb_fields::{FaultName, Field, RunError, Section};
 
-/// What has an identifier (ICS 24): a chain and a client of a script.
-pub trait Named {
+/// What has an identifier (ICS 24): a chain, a client and a path of a script.
+pub trait Named: Copy {
     /// The characters of the identifier.
     ghost name: { Self → List ℕ };
 
@@ -36,12 +37,20 @@ impl Named for ClientConfig {
     }
 }
 
+impl Named for PathConfig {
+    ghost name = { λ p. p.id };
+
+    fn id(&self) -> &str {
+        self.id.as_str()
+    }
+}
+
 /// The place of the object that a key names.
 #[tactic(auto, using(rb_fields::proofs::Steps::steps))]
 pub fn reference<'a, T: Named>(
     section: &Section<'a>,
     key: &'a str,
-    objects: &[T],
+    objects: &Directory<T>,
 ) -> Result<usize, RunError>
     ensures read { Gives (λ i. i) result (needs key.entry.now (reference (map T.name objects.now)) (section_view section.now)) }
     ensures range { IfOk result (λ i. i < length objects.now) }
@@ -50,11 +59,11 @@ pub fn reference<'a, T: Named>(
 }
 
 #[tactic(auto, using(rb_fields::proofs::Steps::steps), unfolding(crate::specs::Named::reference))]
-fn place_named<T: Named>(field: &Field<'_>, objects: &[T]) -> Result<usize, RunError>
+fn place_named<T: Named>(field: &Field<'_>, objects: &Directory<T>) -> Result<usize, RunError>
     ensures read { Gives (λ i. i) result (reference (map T.name objects.now) (field_view field.now)) }
     ensures range { IfOk result (λ i. i < length objects.now) }
 {
-    match place_of(field.identifier()?, objects) {
+    match objects.place_of(field.identifier()?) {
         Some(place) => Ok(place),
         None => Err(field.fault(FaultName::UnknownIdentifier)),
     }
@@ -64,7 +73,7 @@ fn place_named<T: Named>(field: &Field<'_>, objects: &[T]) -> Result<usize, RunE
 #[tactic(auto, using(rb_fields::proofs::Steps::steps))]
 pub fn new_identifier<'a, T: Named>(
     section: &Section<'a>,
-    objects: &[T],
+    objects: &Directory<T>,
 ) -> Result<&'a str, RunError>
     ensures read { Gives (λ t. t.now) result (needs (codes "id") (new_identifier (map T.name objects.now)) (section_view section.now)) }
     ensures form { IfOk result (λ t. IsIdentifier t.now) }
@@ -73,12 +82,15 @@ pub fn new_identifier<'a, T: Named>(
 }
 
 #[tactic(auto, using(rb_fields::proofs::Steps::steps), unfolding(crate::specs::Named::new_identifier))]
-fn unused_identifier<'a, T: Named>(field: &Field<'a>, objects: &[T]) -> Result<&'a str, RunError>
+fn unused_identifier<'a, T: Named>(
+    field: &Field<'a>,
+    objects: &Directory<T>,
+) -> Result<&'a str, RunError>
     ensures read { Gives (λ t. t.now) result (new_identifier (map T.name objects.now) (field_view field.now)) }
     ensures form { IfOk result (λ t. IsIdentifier t.now) }
 {
     let id = field.identifier()?;
-    if place_of(id, objects).is_some() {
+    if objects.place_of(id).is_some() {
         return Err(field.fault(FaultName::DuplicateIdentifier));
     }
     Ok(id)

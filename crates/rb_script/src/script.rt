@@ -1,20 +1,21 @@
 //! The script of a text.
 ghost use Rattle.std.specs.Prelude.{◌≡◌, [], IfOk, codes, map};
 ghost use Rattle.toml.specs.View.{items_view, table_view};
-ghost use Rattle.rb_events.specs.Script.{IsScript, IsOfUpdates, script_view, turn_view};
+ghost use Rattle.rb_events.specs.Script.{IsScript, script_view, turn_view};
 ghost use Rattle.rb_fields.specs.Faults.{Gives};
 ghost use Rattle.rb_fields.specs.Fields.{section_view, only, in_sequence};
 ghost use Rattle.rb_script.specs.Documents.{whole};
 ghost use Rattle.rb_script.specs.Turns.{turn, reading_view};
-ghost use Rattle.rb_script.specs.Scripts.{script, script_of, tables, tables_view, top_keys, opening};
+ghost use Rattle.rb_script.specs.Setups.{setup_view};
+ghost use Rattle.rb_script.specs.Scripts.{script, script_of, config, tables, tables_view, top_keys, opening};
 
 use crate::client::{read_chains, read_clients};
 use crate::document::read_table;
-use crate::limits::{MAX_CHAINS, MAX_CLIENTS, MAX_ENTRIES, MAX_PATHS, MAX_RECORDS, MAX_TURNS};
 use crate::names::SetNames;
+use crate::path::read_paths;
+use crate::setup::Setup;
 use crate::turn::{Reading, read_turn_at};
-use rb_base::ChainId;
-use rb_events::{ClientConfig, Config, Script, Turn};
+use rb_events::{MAX_CHAINS, MAX_CLIENTS, MAX_ENTRIES, MAX_PATHS, MAX_TURNS, Script, Turn};
 use rb_fields::{FaultName, RunError, Section};
 use std::alloc::Global;
 use toml::{Table, Value};
@@ -24,6 +25,7 @@ use toml::{Table, Value};
 pub struct Tables<'a> {
     pub chains: &'a [Value],
     pub clients: &'a [Value],
+    pub paths: &'a [Value],
     pub turns: &'a [Value],
 }
 
@@ -41,12 +43,27 @@ fn read_tables<'a>(section: Section<'a>) -> Result<Tables<'a>, RunError>
     let _version = section.number("version", 1, 1, FaultName::BadVersion)?;
     let chains = section.array("chain", MAX_CHAINS)?;
     let clients = section.array("client", MAX_CLIENTS)?;
-    let _paths = section.array("path", MAX_PATHS)?;
+    let paths = section.array("path", MAX_PATHS)?;
     let turns = section.array("turn", MAX_TURNS)?;
     Ok(Tables {
         chains,
         clients,
+        paths,
         turns,
+    })
+}
+
+#[tactic(auto, using(rb_fields::proofs::Steps::steps), unfolding(crate::specs::Scripts::config))]
+fn read_setup(alloc: Global, tables: Tables<'_>) -> Result<Setup, RunError>
+    ensures { Gives setup_view result (config (tables_view tables.entry)) }
+{
+    let chains = read_chains(alloc, tables.chains)?;
+    let clients = read_clients(alloc, tables.clients, &chains)?;
+    let paths = read_paths(alloc, tables.paths, &chains, &clients)?;
+    Ok(Setup {
+        chains,
+        clients,
+        paths,
     })
 }
 
@@ -62,15 +79,14 @@ fn opening(alloc: Global) -> Reading
 fn read_turns(
     alloc: Global,
     items: &[Value],
-    chains: &[ChainId],
-    clients: &[ClientConfig],
+    setup: &Setup,
     reading: &mut Reading,
 ) -> Result<Vec<Turn>, RunError>
-    ensures { Gives (λ v. (map turn_view v.items, reading_view reading.new)) result (in_sequence (turn chains.now clients.now) (codes "turn") (reading_view reading.old) [] (items_view items.now)) }
+    ensures { Gives (λ v. (map turn_view v.items, reading_view reading.new)) result (in_sequence (turn (setup_view setup.now)) (codes "turn") (reading_view reading.old) [] (items_view items.now)) }
 {
     let mut turns = Vec::with_capacity(alloc, items.len())?;
     for value in items {
-        let turn = read_turn_at(turns.len(), value, chains, clients, reading)?;
+        let turn = read_turn_at(turns.len(), value, setup, reading)?;
         turns.push(turn)?;
     }
     Ok(turns)
@@ -86,35 +102,22 @@ fn read_document(alloc: Global, table: &Table) -> Result<Script, RunError>
         table,
     };
     let tables = read_tables(section)?;
-    let chains = read_chains(alloc, tables.chains)?;
-    let clients = read_clients(alloc, tables.clients, chains.as_slice())?;
-    let turns = read_turns(
-        alloc,
-        tables.turns,
-        chains.as_slice(),
-        clients.as_slice(),
-        &mut opening(alloc),
-    )?;
+    let setup = read_setup(alloc, tables)?;
+    let turns = read_turns(alloc, tables.turns, &setup, &mut opening(alloc))?;
     Ok(Script {
-        config: Config {
-            limit: MAX_RECORDS,
-            chains,
-            clients,
-            paths: Vec::new(alloc),
-        },
+        config: setup.into_config(),
         turns,
     })
 }
 
 /// Reads the script that a text holds, or answers the first fault of the text, in the order of
 /// docs/FORMATS.md: the text as a whole, then each table by its keys, then what concerns several of
-/// them. In every script that it gives, identifiers differ, and what is named is there; so far it has
-/// no paths and no settlements. `NoMemory` is answered where a growth is refused.
+/// them. In every script that it gives, identifiers differ, and what is named is there. `NoMemory`
+/// is answered where a growth is refused.
 #[tactic(auto, using(rb_fields::proofs::Steps::steps), unfolding(crate::specs::Scripts::script_of))]
 pub fn read_script(alloc: Global, bytes: &[u8]) -> Result<Script, RunError>
     ensures read { Gives script_view result (script_of bytes.now) }
     ensures form { IfOk result (λ s. IsScript (script_view s)) }
-    ensures updates { IfOk result (λ s. IsOfUpdates (script_view s)) }
 {
     let table = read_table(alloc, bytes)?;
     read_document(alloc, &table)

@@ -2,3 +2,4 @@ pub mod Beginnings
 pub mod Labels
 pub mod Numbered
 pub mod Cases
+pub mod Settled

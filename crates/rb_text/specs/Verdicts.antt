@@ -20,8 +20,8 @@ use Rattle.rb_super.specs.Report.{Report}
 use Rattle.rb_events.specs.Script.{Script, script_view}
 use Rattle.rb_text.specs.declared.case.Case.{Case as CodeCase}
 use Rattle.rb_text.specs.Certificates.{Certificate, certificate_of, certificate_view}
+use Rattle.rb_text.specs.Runs.{script_to_run}
 use Rattle.rb_script.specs.Named.{known}
-use Rattle.rb_script.specs.Scripts.{script_of}
 
 -- ---- the line of a verdict
 
@@ -64,7 +64,7 @@ case_in s c = do
 
 unfoldable pub case_of : List ℕ → List ℕ → Result Case Fault
 case_of script certificate = do
-  s ← script_of script
+  s ← script_to_run script
   c ← certificate_of certificate
   case_in s c
 

@@ -9,9 +9,10 @@ ghost use Rattle.rb_text.specs.Certificates.{certificate_view};
 ghost use Rattle.rb_text.specs.Verdicts.{case_view, case_in, case_of, IsVerdictOf, IsRightCase, IsReportedCase, no_goal};
 
 use crate::certificate::{Certificate, read_certificate};
+use crate::runs::read_script_to_run;
 use rb_cert::Verdict2;
 use rb_fields::{FaultName, RunError, fault_at};
-use rb_script::{place_of, read_script};
+use rb_script::place_of;
 use rb_super::{Script, judge};
 use std::alloc::Global;
 
@@ -60,7 +61,7 @@ pub(crate) fn read_case(alloc: Global, script: &[u8], certificate: &[u8]) -> Res
     ensures turn { IfOk result (λ c. c.turn < length c.script.turns.items) }
     ensures client { IfOk result (λ c. c.client < length c.script.config.clients.items) }
 {
-    let script = read_script(alloc, script)?;
+    let script = read_script_to_run(alloc, script)?;
     let certificate = read_certificate(alloc, certificate)?;
     case_in(alloc, script, certificate)
 }

@@ -8,6 +8,7 @@ mod certificate;
 mod certifying;
 mod planning;
 mod report;
+mod runs;
 mod verdict;
 mod write;
 
@@ -16,4 +17,5 @@ pub use certifying::certify_over;
 pub use planning::plan_over;
 pub use rb_fields::{Fault, FaultName, RunError};
 pub use rb_script::read_script;
+pub use runs::read_script_to_run;
 pub use write::write_report;

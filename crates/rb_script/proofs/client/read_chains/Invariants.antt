@@ -7,5 +7,5 @@ use Rattle.rb_script.proofs.client.read_chains.Given as goal
 -- what is left is read beside what was read
 abbrev pub invariant-loop-value : goal.invariant-loop-value
 invariant-loop-value l =
-    elements chain (codes "chain") l.chains.items (items_view (drop l.value-index l.items))
+    elements chain (codes "chain") l.chains (items_view (drop l.value-index l.items))
     ≡ elements chain (codes "chain") [] (items_view l.items)

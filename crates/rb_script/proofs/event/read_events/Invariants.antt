@@ -1,6 +1,7 @@
 use Rattle.std.proofs.Common.{◌≡◌, [], drop}
 use Rattle.toml.specs.View.{items_view}
 use Rattle.rb_fields.specs.Fields.{in_sequence}
+use Rattle.rb_script.specs.Setups.{setup_view}
 use Rattle.rb_script.specs.Names.{names_of}
 use Rattle.rb_script.specs.Events.{event}
 use Rattle.rb_script.proofs.event.read_events.Given as goal
@@ -8,6 +9,6 @@ use Rattle.rb_script.proofs.event.read_events.Given as goal
 -- what is left is read after what was read
 abbrev pub invariant-loop-value : goal.invariant-loop-value
 invariant-loop-value l =
-    let read = event l.chains l.clients in
+    let read = event (setup_view l.setup) in
     in_sequence read l.path (names_of l.names) l.events.items (items_view (drop l.value-index l.items))
     ≡ in_sequence read l.path (names_of l.fn.names) [] (items_view l.items)

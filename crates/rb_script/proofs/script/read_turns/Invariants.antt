@@ -2,12 +2,13 @@ use Rattle.std.proofs.Common.{◌≡◌, [], codes, drop, map}
 use Rattle.toml.specs.View.{items_view}
 use Rattle.rb_events.specs.Script.{turn_view}
 use Rattle.rb_fields.specs.Fields.{in_sequence}
+use Rattle.rb_script.specs.Setups.{setup_view}
 use Rattle.rb_script.specs.Turns.{turn, reading_view}
 use Rattle.rb_script.proofs.script.read_turns.Given as goal
 
 -- what is left is read after what was read
 abbrev pub invariant-loop-value : goal.invariant-loop-value
 invariant-loop-value l =
-    let read = turn l.chains l.clients in
+    let read = turn (setup_view l.setup) in
     in_sequence read (codes "turn") (reading_view l.reading) (map turn_view l.turns.items) (items_view (drop l.value-index l.items))
     ≡ in_sequence read (codes "turn") (reading_view l.fn.reading) [] (items_view l.items)
