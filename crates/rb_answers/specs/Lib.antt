@@ -1,2 +1,9 @@
 pub mod Names
+pub mod Fields
 pub mod Votes
+pub mod Headers
+pub mod Validators
+pub mod Clients
+pub mod Answers
+pub mod Revisions
+pub mod Packets

@@ -1,9 +1,10 @@
--- What a signature's flag says of its validator's vote (CometBFT).
-use Rattle.std.specs.Prelude.{ℕ, Option, Some, None, ◌==◌, if◌then◌else◌, option_and_then, codes}
+-- What a signature's flag says of its validator's vote (CometBFT, `BlockIDFlag`).
+use Rattle.std.specs.Prelude.{ℕ, Option, Some, None, ◌==◌, if◌then◌else◌, codes}
 use Rattle.serde_json.specs.Data.{Data}
 use Rattle.serde_json.specs.Find.{get, as_number, as_u64}
 use Rattle.rb_answers.specs.declared.commit.BlockIdFlag.{BlockIdFlag}
 use Rattle.rb_answers.specs.declared.commit.BlockIdFlag.TheVariants.{Absent, Commit, Nil}
+use Rattle.rb_answers.specs.Fields.{◌>>=◌}
 
 -- 1 is absent, 2 a vote for the block, 3 a vote for no block
 abbrev pub flag_of : ℕ → Option BlockIdFlag
@@ -21,4 +22,4 @@ letter_of Nil = 78
 
 -- the flag of an entry of a commit's `signatures`, where it holds one
 abbrev pub flag_in : Data → Option BlockIdFlag
-flag_in entry = option_and_then flag_of (option_and_then as_u64 (option_and_then as_number (get (codes "block_id_flag") entry)))
+flag_in entry = get (codes "block_id_flag") entry >>= as_number >>= as_u64 >>= flag_of

@@ -1,4 +1,11 @@
 //! An answer, known by what is in it.
+ghost use Rattle.std.specs.Prelude.{◌≡◌, Some, IfOk, codes};
+ghost use Rattle.serde_json.specs.Data.{Data};
+ghost use Rattle.serde_json.specs.Find.{get};
+ghost use Rattle.serde_json.specs.Read.{read as read_text};
+ghost use Rattle.serde_json.specs.View.{view};
+ghost use Rattle.rb_answers.specs.Answers.{Tells};
+
 use crate::client::{ClientState, ConsensusPage, read_client_state, read_consensus_states};
 use crate::commit::{SignedHeader, read_commit};
 use crate::flaw::{AnswerError, Flaw, FlawName};
@@ -24,9 +31,12 @@ pub enum Answer {
     Transactions(PacketPage),
 }
 
-/// Reads an answer: JSON, which is known by its members. `Flaw` is the first thing that is wrong
-/// with it, `NoMemory` comes where a growth is refused.
-pub fn read_answer(alloc: Global, bytes: &[u8]) -> Result<Answer, AnswerError> {
+/// Reads an answer: JSON, which is known by its members. What is read is what the JSON says, but of
+/// `/tx_search`, and of a client's trusting period and clock drift, no contract says so. `Flaw` is
+/// the first thing that is wrong, `NoMemory` comes where a growth is refused.
+pub fn read_answer(alloc: Global, bytes: &[u8]) -> Result<Answer, AnswerError>
+    ensures told { IfOk result (λ answer. (d : Data) × (read_text bytes.now ≡ Some d) × Tells d answer) }
+{
     let value = read_json(alloc, bytes)?;
     if is_error(&value) {
         return Err(whole(FlawName::NodeError));
@@ -37,7 +47,9 @@ pub fn read_answer(alloc: Global, bytes: &[u8]) -> Result<Answer, AnswerError> {
     }
 }
 
-fn read_json(alloc: Global, bytes: &[u8]) -> Result<Value, AnswerError> {
+fn read_json(alloc: Global, bytes: &[u8]) -> Result<Value, AnswerError>
+    ensures { IfOk result (λ value. read_text bytes.now ≡ Some (view value)) }
+{
     match Value::from_slice(alloc, bytes) {
         Ok(value) => Ok(value),
         Err(error) if error.is_memory() => Err(AnswerError::NoMemory),
@@ -55,7 +67,9 @@ fn is_error(value: &Value) -> bool {
 }
 
 /// Reads the `result` of one of CometBFT's answers.
-fn read_result(alloc: Global, answer: &Object<'_>) -> Result<Answer, AnswerError> {
+fn read_result(alloc: Global, answer: &Object<'_>) -> Result<Answer, AnswerError>
+    ensures { IfOk result (λ read. (d : Data) → get (codes "result") d ≡ Some (view answer.now.value.now) → Tells d read) }
+{
     if answer.value.get("signed_header").is_some() {
         Ok(Answer::Commit(read_commit(alloc, answer)?))
     } else if answer.value.get("validators").is_some() {
@@ -68,7 +82,9 @@ fn read_result(alloc: Global, answer: &Object<'_>) -> Result<Answer, AnswerError
 }
 
 /// Reads one of the REST gateway's answers.
-fn read_state(alloc: Global, answer: &Object<'_>) -> Result<Answer, AnswerError> {
+fn read_state(alloc: Global, answer: &Object<'_>) -> Result<Answer, AnswerError>
+    ensures { IfOk result (λ read. Tells (view answer.now.value.now) read) }
+{
     if answer.value.get("client_state").is_some() {
         Ok(Answer::ClientState(read_client_state(answer)?))
     } else if answer.value.get("consensus_states").is_some() {

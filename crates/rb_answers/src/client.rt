@@ -1,5 +1,10 @@
 //! The answers of ibc-go's REST gateway on a client: its state, and the consensus states that it
 //! has stored.
+ghost use Rattle.std.specs.Prelude.{◌≡◌, [], Some, IfOk, OnOk};
+ghost use Rattle.serde_json.specs.View.{view, items_view};
+ghost use Rattle.rb_answers.specs.Fields.{each};
+ghost use Rattle.rb_answers.specs.Clients.{is_tendermint_in, is_live_in, judging_in, judging_view, trust_in, root_in, consensus_state_in, is_last_in, states_in, states_view};
+
 use crate::duration::nanoseconds_of;
 use crate::flaw::{AnswerError, Flaw, FlawName};
 use crate::object::Object;
@@ -47,7 +52,10 @@ pub struct ConsensusPage {
 }
 
 /// Reads an answer of `client_states/ID`.
-pub(crate) fn read_client_state(answer: &Object<'_>) -> Result<ClientState, Flaw> {
+#[tactic(auto, unfolding(crate::specs::Clients::judging_in))]
+pub(crate) fn read_client_state(answer: &Object<'_>) -> Result<ClientState, Flaw>
+    ensures { IfOk result (λ state. judging_in (view answer.now.value.now) ≡ Some (judging_view state)) }
+{
     let state = answer.object(Key::ClientState, Part::ClientState)?;
     judge_type(&state)?;
     judge_frozen(&state)?;
@@ -68,7 +76,10 @@ pub(crate) fn read_client_state(answer: &Object<'_>) -> Result<ClientState, Flaw
 }
 
 /// Refuses a client that isn't Tendermint's.
-fn judge_type(state: &Object<'_>) -> Result<(), Flaw> {
+#[tactic(auto, unfolding(crate::specs::Clients::is_tendermint_in))]
+fn judge_type(state: &Object<'_>) -> Result<(), Flaw>
+    ensures { OnOk result (is_tendermint_in (view state.now.value.now) ≡ Some tt) }
+{
     match state.text(Key::TypeUrl)? {
         "/ibc.lightclients.tendermint.v1.ClientState" => Ok(()),
         _ => Err(state.flaw(Key::TypeUrl, FlawName::ForeignClient)),
@@ -76,7 +87,10 @@ fn judge_type(state: &Object<'_>) -> Result<(), Flaw> {
 }
 
 /// Refuses a client that is frozen, as its frozen height says, which is 0-0 for others.
-fn judge_frozen(state: &Object<'_>) -> Result<(), Flaw> {
+#[tactic(auto, unfolding(crate::specs::Clients::is_live_in))]
+fn judge_frozen(state: &Object<'_>) -> Result<(), Flaw>
+    ensures { OnOk result (is_live_in (view state.now.value.now) ≡ Some tt) }
+{
     let frozen = state.object(Key::FrozenHeight, Part::FrozenHeight)?;
     if frozen.number(Key::RevisionNumber)? == 0 && frozen.number(Key::RevisionHeight)? == 0 {
         Ok(())
@@ -85,7 +99,10 @@ fn judge_frozen(state: &Object<'_>) -> Result<(), Flaw> {
     }
 }
 
-fn read_trust(state: &Object<'_>) -> Result<TrustLevel, Flaw> {
+#[tactic(auto, unfolding(crate::specs::Clients::trust_in))]
+fn read_trust(state: &Object<'_>) -> Result<TrustLevel, Flaw>
+    ensures { IfOk result (λ trust. trust_in (view state.now.value.now) ≡ Some trust) }
+{
     let level = state.object(Key::TrustLevel, Part::TrustLevel)?;
     let numerator = level.number(Key::Numerator)?;
     let denominator = level.number(Key::Denominator)?;
@@ -113,28 +130,42 @@ fn read_drift(state: &Object<'_>) -> Result<u64, Flaw> {
 }
 
 /// Reads an answer of `consensus_states/ID`.
+#[tactic(auto, unfolding(crate::specs::Clients::states_in))]
 pub(crate) fn read_consensus_states(
     alloc: Global,
     answer: &Object<'_>,
-) -> Result<ConsensusPage, AnswerError> {
+) -> Result<ConsensusPage, AnswerError>
+    ensures { IfOk result (λ page. states_in (view answer.now.value.now) ≡ Some (states_view page)) }
+{
     let is_last = read_is_last(answer)?;
-    let items = answer.items(Key::ConsensusStates)?;
-    let mut states = Vec::with_capacity(alloc, items.len())?;
-    for (index, value) in items.iter().enumerate() {
-        let entry = Object::element(value, Part::ConsensusStates, index);
-        let state = read_consensus_state(&entry)?;
-        states.push(state)?;
-    }
+    let states = read_states(alloc, answer.items(Key::ConsensusStates)?)?;
     Ok(ConsensusPage { states, is_last })
 }
 
+fn read_states(alloc: Global, items: &[Value]) -> Result<Vec<ConsensusState>, AnswerError>
+    ensures { IfOk result (λ states. each consensus_state_in [] (items_view items.now) ≡ Some states.items) }
+{
+    let mut states = Vec::with_capacity(alloc, items.len())?;
+    for value in items {
+        let entry = Object::element(value, Part::ConsensusStates, states.len());
+        states.push(read_consensus_state(&entry)?)?;
+    }
+    Ok(states)
+}
+
 /// Whether no page follows, as the key of the next one says.
-fn read_is_last(answer: &Object<'_>) -> Result<bool, Flaw> {
+#[tactic(auto, unfolding(crate::specs::Clients::is_last_in))]
+fn read_is_last(answer: &Object<'_>) -> Result<bool, Flaw>
+    ensures { IfOk result (λ is_last. is_last_in (view answer.now.value.now) ≡ Some is_last) }
+{
     let pagination = answer.object(Key::Pagination, Part::Pagination)?;
     Ok(pagination.field(Key::NextKey)?.is_null())
 }
 
-fn read_consensus_state(entry: &Object<'_>) -> Result<ConsensusState, Flaw> {
+#[tactic(auto, unfolding(crate::specs::Clients::consensus_state_in))]
+fn read_consensus_state(entry: &Object<'_>) -> Result<ConsensusState, Flaw>
+    ensures { IfOk result (λ state. consensus_state_in (view entry.now.value.now) ≡ Some state) }
+{
     let height = Object {
         value: entry.field(Key::Height)?,
         ..*entry
@@ -152,7 +183,10 @@ fn read_consensus_state(entry: &Object<'_>) -> Result<ConsensusState, Flaw> {
     })
 }
 
-fn read_root(state: &Object<'_>) -> Result<[u8; 32], Flaw> {
+#[tactic(auto, unfolding(crate::specs::Clients::root_in))]
+fn read_root(state: &Object<'_>) -> Result<[u8; 32], Flaw>
+    ensures { IfOk result (λ root. root_in (view state.now.value.now) ≡ Some root) }
+{
     let root = Object {
         value: state.field(Key::Root)?,
         ..*state

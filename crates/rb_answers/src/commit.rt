@@ -1,7 +1,10 @@
 //! The answer of CometBFT's `/commit`: a header, and each validator's part in its commit.
-ghost use Rattle.std.specs.Prelude.{◌≡◌, Some, map, IfOk};
-ghost use Rattle.serde_json.specs.View.{view};
+ghost use Rattle.std.specs.Prelude.{◌≡◌, [], Some, IfOk, OnOk};
+ghost use Rattle.serde_json.specs.View.{view, items_view};
+ghost use Rattle.rb_answers.specs.Fields.{number_at, each};
+ghost use Rattle.rb_answers.specs.Names.{key_name};
 ghost use Rattle.rb_answers.specs.Votes.{flag_in};
+ghost use Rattle.rb_answers.specs.Headers.{header_in, header_view, signature_in, signed_in, signed_view};
 
 use crate::flaw::{AnswerError, Flaw, FlawName};
 use crate::object::Object;
@@ -69,7 +72,10 @@ pub struct SignedHeader {
 }
 
 /// Reads the `result` of an answer of `/commit`.
-pub(crate) fn read_commit(alloc: Global, answer: &Object<'_>) -> Result<SignedHeader, AnswerError> {
+#[tactic(auto, unfolding(crate::specs::Headers::signed_in))]
+pub(crate) fn read_commit(alloc: Global, answer: &Object<'_>) -> Result<SignedHeader, AnswerError>
+    ensures { IfOk result (λ header. signed_in (view answer.now.value.now) ≡ Some (signed_view header)) }
+{
     let signed = answer.object(Key::SignedHeader, Part::SignedHeader)?;
     let header = signed.object(Key::Header, Part::Header)?;
     let commit = signed.object(Key::Commit, Part::Commit)?;
@@ -80,7 +86,11 @@ pub(crate) fn read_commit(alloc: Global, answer: &Object<'_>) -> Result<SignedHe
 }
 
 /// Reads the header that these signatures belong to.
-fn read_header(header: &Object<'_>, signatures: Vec<Signature>) -> Result<SignedHeader, Flaw> {
+#[tactic(auto, unfolding(crate::specs::Headers::header_in))]
+fn read_header(header: &Object<'_>, signatures: Vec<Signature>) -> Result<SignedHeader, Flaw>
+    ensures header { IfOk result (λ read. header_in (view header.now.value.now) ≡ Some (header_view read)) }
+    ensures signatures { IfOk result (λ read. read.signatures ≡ signatures) }
+{
     let chain = header.chain(Key::ChainId)?;
     let height = header.height(Key::Height)?;
     let time = header.time(Key::Time)?;
@@ -99,7 +109,9 @@ fn read_header(header: &Object<'_>, signatures: Vec<Signature>) -> Result<Signed
 }
 
 /// Refuses a commit of another height than the header's.
-fn judge_height(commit: &Object<'_>, height: Height) -> Result<(), Flaw> {
+fn judge_height(commit: &Object<'_>, height: Height) -> Result<(), Flaw>
+    ensures { OnOk result (number_at (key_name Key.Height) (view commit.now.value.now) ≡ Some height) }
+{
     if commit.height(Key::Height)? == height {
         Ok(())
     } else {
@@ -107,9 +119,9 @@ fn judge_height(commit: &Object<'_>, height: Height) -> Result<(), Flaw> {
     }
 }
 
-/// Reads the entries of `signatures`, in order, each with its flag.
+/// Reads the entries of `signatures`, in order.
 fn read_signatures(alloc: Global, items: &[Value]) -> Result<Vec<Signature>, AnswerError>
-    ensures { IfOk result (λ signatures. map (λ s. Some s.flag) signatures.items ≡ map (λ v. flag_in (view v)) items.now) }
+    ensures { IfOk result (λ signatures. each signature_in [] (items_view items.now) ≡ Some signatures.items) }
 {
     let mut signatures = Vec::with_capacity(alloc, items.len())?;
     for value in items {
@@ -119,8 +131,9 @@ fn read_signatures(alloc: Global, items: &[Value]) -> Result<Vec<Signature>, Ans
     Ok(signatures)
 }
 
+#[tactic(auto, unfolding(crate::specs::Headers::signature_in))]
 fn read_signature(signature: &Object<'_>) -> Result<Signature, Flaw>
-    ensures { IfOk result (λ read. flag_in (view signature.now.value.now) ≡ Some read.flag) }
+    ensures { IfOk result (λ read. signature_in (view signature.now.value.now) ≡ Some read) }
 {
     let flag = read_flag(signature)?;
     let address = match flag {

@@ -130,18 +130,33 @@ pub enum AnswerError {
 }
 
 impl From<Flaw> for AnswerError {
+    ghost use Rattle.std.specs.Prelude.{◌≡◌};
+    ghost use Rattle.rb_answers.specs.declared.flaw.AnswerError.TheVariants.{Flaw};
+
+    ghost from_gives = { λ flaw e. e ≡ Flaw flaw };
+
     fn from(flaw: Flaw) -> AnswerError {
         AnswerError::Flaw(flaw)
     }
 }
 
 impl From<AllocError> for AnswerError {
+    ghost use Rattle.std.specs.Prelude.{◌≡◌};
+    ghost use Rattle.rb_answers.specs.declared.flaw.AnswerError.TheVariants.{NoMemory};
+
+    ghost from_gives = { λ _ e. e ≡ NoMemory };
+
     fn from(_: AllocError) -> AnswerError {
         AnswerError::NoMemory
     }
 }
 
 impl<T: Drop> From<AllocFailed<T>> for AnswerError {
+    ghost use Rattle.std.specs.Prelude.{◌≡◌};
+    ghost use Rattle.rb_answers.specs.declared.flaw.AnswerError.TheVariants.{NoMemory};
+
+    ghost from_gives = { λ _ e. e ≡ NoMemory };
+
     fn from(_: AllocFailed<T>) -> AnswerError {
         AnswerError::NoMemory
     }

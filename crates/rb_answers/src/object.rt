@@ -1,8 +1,12 @@
 //! The fields of an object in an answer.
-ghost use Rattle.std.specs.Prelude.{◌≡◌, Some, None, IfOk, IfErr};
+ghost use Rattle.std.specs.Prelude.{◌≡◌, Some, None, IfOk, IfErr, IfSome};
 ghost use Rattle.serde_json.specs.Find.{get};
-ghost use Rattle.serde_json.specs.View.{view};
+ghost use Rattle.serde_json.specs.View.{view, items_view};
+ghost use Rattle.jiff.specs.Words.{parse_timestamp};
+ghost use Rattle.base64.specs.Engines.{standard};
+ghost use Rattle.base64.specs.GeneralPurpose.{decoded_bytes_of};
 ghost use Rattle.rb_answers.specs.Names.{key_name};
+ghost use Rattle.rb_answers.specs.Fields.{text_at, number_at, hex_at, base64_at, moment_of, time_at, items_at};
 
 use crate::flaw::{Flaw, FlawName};
 use crate::place::{Key, Part, Place};
@@ -22,7 +26,9 @@ pub struct Object<'a> {
 
 impl<'a> Object<'a> {
     /// The object that is this part.
-    pub fn new(value: &'a Value, part: Part) -> Object<'a> {
+    pub fn new(value: &'a Value, part: Part) -> Object<'a>
+        ensures { result.value ≡ value.entry }
+    {
         Object {
             value,
             part,
@@ -67,7 +73,9 @@ impl<'a> Object<'a> {
     }
 
     /// The object that a field holds, which is this part.
-    pub fn object(&self, key: Key, part: Part) -> Result<Object<'a>, Flaw> {
+    pub fn object(&self, key: Key, part: Part) -> Result<Object<'a>, Flaw>
+        ensures { IfOk result (λ object. get (key_name key) (view self.now.value.now) ≡ Some (view object.value.now)) }
+    {
         let value = self.field(key)?;
         if value.is_object() {
             Ok(Object::new(value, part))
@@ -77,7 +85,9 @@ impl<'a> Object<'a> {
     }
 
     /// The elements of the array that a field holds.
-    pub fn items(&self, key: Key) -> Result<&'a [Value], Flaw> {
+    pub fn items(&self, key: Key) -> Result<&'a [Value], Flaw>
+        ensures { IfOk result (λ items. items_at (key_name key) (view self.now.value.now) ≡ Some (items_view items.now)) }
+    {
         match self.field(key)?.as_array() {
             Some(array) => Ok(array.as_slice()),
             None => Err(self.flaw(key, FlawName::WrongType)),
@@ -85,7 +95,9 @@ impl<'a> Object<'a> {
     }
 
     /// The text that a field holds.
-    pub fn text(&self, key: Key) -> Result<&'a str, Flaw> {
+    pub fn text(&self, key: Key) -> Result<&'a str, Flaw>
+        ensures { IfOk result (λ text. text_at (key_name key) (view self.now.value.now) ≡ Some text.now) }
+    {
         match self.field(key)?.as_str() {
             Some(text) => Ok(text),
             None => Err(self.flaw(key, FlawName::WrongType)),
@@ -93,7 +105,9 @@ impl<'a> Object<'a> {
     }
 
     /// The number below 2^64 that a field holds as a text of decimal digits.
-    pub fn number(&self, key: Key) -> Result<u64, Flaw> {
+    pub fn number(&self, key: Key) -> Result<u64, Flaw>
+        ensures { IfOk result (λ n. number_at (key_name key) (view self.now.value.now) ≡ Some n) }
+    {
         match self.text(key)?.parse::<u64>() {
             Ok(number) => Ok(number),
             Err(_) => Err(self.flaw(key, FlawName::BadNumber)),
@@ -101,7 +115,9 @@ impl<'a> Object<'a> {
     }
 
     /// The height that a field holds as a text of decimal digits.
-    pub fn height(&self, key: Key) -> Result<Height, Flaw> {
+    pub fn height(&self, key: Key) -> Result<Height, Flaw>
+        ensures { IfOk result (λ h. number_at (key_name key) (view self.now.value.now) ≡ Some h) }
+    {
         match Height::new(self.number(key)?) {
             Some(height) => Ok(height),
             None => Err(self.flaw(key, FlawName::BadNumber)),
@@ -109,7 +125,9 @@ impl<'a> Object<'a> {
     }
 
     /// The identifier of a chain that a field holds.
-    pub fn chain(&self, key: Key) -> Result<ChainId, Flaw> {
+    pub fn chain(&self, key: Key) -> Result<ChainId, Flaw>
+        ensures { IfOk result (λ id. text_at (key_name key) (view self.now.value.now) ≡ Some id) }
+    {
         match ChainId::new(self.text(key)?) {
             Some(chain) => Ok(chain),
             None => Err(self.flaw(key, FlawName::BadIdentifier)),
@@ -117,7 +135,9 @@ impl<'a> Object<'a> {
     }
 
     /// The moment that a field holds in RFC 3339.
-    pub fn time(&self, key: Key) -> Result<Moment, Flaw> {
+    pub fn time(&self, key: Key) -> Result<Moment, Flaw>
+        ensures { IfOk result (λ t. time_at (key_name key) (view self.now.value.now) ≡ Some t) }
+    {
         match moment_of(self.text(key)?) {
             Some(moment) => Ok(moment),
             None => Err(self.flaw(key, FlawName::BadTime)),
@@ -125,7 +145,9 @@ impl<'a> Object<'a> {
     }
 
     /// The 32 bytes that a field holds in hexadecimal digits.
-    pub fn hash(&self, key: Key) -> Result<[u8; 32], Flaw> {
+    pub fn hash(&self, key: Key) -> Result<[u8; 32], Flaw>
+        ensures { IfOk result (λ bytes. hex_at 32 (key_name key) (view self.now.value.now) ≡ Some bytes) }
+    {
         match <[u8; 32] as FromHex>::from_hex(self.text(key)?) {
             Ok(bytes) => Ok(bytes),
             Err(_) => Err(self.flaw(key, FlawName::BadHex)),
@@ -133,7 +155,9 @@ impl<'a> Object<'a> {
     }
 
     /// The 20 bytes that a field holds in hexadecimal digits.
-    pub fn address(&self, key: Key) -> Result<[u8; 20], Flaw> {
+    pub fn address(&self, key: Key) -> Result<[u8; 20], Flaw>
+        ensures { IfOk result (λ bytes. hex_at 20 (key_name key) (view self.now.value.now) ≡ Some bytes) }
+    {
         match <[u8; 20] as FromHex>::from_hex(self.text(key)?) {
             Ok(bytes) => Ok(bytes),
             Err(_) => Err(self.flaw(key, FlawName::BadHex)),
@@ -141,7 +165,9 @@ impl<'a> Object<'a> {
     }
 
     /// The 32 bytes that a field holds in base64.
-    pub fn base64(&self, key: Key) -> Result<[u8; 32], Flaw> {
+    pub fn base64(&self, key: Key) -> Result<[u8; 32], Flaw>
+        ensures { IfOk result (λ bytes. base64_at (key_name key) (view self.now.value.now) ≡ Some bytes) }
+    {
         match bytes_of(self.text(key)?) {
             Some(bytes) => Ok(bytes),
             None => Err(self.flaw(key, FlawName::BadBase64)),
@@ -150,14 +176,18 @@ impl<'a> Object<'a> {
 }
 
 /// The moment of a timestamp.
-fn moment_of(text: &str) -> Option<Moment> {
+fn moment_of(text: &str) -> Option<Moment>
+    ensures { IfSome result (λ moment. moment_of (parse_timestamp text.now) ≡ Some moment) }
+{
     let timestamp = text.parse::<Timestamp>().ok()?;
     let nanoseconds = u128::try_from(timestamp.as_nanosecond()).ok()?;
     Moment::new(nanoseconds)
 }
 
 /// The 32 bytes of a text in base64.
-fn bytes_of(text: &str) -> Option<[u8; 32]> {
+fn bytes_of(text: &str) -> Option<[u8; 32]>
+    ensures { IfSome result (λ bytes. decoded_bytes_of standard text.now ≡ bytes) }
+{
     let mut bytes = [0; 32];
     match STANDARD.decode_slice(text.as_bytes(), &mut bytes) {
         Ok(32) => Some(bytes),

@@ -22,8 +22,13 @@ pub enum PacketKind {
 }
 
 impl PacketKind {
-    /// The kind of an event of this type, if it is about packets.
-    pub fn of_type(name: &str) -> Option<PacketKind> {
+    ghost use Rattle.std.specs.Prelude.{◌≡◌};
+    ghost use Rattle.rb_answers.specs.Packets.{kind_of};
+
+    /// The kind of an event of this type, if it is about packets (ICS 4).
+    pub fn of_type(name: &str) -> Option<PacketKind>
+        ensures { result ≡ kind_of name.now }
+    {
         match name {
             "send_packet" => Some(PacketKind::Sent),
             "recv_packet" => Some(PacketKind::Received),

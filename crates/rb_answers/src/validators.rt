@@ -1,4 +1,9 @@
 //! The answer of CometBFT's `/validators`: a page of the validators at a height.
+ghost use Rattle.std.specs.Prelude.{◌≡◌, [], Some, IfOk};
+ghost use Rattle.serde_json.specs.View.{view, items_view};
+ghost use Rattle.rb_answers.specs.Fields.{each};
+ghost use Rattle.rb_answers.specs.Validators.{key_in, validator_in, page_in, page_view};
+
 use crate::flaw::{AnswerError, Flaw, FlawName};
 use crate::object::Object;
 use crate::place::{Key, Part};
@@ -16,7 +21,10 @@ pub struct ValidatorsPage {
 }
 
 /// Reads the `result` of an answer of `/validators`.
-pub(crate) fn read_page(alloc: Global, answer: &Object<'_>) -> Result<ValidatorsPage, AnswerError> {
+#[tactic(auto, unfolding(crate::specs::Validators::page_in))]
+pub(crate) fn read_page(alloc: Global, answer: &Object<'_>) -> Result<ValidatorsPage, AnswerError>
+    ensures { IfOk result (λ page. page_in (view answer.now.value.now) ≡ Some (page_view page)) }
+{
     let height = answer.height(Key::BlockHeight)?;
     let total = answer.number(Key::Total)?;
     let validators = read_validators(alloc, answer.items(Key::Validators)?)?;
@@ -27,18 +35,22 @@ pub(crate) fn read_page(alloc: Global, answer: &Object<'_>) -> Result<Validators
     })
 }
 
-fn read_validators(alloc: Global, items: &[Value]) -> Result<Vec<Validator>, AnswerError> {
+fn read_validators(alloc: Global, items: &[Value]) -> Result<Vec<Validator>, AnswerError>
+    ensures { IfOk result (λ validators. each validator_in [] (items_view items.now) ≡ Some validators.items) }
+{
     let mut validators = Vec::with_capacity(alloc, items.len())?;
-    for (index, value) in items.iter().enumerate() {
-        let validator = read_validator(value, index)?;
-        validators.push(validator)?;
+    for value in items {
+        let entry = Object::element(value, Part::Validators, validators.len());
+        validators.push(read_validator(&entry)?)?;
     }
     Ok(validators)
 }
 
-fn read_validator(value: &Value, index: usize) -> Result<Validator, Flaw> {
-    let entry = Object::element(value, Part::Validators, index);
-    let key = read_key(&entry)?;
+#[tactic(auto, unfolding(crate::specs::Validators::validator_in))]
+fn read_validator(entry: &Object<'_>) -> Result<Validator, Flaw>
+    ensures { IfOk result (λ validator. validator_in (view entry.now.value.now) ≡ Some validator) }
+{
+    let key = read_key(entry)?;
     let power = entry.number(Key::VotingPower)?;
     match Validator::new(key, power) {
         Ok(validator) => Ok(validator),
@@ -47,7 +59,10 @@ fn read_validator(value: &Value, index: usize) -> Result<Validator, Flaw> {
 }
 
 /// The key, which has to be of ed25519.
-fn read_key(entry: &Object<'_>) -> Result<[u8; 32], Flaw> {
+#[tactic(auto, unfolding(crate::specs::Validators::key_in))]
+fn read_key(entry: &Object<'_>) -> Result<[u8; 32], Flaw>
+    ensures { IfOk result (λ key. key_in (view entry.now.value.now) ≡ Some key) }
+{
     let key = Object {
         value: entry.field(Key::PubKey)?,
         ..*entry

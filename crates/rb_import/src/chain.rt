@@ -1,7 +1,8 @@
 //! The sets and headers of a chain: each height once, rising, and each header with its set.
-ghost use Rattle.std.specs.Prelude.{◌≡◌, ◌<◌, length, map, IfOk, OnOk, IfSome, IfNone};
+ghost use Rattle.std.specs.Prelude.{◌≡◌, ◌<◌, length, map, All, Contains, IfOk, OnOk, IfSome, IfNone};
 ghost use Rattle.std.specs.List.Sorted.{IsStrictlyIncreasing};
 ghost use Rattle.rb_valset.specs.ValidatorSet.{set_hash};
+ghost use Rattle.rb_import.specs.Chains.{HasSet, IsOfChain};
 
 use crate::error::{ImportError, ProblemName};
 use crate::repeat::repeated;
@@ -43,7 +44,8 @@ pub struct SeenSets<'a> {
 impl<'a> SeenSets<'a> {
     /// The set of this hash, where it was seen.
     pub fn with_hash(&self, hash: &[u8; 32]) -> Option<&SeenSet<'a>>
-        ensures { IfSome result (λ seen. set_hash seen.now.set ≡ hash.now) }
+        ensures hash { IfSome result (λ seen. set_hash seen.now.set ≡ hash.now) }
+        ensures seen { IfSome result (λ seen. Contains self.now.sets.items seen.now) }
     {
         let seen = self.sets.get(*self.places.get(hash)?)?;
         if seen.set.hash() == hash {
@@ -72,16 +74,18 @@ pub struct SeenChain<'a> {
     pub sets: SeenSets<'a>,
 }
 
-/// What the answers of a chain tell, by its identifier: each height has one header, and the heights
-/// rise.
+/// What the answers of a chain tell, by its identifier: each header once, by rising heights, and the
+/// set of each.
 pub fn seen_chain<'a>(
     alloc: Global,
     id: &'a str,
     answers: &'a [Saved],
 ) -> Result<SeenChain<'a>, ImportError<'a>>
-    ensures { IfOk result (λ chain. IsStrictlyIncreasing (map (λ c. c.header.now.height) chain.commits.items)) }
+    ensures rising { IfOk result (λ chain. IsStrictlyIncreasing (map (λ c. c.header.now.height) chain.commits.items)) }
+    ensures chain { IfOk result (λ chain. All (IsOfChain id.entry.now) chain.commits.items) }
 {
     let commits = commits_of(alloc, id, answers)?;
+    judge_chains(id, commits.as_slice())?;
     judge_heights(alloc, id, commits.as_slice())?;
     let pages = pages_of(alloc, answers)?;
     let mut sets = SeenSets {
@@ -99,26 +103,42 @@ fn commits_of<'a>(
     id: &'a str,
     answers: &'a [Saved],
 ) -> Result<Vec<Commit<'a>>, ImportError<'a>> {
-    let mut commits = Vec::new(alloc);
-    for saved in answers {
-        let file = saved.file.as_str();
-        match &saved.answer {
-            Answer::Commit(header) => {
-                let commit = Commit { file, header };
-                judge_chain(id, &commit)?;
-                commits.push(commit)?;
-            }
-            Answer::Validators(_) => {}
-            _ => return Err(ImportError::at(ProblemName::WrongFolder, id, 0, file)),
-        }
-    }
+    let mut commits = all_commits(alloc, id, answers)?;
     commits.sort_by_key(|commit: &Commit| commit.header.height)?;
     Ok(commits)
 }
 
+/// The commits in the order of the answers.
+fn all_commits<'a>(
+    alloc: Global,
+    id: &'a str,
+    answers: &'a [Saved],
+) -> Result<Vec<Commit<'a>>, ImportError<'a>> {
+    let mut commits = Vec::new(alloc);
+    for saved in answers {
+        let file = saved.file.as_str();
+        match &saved.answer {
+            Answer::Commit(header) => commits.push(Commit { file, header })?,
+            Answer::Validators(_) => {}
+            _ => return Err(ImportError::at(ProblemName::WrongFolder, id, 0, file)),
+        }
+    }
+    Ok(commits)
+}
+
+/// Refuses commits of another chain.
+fn judge_chains<'a>(id: &'a str, commits: &[Commit<'a>]) -> Result<(), ImportError<'a>>
+    ensures { OnOk result (All (IsOfChain id.entry.now) commits.now) }
+{
+    for commit in commits {
+        judge_chain(id, commit)?;
+    }
+    Ok(())
+}
+
 /// Refuses a commit of another chain.
 fn judge_chain<'a>(id: &'a str, commit: &Commit<'a>) -> Result<(), ImportError<'a>>
-    ensures { OnOk result (commit.now.header.now.chain ≡ id.entry.now) }
+    ensures { OnOk result (IsOfChain id.entry.now commit.now) }
 {
     if commit.header.chain.as_str() == id {
         Ok(())
@@ -348,7 +368,9 @@ fn judge_commit<'a>(
     id: &'a str,
     commit: &Commit<'a>,
     sets: &SeenSets<'a>,
-) -> Result<(), ImportError<'a>> {
+) -> Result<(), ImportError<'a>>
+    ensures { OnOk result (HasSet sets.now.sets.items commit.now) }
+{
     let height = commit.header.height.get();
     let Some(seen) = sets.with_hash(&commit.header.set) else {
         return Err(ImportError::at(ProblemName::MissingSet, id, height, commit.file));

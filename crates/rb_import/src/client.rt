@@ -1,13 +1,14 @@
 //! What a client has stored, and how it judges headers.
-ghost use Rattle.std.specs.Prelude.{◌≡◌, map, IfOk, OnOk};
+ghost use Rattle.std.specs.Prelude.{◌≡◌, map, All, IfOk, OnOk};
 ghost use Rattle.std.specs.List.Sorted.{IsStrictlyIncreasing};
+ghost use Rattle.rb_import.specs.Clients.{IsOfRevision, TakesSetup};
 
 use crate::error::{ImportError, ProblemName};
 use crate::repeat::repeated;
 use crate::saved::Saved;
-use crate::setup::ClientSetup;
 use rb_answers::{Answer, ClientState, ConsensusState, TrustLevel, revision_of};
 use rb_base::{ChainId, Height, Period};
+use rb_setup::ClientSetup;
 use std::alloc::{AllocError, Global};
 
 /// A record that a client has stored, and its file.
@@ -33,11 +34,16 @@ pub fn seen_client<'a>(
     setup: &'a ClientSetup,
     tracked: &ChainId,
     answers: &'a [Saved],
-) -> Result<SeenClient<'a>, ImportError<'a>> {
+) -> Result<SeenClient<'a>, ImportError<'a>>
+    ensures rising { IfOk result (λ client. IsStrictlyIncreasing (map (λ s. s.state.now.height) client.stored.items)) }
+    ensures revision { IfOk result (λ client. All (IsOfRevision tracked.now) client.stored.items) }
+    ensures setup { IfOk result (TakesSetup setup.entry.now) }
+{
     let id = setup.id.as_str();
     let state = state_of(id, tracked, answers)?;
     let stored = stored_of(alloc, id, answers)?;
-    judge_stored(alloc, id, tracked, stored.as_slice())?;
+    judge_revisions(id, tracked, stored.as_slice())?;
+    judge_heights(alloc, id, stored.as_slice())?;
     let period = setup.period.or(state.map(|state| state.period));
     let drift = setup.drift.or(state.map(|state| state.drift));
     let trust = setup.trust.or(state.map(|state| state.trust));
@@ -125,14 +131,13 @@ fn add_states<'a>(
     Ok(())
 }
 
-/// Refuses records of another revision than the chain's, and two of one height.
-fn judge_stored<'a>(
-    alloc: Global,
+/// Refuses records of another revision than the chain's.
+fn judge_revisions<'a>(
     id: &'a str,
     tracked: &ChainId,
     stored: &[Stored<'a>],
 ) -> Result<(), ImportError<'a>>
-    ensures { OnOk result (IsStrictlyIncreasing (map (λ s. s.state.now.height) stored.now)) }
+    ensures { OnOk result (All (IsOfRevision tracked.now) stored.now) }
 {
     let revision = revision_of(tracked.as_str());
     for record in stored {
@@ -141,6 +146,17 @@ fn judge_stored<'a>(
             return Err(ImportError::at(ProblemName::OtherRevision, id, height, record.file));
         }
     }
+    Ok(())
+}
+
+/// Refuses two records of one height.
+fn judge_heights<'a>(
+    alloc: Global,
+    id: &'a str,
+    stored: &[Stored<'a>],
+) -> Result<(), ImportError<'a>>
+    ensures { OnOk result (IsStrictlyIncreasing (map (λ s. s.state.now.height) stored.now)) }
+{
     let heights = heights_of(alloc, stored)?;
     match repeated(heights.as_slice()) {
         Some(place) => Err(two_records(id, &stored[place], &stored[place + 1])),

@@ -1,15 +1,20 @@
 //! The script of a setup and of answers.
-ghost use Rattle.std.specs.Prelude.{◌≤◌, length, IfOk, string_bytes};
+ghost use Rattle.std.specs.Prelude.{◌≡◌, ◌≤◌, ◌++◌, ℕ, List, length, IfOk, string_bytes};
+ghost use Rattle.rb_setup.specs.Limits.{max_bytes};
+ghost use Rattle.rb_import.specs.Texts.{warning};
 
 use crate::chain::{SeenChain, seen_chain};
 use crate::client::{SeenClient, seen_client};
 use crate::error::{ImportError, ProblemName};
 use crate::packets::{SeenPacket, seen_packets};
-use crate::read::MAX_BYTES;
 use crate::saved::{Saved, SavedAnswers};
-use crate::setup::Setup;
 use crate::text::push_script;
-use std::alloc::Global;
+use rb_setup::{MAX_BYTES, Setup};
+use std::alloc::{AllocError, Global};
+
+/// The line that a script of answers begins with.
+const WARNING: &str =
+    "# Signatures were not verified: headers and votes stand as the nodes gave them.\n";
 
 /// What was seen of the chains, clients and paths of a setup, in its order.
 #[derive(Drop)]
@@ -19,26 +24,38 @@ pub struct Seen<'a> {
     pub paths: Vec<Vec<SeenPacket<'a>>>,
 }
 
-/// The text of the script that a setup and the answers of its chains, clients and paths make. The
-/// first problem is answered: of the chains, of the clients, then of the paths, each in order.
-/// `NoMemory` comes where a growth is refused.
+/// The text of the script that a setup and the answers of its chains, clients and paths make, which
+/// begins with the line that says that signatures were not verified. The first problem is answered:
+/// of the chains, of the clients, then of the paths, each in order. `NoMemory` comes where a growth
+/// is refused.
 pub fn compose<'a>(
     alloc: Global,
     setup: &'a Setup,
     answers: &'a SavedAnswers,
 ) -> Result<String, ImportError<'a>>
-    ensures size { IfOk result (λ text. length (string_bytes text) ≤ 16777216) }
+    ensures size { IfOk result (λ text. length (string_bytes text) ≤ max_bytes) }
+    ensures warning { IfOk result (λ text. (rest : List ℕ) × (string_bytes text ≡ warning ++ rest)) }
 {
     let seen = Seen {
         chains: seen_chains(alloc, setup, answers)?,
         clients: seen_clients(alloc, setup, answers)?,
         paths: seen_paths(alloc, setup, answers)?,
     };
-    let mut text = String::new(alloc);
-    push_script(&mut text, setup, &seen)?;
+    let mut body = String::new(alloc);
+    push_script(&mut body, setup, &seen)?;
+    let text = with_warning(alloc, body.as_str())?;
     if text.len() > MAX_BYTES {
         return Err(ImportError::of(ProblemName::ScriptTooBig, "-"));
     }
+    Ok(text)
+}
+
+/// The text that a script goes on with, behind the line that it begins with.
+fn with_warning(alloc: Global, body: &str) -> Result<String, AllocError>
+    ensures { IfOk result (λ text. string_bytes text ≡ warning ++ body.now) }
+{
+    let mut text = String::from_str(alloc, WARNING)?;
+    text.push_str(body)?;
     Ok(text)
 }
 

@@ -1,5 +1,5 @@
 //! Why answers make no script.
-ghost use Rattle.std.specs.Prelude.{◌≡◌};
+ghost use Rattle.std.specs.Prelude.{◌≡◌, Some, None};
 
 use std::alloc::{AllocError, AllocFailed};
 use std::fmt;
@@ -173,7 +173,9 @@ pub enum ImportError<'a> {
 
 impl<'a> ImportError<'a> {
     /// A problem of a chain, a client or a path.
-    pub fn of(name: ProblemName, object: &'a str) -> ImportError<'a> {
+    pub fn of(name: ProblemName, object: &'a str) -> ImportError<'a>
+        ensures { result ≡ ImportError.Problem (record { name = name; object = object.entry; number = None; file = None; other = None }) }
+    {
         ImportError::Problem(Problem {
             name,
             object,
@@ -184,7 +186,9 @@ impl<'a> ImportError<'a> {
     }
 
     /// A problem in a file, at a height or a sequence.
-    pub fn at(name: ProblemName, object: &'a str, number: u64, file: &'a str) -> ImportError<'a> {
+    pub fn at(name: ProblemName, object: &'a str, number: u64, file: &'a str) -> ImportError<'a>
+        ensures { result ≡ ImportError.Problem (record { name = name; object = object.entry; number = Some number; file = Some file.entry; other = None }) }
+    {
         ImportError::Problem(Problem {
             name,
             object,
@@ -201,7 +205,9 @@ impl<'a> ImportError<'a> {
         number: u64,
         file: &'a str,
         other: &'a str,
-    ) -> ImportError<'a> {
+    ) -> ImportError<'a>
+        ensures { result ≡ ImportError.Problem (record { name = name; object = object.entry; number = Some number; file = Some file.entry; other = Some other.entry }) }
+    {
         ImportError::Problem(Problem {
             name,
             object,
@@ -213,12 +219,22 @@ impl<'a> ImportError<'a> {
 }
 
 impl From<AllocError> for ImportError<'_> {
+    ghost use Rattle.std.specs.Prelude.{◌≡◌};
+    ghost use Rattle.rb_import.specs.declared.error.ImportError.TheVariants.{NoMemory};
+
+    ghost from_gives = { λ _ e. e ≡ NoMemory };
+
     fn from(_: AllocError) -> Self {
         ImportError::NoMemory
     }
 }
 
 impl<T: Drop> From<AllocFailed<T>> for ImportError<'_> {
+    ghost use Rattle.std.specs.Prelude.{◌≡◌};
+    ghost use Rattle.rb_import.specs.declared.error.ImportError.TheVariants.{NoMemory};
+
+    ghost from_gives = { λ _ e. e ≡ NoMemory };
+
     fn from(_: AllocFailed<T>) -> Self {
         ImportError::NoMemory
     }

@@ -1,9 +1,12 @@
 //! What was seen of a path's packets.
+ghost use Rattle.std.specs.Prelude.{◌≡◌, ◌≤◌, All, IfOk, IfSome, IsTrue, string_bytes};
+ghost use Rattle.rb_import.specs.Packets.{IsOfPath};
+
 use crate::error::{ImportError, ProblemName};
 use crate::saved::Saved;
-use crate::setup::PathSetup;
 use rb_answers::{Answer, PacketEvent, PacketKind, PacketPage, revision_of};
 use rb_base::ChainId;
+use rb_setup::PathSetup;
 use std::alloc::Global;
 
 /// An event of a packet, and its file.
@@ -22,12 +25,15 @@ struct Page<'a> {
 
 /// The events of a path's packets from its first sequence on: those that were sent, received,
 /// acknowledged and cleared, each by block.
+#[tactic(auto, using(crate::proofs::Sorting::sorting))]
 pub fn seen_packets<'a>(
     alloc: Global,
     setup: &'a PathSetup,
     dest: &ChainId,
     answers: &'a [Saved],
-) -> Result<Vec<SeenPacket<'a>>, ImportError<'a>> {
+) -> Result<Vec<SeenPacket<'a>>, ImportError<'a>>
+    ensures path { IfOk result (λ packets. All (IsOfPath setup.entry.now) packets.items) }
+{
     let id = setup.id.as_str();
     let pages = pages_of(alloc, id, answers)?;
     judge_totals(id, pages.as_slice())?;
@@ -83,7 +89,9 @@ fn packets_of<'a>(
     alloc: Global,
     setup: &'a PathSetup,
     pages: &[Page<'a>],
-) -> Result<Vec<SeenPacket<'a>>, ImportError<'a>> {
+) -> Result<Vec<SeenPacket<'a>>, ImportError<'a>>
+    ensures { IfOk result (λ packets. All (IsOfPath setup.entry.now) packets.items) }
+{
     let mut packets = Vec::new(alloc);
     for page in pages {
         add_packets(setup, *page, &mut packets)?;
@@ -95,14 +103,31 @@ fn add_packets<'a>(
     setup: &'a PathSetup,
     page: Page<'a>,
     packets: &mut Vec<SeenPacket<'a>>,
-) -> Result<(), ImportError<'a>> {
+) -> Result<(), ImportError<'a>>
+    ensures { All (IsOfPath setup.entry.now) packets.old.items → All (IsOfPath setup.entry.now) packets.new.items }
+{
     let file = page.file;
     for event in &page.page.events {
-        let seen = SeenPacket { file, event };
-        if is_of(setup, packets.first(), &seen)? && event.sequence >= setup.first {
-            packets.push(seen)?;
-        }
+        add_packet(setup, SeenPacket { file, event }, packets)?;
     }
+    Ok(())
+}
+
+/// Adds a packet, if it is one of the path's.
+fn add_packet<'a>(
+    setup: &'a PathSetup,
+    seen: SeenPacket<'a>,
+    packets: &mut Vec<SeenPacket<'a>>,
+) -> Result<(), ImportError<'a>>
+    ensures { All (IsOfPath setup.entry.now) packets.old.items → All (IsOfPath setup.entry.now) packets.new.items }
+{
+    if !is_of(setup, packets.first(), &seen)? {
+        return Ok(());
+    }
+    if seen.event.sequence < setup.first {
+        return Ok(());
+    }
+    packets.push(seen)?;
     Ok(())
 }
 
@@ -112,7 +137,9 @@ fn is_of<'a>(
     setup: &'a PathSetup,
     first: Option<&SeenPacket<'a>>,
     seen: &SeenPacket<'a>,
-) -> Result<bool, ImportError<'a>> {
+) -> Result<bool, ImportError<'a>>
+    ensures { IfOk result (λ is. IsTrue is → IfSome setup.entry.now.source_channel (λ source. string_bytes seen.now.event.now.source ≡ string_bytes source)) }
+{
     let source = seen.event.source.as_str();
     match (&setup.source_channel, first) {
         (Some(wanted), _) => Ok(wanted.as_str() == source),

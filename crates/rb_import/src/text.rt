@@ -3,18 +3,17 @@ use crate::chain::SeenChain;
 use crate::client::SeenClient;
 use crate::composing::Seen;
 use crate::event_text::{push_header, push_packet, push_set, push_stored};
-use crate::setup::{ClientSetup, GoalSetup, PathSetup, Settlement, Setup, TurnSetup};
 use jiff::Timestamp;
 use rb_base::Moment;
+use rb_setup::{ClientSetup, GoalSetup, PathSetup, Settlement, Setup, TurnSetup};
 use std::alloc::AllocError;
 
-const HEAD: &str = "# Signatures were not verified: headers and votes stand as the nodes gave them.
-# Written by ibcplan import.
+const HEAD: &str = "# Written by ibcplan import.
 version = 1
 chain = [
 ";
 
-/// Adds the text of a script.
+/// Adds the text of a script, but for the line that it begins with.
 pub fn push_script(text: &mut String, setup: &Setup, seen: &Seen<'_>) -> Result<(), AllocError> {
     text.push_str(HEAD)?;
     for chain in &setup.chains {
@@ -113,9 +112,9 @@ fn push_turn(
     seen: Option<&Seen<'_>>,
 ) -> Result<(), AllocError> {
     text.push_str("\n[[turn]]\nfrom = \"")?;
-    push_time(text, turn.from)?;
+    push_time(text, turn.window.from())?;
     text.push_str("\"\nuntil = \"")?;
-    push_time(text, turn.until)?;
+    push_time(text, turn.window.until())?;
     text.push_str("\"\ngoal = [\n")?;
     for goal in &turn.goals {
         push_goal(text, setup, goal)?;

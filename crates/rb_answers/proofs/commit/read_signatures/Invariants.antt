@@ -1,11 +1,9 @@
-use Rattle.std.proofs.Common.{◌≡◌, take}
-use Rattle.std.specs.Prelude.{Some, map}
-use Rattle.serde_json.specs.View.{view}
-use Rattle.serde_json.specs.declared.value.Value.{Value}
-use Rattle.rb_answers.specs.Votes.{flag_in}
-use Rattle.rb_answers.specs.declared.commit.Signature.{Signature}
+use Rattle.std.proofs.Common.{◌≡◌, [], drop}
+use Rattle.serde_json.specs.View.{items_view}
+use Rattle.rb_answers.specs.Fields.{each}
+use Rattle.rb_answers.specs.Headers.{signature_in}
 use Rattle.rb_answers.proofs.commit.read_signatures.Given as goal
 
--- the signatures so far have the flags of the entries so far
+-- what is left is read beside what was read
 abbrev pub invariant-loop-value : goal.invariant-loop-value
-invariant-loop-value l = map (λ (s : Signature). Some s.flag) l.signatures.items ≡ map (λ (v : Value). flag_in (view v)) (take l.value-index l.items)
+invariant-loop-value l = each signature_in l.signatures.items (items_view (drop l.value-index l.items)) ≡ each signature_in [] (items_view l.items)

@@ -1,9 +1,9 @@
 //! What a setup says: a script without events.
 use rb_answers::TrustLevel;
-use rb_base::{ChainId, ClientId, Height, Moment, PathId, Period};
+use rb_base::{ChainId, ClientId, Height, PathId, Period, Window};
 
-/// The chains, clients and paths of a script, and its turns. Chains and clients are named by their
-/// places.
+/// The chains, clients and paths of a script, and its turns, of which there is at least one. Chains
+/// and clients are named by their places.
 #[derive(Drop)]
 pub struct Setup {
     pub chains: Vec<ChainId>,
@@ -12,8 +12,10 @@ pub struct Setup {
     pub turns: Vec<TurnSetup>,
 }
 
-/// A client. The trusting period, the clock drift and the trust level that aren't there are taken
-/// from the answer on its state.
+/// A client. The trusting period, the clock drift in nanoseconds and the trust level that aren't
+/// there are taken from the answer on its state. Fees and gas are a base, so much for each commit
+/// vote and so much for each validator; limits are the gas of a transaction, its messages, and the
+/// gas that it takes itself.
 #[derive(Clone, Copy)]
 pub struct ClientSetup {
     pub id: ClientId,
@@ -46,8 +48,7 @@ pub struct PathSetup {
 /// A turn without what was seen.
 #[derive(Drop)]
 pub struct TurnSetup {
-    pub from: Moment,
-    pub until: Moment,
+    pub window: Window,
     pub goals: Vec<GoalSetup>,
     pub settlements: Vec<Settlement>,
 }

@@ -1,0 +1,8 @@
+pub use Rattle.rb_fields.specs.Faults
+pub mod Limits
+pub mod Documents
+pub mod Named
+pub mod Clients
+pub mod Paths
+pub mod Turns
+pub mod Setups

@@ -1,0 +1,104 @@
+-- The tables of paths (ICS 4: one direction of a channel).
+use Rattle.std.specs.Prelude.{ℕ, List, [], ◌∷◌, ◌++◌, map, codes, string_bytes, Option, Some, None, option_map, unwrap_or, is_none, slice_get, Bool, true, false, not, ◌&&◌, ◌||◌, ◌==◌, Result, Ok, if◌then◌else◌}
+use Rattle.std.specs.Str.{bytes_eq}
+use Rattle.rb_fields.specs.Faults.{Fault, ◌>>=◌, fault, check}
+use Rattle.rb_fields.specs.Fields.{Field, Section, text, only, needs, optional, or_default, number, max_number}
+use Rattle.rb_fields.specs.declared.fault.FaultName.TheVariants.{OutOfRange, BadOrder, SameChain, WrongClient}
+use Rattle.rb_setup.specs.declared.setup.ClientSetup.{ClientSetup}
+use Rattle.rb_setup.specs.declared.setup.PathSetup.{PathSetup}
+use Rattle.rb_setup.specs.Named.{reference, new_identifier}
+use Rattle.rb_setup.specs.Clients.{client_ids, three}
+
+-- a path: its chains and clients by their places, and the port and the channel of its source
+pub record Path : Type 0 where
+  pub id : List ℕ
+  pub source : ℕ
+  pub dest : ℕ
+  pub is_ordered : Bool
+  pub first : ℕ
+  pub forward : ℕ
+  pub back : ℕ
+  pub gas : List ℕ
+  pub source_channel : Option (List ℕ)
+
+abbrev pub path_view : PathSetup → Path
+path_view p = record {
+  id = p.id;
+  source = p.source;
+  dest = p.dest;
+  is_ordered = p.is_ordered;
+  first = p.first;
+  forward = p.forward;
+  back = p.back;
+  gas = p.gas;
+  source_channel = option_map string_bytes p.source_channel;
+}
+
+-- ---- values of their own
+
+abbrev pub order_of : List ℕ → Option Bool
+order_of word =
+    if bytes_eq word (codes "ordered") then Some true
+    else if bytes_eq word (codes "unordered") then Some false
+    else None
+
+abbrev pub known_order : List ℕ → Option Bool → Result Bool Fault
+known_order path (Some ordered) = Ok ordered
+known_order path None = fault BadOrder path
+
+-- whether the word says that packets go in order
+unfoldable pub is_ordered : Field → Result Bool Fault
+is_ordered f = do
+  word ← text f
+  known_order f.path (order_of word)
+
+-- `port/channel`, where one of the two keys is there
+unfoldable pub source_channel : Section → Result (Option (List ℕ)) Fault
+source_channel s =
+    if is_none (optional (codes "port") s) && is_none (optional (codes "channel") s) then Ok None
+    else do
+      port ← needs (codes "port") text s
+      channel ← needs (codes "channel") text s
+      Ok (Some (port ++ 47 ∷ channel))
+
+-- whether the client at a place is hosted on the one chain and tracks the other
+abbrev pub connects : List ClientSetup → ℕ → ℕ → ℕ → Bool
+connects clients place host tracks =
+    unwrap_or (option_map (λ (c : ClientSetup). c.host == host && c.tracks == tracks) (slice_get clients place)) false
+
+-- ---- paths
+
+abbrev pub path_ids : List Path → List (List ℕ)
+path_ids paths = map (λ p. p.id) paths
+
+abbrev pub path_keys : List (List ℕ)
+path_keys =
+    codes "id" ∷ codes "source" ∷ codes "dest" ∷ codes "order" ∷ codes "first" ∷ codes "forward" ∷ codes "back" ∷ codes "gas"
+    ∷ codes "port" ∷ codes "channel" ∷ []
+
+-- a path of these chains and clients, beside those before it
+unfoldable pub path : List (List ℕ) → List ClientSetup → List Path → Section → Result Path Fault
+path chains clients before s = do
+  _ ← only path_keys s
+  id ← needs (codes "id") (new_identifier (path_ids before)) s
+  source ← needs (codes "source") (reference chains) s
+  dest ← needs (codes "dest") (reference chains) s
+  ordered ← needs (codes "order") is_ordered s
+  first ← or_default 1 (number 1 max_number OutOfRange) (optional (codes "first") s)
+  forward ← needs (codes "forward") (reference (client_ids clients)) s
+  back ← needs (codes "back") (reference (client_ids clients)) s
+  gas ← needs (codes "gas") three s
+  channel ← source_channel s
+  _ ← check (not (source == dest)) SameChain s.path
+  _ ← check (connects clients forward dest source && connects clients back source dest) WrongClient s.path
+  Ok (record {
+    id = id;
+    source = source;
+    dest = dest;
+    is_ordered = ordered;
+    first = first;
+    forward = forward;
+    back = back;
+    gas = gas;
+    source_channel = channel;
+  })

@@ -1,0 +1,150 @@
+//! The paths of a setup.
+ghost use Rattle.std.specs.Prelude.{◌≡◌, ◌<◌, [], IfOk, codes, length, map, option_map, string_bytes};
+ghost use Rattle.toml.specs.View.{view, items_view};
+ghost use Rattle.rb_fields.specs.Faults.{Gives};
+ghost use Rattle.rb_fields.specs.Fields.{field_view, section_view, only, needs, text, at_element, elements};
+ghost use Rattle.rb_base.specs.Identifier.{IsIdentifier};
+ghost use Rattle.rb_setup.specs.Named.{new_identifier};
+ghost use Rattle.rb_setup.specs.Paths.{is_ordered, source_channel, connects, path, path_ids, path_keys, path_view};
+
+use crate::client::needed_three;
+use crate::named::{new_identifier, reference};
+use crate::setup::{ClientSetup, PathSetup};
+use rb_base::{ChainId, PathId};
+use rb_fields::{FaultName, Field, MAX_NUMBER, RunError, Section, element_path, section_at};
+use std::alloc::Global;
+use toml::Value;
+
+#[tactic(auto, using(rb_fields::proofs::Steps::steps), unfolding(crate::specs::Paths::is_ordered))]
+fn is_ordered(field: &Field<'_>) -> Result<bool, RunError>
+    ensures { Gives (λ o. o) result (is_ordered (field_view field.now)) }
+{
+    match field.text()? {
+        "ordered" => Ok(true),
+        "unordered" => Ok(false),
+        _ => Err(field.fault(FaultName::BadOrder)),
+    }
+}
+
+#[tactic(auto, using(rb_fields::proofs::Steps::steps))]
+fn needed_order(section: &Section<'_>) -> Result<bool, RunError>
+    ensures { Gives (λ o. o) result (needs (codes "order") is_ordered (section_view section.now)) }
+{
+    is_ordered(&section.required("order")?)
+}
+
+#[tactic(auto, using(rb_fields::proofs::Steps::steps))]
+fn needed_text<'a>(section: &Section<'a>, key: &'a str) -> Result<&'a str, RunError>
+    ensures { Gives (λ t. t.now) result (needs key.entry.now text (section_view section.now)) }
+{
+    section.required(key)?.text()
+}
+
+/// The port and the channel of the source, which are there both or neither.
+#[tactic(auto, using(rb_fields::proofs::Steps::steps), unfolding(crate::specs::Paths::source_channel))]
+fn source_channel(section: &Section<'_>) -> Result<Option<String>, RunError>
+    ensures { Gives (λ s. option_map string_bytes s) result (source_channel (section_view section.now)) }
+{
+    if section.optional("port").is_none() && section.optional("channel").is_none() {
+        return Ok(None);
+    }
+    let port = needed_text(section, "port")?;
+    let channel = needed_text(section, "channel")?;
+    Ok(Some(format!(in section.alloc; "{port}/{channel}")?))
+}
+
+/// Whether a client is hosted on the one chain and tracks the other.
+fn connects(clients: &[ClientSetup], place: usize, host: usize, tracks: usize) -> bool
+    requires { place < length clients.now }
+    ensures { result ≡ connects clients.now place host tracks }
+{
+    let client = &clients[place];
+    client.host == host && client.tracks == tracks
+}
+
+/// The identifier of a new path, which none of these has.
+#[tactic(auto, using(rb_fields::proofs::Steps::steps, crate::proofs::PathsLemmas::views))]
+fn path_identifier<'a>(section: &Section<'a>, before: &[PathSetup]) -> Result<&'a str, RunError>
+    ensures read { Gives (λ t. t.now) result (needs (codes "id") (new_identifier (path_ids (map path_view before.now))) (section_view section.now)) }
+    ensures form { IfOk result (λ t. IsIdentifier t.now) }
+{
+    new_identifier(section, before)
+}
+
+fn only_path_keys(section: &Section<'_>) -> Result<(), RunError>
+    ensures { Gives (λ u. u) result (only path_keys (section_view section.now)) }
+{
+    section.only(&[
+        "id", "source", "dest", "order", "first", "forward", "back", "gas", "port", "channel",
+    ])
+}
+
+#[tactic(auto, using(rb_fields::proofs::Steps::steps), unfolding(crate::specs::Paths::path))]
+fn read_path(
+    section: &Section<'_>,
+    chains: &[ChainId],
+    clients: &[ClientSetup],
+    before: &[PathSetup],
+) -> Result<PathSetup, RunError>
+    ensures { Gives path_view result (path chains.now clients.now (map path_view before.now) (section_view section.now)) }
+{
+    only_path_keys(section)?;
+    let id = path_identifier(section, before)?;
+    let source = reference(section, "source", chains)?;
+    let dest = reference(section, "dest", chains)?;
+    let is_ordered = needed_order(section)?;
+    let first = section.number_or("first", 1, 1, MAX_NUMBER)?;
+    let forward = reference(section, "forward", clients)?;
+    let back = reference(section, "back", clients)?;
+    let gas = needed_three(section, "gas")?;
+    let source_channel = source_channel(section)?;
+    if source == dest {
+        return Err(section.fault(FaultName::SameChain));
+    }
+    if !connects(clients, forward, dest, source) || !connects(clients, back, source, dest) {
+        return Err(section.fault(FaultName::WrongClient));
+    }
+    Ok(PathSetup {
+        id: PathId::new(id).unwrap(),
+        source,
+        dest,
+        is_ordered,
+        first,
+        forward,
+        back,
+        gas,
+        source_channel,
+    })
+}
+
+#[tactic(auto, using(rb_fields::proofs::Steps::steps))]
+fn read_path_at(
+    alloc: Global,
+    value: &Value,
+    chains: &[ChainId],
+    clients: &[ClientSetup],
+    before: &[PathSetup],
+) -> Result<PathSetup, RunError>
+    ensures { Gives path_view result (at_element (path chains.now clients.now) (codes "path") (map path_view before.now) (view value.now)) }
+{
+    let path = element_path(alloc, "path", before.len())?;
+    let section = section_at(alloc, path.as_str(), value)?;
+    read_path(&section, chains, clients, before)
+}
+
+/// Reads the paths between these chains by these clients, each beside those before it.
+pub fn read_paths(
+    alloc: Global,
+    items: &[Value],
+    chains: &[ChainId],
+    clients: &[ClientSetup],
+) -> Result<Vec<PathSetup>, RunError>
+    ensures { Gives (λ v. map path_view v.items) result (elements (path chains.now clients.now) (codes "path") [] (items_view items.now)) }
+{
+    let mut paths = Vec::with_capacity(alloc, items.len())?;
+    for value in items {
+        let path = read_path_at(alloc, value, chains, clients, paths.as_slice())?;
+        paths.push(path)?;
+    }
+    Ok(paths)
+}
