@@ -1,12 +1,18 @@
 //! Certificates over a book filled with headers.
+ghost use Rattle.std.specs.Prelude.{◌≡◌, IfOk};
+
 use crate::book::make_book;
 use anyhow::{Context, Result, bail};
 use rb_base::{FeeTable, Height, Moment, Options, Period, Window};
 use rb_book::ChainBook;
-use rb_cert::{Verdict2, certify};
-use rb_plan::{Answer, Cost, Goal, Label, Labelling, Update, are_labels};
+use rb_cert::{Verdict2, certify, certify_par};
+use rb_graph::Graph;
+use rb_plan::{Answer, Cost, Goal, Label, Labelling, Update, are_labels, plan};
 use rb_step::{ClientView, are_known};
 use std::alloc::Global;
+use std::rt::Clock;
+use std::thread::Threads;
+use std::time::Instant;
 
 /// The headers of the book that a hostile certificate is judged over.
 const HEADERS: u32 = 1024;
@@ -16,7 +22,9 @@ fn height(number: u32) -> Result<Height> {
 }
 
 /// The view of a client that has stored these heights, at the moment of the last of so many headers.
-fn view_of<'a>(stored: &'a [Height], book: &'a ChainBook, headers: u32) -> Result<ClientView<'a>> {
+fn view_of<'a>(stored: &'a [Height], book: &'a ChainBook, headers: u32) -> Result<ClientView<'a>>
+    ensures { IfOk result (λ view. view.book ≡ book.now) }
+{
     if !are_known(stored, book) {
         bail!("a header is wanted");
     }
@@ -62,6 +70,26 @@ pub fn certify_plan(alloc: Global, headers: u32, validators: u32) -> Result<bool
         labelling: labelling_of(labels_to(alloc, headers, cost)?)?,
     };
     Ok(certify(&view, Goal::Exactly(top), &answer) == Verdict2::Yes)
+}
+
+/// Certifies the least plan from the first header to the last of so many, by one thread and by several;
+/// answers whether it is right by both, and how many microseconds each took when the plan stood.
+pub fn certify_timed<R: Clock + Threads + Sync + AllocGlobal>(
+    rt: &R,
+    graph: &Graph,
+    headers: u32,
+) -> Result<(bool, u128, u128)> {
+    let stored = [height(1)?];
+    let view = view_of(&stored, graph.book(), headers)?;
+    let goal = Goal::AtLeast(height(headers)?);
+    let answer = plan(rt.alloc(), &view, graph, goal)?;
+    let start = Instant::now(rt)?;
+    let alone = certify(&view, goal, &answer);
+    let micros = start.elapsed(rt)?.as_micros();
+    let start = Instant::now(rt)?;
+    let together = certify_par(rt, &view, goal, &answer);
+    let holds = alone == Verdict2::Yes && together == Verdict2::Yes;
+    Ok((holds, micros, start.elapsed(rt)?.as_micros()))
 }
 
 /// Certifies that the height above so many labels, which all cost nothing, is out of reach; answers

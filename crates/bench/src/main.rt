@@ -22,6 +22,7 @@ bench graph HEADERS SETS VALIDATORS
 bench build HEADERS SETS VALIDATORS [WORKERS]
 bench plan HEADERS SETS VALIDATORS
 bench certify HEADERS VALIDATORS
+bench certify-plan HEADERS SETS VALIDATORS
 bench certify-labels LABELS
 bench scan PACKETS
 bench share CLIENTS VIEWS HEADERS VALIDATORS
@@ -99,6 +100,15 @@ fn build_timed<R: Clock + Threads + AllocGlobal + Sync>(rt: &R, task: &Task) -> 
     gang::compare(rt, headers, sets, validators, workers)
 }
 
+/// Certifies a plan over a book filled with headers, and tells how long that took when it stood.
+fn certify_timed<R: Clock + Threads + Sync + AllocGlobal>(rt: &R, task: &Task) -> Result<String> {
+    let alloc = rt.alloc();
+    let (headers, sets, validators) = book_numbers(task)?;
+    let graph = graph::graph_of(alloc, headers, sets, validators)?;
+    let (holds, alone, together) = certificate::certify_timed(rt, &graph, headers)?;
+    Ok(format!(in alloc; "{holds}, certified in {alone} us, by threads in {together} us")?)
+}
+
 /// Does the work, and tells what was done; nothing where no such work is known.
 fn perform<R: Clock + Threads + AllocGlobal + Sync>(rt: &R, task: &Task) -> Result<Option<String>> {
     let alloc = rt.alloc();
@@ -119,6 +129,7 @@ fn perform<R: Clock + Threads + AllocGlobal + Sync>(rt: &R, task: &Task) -> Resu
             let holds = certificate::certify_plan(alloc, number(task, 0)?, number(task, 1)?)?;
             format!(in alloc; "{holds}")?
         }
+        "certify-plan" => certify_timed(rt, task)?,
         "certify-labels" => {
             let holds = certificate::certify_labels(alloc, number(task, 0)?)?;
             format!(in alloc; "{holds}")?

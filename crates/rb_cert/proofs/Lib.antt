@@ -11,3 +11,4 @@ pub mod Stored
 pub mod Walks
 pub mod MarkedVoters
 pub mod LookedUp
+pub mod Pairs

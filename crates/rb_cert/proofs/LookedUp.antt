@@ -5,7 +5,7 @@ use Rattle.std.proofs.lemmas.List.{length-set}
 use Rattle.std.proofs.lemmas.Option.{none-some, same_Some, slice_get_within, slice_get-get_or, get_or_from_slice_get}
 use Rattle.rb_book.specs.Book.{Known}
 use Rattle.rb_step.specs.LightClient.{IsOrderly}
-use Rattle.rb_step.specs.View.{View, IsView, client_of}
+use Rattle.rb_step.specs.View.{View, client_of}
 use Rattle.rb_plan.specs.declared.cost.Cost.{Cost}
 use Rattle.rb_plan.specs.Labelling.{Labels}
 use Rattle.rb_plan.specs.Order.{CostsAtMost, after_update}
@@ -61,6 +61,3 @@ module _ (v : View) (label : Labels) where
         let from : t.cost ≡ Some c = (looked.cost c).1 (orderly.trusts_live k.height h accepted, labelled) in
         let lower : LeadsLower (Some c) ((client_of v).fee k.height h) o = λ low. above (subst (λ (x : Option Cost). IsSomeAnd x (λ d. CostsAtMost d (after_update c ((client_of v).fee k.height h)))) is low) in
         (subst (λ (x : Option Cost). LeadsLower x ((client_of v).fee k.height h) o) (sym from) lower, accepted)
-
-pub places_few : (v : View) → IsView v → length v.book.records ≤ 4096
-places_few v view = omega (arith, view.book.few_records, view.book.limit.1)

@@ -1,5 +1,6 @@
 //! The certifier: whether a planner's answer is right, judged by its labels alone. It trusts
-//! nothing in the answer, goes by the step rule and plain sums, and takes no memory.
+//! nothing in the answer, goes by the step rule and plain sums, and takes no memory. Where threads may be
+//! started, `certify_par` checks the steps by several of them.
 #![tactic(auto)]
 
 mod accepted;
@@ -15,5 +16,5 @@ mod updates;
 mod verdict;
 mod voters;
 
-pub use judgement::certify;
+pub use judgement::{certify, certify_par};
 pub use verdict::{Reason, Verdict2};

@@ -1,7 +1,8 @@
 -- Offers serve for all labels below: records that name one set have the same steps to every header that isn't right above them.
 use Rattle.std.proofs.Common.{◌≡◌, ℕ, ◌+◌, ◌<◌, ◌≤◌, ◌^◌, ◌⊎◌, List, [], ◌∷◌, ◌++◌, length, count_by, map, get_or, set, All, true, inl, inr, ap, sym, ◌∙◌, refl, subst, arith, Option, Some, None, IsSome, IsSomeAnd}
 use Rattle.std.specs.Prelude.{IfSome, MatchOption}
-use Rattle.std.specs.List.{AllPairs, Contains, find, slice_get}
+use Rattle.std.specs.List.{AllPairs, Contains, find, insert, slice_get}
+use Rattle.std.specs.List.Sorted.{IsPermutation}
 use Rattle.std.specs.Option.{option_map, option_map_or}
 use Rattle.std.proofs.lemmas.Bool.{cases_eq, cases_lt}
 use Rattle.std.proofs.lemmas.Option.{none-some, same_Some, slice_get-get_or, slice_get_within, get_or_from_slice_get}
@@ -10,6 +11,7 @@ use Rattle.std.specs.Str.{bytes_eq}
 use Rattle.std.proofs.lemmas.List.{length-map, length-set, get_or-map, get_or_default, get_or-set_same, get_or-set_other}
 use Rattle.std.proofs.lemmas.List.Elements.{All-nil, All-cons, All-push, All-set, All-weaker, All-contains, Contains-get_or, Contains-push, Contains-append_left}
 use Rattle.std.proofs.lemmas.List.Kept.{AllPairs-from_increasing}
+use Rattle.std.proofs.lemmas.List.Sorted.{All-permutation, Contains-permutation, IsPermutation-append_comm, IsPermutation-insert, IsPermutation-trans}
 use Rattle.rb_base.specs.Window.{IsWithin}
 use Rattle.rb_book.specs.Book.{Book, Known, height_of, time_of, heights_of, is_at, set_of, record_at, header_at}
 use Rattle.rb_book.specs.Header.{Record, Header, is_commit}
@@ -99,12 +101,28 @@ module _ (book : Book) (before : List Offer) (new : Offer) where
   itself : (after : List Offer) → ((o : Offer) → Contains before o → Contains after o) → All (λ other. (o : Offer) × Contains after o × Serves book o other) before
   itself after keeps k d lt = let o = get_or before k d in (o, keeps o (Contains-get_or before k d lt), serves_itself book o)
 
-  pub taken_push : IsTakenIn book before new (before ++ new ∷ [])
+  taken_push : IsTakenIn book before new (before ++ new ∷ [])
   taken_push = record {
     drawn = All-push (λ o. Contains before o ⊎ (new ≡ o)) before new (λ k d lt. inl (Contains-get_or before k d lt)) (inr refl);
     serve = itself (before ++ new ∷ []) (λ o there. Contains-append_left before (new ∷ []) o there);
     serves_new = (new, Contains-push before new, serves_itself book new);
   }
+
+  -- the order of the offers doesn't matter
+  taken_moved : (after after' : List Offer) → IsPermutation after after' → IsTakenIn book before new after → IsTakenIn book before new after'
+  taken_moved after after' moved taken = record {
+    drawn = All-permutation (λ o. Contains before o ⊎ (new ≡ o)) after after' moved taken.drawn;
+    serve = All-weaker (λ other. (o : Offer) × Contains after o × Serves book o other) (λ other. (o : Offer) × Contains after' o × Serves book o other) move before taken.serve;
+    serves_new = move new taken.serves_new;
+  }
+    where
+      move : (other : Offer) → (o : Offer) × Contains after o × Serves book o other → (o : Offer) × Contains after' o × Serves book o other
+      move other (o, there, serves) = (o, Contains-permutation after after' o moved there, serves)
+
+  pub taken_insert : (i : ℕ) → IsTakenIn book before new (insert before i new)
+  taken_insert i =
+      taken_moved (before ++ new ∷ []) (insert before i new)
+      (IsPermutation-trans (before ++ new ∷ []) (new ∷ before) (insert before i new) (IsPermutation-append_comm before (new ∷ [])) (IsPermutation-insert before i new)) taken_push
 
   module _ (at : ℕ) (o : Offer) (is : slice_get before at ≡ Some o) where
     inside : at < length before

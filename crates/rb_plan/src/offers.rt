@@ -1,5 +1,5 @@
 //! The labelled records from which steps are tried: of those that name one set the cheapest.
-ghost use Rattle.std.specs.Prelude.{◌≡◌, ◌↔◌, ◌<◌, IsTrue, All, OnOk, Some, IfSome, IsSomeAnd, length, set, slice_get};
+ghost use Rattle.std.specs.Prelude.{◌≡◌, ◌↔◌, ◌<◌, ◌≤◌, IsTrue, All, OnOk, Some, IfSome, IsSomeAnd, length, set, slice_get};
 ghost use Rattle.std.specs.Option.{option_flatten};
 ghost use Rattle.rb_plan.specs.Order.{IsCheaper};
 ghost use Rattle.rb_plan.specs.Offers.{IsOffer, NamesSame, IsTakenIn, IsAdded, next_slot};
@@ -41,6 +41,29 @@ fn keep_at(by_set: &mut [Option<usize>], slot: usize, at: usize)
     if slot < by_set.len() {
         by_set[slot] = Some(at);
     }
+}
+
+/// Where the offer of a slot belongs among so many, so that they come by rising slot: a row of the
+/// table is read fastest in the order of its sets.
+fn place_for(by_set: &[Option<usize>], slot: usize, offers: usize) -> usize
+    ensures { result ≤ offers }
+{
+    for lower in (0..slot).rev() {
+        if let Some(at) = kept_at(by_set, lower) {
+            return offers.min(at.saturating_add(1));
+        }
+    }
+    0
+}
+
+/// Keeps where the offer of a slot was put in: those of the higher slots have moved up.
+fn keep_put_in(by_set: &mut [Option<usize>], slot: usize, at: usize) {
+    for higher in slot..by_set.len() {
+        if let Some(at) = kept_at(by_set, higher) {
+            keep_at(by_set, higher, at.saturating_add(1));
+        }
+    }
+    keep_at(by_set, slot, at);
 }
 
 impl<A: Allocator + Copy> Planner<'_, A> {
@@ -97,8 +120,9 @@ impl<A: Allocator + Copy> Planner<'_, A> {
         let cost = offer.label.cost;
         let slot = self.next_slot(offer.place);
         let Some(at) = self.same_set(offers.as_slice(), kept_at(by_set, slot), offer.place) else {
-            keep_at(by_set, slot, offers.len());
-            offers.push(offer)?;
+            let at = place_for(by_set, slot, offers.len());
+            offers.insert(at, offer)?;
+            keep_put_in(by_set, slot, at);
             return Ok(());
         };
         if is_cheaper(cost, offers.as_slice(), at) {
