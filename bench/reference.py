@@ -4,9 +4,9 @@
     reference.py plan SCRIPT            prints the report of a script, or `fault ..` on standard error (exit 1)
     reference.py certificate SCRIPT     prints the certificate that the script's report amounts to
     reference.py certify SCRIPT CERT    prints the verdict on a certificate (exit 0, 3 or 1)
+    reference.py whole SCRIPT           as `plan`, with the paths and settlements that the program doesn't take yet
 
-`-` stands for standard input. It takes the scripts that the program takes today: any number of chains, at most one
-client and one turn, no path; events `set`, `header` and `stored`.
+`-` stands for standard input.
 
 The least list is looked for among all lists of updates, best first: by fee, then number of updates, then the pairs of
 height and trusted height from the last update back. Lists that store the same heights are continued alike, and what is
@@ -14,365 +14,18 @@ put to the end of both keeps their order, so only the first of them is continued
 headers; where more than EXHAUSTIVE heights can be stored, heights are labelled upwards instead. Where the first search
 is made, the second is made too, and a difference ends the program with an error.
 """
-import hashlib
 import heapq
-import re
 import sys
-import tomllib
-from datetime import datetime, timezone
+
+from scripts import FAULTS, Fault, need, read_certificate, read_script
 
 EXHAUSTIVE = 11
-MAX_NUMBER = 2**63 - 1
-MAX_BYTES = 16_777_216
-MAX_POWER = 1152921504606846975
-MAX_CHAINS, MAX_CLIENTS, MAX_PATHS, MAX_TURNS, MAX_ENTRIES = 64, 1, 0, 1, 200_000
-MAX_RECORDS, MAX_SETS, MAX_ADDRESSES, MAX_MEMBERS = 1024, 1024, 65_536, 10_000
-NAMES = {
+MAX_RECORDS, MAX_SETS, MAX_ADDRESSES, MAX_PACKETS = 1024, 1024, 65_536, 4096
+NAMES = FAULTS | {
     401: "UnknownSet", 402: "WrongVerdictCount", 403: "BadVote", 404: "Conflict", 405: "TimeOrder", 406: "Full", 407: "HashClash",
     601: "SourceLabel", 602: "LabelTooHigh", 603: "PlanNotAccepted", 604: "PlanNotTight", 605: "NotTheTie", 606: "GoalLabelled",
-    607: "GoalMissed",
-    1001: "NotToml", 1002: "MissingKey", 1003: "UnknownKey", 1004: "WrongType", 1005: "BadVersion", 1006: "OutOfRange",
-    1007: "BadIdentifier", 1008: "DuplicateIdentifier", 1009: "UnknownIdentifier", 1010: "BadHex", 1011: "BadTime",
-    1012: "BadVotes", 1013: "BadKind", 1014: "BadOrder", 1015: "SameChain", 1016: "WrongClient", 1017: "TooManyObjects",
-    1018: "TooManyEvents", 1019: "UnknownSetName", 1020: "DuplicateSetName", 1021: "TwoGoals", 1022: "BadSet", 1023: "BadWindow",
-    1024: "BadLimit", 1025: "BadFee", 1026: "NoSuchTurn", 1027: "BadAnswer", 1028: "NoGoal", 1029: "LabelOrder",
-    1030: "InputTooBig", 1031: "BadTrust",
+    607: "GoalMissed", 804: "Repeat", 805: "OutOfOrder", 806: "WindowBack",
 }
-
-
-class Fault(Exception):
-    def __init__(self, number, path):
-        super().__init__(f"fault {number} {NAMES[number]} at {path or '-'}")
-
-
-# ---- reading: a table's faults in the order of its keys, and each key's in the order of their numbers
-
-
-def child(path, key):
-    return f"{path}.{key}" if path else key
-
-
-def shown(key):
-    return "".join(f"\\u{{{ord(c):x}}}" if ord(c) < 32 or 127 <= ord(c) < 160 else c for c in key)
-
-
-def need(test, number, path):
-    if not test:
-        raise Fault(number, path)
-
-
-def typed(value, kind, path):
-    need(isinstance(value, kind) and not (kind is int and isinstance(value, bool)), 1004, path)
-    return value
-
-
-class Section:
-    """A table, whose keys are read in order."""
-
-    def __init__(self, value, path, keys):
-        self.path = path
-        self.table = typed(value, dict, path)
-        for key in sorted(self.table, key=lambda k: k.encode()):
-            need(key in keys, 1003, child(path, shown(key)))
-
-    def has(self, key):
-        return key in self.table
-
-    def read(self, key, reader, *default):
-        path = child(self.path, key)
-        if key not in self.table:
-            need(default, 1002, path)
-            return default[0]
-        return reader(self.table[key], path)
-
-
-def text(value, path):
-    return typed(value, str, path)
-
-
-def number(low, high, fault=1006):
-    def read(value, path):
-        typed(value, int, path)
-        need(low <= value <= high, fault, path)
-        return value
-
-    return read
-
-
-height = number(1, MAX_NUMBER)
-
-
-def numbers(count, *ranges):
-    """An array of so many numbers: all types first, then the ranges, each of which is (low, high, fault)."""
-
-    def read(value, path):
-        need(isinstance(value, list) and len(value) == count, 1004, path)
-        for i, entry in enumerate(value):
-            typed(entry, int, f"{path}[{i}]")
-        for i, entry in enumerate(value):
-            low, high, fault = ranges[i if i < len(ranges) else -1]
-            need(low <= entry <= high, fault, f"{path}[{i}]")
-        return tuple(value)
-
-    return read
-
-
-fees = numbers(3, (0, 10**9, 1025))
-limits = numbers(3, (1, 10**15, 1024), (1, 10_000, 1024), (0, 10**9, 1024))
-
-
-def trust(value, path):
-    n, d = numbers(2, (0, MAX_NUMBER, 1006))(value, path)
-    need(d > 0 and 3 * n >= d and n <= d, 1031, path)
-    return n, d
-
-
-def array(most):
-    def read(value, path):
-        typed(value, list, path)
-        need(most is None or len(value) <= most, 1017, path)
-        return value
-
-    return read
-
-
-def is_identifier(word, most=64):
-    return re.fullmatch(r"[A-Za-z0-9._+\-#\[\]<>]{1,%d}" % most, word) is not None
-
-
-def identifier(value, path):
-    need(is_identifier(text(value, path)), 1007, path)
-    return value
-
-
-def new_identifier(known):
-    def read(value, path):
-        need(identifier(value, path) not in known, 1008, path)
-        return value
-
-    return read
-
-
-def reference(known):
-    def read(value, path):
-        need(identifier(value, path) in known, 1009, path)
-        return value
-
-    return read
-
-
-def hexadecimal(value, path):
-    need(re.fullmatch(r"[0-9A-Fa-f]{64}", text(value, path)), 1010, path)
-    return bytes.fromhex(value)
-
-
-def moment(value, path):
-    """Nanoseconds since 1970 of an RFC 3339 time."""
-    found = re.fullmatch(r"(\d{4}-\d\d-\d\d[Tt ]\d\d:\d\d:\d\d)(?:\.(\d{1,9}))?([Zz]|[+-]\d\d:\d\d)", text(value, path))
-    need(found, 1011, path)
-    try:
-        zone = "+00:00" if found[3] in "zZ" else found[3]
-        whole = datetime.fromisoformat(found[1].upper().replace(" ", "T") + zone).astimezone(timezone.utc)
-    except (ValueError, OverflowError):
-        raise Fault(1011, path) from None
-    since = whole - datetime(1970, 1, 1, tzinfo=timezone.utc)
-    nanoseconds = (since.days * 86400 + since.seconds) * 10**9 + int((found[2] or "").ljust(9, "0"))
-    need(0 <= nanoseconds <= 10**20, 1011, path)
-    return nanoseconds
-
-
-def votes(value, path):
-    need(all(letter in "CNAB" for letter in text(value, path)), 1012, path)
-    return value
-
-
-# ---- validator sets
-
-
-def sha(*parts):
-    return hashlib.sha256(b"".join(parts)).digest()
-
-
-def tree_hash(items):
-    if not items:
-        return sha()
-    if len(items) == 1:
-        return sha(b"\0", items[0])
-    split = 1
-    while split * 2 < len(items):
-        split *= 2
-    return sha(b"\1", tree_hash(items[:split]), tree_hash(items[split:]))
-
-
-def varint(n):
-    out = b""
-    while n > 127:
-        out += bytes([n % 128 + 128])
-        n //= 128
-    return out + bytes([n])
-
-
-class ValidatorSet:
-    """Members (address, power, key) by falling power, then rising address."""
-
-    def __init__(self, pairs):
-        self.members = sorted(((sha(key)[:20], power, key) for key, power in pairs), key=lambda m: (-m[1], m[0]))
-        self.total = sum(power for _, power, _ in self.members)
-        self.hash = tree_hash([b"\x0a\x22\x0a\x20" + key + b"\x10" + varint(power) for _, power, key in self.members])
-
-
-def validators(value, path):
-    pairs = []
-    for i, entry in enumerate(typed(value, list, path)):
-        place = f"{path}[{i}]"
-        need(isinstance(entry, list) and len(entry) == 2, 1004, place)
-        key = hexadecimal(entry[0], f"{place}[0]")
-        pairs.append((key, number(0, MAX_NUMBER)(entry[1], f"{place}[1]")))
-    fits = pairs and len(pairs) <= MAX_MEMBERS and all(1 <= power <= MAX_POWER for _, power in pairs)
-    fits = fits and len({sha(key)[:20] for key, _ in pairs}) == len(pairs) and sum(power for _, power in pairs) <= MAX_POWER
-    need(fits, 1022, path)
-    return ValidatorSet(pairs)
-
-
-# ---- scripts
-
-
-class Client:
-    pass
-
-
-def fits(value):
-    """Whether all whole numbers in it are of 64 bits, as TOML wants."""
-    if isinstance(value, dict):
-        return all(map(fits, value.values()))
-    if isinstance(value, list):
-        return all(map(fits, value))
-    return not isinstance(value, int) or -(2**63) <= value < 2**63
-
-
-def parse(source):
-    need(len(source) <= MAX_BYTES, 1030, "-")
-    try:
-        document = tomllib.loads(source.decode())
-    except (UnicodeDecodeError, tomllib.TOMLDecodeError):
-        raise Fault(1001, "-") from None
-    need(fits(document), 1001, "-")
-    return document
-
-
-def read_client(value, path, chains, clients):
-    keys = "id host of period_ns drift_ns refresh_ns fee gas limits trust".split()
-    table = Section(value, path, keys)
-    client = Client()
-    client.id = table.read("id", new_identifier(clients))
-    client.host = table.read("host", reference(chains))
-    client.of = table.read("of", reference(chains))
-    client.period = table.read("period_ns", number(1, MAX_NUMBER))
-    client.drift = table.read("drift_ns", number(0, MAX_NUMBER))
-    client.refresh = table.read("refresh_ns", number(0, MAX_NUMBER), 0)
-    client.fee = table.read("fee", fees)
-    client.gas = table.read("gas", fees)
-    client.limits = table.read("limits", limits)
-    client.trust = table.read("trust", trust, (1, 3))
-    need(client.host != client.of, 1015, path)
-    return client
-
-
-def set_reference(names):
-    def read(value, path):
-        if len(text(value, path)) <= 32:
-            need(is_identifier(value), 1007, path)
-            need(value in names, 1019, path)
-            return names[value]
-        return hexadecimal(value, path)
-
-    return read
-
-
-def new_set_name(names):
-    def read(value, path):
-        need(is_identifier(text(value, path), 32), 1007, path)
-        need(value not in names, 1020, path)
-        return value
-
-    return read
-
-
-KINDS = {
-    "set": "kind chain name validators".split(),
-    "header": "kind chain height time root set next votes".split(),
-    "stored": "kind client height time root next".split(),
-}
-
-
-def kind_of(value, path):
-    need(text(value, path) in KINDS, 1013, path)
-    return value
-
-
-def read_event(value, path, chains, clients, names):
-    typed(value, dict, path)
-    kind = Section({k: v for k, v in value.items() if k == "kind"}, path, ["kind"]).read("kind", kind_of)
-    table = Section(value, path, KINDS[kind])
-    zeros = bytes(32)
-    if kind == "set":
-        chain = table.read("chain", reference(chains))
-        name = table.read("name", new_set_name(names[chain]))
-        members = table.read("validators", validators)
-        names[chain][name] = members.hash
-        return kind, chain, members
-    if kind == "header":
-        chain = table.read("chain", reference(chains))
-        at = table.read("height", height)
-        time = table.read("time", moment)
-        root = table.read("root", hexadecimal, zeros)
-        own = table.read("set", set_reference(names[chain]))
-        following = table.read("next", set_reference(names[chain]))
-        return kind, chain, at, (time, root, following), own, table.read("votes", votes)
-    client = table.read("client", reference(clients))
-    at = table.read("height", height)
-    time = table.read("time", moment)
-    root = table.read("root", hexadecimal, zeros)
-    return kind, client, at, (time, root, table.read("next", set_reference(names[clients[client].of])))
-
-
-def read_goal(value, path, clients, asked):
-    table = Section(value, path, "client at_least exactly".split())
-    client = table.read("client", reference(clients))
-    least, exact = table.read("at_least", height, None), table.read("exactly", height, None)
-    need((least is None) != (exact is None), 1021, path)
-    need(client not in asked, 1021, path)
-    asked[client] = ("exactly", exact) if least is None else ("at_least", least)
-
-
-def read_script(source):
-    """(chains, clients by id, turns); a turn is (from, until, asked goals by client, events)."""
-    top = Section(parse(source), "", "version chain client path turn".split())
-    top.read("version", number(1, 1, 1005))
-    entries = [top.read(key, array(most), []) for key, most in
-               (("chain", MAX_CHAINS), ("client", MAX_CLIENTS), ("path", MAX_PATHS), ("turn", MAX_TURNS))]
-    chains, clients, turns = [], {}, []
-    for i, value in enumerate(entries[0]):
-        chains.append(Section(value, f"chain[{i}]", ["id"]).read("id", new_identifier(chains)))
-    for i, value in enumerate(entries[1]):
-        client = read_client(value, f"client[{i}]", chains, clients)
-        clients[client.id] = client
-    names = {chain: {} for chain in chains}
-    room = MAX_ENTRIES
-    for i, value in enumerate(entries[3]):
-        path = f"turn[{i}]"
-        table = Section(value, path, "from until goal event".split())
-        begin, end = table.read("from", moment), table.read("until", moment)
-        goals, events = table.read("goal", array(None), []), table.read("event", array(None), [])
-        need(len(goals) + len(events) <= room, 1018, path)
-        need(begin <= end, 1023, path)
-        room -= len(goals) + len(events)
-        asked = {}
-        for k, entry in enumerate(goals):
-            read_goal(entry, f"{path}.goal[{k}]", clients, asked)
-        seen = [read_event(entry, f"{path}.event[{k}]", chains, clients, names) for k, entry in enumerate(events)]
-        turns.append((begin, end, asked, seen))
-    return chains, clients, turns
 
 
 # ---- books
@@ -507,13 +160,19 @@ def all_lists(view, goal):
     return labels, least
 
 
-def by_labels(view, goal):
-    """The same by the least pair of each height, upwards, and a walk back."""
+def labels_of(view):
+    """The least pair of fee and number of updates of each height, upwards."""
     labels = {h: (0, 0) for h in view.live}
     for h, trusted in view.steps.items():
         sums = [(labels[t][0] + view.fee(t, h), labels[t][1] + 1) for t in trusted if t in labels]
         if sums and h not in labels:
             labels[h] = min(sums)
+    return labels
+
+
+def by_labels(view, goal):
+    """The same as of all lists by the labels, and a walk back."""
+    labels = labels_of(view)
     reached = [(labels[h], h) for h in labels if wants(goal, h)]
     if not reached:
         return labels, None
@@ -556,117 +215,348 @@ def least_cut(gas, limit):
     return runs, None
 
 
+# ---- packets
+
+
+class Packet:
+    """A packet as it was sent, where it was seen, and what of its messages was taken."""
+
+    def __init__(self, block, timeout_height, timeout_time):
+        self.block, self.timeout_height, self.timeout_time = block, timeout_height, timeout_time
+        self.received = self.written = None
+        self.seen_cleared = self.receive_settled = self.end_settled = False
+
+    def is_finished(self):
+        return self.received is not None or self.seen_cleared or self.receive_settled
+
+    def is_cleared(self):
+        return self.seen_cleared or self.end_settled
+
+    def timeouts(self, times):
+        """The heights of the destination that prove that it expired: `times` are the times of its records by height."""
+        found = []
+        if times and self.timeout_height and max(times) >= self.timeout_height:
+            found.append(self.timeout_height)
+        if times and self.timeout_time and times[max(times)] >= self.timeout_time:
+            found.append(min(h for h in times if times[h] >= self.timeout_time))
+        return found
+
+
+class Channel:
+    """What is known of a path: its packets by sequence, and whether it is closed."""
+
+    def __init__(self, path):
+        self.path, self.packets, self.closed = path, {}, False
+
+    def sent(self, seq, block, timeout_height, timeout_time):
+        if seq < self.path.first:
+            raise Refused(805)
+        if seq in self.packets:
+            raise Refused(804)
+        if len(self.packets) >= MAX_PACKETS:
+            raise Refused(406)
+        self.packets[seq] = Packet(block, timeout_height, timeout_time)
+
+    def known(self, seq):
+        if seq not in self.packets:
+            raise Refused(805)
+        return self.packets[seq]
+
+    def received(self, seq, block):
+        packet = self.known(seq)
+        if self.path.order == "ordered" and self.least(Packet.is_finished) < seq:
+            raise Refused(805)
+        if packet.received is not None:
+            raise Refused(804)
+        packet.received = block
+
+    def ack(self, seq, block):
+        packet = self.known(seq)
+        if packet.received is None or block < packet.received:
+            raise Refused(805)
+        if packet.written is not None:
+            raise Refused(804)
+        packet.written = block
+
+    def cleared(self, seq):
+        packet = self.known(seq)
+        if packet.is_cleared():
+            raise Refused(804)
+        packet.seen_cleared = True
+
+    def close(self):
+        if self.closed:
+            raise Refused(804)
+        self.closed = True
+
+    def least(self, is_done):
+        """The least sequence from the first on whose packet isn't done."""
+        seq = self.path.first
+        while seq in self.packets and is_done(self.packets[seq]):
+            seq += 1
+        return seq
+
+    def settled(self, kind, seq):
+        """Takes in that a message of this kind was taken."""
+        if kind == "recv":
+            self.packets[seq].receive_settled = True
+        else:
+            self.packets[seq].end_settled = True
+        if kind == "timeout" and self.path.order == "ordered":
+            self.closed = True
+
+    def table(self, times):
+        """The messages that the packets want, by kind: the floor of each by its sequence."""
+        found = {"recv": {}, "ack": {}, "timeout": {}}
+        for seq, packet in sorted(self.packets.items()):
+            expired = packet.timeouts(times)
+            if packet.written is not None and not packet.is_cleared():
+                found["ack"][seq] = packet.written + 1
+            if packet.is_finished() or packet.is_cleared():
+                continue
+            if expired:
+                found["timeout"][seq] = min(expired)
+            else:
+                found["recv"][seq] = packet.block + 1
+        return found
+
+    def owed(self, times):
+        """The messages that are owed: kind, sequence and floor."""
+        if self.closed:
+            return []
+        table = self.table(times)
+        if self.path.order == "ordered":
+            table["recv"] = run_from(self.least(Packet.is_finished), table["recv"])
+            table["ack"] = run_from(self.least(Packet.is_cleared), table["ack"])
+            first = self.least(Packet.is_finished)
+            table["timeout"] = {first: table["timeout"][first]} if first in table["timeout"] else {}
+        return [(kind, seq, table[kind][seq]) for kind in ("recv", "ack", "timeout") for seq in sorted(table[kind])]
+
+    def ready(self, times, reach):
+        """The owed messages that a greatest labelled height lets go out; in a run of an ordered path none after one that has to wait."""
+        found, waiting = [], set()
+        for kind, seq, floor in self.owed(times):
+            if reach is None or floor > reach:
+                waiting.add(kind)
+            elif self.path.order == "unordered" or kind not in waiting:
+                found.append((kind, seq, floor))
+        return found
+
+
+def run_from(seq, floors):
+    """Of floors by sequence those of consecutive sequences from this one on."""
+    found = {}
+    while seq in floors:
+        found[seq] = floors[seq]
+        seq += 1
+    return found
+
+
 # ---- turns and reports
 
 
-def goal_of(client, asked, book, stored, end):
-    if client.id in asked:
-        return asked[client.id]
-    if client.refresh and stored and end >= book.records[max(stored)][0] + client.refresh:
-        fresh = [h for h in sorted(book.records) if book.records[h][0] + client.refresh > end]
-        if fresh:
-            return "at_least", fresh[0]
-    return None
+class Batch:
+    """A batch that is open: its number, how many transactions it has, and in each the updates and messages."""
+
+    def __init__(self, number, transactions):
+        self.number, self.transactions = number, transactions
 
 
-def phase(script, place):
-    """The refusals of a turn's events, and for each client its goal and view in the turn's plan phase."""
-    chains, clients, turns = script
-    books = {chain: Book() for chain in chains}
-    stored = {client: set() for client in clients}
-    begin, end, asked, events = turns[place]
-    refused = []
-    for i, event in enumerate(events):
-        try:
-            if event[0] == "set":
-                books[event[1]].add_set(event[2])
-            elif event[0] == "header":
-                books[event[1]].add_header(*event[2:])
+class Relayer:
+    """What is known after some events, and what was sent."""
+
+    def __init__(self, script):
+        self.script = script
+        self.books = {chain: Book() for chain in script.chains}
+        self.stored = {client: set() for client in script.clients}
+        self.channels = {name: Channel(path) for name, path in script.paths.items()}
+        self.window, self.asked = None, {}
+        self.batches = {client: 0 for client in script.clients}  # how many were opened
+        self.open = {}  # the open batch of a client
+
+    # what happens: each call is an event, or is refused and changes nothing
+
+    def enter(self, begin, end):
+        if self.window and (begin < self.window[0] or end < self.window[1]):
+            raise Refused(806)
+        self.window = begin, end
+
+    def see(self, kind, name, *rest):
+        if kind == "set":
+            self.books[name].add_set(*rest)
+        elif kind == "header":
+            self.books[name].add_header(*rest)
+        elif kind == "stored":
+            self.books[self.script.clients[name].of].add_record(*rest)
+            self.stored[name].add(rest[0])
+        elif kind == "closed":
+            self.channels[name].close()
+        else:
+            getattr(self.channels[name], kind)(*rest)
+
+    def settle(self, client, number, done):
+        batch = self.open.get(client)
+        if number <= self.batches[client] and not (batch and batch.number == number):
+            raise Refused(804)
+        if not batch or batch.number != number or done > len(batch.transactions):
+            raise Refused(805)
+        del self.open[client]
+        for message in [m for transaction in batch.transactions[:done] for m in transaction]:
+            if message[0] == "update":
+                self.stored[client].add(message[1])
             else:
-                books[clients[event[1]].of].add_record(event[2], event[3])
-                stored[event[1]].add(event[2])
+                kind, path, seq = message
+                self.channels[path].settled(kind, seq)
+
+    # what is planned
+
+    def view(self, client):
+        return View(self.books[client.of], client, self.stored[client.id], *self.window)
+
+    def ready(self, client, reach):
+        """The client's ready messages, path by path: kind, path, sequence and floor."""
+        found = []
+        for name, channel in self.channels.items():
+            times = {h: record[0] for h, record in self.books[channel.path.dest].records.items()}
+            for kind, seq, floor in channel.ready(times, reach):
+                if (channel.path.forward if kind == "recv" else channel.path.back) == client.id:
+                    found.append((kind, name, seq, floor))
+        return found
+
+    def due(self, client):
+        """The height that a refresh has to reach, if it is time for one."""
+        stored, times = self.stored[client.id], {h: record[0] for h, record in self.books[client.of].records.items()}
+        if not client.refresh or not stored or self.window[1] < times[max(stored)] + client.refresh:
+            return None
+        return min((h for h in times if times[h] + client.refresh > self.window[1]), default=None)
+
+    def goal(self, client, labels):
+        """The client's goal, if it has one, and the messages that go with it."""
+        ready = self.ready(client, max(labels, default=None))
+        if client.id in self.asked:
+            return self.asked[client.id], []
+        if ready:
+            return ("at_least", max(floor for *_, floor in ready)), [message[:3] for message in ready]
+        due = self.due(client)
+        return (("at_least", due) if due else None), []
+
+    def take_in(self, turn):
+        """A turn's window, goals and observations; the lines of those that are refused."""
+        lines = []
+        try:
+            self.enter(turn.begin, turn.end)
         except Refused as refusal:
-            refused.append((i, refusal.args[0]))
-    found = []
-    for client in clients.values():
-        goal = goal_of(client, asked, books[client.of], stored[client.id], end)
-        found.append((client, goal, View(books[client.of], client, stored[client.id], begin, end) if goal else None))
-    return refused, found
+            lines.append(refused_line("window", refusal))
+        self.asked |= turn.asked
+        for i, event in enumerate(turn.events):
+            try:
+                self.see(*event)
+            except Refused as refusal:
+                lines.append(refused_line(f"event {i}", refusal))
+        return lines
+
+    def send(self, client, view, updates, messages):
+        """Opens the batch of these, if there is one; the lines on it."""
+        script = self.script
+        gas = [view.gas(t, h) for t, h in updates]
+        gas += [script.paths[path].gas[("recv", "ack", "timeout").index(kind)] for kind, path, _ in messages]
+        if not gas:
+            return []
+        runs, big = least_cut(gas, client.limits)
+        if runs is None:
+            return [f"toobig {big}"]
+        sent = [("update", h) for _, h in updates] + messages
+        self.batches[client.id] += 1
+        number = self.batches[client.id]
+        self.open[client.id] = Batch(number, [sent[first:first + count] for first, count in runs])
+        lines = [f"batch {number} proof {max(view.live | {h for _, h in updates})}"]
+        for n, (first, count) in enumerate(runs):
+            lines.append(f"tx {n + 1} first {first} count {count} gas {sum(gas[first:first + count]) + client.limits[2]}")
+        return lines
+
+    def plan(self, client):
+        """A client's lines."""
+        if client.id in self.open:
+            return [f"client {client.id} held {self.open[client.id].number}"]
+        view = self.view(client)
+        goal, messages = self.goal(client, labels_of(view))
+        self.asked.pop(client.id, None)
+        if goal is None:
+            return [f"client {client.id} idle"]
+        labels, updates = plan(view, goal)
+        lines = [f"client {client.id} goal {goal[0]} {goal[1]}"]
+        lines += [f"label {h} {labels[h][0]} {labels[h][1]}" for h in sorted(labels)]
+        if updates is None:
+            return lines + ["unreachable"]
+        lines += [f"update {h} from {t} fee {view.fee(t, h)}" for t, h in updates]
+        lines.append(f"total {sum(view.fee(t, h) for t, h in updates)} updates {len(updates)}")
+        lines += [f"{kind} {path} {seq}" for kind, path, seq in messages]
+        return lines + self.send(client, view, updates, messages)
+
+    def settle_all(self, settlements):
+        lines = []
+        for i, (client, number, done) in enumerate(settlements):
+            try:
+                self.settle(client, number, done)
+                lines.append(f"settled {client} {number} {done}")
+            except Refused as refusal:
+                lines.append(refused_line(f"settle {i}", refusal))
+        return lines
+
+    def turn(self, turn):
+        lines = self.take_in(turn)
+        for client in self.script.clients.values():
+            lines += self.plan(client)
+        return lines + self.settle_all(turn.settlements)
+
+
+def refused_line(what, refusal):
+    return f"refused {what} {refusal.args[0]} {NAMES[refusal.args[0]]}"
 
 
 def report(script):
-    lines = ["ibcplan 1"]
-    for place in range(len(script[2])):
-        refused, found = phase(script, place)
-        lines.append(f"turn {place + 1}")
-        lines += [f"refused event {i} {n} {NAMES[n]}" for i, n in refused]
-        for client, goal, view in found:
-            if goal is None:
-                lines.append(f"client {client.id} idle")
-                continue
-            lines.append(f"client {client.id} goal {goal[0]} {goal[1]}")
-            labels, updates = plan(view, goal)
-            lines += [f"label {h} {labels[h][0]} {labels[h][1]}" for h in sorted(labels)]
-            if updates is None:
-                lines.append("unreachable")
-                continue
-            lines += [f"update {h} from {t} fee {view.fee(t, h)}" for t, h in updates]
-            lines.append(f"total {sum(view.fee(t, h) for t, h in updates)} updates {len(updates)}")
-            if not updates:
-                continue
-            gas = [view.gas(t, h) for t, h in updates]
-            runs, big = least_cut(gas, client.limits)
-            if runs is None:
-                lines.append(f"toobig {big}")
-                continue
-            lines.append(f"batch 1 proof {max(view.live | {h for _, h in updates})}")
-            for n, (first, count) in enumerate(runs):
-                cost = sum(gas[first:first + count]) + client.limits[2]
-                lines.append(f"tx {n + 1} first {first} count {count} gas {cost}")
+    relayer, lines = Relayer(script), ["ibcplan 1"]
+    for number, turn in enumerate(script.turns, 1):
+        lines += [f"turn {number}", *relayer.turn(turn)]
     return "\n".join(lines + ["end", ""])
+
+
+def planned(script, place):
+    """Of each client that is planned in a turn its id, and its goal and view."""
+    relayer = Relayer(script)
+    for turn in script.turns[:place]:
+        relayer.turn(turn)
+    relayer.take_in(script.turns[place])
+    found = {}
+    for client in script.clients.values():
+        view = relayer.view(client)
+        goal, _ = relayer.goal(client, labels_of(view))
+        if goal and client.id not in relayer.open:
+            found[client.id] = goal, view
+    return found
 
 
 # ---- certificates
 
 
-def certificate(script):
-    """The certificate of the first client with a goal in the first turn."""
-    client, goal, view = next(entry for entry in phase(script, 0)[1] if entry[1])
-    labels, updates = plan(view, goal)
+def certificates(script):
+    """The certificates of all that is planned: turn, client and text."""
+    for place in range(len(script.turns)):
+        for client, (goal, view) in planned(script, place).items():
+            yield place + 1, client, certificate_text(place + 1, client, *plan(view, goal))
+
+
+def certificate_text(turn, client, labels, updates):
     rows = [f"  [{h}, {labels[h][0]}, {labels[h][1]}]," for h in sorted(labels)]
     pairs = ", ".join(f"[{h}, {t}]" for t, h in updates or [])
     answer = "unreachable" if updates is None else "plan"
-    lines = ["version = 1", "turn = 1", f'client = "{client.id}"', f'answer = "{answer}"']
+    lines = ["version = 1", f"turn = {turn}", f'client = "{client}"', f'answer = "{answer}"']
     return "\n".join(lines + ([f"updates = [{pairs}]"] if updates else []) + ["labels = [", *rows, "]", ""])
 
 
-def read_certificate(source):
-    top = Section(parse(source), "", "version turn client answer updates labels".split())
-    top.read("version", number(1, 1, 1005))
-    turn = top.read("turn", height)
-    client = top.read("client", identifier)
-
-    def answer_of(value, path):
-        need(text(value, path) in ("plan", "unreachable"), 1027, path)
-        return value
-
-    def rows(count, *ranges):
-        def read(value, path):
-            return [numbers(count, *ranges)(row, f"{path}[{i}]") for i, row in enumerate(typed(value, list, path))]
-
-        return read
-
-    def labels_of(value, path):
-        found = rows(3, (1, MAX_NUMBER, 1006), (0, MAX_NUMBER, 1006))(value, path)
-        for i in range(1, len(found)):
-            need(found[i - 1][0] < found[i][0], 1029, f"{path}[{i}]")
-        return found
-
-    answer = top.read("answer", answer_of)
-    updates = top.read("updates", rows(2, (1, MAX_NUMBER, 1006)), [])
-    labels = top.read("labels", labels_of)
-    need(answer == "plan" or not updates, 1027, "answer")
-    return turn, client, answer, [(t, h) for h, t in updates], {h: (fee, count) for h, fee, count in labels}
+def certificate(script):
+    """The certificate of the first client with a goal."""
+    return next(text for _, _, text in certificates(script))
 
 
 def first_reason(view, goal, answer, updates, labels):
@@ -707,12 +597,22 @@ def first_reason(view, goal, answer, updates, labels):
 
 def certify(script, source):
     turn, client, answer, updates, labels = read_certificate(source)
-    need(turn <= len(script[2]), 1026, "turn")
-    need(client in script[1], 1009, "client")
-    found = {entry[0].id: entry for entry in phase(script, turn - 1)[1]}[client]
-    need(found[1], 1028, "client")
-    reason = first_reason(found[2], found[1], answer, updates, labels)
+    need(turn <= len(script.turns), 1026, "turn")
+    need(client in script.clients, 1009, "client")
+    found = planned(script, turn - 1)
+    need(client in found, 1028, "client")
+    goal, view = found[client]
+    reason = first_reason(view, goal, answer, updates, labels)
     return "yes" if reason is None else " ".join(["no", str(reason[0]), NAMES[reason[0]], *map(str, reason[1:])])
+
+
+def script_to_run(source):
+    """A script, if the program runs it so far: paths and settlements come later."""
+    script = read_script(source)
+    need(not script.paths, 1017, "path")
+    for i, turn in enumerate(script.turns):
+        need(not turn.settlements, 1017, f"turn[{i}].settle")
+    return script
 
 
 def read_file(name):
@@ -726,11 +626,13 @@ def main():
     words = sys.argv[1:]
     try:
         if words[:1] == ["plan"] and len(words) == 2:
+            sys.stdout.write(report(script_to_run(read_file(words[1]))))
+        elif words[:1] == ["whole"] and len(words) == 2:
             sys.stdout.write(report(read_script(read_file(words[1]))))
         elif words[:1] == ["certificate"] and len(words) == 2:
-            sys.stdout.write(certificate(read_script(read_file(words[1]))))
+            sys.stdout.write(certificate(script_to_run(read_file(words[1]))))
         elif words[:1] == ["certify"] and len(words) == 3:
-            verdict = certify(read_script(read_file(words[1])), read_file(words[2]))
+            verdict = certify(script_to_run(read_file(words[1])), read_file(words[2]))
             print(verdict)
             sys.exit(0 if verdict == "yes" else 3)
         else:

@@ -93,6 +93,8 @@ def put(path, new):
 SIGNED, HEADER, COMMIT = "result.signed_header", "result.signed_header.header", "result.signed_header.commit"
 SIGNATURE, FIRST = f"{COMMIT}.signatures[0]", "result.validators[0]"
 STATE, CONSENSUS, TX, PACKET = "client_state", "consensus_states[0]", "result.txs[0]", "result.txs[0].tx_result.events[1].attributes"
+COMMIT_FILE, PAGE_FILE, STATE_FILE, STORED_FILE = "hub-4/commit-80.json", "hub-4/validators-80-1.json", "hub-on-zone/client_state.json", "hub-on-zone/consensus_states.json"
+SENT_FILE, RECEIVED_FILE = "transfers/sent.json", "transfers/received.json"
 BIG, LONG = "9223372036854775808", "9223372037s"
 # by file the fields that are needed: where they stand, how a flaw names them (None: as they stand), and what is out of their range
 FIELDS = {
@@ -129,6 +131,40 @@ FIELDS = {
 }
 # file, edit of its value, and the line that tells it (None: it is taken)
 DAMAGES = [
+    # what an answer is known by, and objects inside
+    (COMMIT_FILE, put("result", True), "UnknownShape at -"),
+    (COMMIT_FILE, put(SIGNED, True), f"WrongType at {SIGNED}"),
+    (COMMIT_FILE, put(f"{COMMIT}.signatures[0]", True), f"MissingField at {SIGNATURE}.block_id_flag"),
+    (COMMIT_FILE, put(f"{SIGNATURE}.block_id_flag", -1), f"WrongType at {SIGNATURE}.block_id_flag"),
+    (PAGE_FILE, gone("result.validators"), "UnknownShape at -"),
+    (PAGE_FILE, put("result.validators", True), "WrongType at result.validators"),
+    (PAGE_FILE, gone(f"{FIRST}.pub_key"), f"MissingField at {FIRST}.pub_key"),
+    (PAGE_FILE, put(f"{FIRST}.pub_key", True), f"MissingField at {FIRST}.type"),
+    (STATE_FILE, gone(STATE), "UnknownShape at -"),
+    (STATE_FILE, put(STATE, True), f"WrongType at {STATE}"),
+    (STORED_FILE, gone("consensus_states"), "UnknownShape at -"),
+    (STORED_FILE, put("consensus_states", True), "WrongType at consensus_states"),
+    (STORED_FILE, gone(f"{CONSENSUS}.height"), f"MissingField at {CONSENSUS}.height"),
+    (STORED_FILE, put(f"{CONSENSUS}.height", True), f"MissingField at {CONSENSUS}.revision_number"),
+    (STORED_FILE, gone(f"{CONSENSUS}.consensus_state"), f"MissingField at {CONSENSUS}.consensus_state"),
+    (STORED_FILE, put(f"{CONSENSUS}.consensus_state", True), f"MissingField at {CONSENSUS}.timestamp"),
+    (STORED_FILE, gone(f"{CONSENSUS}.consensus_state.root"), f"MissingField at {CONSENSUS}.root"),
+    (STORED_FILE, put(f"{CONSENSUS}.consensus_state.root", True), f"MissingField at {CONSENSUS}.hash"),
+    (STORED_FILE, gone("pagination.next_key"), "MissingField at pagination.next_key"),
+    (RECEIVED_FILE, gone("result.txs"), "UnknownShape at -"),
+    (RECEIVED_FILE, put("result.txs", True), "WrongType at result.txs"),
+    (RECEIVED_FILE, gone(f"{TX}.tx_result"), f"MissingField at {TX}.tx_result"),
+    (RECEIVED_FILE, put(f"{TX}.tx_result", True), f"MissingField at {TX}.code"),
+    (RECEIVED_FILE, put(f"{TX}.tx_result.code", -1), f"WrongType at {TX}.code"),
+    (RECEIVED_FILE, gone(f"{PACKET}[4]"), f"MissingField at {TX}.packet_src_port"),
+    (RECEIVED_FILE, gone(f"{PACKET}[5]"), f"MissingField at {TX}.packet_src_channel"),
+    (RECEIVED_FILE, put(f"{PACKET}[3].value", 2), f"MissingField at {TX}.packet_sequence"),
+    (SENT_FILE, gone(f"{PACKET}[1]"), f"MissingField at {TX}.packet_timeout_height"),
+    (SENT_FILE, gone(f"{PACKET}[2]"), f"MissingField at {TX}.packet_timeout_timestamp"),
+    (SENT_FILE, put(f"{PACKET}[1]", {"key": "packet_timeout_height", "value": "1/4000"}), f"BadNumber at {TX}.packet_timeout_height"),
+    (SENT_FILE, put(f"{PACKET}[2]", {"key": "packet_timeout_timestamp", "value": "18446744073709551616"}), f"BadNumber at {TX}.packet_timeout_timestamp"),
+    (SENT_FILE, put(f"{PACKET}[1]", {"key": "packet_timeout_height", "value": "2-4000"}), "OtherRevision at transfers 1"),
+    # what doesn't fit
     ("hub-4/commit-80.json", gone("result"), "UnknownShape at -"),
     ("hub-4/commit-80.json", gone(SIGNED), "UnknownShape at -"),
     ("hub-4/commit-80.json", put("error", {"code": -32603, "message": "height 80 is not available"}), "NodeError at -"),
@@ -184,7 +220,6 @@ def edited(file, edit):
     return change
 
 
-COMMIT_FILE, PAGE_FILE, STATE_FILE = "hub-4/commit-80.json", "hub-4/validators-80-1.json", "hub-on-zone/client_state.json"
 # changes of the folder, the line that tells them, the status, and the files that are named
 CHANGES = [
     (written(COMMIT_FILE, "{"), "refused NotJson at -", 1, [COMMIT_FILE]),
@@ -207,6 +242,14 @@ CHANGES = [
 ]
 
 
+def files_of(file, line):
+    """The files that a refusal of a spoiled file names: of a header and its set both, of a page that isn't there none."""
+    name = line.split()[0]
+    if name in ("OtherSet", "OtherSigner", "SignatureCount"):
+        return [COMMIT_FILE, PAGE_FILE]
+    return [] if name == "MissingConsensusStates" else [file]
+
+
 def changes():
     """The changes of a folder that make it refused: the line that tells them, the status, and the files that are named."""
     for file, fields in FIELDS.items():
@@ -217,7 +260,7 @@ def changes():
                 yield edited(file, put(path, bad)), f"refused {name} at {told or path}", 1, [file]
     for file, edit, line in DAMAGES:
         if line:
-            yield edited(file, edit), f"refused {line}", 1, [] if "MissingConsensusStates" in line else [file]
+            yield edited(file, edit), f"refused {line}", 1, files_of(file, line)
     yield from CHANGES
 
 

@@ -21,10 +21,14 @@ def value_of(report):
             turns.append({"window_back": False, "refused": [], "clients": []})
         elif kind == "refused" and words[0] == "event":
             turns[-1]["refused"].append({"event": int(words[1]), "number": int(words[2]), "name": words[3]})
+        elif kind == "refused" and words[0] == "window":
+            turns[-1]["window_back"] = True
         elif kind == "client":
             client = {"id": words[0], "outcome": words[1]}
             if words[1] == "goal":
                 client |= {"outcome": "unreachable", "goal": {words[2]: int(words[3])}, "labels": []}
+            elif words[1] == "held":
+                client["batch"] = int(words[2])
             turns[-1]["clients"].append(client)
         elif kind in KEYS:
             key, names = KEYS[kind]
@@ -52,6 +56,9 @@ def commands_of(script, value):
     for number, turn in enumerate(value["turns"], 1):
         for client in turn["clients"]:
             head = f"# turn {number} client {client['id']}: "
+            if client["outcome"] == "held":
+                lines.append(f"{head}held by batch {client['batch']}")
+                continue
             if client["outcome"] != "plan":
                 lines.append(head + client["outcome"])
                 continue

@@ -1,8 +1,10 @@
-//! Tables by many threads: equal for every number of workers, and by two threads at once.
+//! Tables by many threads: equal for every number of workers, by two threads at once, and an error
+//! where a growth is refused.
 ghost use Rattle.std.specs.Prelude.{◌<◌, ◌≤◌, All, IfOk};
 ghost use Rattle.rb_graph.specs.Frame.{IsRowOf};
 
 use crate::make::{assert_same, height, make_set, second};
+use rb_base::refusing::Refusing;
 use rb_book::{ChainBook, Header, Record, Vote};
 use rb_gang::laws::count;
 use rb_gang::{Gate, OpenGate, Place, build, make_rows, open};
@@ -286,5 +288,80 @@ fn rows_of_another_book_are_told(rt: HostRuntime) -> Result<(), Fail> {
         assert!(rt; row.is_of(&other) == (row.number() < 2));
         assert!(rt; !row.is_of(&empty));
     }
+    Ok(())
+}
+
+/// A build over an allocator that refuses one growth.
+#[derive(Clone, Copy, Debug, PartialEq, Eq)]
+struct Trial {
+    /// Whether it answered a table, which was the book's.
+    is_built: bool,
+    /// Whether the growth was asked for.
+    is_refused: bool,
+    /// The growths of the book, and those of book and build.
+    earlier: u64,
+    growths: u64,
+}
+
+/// Builds the table of ten headers by so many workers.
+fn build_on<R: Threads + Sync + Abort>(
+    rt: &R,
+    alloc: Global,
+    workers: usize,
+    refused: u64,
+) -> Result<Trial, Fail>
+    requires { (0 < workers) × (workers ≤ 64) }
+{
+    let heap = Refusing::new(alloc, refused);
+    let book = make_book(&heap, 10)?;
+    let same = book.copy()?;
+    let earlier = heap.growths();
+    let graph = build(rt, &heap, book, workers, &OpenGate);
+    if let Ok(graph) = &graph {
+        assert!(rt; graph.is_of(&same));
+    }
+    Ok(Trial {
+        is_built: graph.is_ok(),
+        is_refused: heap.has_refused(),
+        earlier,
+        growths: heap.growths(),
+    })
+}
+
+/// Refuses each growth of a build in turn: an error, or the table where it wasn't asked for or is
+/// asked for again. Answers how many errors there were, and how many tables that took no more growths
+/// than where none was refused.
+fn refuse_each<R: Threads + Sync + Abort>(
+    rt: &R,
+    alloc: Global,
+    workers: usize,
+) -> Result<(u64, u64), Fail>
+    requires { (0 < workers) × (workers ≤ 64) }
+{
+    let whole = build_on(rt, alloc, workers, 0)?;
+    assert!(rt; whole.is_built);
+    let mut errors: u64 = 0;
+    let mut unexplained: u64 = 0;
+    for before in whole.earlier..whole.growths {
+        let made = build_on(rt, alloc, workers, before.saturating_add(1))?;
+        assert!(rt; made.is_built || made.is_refused);
+        if !made.is_built {
+            errors = errors.saturating_add(1);
+        } else if made.growths <= whole.growths {
+            unexplained = unexplained.saturating_add(1);
+        }
+    }
+    Ok((errors, unexplained))
+}
+
+/// One worker alone survives a refusal only where it asks again. How often the lists of two workers'
+/// rows grow depends on who draws what; frame, rows and table ask for more than twenty growths in
+/// every order.
+#[test]
+fn each_refused_growth_is_an_error(rt: HostRuntime) -> Result<(), Fail> {
+    let (errors, unexplained) = refuse_each(&rt, rt.alloc(), 1)?;
+    assert!(rt; errors > 20 && unexplained == 0);
+    let (errors, _) = refuse_each(&rt, rt.alloc(), 2)?;
+    assert!(rt; errors > 20);
     Ok(())
 }

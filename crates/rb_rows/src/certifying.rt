@@ -1,3 +1,4 @@
+use crate::planning::{EARLY_TURN, HELD_IN_THE_SECOND, LAST};
 use crate::scripts::{Base, GOAL, edited, joined};
 use rb_base::Counted;
 use rb_text::certify_over;
@@ -7,6 +8,13 @@ use std::test::Fail;
 
 const PLAN: &str = "version = 1
 turn = 1
+client = 'c0'
+answer = 'plan'
+";
+
+/// A certificate for the second turn begins.
+const SECOND_TURN: &str = "version = 1
+turn = 2
 client = 'c0'
 answer = 'plan'
 ";
@@ -43,6 +51,14 @@ const RIGHT: &[Row] = &[
         Base::Detour,
         &[],
         &[PLAN, UPDATES, LABELS],
+        "yes\ntrue",
+    ),
+    // The goal of the second turn.
+    (
+        "honest_second_turn",
+        Base::OneStep,
+        &[("[[turn]]", EARLY_TURN)],
+        &[SECOND_TURN, "updates = [[10, 1]]\n", TEN_LABELS],
         "yes\ntrue",
     ),
     // The stored height meets the goal.
@@ -407,6 +423,25 @@ const FAULTS: &[Row] = &[
         &[(GOAL, "")],
         &[PLAN, "updates = [[10, 1]]\n", TEN_LABELS],
         "fault 1028 NoGoal at client",
+    ),
+    // A batch of the client is open in that turn.
+    (
+        "held",
+        Base::OneStep,
+        &[(LAST, HELD_IN_THE_SECOND)],
+        &[SECOND_TURN, "updates = [[10, 1]]\n", TEN_LABELS],
+        "fault 1028 NoGoal at client",
+    ),
+    // No settlement is the limit of this stage; the script's fault comes first.
+    (
+        "settled",
+        Base::OneStep,
+        &[(
+            "[[turn]]",
+            "[[turn]]\nsettle = [{ client = 'c0', batch = 1, done = 1 }]",
+        )],
+        &["version = 9"],
+        "fault 1017 TooManyObjects at turn[0].settle",
     ),
     // Labels are needed.
     (

@@ -10,6 +10,47 @@ const ROWS: &[(&str, Base, &[(&str, &str)], &str)] = &[
     (
         "a_path",
         Base::OneStep,
+        &[("[[turn]]", A_PATH)],
+        "1017 TooManyObjects at path",
+    ),
+    // Nothing is settled in this stage.
+    (
+        "settle",
+        Base::OneStep,
+        &[(
+            "until = '1970-01-01T00:03:20Z'",
+            "until = '1970-01-01T00:03:20Z'\nsettle = [{ client = 'c0', batch = 1, done = 1 }]",
+        )],
+        "1017 TooManyObjects at turn[0].settle",
+    ),
+    // A path comes before a settlement.
+    (
+        "a_path, and a settlement in the second turn",
+        Base::OneStep,
+        &[("[[turn]]", A_PATH), ("[[turn]]", SETTLED_LATER)],
+        "1017 TooManyObjects at path",
+    ),
+    // The second turn settles something.
+    (
+        "settled later",
+        Base::OneStep,
+        &[("[[turn]]", SETTLED_LATER)],
+        "1017 TooManyObjects at turn[1].settle",
+    ),
+    // All other faults come before those.
+    (
+        "a_path, and an unknown set",
+        Base::OneStep,
+        &[
+            ("[[turn]]", A_PATH),
+            ("next = 'A', votes", "next = 'B', votes"),
+        ],
+        "1019 UnknownSetName at turn[0].event[2].next",
+    ),
+    // A path leads from a chain.
+    (
+        "path_without_source",
+        Base::OneStep,
         &[(
             "limits = [100000, 100, 0]",
             "limits = [100000, 100, 0]
@@ -17,14 +58,21 @@ const ROWS: &[(&str, Base, &[(&str, &str)], &str)] = &[
 [[path]]
 id = 'p0'",
         )],
-        "1017 TooManyObjects at path",
+        "1002 MissingKey at path[0].source",
     ),
-    // Packets are of a later stage.
+    // No event is of this kind.
     (
         "another_kind",
         Base::OneStep,
-        &[("kind = 'stored'", "kind = 'sent'")],
+        &[("kind = 'stored'", "kind = 'seen'")],
         "1013 BadKind at turn[0].event[1].kind",
+    ),
+    // A packet that was sent has keys of its own.
+    (
+        "sent_with_other_keys",
+        Base::OneStep,
+        &[("kind = 'stored'", "kind = 'sent'")],
+        "1003 UnknownKey at turn[0].event[1].client",
     ),
     // Votes are C, N, A and B.
     (
@@ -137,6 +185,10 @@ id = 'p0'",
         &[("id = 'c0'", "id = 'c 0'")],
         "1007 BadIdentifier at client[0].id",
     ),
+];
+
+/// The same of later tables and of events.
+const LATER_ROWS: &[(&str, Base, &[(&str, &str)], &str)] = &[
     // A reference that is no identifier.
     (
         "ill_formed_reference",
@@ -218,16 +270,6 @@ id = 'p0'",
         )],
         "1020 DuplicateSetName at turn[0].event[1].name",
     ),
-    // Settlements are of a later stage.
-    (
-        "settle",
-        Base::OneStep,
-        &[(
-            "until = '1970-01-01T00:03:20Z'",
-            "until = '1970-01-01T00:03:20Z'\nsettle = []",
-        )],
-        "1003 UnknownKey at turn[0].settle",
-    ),
     // More than 32 characters are a hash, which has 64 digits.
     (
         "short_hash",
@@ -308,26 +350,6 @@ id = 'p0'",
         )],
         "1031 BadTrust at client[0].trust",
     ),
-    // One client is the limit of this stage.
-    (
-        "two_clients",
-        Base::OneStep,
-        &[(
-            "id = 'c0'",
-            "id = 'c0'
-host = 'beta'
-of = 'alpha'
-period_ns = 1000000000000
-drift_ns = 10000000000
-fee = [100, 1, 1]
-gas = [100, 1, 1]
-limits = [100000, 100, 0]
-
-[[client]]
-id = 'c1'",
-        )],
-        "1017 TooManyObjects at client",
-    ),
     // A goal is one height.
     (
         "two_goals_in_one",
@@ -379,14 +401,38 @@ id = 'c1'",
         )],
         "1023 BadWindow at turn[0]",
     ),
-    // One turn is the limit of this stage.
-    (
-        "two_turns",
-        Base::OneStep,
-        &[("[[turn]]", "[[turn]]\n[[turn]]")],
-        "1017 TooManyObjects at turn",
-    ),
 ];
+
+/// A path, and its client on the source.
+const A_PATH: &str = "[[client]]
+id = 'c1'
+host = 'alpha'
+of = 'beta'
+period_ns = 1000000000000
+drift_ns = 10000000000
+fee = [100, 1, 1]
+gas = [100, 1, 1]
+limits = [100000, 100, 0]
+
+[[path]]
+id = 'p0'
+source = 'alpha'
+dest = 'beta'
+order = 'unordered'
+forward = 'c0'
+back = 'c1'
+gas = [5, 5, 5]
+
+[[turn]]";
+
+/// A turn that settles nothing, and one that settles something.
+const SETTLED_LATER: &str = "[[turn]]
+from = '1970-01-01T00:03:20Z'
+until = '1970-01-01T00:03:20Z'
+settle = []
+
+[[turn]]
+settle = [{ client = 'c0', batch = 2, done = 0 }]";
 
 /// Whole texts and their first fault.
 const TEXTS: &[(&str, &str)] = &[
@@ -439,6 +485,18 @@ chain = 99999999999999999999
 fn tells_the_first_fault(rt: HostRuntime) -> Result<(), Fail> {
     let alloc = rt.alloc();
     for (name, base, edits, fault) in ROWS {
+        let script = edited(alloc, *base, edits)?;
+        let line = format!(in alloc; "fault {fault}")?;
+        let answer = answer_to(alloc, script.as_bytes())?;
+        assert_eq!(rt; answer.as_str(), line.as_str(), "{name}");
+    }
+    Ok(())
+}
+
+#[test]
+fn tells_the_first_fault_later(rt: HostRuntime) -> Result<(), Fail> {
+    let alloc = rt.alloc();
+    for (name, base, edits, fault) in LATER_ROWS {
         let script = edited(alloc, *base, edits)?;
         let line = format!(in alloc; "fault {fault}")?;
         let answer = answer_to(alloc, script.as_bytes())?;

@@ -21,6 +21,8 @@ mod headers;
 #[cfg(test)]
 mod made;
 #[cfg(test)]
+mod packets;
+#[cfg(test)]
 mod planning;
 #[cfg(test)]
 mod reading;

@@ -62,7 +62,43 @@ update 9 from 8 fee 111
 update 10 from 9 fee 111
 ";
 
-/// Scripts, as edits of one that is made of pieces, and the lines of their turn, in pieces.
+/// The last header of one step's turn, and the end of its events.
+pub const LAST: &str = "time = '1970-01-01T00:01:40Z', set = 'A', next = 'A', votes = 'CCCA' },
+]
+";
+
+/// The same, and another turn in which as much is asked.
+pub const HELD_IN_THE_SECOND: &str =
+    "time = '1970-01-01T00:01:40Z', set = 'A', next = 'A', votes = 'CCCA' },
+]
+
+[[turn]]
+from = '1970-01-01T00:03:20Z'
+until = '1970-01-01T00:03:21Z'
+goal = [{ client = 'c0', at_least = 10 }]
+";
+
+/// A turn whose window begins later than that of the turn after it.
+pub const EARLY_TURN: &str = "[[turn]]
+from = '1970-01-01T00:03:21Z'
+until = '1970-01-01T00:03:21Z'
+
+[[turn]]";
+
+/// A client beside the other.
+const OTHER_CLIENT: &str = "[[client]]
+id = 'c1'
+host = 'beta'
+of = 'alpha'
+period_ns = 1000000000000
+drift_ns = 10000000000
+fee = [200, 1, 1]
+gas = [100, 1, 1]
+limits = [100000, 100, 0]
+
+[[turn]]";
+
+/// Scripts, as edits of one that is made of pieces, and the lines of their first turn and those after it, in pieces.
 const ROWS: &[(&str, Base, &[(&str, &str)], &[&str])] = &[
     // Ten headers of one validator set, three of four members signing. Height 1 is stored and height 10 is asked
     // for: one update goes all the way.
@@ -235,6 +271,33 @@ tx 1 first 0 count 1 gas 111
             ),
         ],
         &[IDLE],
+    ),
+    // Nothing is known in the first turn, and in the second the window of the first stays.
+    (
+        "late_start",
+        Base::OneStep,
+        &[("[[turn]]", EARLY_TURN)],
+        &[
+            IDLE,
+            "turn 2\nrefused window 806 WindowBack\n",
+            ASKED,
+            LABELS,
+            PLAN,
+        ],
+    ),
+    // A second client of the same chains, of which nothing is asked.
+    (
+        "two_clients",
+        Base::OneStep,
+        &[("[[turn]]", OTHER_CLIENT)],
+        &[ASKED, LABELS, PLAN, "client c1 idle\n"],
+    ),
+    // The batch of the first turn is open in the second.
+    (
+        "two_turns",
+        Base::OneStep,
+        &[(LAST, HELD_IN_THE_SECOND)],
+        &[ASKED, LABELS, PLAN, "turn 2\nclient c0 held 1\n"],
     ),
     // The update's gas (111) is above the limit of a transaction (110).
     (
@@ -446,7 +509,7 @@ tx 1 first 0 count 2 gas 224
     ),
 ];
 
-/// The report of a turn with these lines.
+/// The report of a turn with these lines, and of the turns after it.
 pub fn report_of(alloc: Global, lines: &[&str]) -> Result<String, AllocError> {
     let lines = joined(alloc, lines)?;
     format!(in alloc; "ibcplan 1\nturn 1\n{lines}end\n")

@@ -1,8 +1,7 @@
 use rb_base::{FeeTable, Fraction, Height, Moment, Window};
 use rb_book::Vote;
-use rb_plan::Goal;
+use rb_events::{ClientConfig, Goal, Observation, Script, Turn};
 use rb_script::read_script;
-use rb_super::{ClientConfig, Observation, Script, Turn};
 use rb_valset::{Validator, ValidatorSet};
 use std::alloc::Global;
 use std::process::Abort;
@@ -69,7 +68,7 @@ fn edited(alloc: Global, old: &str, new: &str) -> Result<String, Fail> {
 const LONG_NAME: &str = "name = 'abcdefghijklmnopqrstuvwxyz0123456'";
 
 /// Words of the script, what stands in their place, and the fault.
-const FAULTS: [(&str, &str, &str); 49] = [
+const FAULTS: &[(&str, &str, &str)] = &[
     ("version = 1", "version = ", "1001 NotToml at -"),
     (
         "period_ns = 1000",
@@ -89,14 +88,9 @@ const FAULTS: [(&str, &str, &str); 49] = [
         "1003 UnknownKey at bogus",
     ),
     (
-        "version = 1",
-        "version = 1\npath = [{}]",
-        "1017 TooManyObjects at path",
-    ),
-    (
         "until = '1970-01-01T00:03:21Z'",
-        "settle = []",
-        "1003 UnknownKey at turn[0].settle",
+        "settled = []",
+        "1003 UnknownKey at turn[0].settled",
     ),
     (
         "kind = 'stored'",
@@ -201,23 +195,13 @@ const FAULTS: [(&str, &str, &str); 49] = [
     ),
     (
         "kind = 'set'",
-        "kind = 'sent'",
+        "kind = 'seen'",
         "1013 BadKind at turn[0].event[0].kind",
     ),
     (
         "host = 'beta'",
         "host = 'alpha'",
         "1015 SameChain at client[0]",
-    ),
-    (
-        "[[turn]]",
-        "[[client]]\nid = 0\n[[turn]]",
-        "1017 TooManyObjects at client",
-    ),
-    (
-        "[[turn]]",
-        "[[turn]]\n[[turn]]",
-        "1017 TooManyObjects at turn",
     ),
     (
         "next = 'A'",
@@ -298,7 +282,7 @@ const FAULTS: [(&str, &str, &str); 49] = [
 ];
 
 /// Words of the script, two faults in their place, and the one that comes first.
-const FIRST: [(&str, &str, &str); 13] = [
+const FIRST: &[(&str, &str, &str)] = &[
     // unknown keys of the whole text, before what is missing and before the elements
     (
         "version = 1",
@@ -306,9 +290,9 @@ const FIRST: [(&str, &str, &str); 13] = [
         "1003 UnknownKey at alpha",
     ),
     (
-        "id = 'alpha'",
-        "id = 'alpha'\nbogus = 1\n[[turn]]",
-        "1017 TooManyObjects at turn",
+        "version = 1\n[[chain]]\nid = 'alpha'",
+        "version = 1\npath = 5\n[[chain]]\nid = 'alpha'\nbogus = 1",
+        "1004 WrongType at path",
     ),
     // a table's keys in their order, each for its type before its own faults
     (
@@ -389,10 +373,10 @@ fn tells(
 fn tells_the_first_fault(rt: HostRuntime) -> Result<(), Fail> {
     let line = refusal(rt.alloc(), SCRIPT.as_bytes())?;
     assert_eq!(rt; line.as_str(), "accepted");
-    for row in &FAULTS {
+    for row in FAULTS {
         tells(&rt, rt.alloc(), *row)?;
     }
-    for row in &FIRST {
+    for row in FIRST {
         tells(&rt, rt.alloc(), *row)?;
     }
     Ok(())
