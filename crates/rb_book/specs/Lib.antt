@@ -1,5 +1,6 @@
 pub use Rattle.rb_valset.specs.Validator
 pub use Rattle.rb_valset.specs.ValidatorSet
+pub mod Votes
 pub mod Header
 pub mod Book
 pub mod Invariant
