@@ -1,36 +1,35 @@
 -- A script has at most one report.
 use Rattle.std.proofs.Common.{◌≡◌, ℕ, ◌+◌, ◌-◌, ◌<◌, ◌≤◌, List, [], ◌∷◌, Option, Some, None, All, MatchOption, length, map, drop, get_or, refl, sym, ap, ◌∙◌, subst, inl, inr, arith}
-use Rattle.std.specs.List.{AllZip}
+use Rattle.std.specs.List.{AllZip, enumerate_from}
+use Rattle.std.specs.Option.{option_map}
 use Rattle.std.proofs.lemmas.Bool.{cases_lt}
-use Rattle.std.proofs.lemmas.List.{get_or-take, get_or-drop, length-take, length-drop}
+use Rattle.std.proofs.lemmas.List.{get_or-take, get_or-drop, length-take, length-drop, length-append, length-map}
 use Rattle.std.proofs.lemmas.List.Sums.{get_or-le-sum_by}
 use Rattle.std.proofs.lemmas.List.Elements.{All-head, All-tail}
-use Rattle.rb_base.specs.Window.{Span}
+use Rattle.std.proofs.lemmas.Option.{none-some, same_Some}
 use Rattle.rb_batch.specs.Cut.{FollowOn, IsTransaction, IsLeastCut, IsFirstTooBig, run_of}
 use Rattle.rb_batch.specs.Laws.{LeastCutIsOne}
 use Rattle.rb_batch.specs.Limits.{TransactionLimits, IsTooBig}
 use Rattle.rb_batch.specs.declared.transaction.Transaction.{Transaction}
-use Rattle.rb_book.specs.Book.{Book}
 use Rattle.rb_events.specs.declared.goal.Goal.{Goal}
 use Rattle.rb_plan.specs.Labelling.{label_of}
 use Rattle.rb_plan.specs.Laws.{AnswersAreOne}
 use Rattle.rb_plan.specs.Least.{IsUnreachable}
-use Rattle.rb_plan.specs.Order.{cost_of}
+use Rattle.rb_plan.specs.ProofHeight.{IsProofHeight}
 use Rattle.rb_step.specs.LightClient.{Update, Client}
-use Rattle.rb_step.specs.View.{View, client_of}
-use Rattle.rb_super.specs.declared.report.PricedUpdate.{PricedUpdate}
-use Rattle.rb_events.specs.declared.config.ClientConfig.{ClientConfig}
+use Rattle.rb_step.specs.View.{client_of}
+use Rattle.rb_core.specs.Draft.{Batch, Sending, nothing, too_big, batched, Plan, Planned as Answer, IsBatch, IsSending, IsPlan, IsPlanned, IsIdle}
+use Rattle.rb_core.specs.Reach.{IsReach}
+use Rattle.rb_core.specs.Standing.{OpenBatch, KnownClient, Standing, opening_standing, task_in}
+use Rattle.rb_core.specs.Task.{Task, Message, goal_of, messages_of, gas_of, gases}
 use Rattle.rb_super.specs.Laws.{ReportIsOne}
-use Rattle.rb_super.specs.Priced.{priced_by}
-use Rattle.rb_super.specs.Report.{Sending, nothing, too_big, batched, Plan, Planned, Outcome, held, idle, planned, ClientReport, TurnReport, Report}
-use Rattle.rb_events.specs.Script.{Turn}
-use Rattle.rb_super.specs.State.{KnownClient, State, opening, book_at}
-use Rattle.rb_super.specs.Turns.{before_plans, view_of, update_of, gas_of, IsSending, IsPlan, IsPlanned, IsOutcome, IsClientReport, IsTurnReport, AreTurnReports, after_turn}
+use Rattle.rb_super.specs.Report.{Outcome, held, idle, planned, ClientReport, TurnReport, Report}
+use Rattle.rb_super.specs.Script.{Turn}
+use Rattle.rb_super.specs.Turns.{reported, IsOutcome, IsClientReport, before_plans, after_plans, settlement_reports, IsTurnReport, AreTurnReports, after_turn}
 use Rattle.rb_super.proofs.OneLabelling.{one_labelling}
 
 -- ---- no message of a division is too big alone
 
--- a message of a run is part of its gas
 in_run : (limits : TransactionLimits) (messages : List ℕ) (t : Transaction) (i k : ℕ) → t.first + k ≡ i → IsTransaction limits messages t → k < t.count → i < length messages
     → IsTooBig limits (get_or messages i 0) → ⊥
 in_run limits messages t i k e is few within big =
@@ -55,105 +54,129 @@ cut_or_too_big limits messages ts index least big =
 one_index : (limits : TransactionLimits) (messages : List ℕ) (i j : ℕ) → IsFirstTooBig limits messages i → IsFirstTooBig limits messages j → i ≡ j
 one_index limits messages i j a b = elim (cases_lt i j) [
   | inl less ↦ absurd (b.first i less a.too_big)
-  | inr more ↦ elim (cases_lt j i) [ inl less ↦ absurd (a.first j less b.too_big) | inr equal ↦ omega arith ]
+  | inr not_less ↦ elim (cases_lt j i) [ inl less ↦ absurd (a.first j less b.too_big) | inr equal ↦ omega arith ]
 ]
 
--- ---- updates with their fees
+-- ---- the reach is one
 
-same_price : (u : PricedUpdate) (fee : ℕ) → u.fee ≡ fee → u ≡ record { update = u.update; fee = fee }
-same_price u fee e = λ i. record { update = u.update; fee = e i }
+pub one_reach : (client : Client) (a b : Option ℕ) → IsReach client a → IsReach client b → a ≡ b
+one_reach client None None p q = refl
+one_reach client None (Some n) p q = absurd (p.greatest n q.reached)
+one_reach client (Some m) None p q = absurd (q.greatest m p.reached)
+one_reach client (Some m) (Some n) p q = ap (λ x. Some x) (omega (arith, q.greatest m p.reached, p.greatest n q.reached))
 
-priced_again : (client : Client) (ps : List PricedUpdate) → All (λ u. u.fee ≡ client.fee u.update.trusted u.update.height) ps → ps ≡ map (priced_by client) (map update_of ps)
-priced_again client [] all = refl
-priced_again client (p ∷ ps) all =
-    let P : PricedUpdate → Type 0 = λ u. u.fee ≡ client.fee u.update.trusted u.update.height in
-    let here : p ≡ priced_by client (update_of p) = same_price p (client.fee p.update.trusted p.update.height) (All-head P p ps all) in
-    let rest : ps ≡ map (priced_by client) (map update_of ps) = priced_again client ps (All-tail P p ps all) in
-    λ i. here i ∷ rest i
+length-gases : (t : Task) (us : List Update) (ms : List Message) → length (gases t us ms) ≡ length us + length ms
+length-gases t us ms = omega (arith, length-append (map (gas_of t) us) (map (λ (m : Message). m.gas) ms), length-map us (gas_of t), length-map ms (λ (m : Message). m.gas))
 
--- ---- a client
+-- how messages are sent goes by the messages alone
+moved : (t : Task) (p q : Plan) → p.updates ≡ q.updates → p.messages ≡ q.messages → (x : Sending) → IsSending t p x → IsSending t q x
+moved t p q us ms nothing h = (sym us ∙ h.0, sym ms ∙ h.1)
+moved t p q us ms (too_big index) h = subst (λ (y : List Update × List Message). IsFirstTooBig t.limits (gases t y.0 y.1) index) (λ i. (us i, ms i)) h
+moved t p q us ms (batched b) h = record {
+  some = subst (λ (y : List Update × List Message). 0 < length y.0 + length y.1) (λ i. (us i, ms i)) h.some;
+  proof = subst (λ (y : List Update). IsProofHeight (client_of t.view) y (Some b.proof)) us h.proof;
+  transactions = subst (λ (y : List Update × List Message). IsLeastCut t.limits (gases t y.0 y.1) b.transactions) (λ i. (us i, ms i)) h.transactions;
+}
 
 -- unreachable, or the plan
-abbrev IsAnswer : ClientConfig → View → Goal → Option Plan → Type 0
-IsAnswer config v goal plan = MatchOption plan (IsUnreachable (client_of v) goal) (IsPlan config v goal)
+abbrev IsPlanOr : Task → Option ℕ → Goal → Option Plan → Type 0
+IsPlanOr t reach goal plan = MatchOption plan (IsUnreachable (client_of t.view) goal) (IsPlan t goal (messages_of t reach))
 
 module _ (one : AnswersAreOne) (cuts : LeastCutIsOne) where
-  one_sending : (config : ClientConfig) (v : View) (us : List Update) (a b : Sending) → IsSending config v us a → IsSending config v us b → a ≡ b
-  one_sending config v us nothing nothing p q = refl
-  one_sending config v us nothing (too_big j) p q = absurd (omega (arith, q.place, ap (λ (ws : List Update). length (map (gas_of config v) ws)) p))
-  one_sending config v us nothing (batched b) p q = absurd (omega (arith, q.some, ap length p))
-  one_sending config v us (too_big i) nothing p q = absurd (omega (arith, p.place, ap (λ (ws : List Update). length (map (gas_of config v) ws)) q))
-  one_sending config v us (too_big i) (too_big j) p q = ap (λ n. too_big n) (one_index config.limits (map (gas_of config v) us) i j p q)
-  one_sending config v us (too_big i) (batched b) p q = absurd (cut_or_too_big config.limits (map (gas_of config v) us) b.transactions i q.transactions p)
-  one_sending config v us (batched a) nothing p q = absurd (omega (arith, p.some, ap length q))
-  one_sending config v us (batched a) (too_big j) p q = absurd (cut_or_too_big config.limits (map (gas_of config v) us) a.transactions j p.transactions q)
-  one_sending config v us (batched a) (batched b) p q =
-      let numbers : a.number ≡ b.number = p.number ∙ sym q.number in
-      let proofs : a.proof ≡ b.proof = omega (arith, q.proof.greatest a.proof p.proof.left, p.proof.greatest b.proof q.proof.left) in
-      let transactions = cuts config.limits (map (gas_of config v) us) a.transactions b.transactions p.transactions q.transactions in
-      λ i. batched (record { number = numbers i; proof = proofs i; transactions = transactions i })
+  nothing_is_small : (t : Task) (p : Plan) (index : ℕ) → IsSending t p nothing → IsFirstTooBig t.limits (gases t p.updates p.messages) index → ⊥
+  nothing_is_small t p index empty big = omega (arith, big.place, length-gases t p.updates p.messages, ap length empty.0, ap length empty.1)
 
-  one_plan : (config : ClientConfig) (v : View) (goal : Goal) (p q : Plan) → IsPlan config v goal p → IsPlan config v goal q → p ≡ q
-  one_plan config v goal p q a b =
-      let us : map update_of p.updates ≡ map update_of q.updates = one.least v goal (map update_of p.updates) (map update_of q.updates) a.least b.least in
-      let updates : p.updates ≡ q.updates =
-      priced_again (client_of v) p.updates a.fees ∙ ap (map (priced_by (client_of v))) us ∙ sym (priced_again (client_of v) q.updates b.fees) in
-      let total : p.total ≡ q.total = a.total ∙ ap (cost_of (client_of v)) us ∙ sym b.total in
-      let sending : p.sending ≡ q.sending =
-      one_sending config v (map update_of q.updates) p.sending q.sending (subst (λ (ws : List Update). IsSending config v ws p.sending) us a.sending) b.sending in
-      λ i. record { updates = updates i; total = total i; sending = sending i }
+  nothing_is_none : (t : Task) (p : Plan) (b : Batch) → IsSending t p nothing → IsBatch t p b → ⊥
+  nothing_is_none t p b empty batch = omega (arith, batch.some, ap length empty.0, ap length empty.1)
 
-  one_answer : (config : ClientConfig) (v : View) (goal : Goal) (p q : Option Plan) → IsAnswer config v goal p → IsAnswer config v goal q → p ≡ q
-  one_answer config v goal None None a b = refl
-  one_answer config v goal None (Some q) a b = absurd (a (map update_of q.updates) b.least.acceptable b.least.meets)
-  one_answer config v goal (Some p) None a b = absurd (b (map update_of p.updates) a.least.acceptable a.least.meets)
-  one_answer config v goal (Some p) (Some q) a b = ap (λ x. Some x) (one_plan config v goal p q a b)
+  one_sending : (t : Task) (p : Plan) (a b : Sending) → IsSending t p a → IsSending t p b → a ≡ b
+  one_sending t p nothing nothing x y = refl
+  one_sending t p nothing (too_big j) x y = absurd (nothing_is_small t p j x y)
+  one_sending t p nothing (batched b) x y = absurd (nothing_is_none t p b x y)
+  one_sending t p (too_big i) nothing x y = absurd (nothing_is_small t p i y x)
+  one_sending t p (too_big i) (too_big j) x y = ap (λ n. too_big n) (one_index t.limits (gases t p.updates p.messages) i j x y)
+  one_sending t p (too_big i) (batched b) x y = absurd (cut_or_too_big t.limits (gases t p.updates p.messages) b.transactions i y.transactions x)
+  one_sending t p (batched a) nothing x y = absurd (nothing_is_none t p a y x)
+  one_sending t p (batched a) (too_big j) x y = absurd (cut_or_too_big t.limits (gases t p.updates p.messages) a.transactions j x.transactions y)
+  one_sending t p (batched a) (batched b) x y =
+      let proofs : a.proof ≡ b.proof = omega (arith, y.proof.greatest a.proof x.proof.left, x.proof.greatest b.proof y.proof.left) in
+      let transactions = cuts t.limits (gases t p.updates p.messages) a.transactions b.transactions x.transactions y.transactions in
+      λ i. batched (record { proof = proofs i; transactions = transactions i })
 
-  one_planned : (config : ClientConfig) (v : View) (p q : Planned) → p.goal ≡ q.goal → IsPlanned config v p → IsPlanned config v q → p ≡ q
-  one_planned config v p q goals a b =
+  one_plan : (t : Task) (reach : Option ℕ) (goal : Goal) (p q : Plan) → IsPlan t goal (messages_of t reach) p → IsPlan t goal (messages_of t reach) q → p ≡ q
+  one_plan t reach goal p q a b =
+      let updates : p.updates ≡ q.updates = one.least t.view goal p.updates q.updates a.least b.least in
+      let messages : p.messages ≡ q.messages = a.messages ∙ sym b.messages in
+      let sending : p.sending ≡ q.sending = one_sending t q p.sending q.sending (moved t p q updates messages p.sending a.sending) b.sending in
+      λ i. record { updates = updates i; messages = messages i; sending = sending i }
+
+  one_or : (t : Task) (reach : Option ℕ) (goal : Goal) (p q : Option Plan) → IsPlanOr t reach goal p → IsPlanOr t reach goal q → p ≡ q
+  one_or t reach goal None None a b = refl
+  one_or t reach goal None (Some q) a b = absurd (a q.updates b.least.acceptable b.least.meets)
+  one_or t reach goal (Some p) None a b = absurd (b p.updates a.least.acceptable a.least.meets)
+  one_or t reach goal (Some p) (Some q) a b = ap (λ x. Some x) (one_plan t reach goal p q a b)
+
+  one_planned : (t : Task) (p q : Answer) → IsPlanned t p → IsPlanned t q → p ≡ q
+  one_planned t p q a b =
+      let reach = one_reach (client_of t.view) a.reach b.reach a.is_reach b.is_reach in
+      let goal : p.goal ≡ q.goal = same_Some p.goal q.goal (sym a.goal ∙ ap (goal_of t) reach ∙ b.goal) in
       let labels : p.labels ≡ q.labels =
-      one_labelling p.labels q.labels a.labels b.labels (one.exact v (label_of p.labels) (label_of q.labels) a.exact b.exact)
-      (one.exact v (label_of q.labels) (label_of p.labels) b.exact a.exact) in
-      let plans : p.plan ≡ q.plan = one_answer config v q.goal p.plan q.plan (subst (λ (g : Goal). IsAnswer config v g p.plan) goals a.plan) b.plan in
-      λ i. record { goal = goals i; labels = labels i; plan = plans i }
+      one_labelling p.labels q.labels a.labels b.labels (one.exact t.view (label_of p.labels) (label_of q.labels) a.exact b.exact)
+      (one.exact t.view (label_of q.labels) (label_of p.labels) b.exact a.exact) in
+      let plan : p.plan ≡ q.plan = one_or t b.reach q.goal p.plan q.plan (subst (λ (x : Option ℕ × Goal). IsPlanOr t x.0 x.1 p.plan) (λ i. (reach i, goal i)) a.plan) b.plan in
+      λ i. record { goal = goal i; labels = labels i; plan = plan i }
 
-  one_outcome : (c : KnownClient) (v : View) (a b : Outcome) → IsOutcome c v a → IsOutcome c v b → a ≡ b
-  one_outcome c v (held m) (held n) p q = let same : Some m ≡ Some n = sym p ∙ q in let number : m ≡ n = cc in ap (λ x. held x) number
-  one_outcome c v (held m) idle p q = let e : Some m ≡ None = sym p ∙ q.0 in cc
-  one_outcome c v (held m) (planned b) p q = let e : Some m ≡ None = sym p ∙ q.0 in cc
-  one_outcome c v idle (held n) p q = let e : Some n ≡ None = sym q ∙ p.0 in cc
-  one_outcome c v idle idle p q = refl
-  one_outcome c v idle (planned b) p q = let e : None ≡ Some b.goal = sym p.1 ∙ q.1 in cc
-  one_outcome c v (planned a) (held n) p q = let e : Some n ≡ None = sym q ∙ p.0 in cc
-  one_outcome c v (planned a) idle p q = let e : None ≡ Some a.goal = sym q.1 ∙ p.1 in cc
-  one_outcome c v (planned a) (planned b) p q =
-      let e : Some a.goal ≡ Some b.goal = sym p.1 ∙ q.1 in
-      let goals : a.goal ≡ b.goal = cc in
-      ap (λ x. planned x) (one_planned c.config v a b goals p.2 q.2)
+  idle_or_planned : (t : Task) (p : Answer) → IsIdle t → IsPlanned t p → ⊥
+  idle_or_planned t p a b =
+      none-some p.goal (sym a.goal ∙ ap (goal_of t) (one_reach (client_of t.view) a.reach b.reach a.is_reach b.is_reach) ∙ b.goal)
+
+  held_or_free : (c : KnownClient) (n : ℕ) → option_map (λ (b : OpenBatch). b.number) c.batch ≡ Some n → c.batch ≡ None → ⊥
+  held_or_free c n e free = none-some n (sym (ap (option_map (λ (b : OpenBatch). b.number)) free) ∙ e)
+
+  one_outcome : (t : Task) (c : KnownClient) (a b : Outcome) → IsOutcome t c a → IsOutcome t c b → a ≡ b
+  one_outcome t c (held m) (held n) p q = ap (λ x. held x) (same_Some m n (sym p ∙ q))
+  one_outcome t c (held m) idle p q = absurd (held_or_free c m p q.0)
+  one_outcome t c (held m) (planned b) p q = absurd (held_or_free c m p q.0)
+  one_outcome t c idle (held n) p q = absurd (held_or_free c n q p.0)
+  one_outcome t c idle idle p q = refl
+  one_outcome t c idle (planned b) p q = absurd (idle_or_planned t q.1.answer p.1 q.1.right)
+  one_outcome t c (planned a) (held n) p q = absurd (held_or_free c n q p.0)
+  one_outcome t c (planned a) idle p q = absurd (idle_or_planned t p.1.answer q.1 p.1.right)
+  one_outcome t c (planned a) (planned b) p q =
+      ap (λ x. planned x) (p.1.is ∙ ap (reported t (c.batches + 1)) (one_planned t p.1.answer q.1.answer p.1.right q.1.right) ∙ sym q.1.is)
 
   -- ---- turns
 
-  one_row : (window : Span) (books : List Book) (cs : List KnownClient) (rs qs : List ClientReport) → AllZip (IsClientReport window books) cs rs
-      → AllZip (IsClientReport window books) cs qs → rs ≡ qs
-  one_row window books [] [] [] a b = refl
-  one_row window books [] [] (q ∷ qs) a b = absurd b
-  one_row window books [] (r ∷ rs) qs a b = absurd a
-  one_row window books (c ∷ cs) [] qs a b = absurd a
-  one_row window books (c ∷ cs) (r ∷ rs) [] a b = absurd b
-  one_row window books (c ∷ cs) (r ∷ rs) (q ∷ qs) a b =
-      let ids : r.id ≡ q.id = a.0.id ∙ sym b.0.id in
-      let outcomes = one_outcome c (view_of window (book_at books c.config.tracks) c) r.outcome q.outcome a.0.outcome b.0.outcome in
-      let rest = one_row window books cs rs qs a.1 b.1 in
-      λ i. record { id = ids i; outcome = outcomes i } ∷ rest i
+  one_client : (s : Standing) (c : ℕ × KnownClient) (r q : ClientReport) → IsClientReport s c r → IsClientReport s c q → r ≡ q
+  one_client s c r q a b =
+      let window : a.window ≡ b.window = same_Some a.window b.window (sym a.is_window ∙ b.is_window) in
+      let id : r.id ≡ q.id = a.id ∙ sym b.id in
+      let outcome : r.outcome ≡ q.outcome =
+      one_outcome (task_in s b.window c.0 c.1) c.1 r.outcome q.outcome (subst (λ w. IsOutcome (task_in s w c.0 c.1) c.1 r.outcome) window a.outcome) b.outcome in
+      λ i. record { id = id i; outcome = outcome i }
 
-  pub one_turn : {A : Type 0} → (s : State) (t : Turn A) (r q : TurnReport) → IsTurnReport s t r → IsTurnReport s t q → r ≡ q
+  one_row : (s : Standing) (cs : List (ℕ × KnownClient)) (rs qs : List ClientReport) → AllZip (IsClientReport s) cs rs → AllZip (IsClientReport s) cs qs → rs ≡ qs
+  one_row s [] [] [] a b = refl
+  one_row s [] [] (q ∷ qs) a b = absurd b
+  one_row s [] (r ∷ rs) qs a b = absurd a
+  one_row s (c ∷ cs) [] qs a b = absurd a
+  one_row s (c ∷ cs) (r ∷ rs) [] a b = absurd b
+  one_row s (c ∷ cs) (r ∷ rs) (q ∷ qs) a b =
+      let here = one_client s c r q a.0 b.0 in
+      let rest = one_row s cs rs qs a.1 b.1 in
+      λ i. here i ∷ rest i
+
+  pub one_turn : (s : Standing) (t : Turn) (r q : TurnReport) → IsTurnReport s t r → IsTurnReport s t q → r ≡ q
   one_turn s t r q a b =
-      let windows : r.window_back ≡ q.window_back = a.window ∙ sym b.window in
-      let refused : r.refused ≡ q.refused = a.refused ∙ sym b.refused in
-      let clients = one_row (before_plans s t).window (before_plans s t).books (before_plans s t).clients r.clients q.clients a.clients b.clients in
-      λ i. record { window_back = windows i; refused = refused i; clients = clients i }
+      let window = a.window ∙ sym b.window in
+      let refused = a.refused ∙ sym b.refused in
+      let clients = one_row (before_plans s t) (enumerate_from 0 (before_plans s t).clients) r.clients q.clients a.clients b.clients in
+      let settlements = a.settlements
+      ∙ ap (λ (rs : List ClientReport). settlement_reports (after_plans s t (record { window_back = r.window_back; refused = r.refused; clients = rs; settlements = r.settlements })) t.settlements) clients
+      ∙ sym b.settlements in
+      λ i. record { window_back = window i; refused = refused i; clients = clients i; settlements = settlements i }
 
-  one_run : {A : Type 0} → (s : State) (ts : List (Turn A)) (r q : Report) → AreTurnReports s ts r → AreTurnReports s ts q → r ≡ q
+  one_run : (s : Standing) (ts : List Turn) (r q : Report) → AreTurnReports s ts r → AreTurnReports s ts q → r ≡ q
   one_run s [] [] [] a b = refl
   one_run s [] [] (q ∷ qs) a b = absurd b
   one_run s [] (r ∷ rs) qs a b = absurd a
@@ -165,4 +188,4 @@ module _ (one : AnswersAreOne) (cuts : LeastCutIsOne) where
       λ i. here i ∷ rest i
 
   pub one_report : ReportIsOne
-  one_report = λ s r q a b. one_run (opening s) s.turns r q a b
+  one_report = λ script r q a b. one_run (opening_standing script.config) script.turns r q a b

@@ -1,5 +1,5 @@
 -- An answer for a client in a turn has at most one verdict.
-use Rattle.std.proofs.Common.{◌≡◌, ℕ, ◌<◌, ◌⊎◌, List, [], ◌∷◌, Option, Some, None, slice_get, refl, sym, ap, ◌∙◌, subst, inl, inr, arith}
+use Rattle.std.proofs.Common.{◌≡◌, ℕ, ◌<◌, ◌⊎◌, List, [], ◌∷◌, Option, Some, None, take, refl, sym, ap, ◌∙◌, subst, inl, inr, arith}
 use Rattle.std.proofs.lemmas.Bool.{cases_order}
 use Rattle.std.proofs.lemmas.Option.{same_Some}
 use Rattle.rb_batch.specs.Laws.{LeastCutIsOne}
@@ -14,13 +14,15 @@ use Rattle.rb_plan.specs.Labelling.{Labels}
 use Rattle.rb_plan.specs.Laws.{AnswersAreOne}
 use Rattle.rb_step.specs.LightClient.{Update, Client}
 use Rattle.rb_step.specs.View.{View, client_of}
-use Rattle.rb_super.specs.Judging.{Leads, IsPlanPhase, view_in, planned_goal, IsVerdictFor}
+use Rattle.rb_core.specs.Standing.{KnownClient, Standing, opening_standing}
+use Rattle.rb_core.specs.Task.{Task}
+use Rattle.rb_super.specs.Judging.{Leads, IsPlanPhase, IsPlannedGoal, IsVerdictFor, IsVerdictIn}
 use Rattle.rb_super.specs.Laws.{VerdictIsOne}
 use Rattle.rb_super.specs.Report.{TurnReport}
-use Rattle.rb_events.specs.Script.{Script, Turn}
-use Rattle.rb_super.specs.State.{KnownClient, State, opening}
+use Rattle.rb_super.specs.Script.{Turn, Script}
 use Rattle.rb_super.specs.Turns.{before_plans, after_turn}
 use Rattle.rb_super.proofs.OneReport.{one_turn}
+use Rattle.rb_super.proofs.Judged.{one_known, one_task, one_goal}
 
 -- ---- the order of reasons is total
 
@@ -95,22 +97,26 @@ one_for_goal view (Some goal) labels claim (Some v) (Some w) a b = ap (λ x. Som
 -- ---- where the client stands
 
 module _ (one : AnswersAreOne) (cuts : LeastCutIsOne) where
-  one_end : {A : Type 0} → (s : State) (ts : List (Turn A)) (a b : State) → Leads s ts a → Leads s ts b → a ≡ b
+  one_end : (s : Standing) (ts : List Turn) (a b : Standing) → Leads s ts a → Leads s ts b → a ≡ b
   one_end s [] a b p q = sym p ∙ q
   one_end s (t ∷ ts) a b p q =
       let same : p.0 ≡ q.0 = one_turn one cuts s t p.0 q.0 p.1 q.1 in
       one_end (after_turn s t q.0) ts a b (subst (λ (r : TurnReport). Leads (after_turn s t r) ts a) same p.2) q.2
 
-  one_phase : {A : Type 0} → (script : Script A) (turn : ℕ) (s u : State) → IsPlanPhase script turn s → IsPlanPhase script turn u → s ≡ u
+  one_phase : (script : Script) (turn : ℕ) (s u : Standing) → IsPlanPhase script turn s → IsPlanPhase script turn u → s ≡ u
   one_phase script turn s u a b =
-      let begun = one_end (opening script) _ a.begun b.begun a.earlier b.earlier in
+      let begun = one_end (opening_standing script.config) (take turn script.turns) a.begun b.begun a.earlier b.earlier in
       let this : a.this ≡ b.this = same_Some a.this b.this (sym a.is ∙ b.is) in
       a.taken_in ∙ (λ i. before_plans (begun i) (this i)) ∙ sym b.taken_in
 
   pub one_verdict : VerdictIsOne
   one_verdict script turn client labels claim v w a b =
-      let states : a.is.state ≡ b.is.state = one_phase script turn a.is.state b.is.state a.is.phase b.is.phase in
-      let clients : a.known ≡ b.known = same_Some a.known b.known (sym a.is.is ∙ ap (λ (s : State). slice_get s.clients client) states ∙ b.is.is) in
-      let views : a.view ≡ b.view = a.is.view ∙ (λ i. view_in (states i) (clients i)) ∙ sym b.is.view in
-      let P : KnownClient × View → Type 0 = λ p. IsVerdictFor p.1 (planned_goal p.0 p.1) labels claim v in
-      one_for_goal b.view (planned_goal b.known b.view) labels claim v w (subst P (λ i. (clients i, views i)) a.judged) b.judged
+      let standings : a.standing ≡ b.standing = one_phase script turn a.standing b.standing a.phase b.phase in
+      let x : IsVerdictIn b.standing client labels claim v = subst (λ s. IsVerdictIn s client labels claim v) standings a.judged in
+      let y = b.judged in
+      let knowns : x.known ≡ y.known = one_known b.standing client x.known y.known x.task y.task x.is y.is in
+      let tasks : x.task ≡ y.task = one_task b.standing client x.known y.known x.task y.task x.is y.is in
+      let mine : IsPlannedGoal y.known y.task x.goal = subst (λ (p : KnownClient × Task). IsPlannedGoal p.0 p.1 x.goal) (λ i. (knowns i, tasks i)) x.is_planned in
+      let goals : x.goal ≡ y.goal = one_goal y.known y.task x.goal y.goal mine y.is_planned in
+      one_for_goal y.task.view y.goal labels claim v w
+      (subst (λ (p : Task × Option Goal). IsVerdictFor p.0.view p.1 labels claim v) (λ i. (tasks i, goals i)) x.judged) y.judged

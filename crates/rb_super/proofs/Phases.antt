@@ -1,67 +1,79 @@
--- Turns that lead from one state to another, and the clients that are planned in the next one.
-use Rattle.std.proofs.Common.{◌≡◌, ℕ, ◌+◌, ◌<◌, All, List, [], ◌∷◌, ◌++◌, Option, Some, IfSome, Result, Ok, length, map, take, get_or, slice_get, refl, sym, ap, ◌∙◌, subst, arith}
-use Rattle.std.specs.Option.{unwrap_or}
-use Rattle.std.specs.Result.{result_ok}
-use Rattle.std.specs.declared.alloc.AllocError.{AllocError}
-use Rattle.std.proofs.lemmas.List.{map_more, take-map, get_or-map, length-map}
-use Rattle.std.proofs.lemmas.List.Elements.{All-take}
-use Rattle.std.proofs.lemmas.Option.{slice_get-get_or}
-use Rattle.rb_graph.proofs.Walk.{there}
-use Rattle.rb_cert.specs.declared.verdict.Verdict2.{Verdict2}
-use Rattle.rb_cert.specs.declared.verdict.Verdict2.TheVariants.{Yes}
-use Rattle.rb_plan.specs.Labelling.{Labels}
-use Rattle.rb_step.specs.LightClient.{Update}
-use Rattle.rb_events.specs.declared.script.Turn.{Turn as CodeTurn}
-use Rattle.rb_super.specs.Judging.{Leads, IsPlanPhase, view_in, IsRight, IsRightIn}
-use Rattle.rb_super.specs.Report.{TurnReport}
-use Rattle.rb_events.specs.Script.{Script, Turn, turn_view, IsScript, IsTurn, IsOfUpdates}
-use Rattle.rb_super.specs.State.{KnownClient, State}
-use Rattle.rb_super.specs.Turns.{IsTurnReport, after_turn}
+-- A turn, phase by phase, gives its report.
+use Rattle.std.proofs.Common.{◌≡◌, ℕ, ◌+◌, Bool, List, [], ◌∷◌, ◌++◌, length, map, sym, ap, ◌∙◌, subst, append_assoc, append-nil, arith}
+use Rattle.std.specs.List.{flat_map, fold, range_with_len}
+use Rattle.std.proofs.lemmas.List.FromFn.{map-range_with_len_more}
+use Rattle.rb_core.specs.Event.{Event}
+use Rattle.rb_core.specs.Standing.{Standing, goes_back, standing_after}
+use Rattle.rb_events.specs.Config.{Config}
+use Rattle.rb_events.specs.declared.script.Asked.{Asked}
+use Rattle.rb_events.specs.declared.script.Settlement.{Settlement}
+use Rattle.rb_super.specs.Agenda.{Item, ask, plan, settle, observations, both_parts, Finishes}
+use Rattle.rb_super.specs.Report.{RefusedEvent, ClientReport, SettlementReport, TurnReport}
+use Rattle.rb_super.specs.Script.{Turn}
+use Rattle.rb_super.specs.Turns.{after_window, after_question, refusal_at, refusals, before_events, before_plans, after_settlement, settlement_report, settlement_reports, IsTurnReport, after_turn}
+use Rattle.rb_super.proofs.Order.{order}
+use Rattle.rb_super.specs.Phases.{IsReportedOf, AreReported}
 
--- the turns of a script without paths
-pub of_updates : {A : Type 0} → (script : Script A) → IsScript script → IsOfUpdates script
-    → All (IsTurn (length script.config.chains) (length script.config.clients) 0) script.turns
-of_updates script is updates =
-    subst (λ n. All (IsTurn (length script.config.chains) (length script.config.clients) n) script.turns) updates.paths is.turns
+module _ (start : Standing) (turn : Turn) where
+  asked_all : (goals : List Asked) (s : Standing) (r : TurnReport) (items : List Item) → Finishes start turn s r (map ask goals ++ items) → Finishes start turn (fold after_question s goals) r items
+  asked_all [] s r items h = h
+  asked_all (q ∷ goals) s r items h = asked_all goals (after_question s q) r items h
 
-leads_more : {A : Type 0} → (s u : State) (ts : List (Turn A)) (t : Turn A) (r : TurnReport) → Leads s ts u → IsTurnReport u t r → Leads s (ts ++ t ∷ []) (after_turn u t r)
-leads_more s u [] t r same here = (r, subst (λ (x : State). IsTurnReport x t r) (sym same) here, ap (λ x. after_turn x t r) same)
-leads_more s u (x ∷ ts) t r (q, report, rest) here = (q, report, leads_more (after_turn s x q) u ts t r rest here)
+  observed_all : (events : List Event) (number : ℕ) (s : Standing) (r : TurnReport) (items : List Item) → Finishes start turn s r (observations number events ++ items)
+      → Finishes start turn (fold standing_after s events) (record r { refused = r.refused ++ refusals number s events }) items
+  observed_all [] number s r items h = subst (λ xs. Finishes start turn s (record r { refused = xs }) items) (sym (append-nil r.refused)) h
+  observed_all (event ∷ events) number s r items h =
+      subst (λ xs. Finishes start turn (fold standing_after (standing_after s event) events) (record r { refused = xs }) items)
+      (append_assoc r.refused (refusal_at number s event) (refusals (number + 1) (standing_after s event) events))
+      (observed_all events (number + 1) (standing_after s event) (record r { refused = r.refused ++ refusal_at number s event }) items h)
 
--- the turn at a place follows those before it
-pub leads_on : {A : Type 0} → (start s next : State) (turns : List (CodeTurn A)) (i : ℕ) (t : CodeTurn A) (r : TurnReport) → i < length turns → t ≡ get_or turns i t
-    → IsTurnReport s (turn_view t) r → next ≡ after_turn s (turn_view t) r → Leads start (map turn_view (take i turns)) s → Leads start (map turn_view (take (i + 1) turns)) next
-leads_on start s next turns i t r lt at here is so_far =
-    let earlier = map turn_view (take i turns) in
-    let taken : map turn_view (take (i + 1) turns) ≡ earlier ++ turn_view t ∷ [] =
-    map_more turn_view turns i t lt ∙ ap (λ (x : CodeTurn _). earlier ++ turn_view x ∷ []) (sym at) in
-    subst (λ ts. Leads start ts next) (sym taken) (subst (Leads start (earlier ++ turn_view t ∷ [])) (sym is) (leads_more start s earlier (turn_view t) r so_far here))
+  scanned_all : (paths : List ℕ) (s : Standing) (r : TurnReport) (items : List Item) → Finishes start turn s r (flat_map both_parts paths ++ items) → Finishes start turn s r items
+  scanned_all [] s r items h = h
+  scanned_all (p ∷ paths) s r items h = scanned_all paths s r items h
 
--- what is true of all turns is true of those before a place
-pub earlier_turns : {A : Type 0} → (P : Turn A → Type 0) (turns items : List (CodeTurn A)) (i : ℕ) → All P (map turn_view turns) → items ≡ turns → All P (map turn_view (take i items))
-earlier_turns P turns items i all same =
-    subst (All P) (take-map turn_view i turns ∙ ap (λ xs. map turn_view (take i xs)) (sym same)) (All-take P i (map turn_view turns) all)
+  settled_all : (xs : List Settlement) (s : Standing) (r : TurnReport) → Finishes start turn s r (map settle xs)
+      → Finishes start turn (fold after_settlement s xs) (record r { settlements = r.settlements ++ settlement_reports s xs }) []
+  settled_all [] s r h = subst (λ ys. Finishes start turn s (record r { settlements = ys }) []) (sym (append-nil r.settlements)) h
+  settled_all (x ∷ xs) s r h =
+      subst (λ ys. Finishes start turn (fold after_settlement (after_settlement s x) xs) (record r { settlements = ys }) [])
+      (append_assoc r.settlements (settlement_report s x ∷ []) (settlement_reports (after_settlement s x) xs))
+      (settled_all xs (after_settlement s x) (record r { settlements = r.settlements ++ settlement_report s x ∷ [] }) h)
 
--- the turns before a place, and the turn there, as the script has them
-pub before_place : {A : Type 0} → (turns items : List (CodeTurn A)) (i : ℕ) → items ≡ turns → map turn_view (take i items) ≡ take i (map turn_view turns)
-before_place turns items i same = ap (λ xs. map turn_view (take i xs)) same ∙ sym (take-map turn_view i turns)
+-- ---- the clients, one after another
 
-pub at_place : {A : Type 0} → (turns items : List (CodeTurn A)) (i : ℕ) (t : CodeTurn A) → items ≡ turns → i < length turns → t ≡ get_or items i t → slice_get (map turn_view turns) i ≡ Some (turn_view t)
-at_place turns items i t same lt at =
-    slice_get-get_or (map turn_view turns) i (turn_view t) (omega (arith, length-map turns turn_view))
-    ∙ ap Some (get_or-map turn_view turns i t (turn_view t) lt ∙ ap turn_view (ap (λ xs. get_or xs i t) (sym same) ∙ sym at))
+pub reported_none : (s : Standing) → AreReported s s 0 0 []
+reported_none s = λ start turn r rest h. subst (λ cs. Finishes start turn s (record r { clients = cs }) rest) (sym (append-nil r.clients)) h
 
--- what a yes says of the client at a place
-pub right_in : {A : Type 0} → (script : Script A) (turn client : ℕ) (labels : Labels) (claim : Option (List Update)) (s : State) (verdict : Option Verdict2)
-    → IsPlanPhase script turn s → client < length s.clients
-    → (verdict ≡ Some Yes → IfSome (slice_get s.clients client) (λ c. IsRight c (view_in s c) labels claim))
-    → ◌≡◌ {A = Result (Option Verdict2) AllocError} (Ok verdict) (Ok (Some Yes)) → IsRightIn script turn client labels claim
-right_in script turn client labels claim s verdict phase within right answered =
-    let said : verdict ≡ Some Yes = ap (λ (r : Result (Option Verdict2) AllocError). unwrap_or (result_ok r) verdict) answered in
-    let at = there s.clients client within in
-    record {
-      known = at.0;
-      view = view_in s at.0;
-      is = record { state = s; phase = phase; is = at.1; view = refl };
-      right = subst (λ o. IfSome o (λ (c : KnownClient). IsRight c (view_in s c) labels claim)) at.1 (right said);
-    }
+pub reported_more : (s t u : Standing) (n : ℕ) (reports : List ClientReport) (report : ClientReport) → AreReported s t 0 n reports → IsReportedOf t u n report
+    → AreReported s u 0 (n + 1) (reports ++ report ∷ [])
+reported_more s t u n reports report so_far is = λ start turn r rest h.
+    let items : map plan (range_with_len 0 (n + 1)) ++ rest ≡ map plan (range_with_len 0 n) ++ plan n ∷ rest =
+    ap (λ xs. xs ++ rest) (map-range_with_len_more plan 0 n n (omega arith)) ∙ append_assoc (map plan (range_with_len 0 n)) (plan n ∷ []) rest in
+    let here = so_far start turn r (plan n ∷ rest) (subst (λ xs. Finishes start turn s r xs) items h) in
+    let next = here is.known report is.is_known is.right in
+    subst (λ (p : Standing × List ClientReport). Finishes start turn p.0 (record r { clients = p.1 }) rest)
+    (λ i. (sym is.after i, append_assoc r.clients reports (report ∷ []) i)) next
+
+-- ---- the whole
+
+pub turn_reported : (c : Config) (turn : Turn) (s t u v : Standing) (back : Bool) (refused : List RefusedEvent) (clients : List ClientReport) (settlements : List SettlementReport)
+    → length s.clients ≡ length c.clients
+    → back ≡ goes_back s.window turn.window
+    → refused ≡ refusals 0 (before_events s turn) turn.events
+    → t ≡ before_plans s turn
+    → AreReported t u 0 (length c.clients) clients
+    → settlements ≡ settlement_reports u turn.settlements
+    → v ≡ fold after_settlement u turn.settlements
+    → let r : TurnReport = record { window_back = back; refused = refused; clients = clients; settlements = settlements }
+    in IsTurnReport s turn r × (v ≡ after_turn s turn r)
+turn_reported c turn s t u v back refused clients settlements long back_is refused_is t_is are settlements_is v_is =
+    let first : TurnReport = record { window_back = goes_back s.window turn.window; refused = refusals 0 (before_events s turn) turn.events; clients = []; settlements = [] } in
+    let asked = asked_all s turn turn.goals (after_window s turn.window) (record first { refused = [] }) _ (order c turn s long) in
+    let seen = observed_all s turn turn.events 0 (before_events s turn) (record first { refused = [] }) _ asked in
+    let scanned = scanned_all s turn (range_with_len 0 (length c.paths)) (before_plans s turn) first _ seen in
+    let planned = are s turn first (map settle turn.settlements)
+    (subst (λ x. Finishes s turn x first (map plan (range_with_len 0 (length c.clients)) ++ map settle turn.settlements)) (sym t_is) scanned) in
+    let whole = settled_all s turn turn.settlements u (record first { clients = clients }) planned in
+    subst (λ (p : Standing × Bool × List RefusedEvent × List SettlementReport).
+    let r : TurnReport = record { window_back = p.1; refused = p.2; clients = clients; settlements = p.3 } in IsTurnReport s turn r × (p.0 ≡ after_turn s turn r))
+    (λ i. (sym v_is i, sym back_is i, sym refused_is i, sym settlements_is i)) whole

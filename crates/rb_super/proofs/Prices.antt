@@ -1,60 +1,56 @@
 -- Updates with their fees, and what they cost in all.
-use Rattle.std.proofs.Common.{◌≡◌, ℕ, suc, ◌+◌, ◌<◌, ◌≤◌, ◌^◌, ◌⊎◌, List, [], ◌∷◌, Option, Some, None, IsSomeAnd, All, length, map, find, sum_by, refl, sym, ap, ◌∙◌, subst, inl, inr, arith, eqb, Bool, true, false, cond}
-use Rattle.std.specs.Option.{option_map}
-use Rattle.std.proofs.lemmas.List.Elements.{All-map, All-head, All-tail}
+use Rattle.std.proofs.Common.{◌≡◌, ℕ, ◌+◌, ◌<◌, ◌≤◌, ◌^◌, ◌⊎◌, List, [], ◌∷◌, Option, Some, None, IsSomeAnd, All, MatchOption, length, map, find, sum_by, refl, sym, ap, ◌∙◌, subst, inl, inr, arith, eqb, Bool, true, false, cond}
+use Rattle.std.specs.Option.{option_map, IfSome}
+use Rattle.std.proofs.lemmas.List.{length-map}
+use Rattle.std.proofs.lemmas.List.Elements.{All-head, All-tail}
 use Rattle.std.proofs.lemmas.List.Sums.{sum_by-cons}
+use Rattle.rb_core.specs.Draft.{Plan as SentPlan, Planned as Answer, Draft, IsPlan, IsPlanned, IsAnswer, IsDraft}
+use Rattle.rb_core.specs.Task.{Task, Message, messages_of}
 use Rattle.rb_plan.specs.declared.cost.Cost.{Cost}
 use Rattle.rb_events.specs.declared.goal.Goal.{Goal}
 use Rattle.rb_plan.specs.declared.labelling.Label.{Label}
 use Rattle.rb_plan.specs.Labelling.{IsLabelling, IsExact, label_of}
-use Rattle.rb_plan.specs.Least.{IsLeast}
+use Rattle.rb_plan.specs.Least.{IsLeast, IsUnreachable}
 use Rattle.rb_plan.specs.Order.{IsCheaper, CostsAtMost, cost_of}
 use Rattle.rb_step.specs.LightClient.{Update, Client, total_fee}
-use Rattle.rb_step.specs.View.{View, client_of}
+use Rattle.rb_step.specs.View.{client_of}
 use Rattle.rb_plan.proofs.Costs.{same_cost}
-use Rattle.rb_events.specs.declared.config.ClientConfig.{ClientConfig}
-use Rattle.rb_super.specs.declared.report.PricedUpdate.{PricedUpdate}
-use Rattle.rb_super.specs.Priced.{priced_by}
-use Rattle.rb_super.specs.Report.{Plan}
-use Rattle.rb_super.specs.Turns.{update_of, IsSending, IsPlan}
+use Rattle.rb_super.specs.declared.report.PricedUpdate.{PricedUpdate as CodePriced}
+use Rattle.rb_super.specs.Report.{PricedUpdate, Sending, Plan}
+use Rattle.rb_super.specs.Turns.{priced, numbered, reported_plan}
+use Rattle.rb_super.specs.Views.{priced_view}
 
-updates-priced : (client : Client) (us : List Update) → map update_of (map (priced_by client) us) ≡ us
-updates-priced client [] = refl
-updates-priced client (u ∷ us) = ap (λ vs. u ∷ vs) (updates-priced client us)
+fees_told : (ps : List CodePriced) → sum_by (λ (u : PricedUpdate). u.fee) (map priced_view ps) ≡ sum_by (λ (u : CodePriced). u.fee) ps
+fees_told [] = refl
+fees_told (p ∷ ps) =
+    sum_by-cons (λ (u : PricedUpdate). u.fee) (priced_view p) (map priced_view ps) ∙ ap (λ n. p.fee + n) (fees_told ps) ∙ sym (sum_by-cons (λ (u : CodePriced). u.fee) p ps)
 
-fees-priced : (client : Client) (us : List Update) → All (λ u. u.fee ≡ client.fee u.update.trusted u.update.height) (map (priced_by client) us)
-fees-priced client us = All-map (λ (u : PricedUpdate). u.fee ≡ client.fee u.update.trusted u.update.height) (priced_by client) us (λ k d lt. refl)
+fees_priced : (t : Task) (us : List Update) → sum_by (λ (u : PricedUpdate). u.fee) (map (priced t) us) ≡ total_fee (client_of t.view) us
+fees_priced t [] = refl
+fees_priced t (u ∷ us) =
+    sum_by-cons (λ (v : PricedUpdate). v.fee) (priced t u) (map (priced t) us)
+    ∙ ap (λ n. (client_of t.view).fee u.trusted u.height + n) (fees_priced t us)
+    ∙ sym (sum_by-cons (λ (v : Update). (client_of t.view).fee v.trusted v.height) u us)
 
-total-priced : (client : Client) (us : List Update) → sum_by (λ (u : PricedUpdate). u.fee) (map (priced_by client) us) ≡ total_fee client us
-total-priced client [] = refl
-total-priced client (u ∷ us) =
-    sum_by-cons (λ (v : PricedUpdate). v.fee) (priced_by client u) (map (priced_by client) us)
-    ∙ ap (λ n. client.fee u.trusted u.height + n) (total-priced client us)
-    ∙ sym (sum_by-cons (λ v. client.fee v.trusted v.height) u us)
-
-length-priced : (client : Client) (us : List Update) → length (map (priced_by client) us) ≡ length us
-length-priced client [] = refl
-length-priced client (u ∷ us) = ap (λ n. suc n) (length-priced client us)
+fees_in_all : (t : Task) (us : List Update) (ps : List CodePriced) → map priced_view ps ≡ map (priced t) us → sum_by (λ (u : CodePriced). u.fee) ps ≡ total_fee (client_of t.view) us
+fees_in_all t us ps e = sym (fees_told ps) ∙ ap (sum_by (λ (u : PricedUpdate). u.fee)) e ∙ fees_priced t us
 
 -- the sum of the fees fits
-pub fees_fit : (client : Client) (us : List Update) (ps : List PricedUpdate) → ps ≡ map (priced_by client) us → total_fee client us < 2 ^ 63 → sum_by (λ (u : PricedUpdate). u.fee) ps < 2 ^ 64
-fees_fit client us ps e small = rw (e, total-priced) (omega arith)
+pub fees_fit : (t : Task) (us : List Update) (ps : List CodePriced) → map priced_view ps ≡ map (priced t) us → total_fee (client_of t.view) us < 2 ^ 63 → sum_by (λ (u : CodePriced). u.fee) ps < 2 ^ 64
+fees_fit t us ps e small = let same = fees_in_all t us ps e in omega arith
 
--- the plan of the least list
-pub plan_from_least : (config : ClientConfig) (v : View) (goal : Goal) (us : List Update) (p : Plan) → p.updates ≡ map (priced_by (client_of v)) us
-    → p.total.fee ≡ sum_by (λ (u : PricedUpdate). u.fee) p.updates → p.total.count ≡ length p.updates
-    → IsLeast (client_of v) goal us → IsSending config v us p.sending → IsPlan config v goal p
-plan_from_least config v goal us p updates fee count least sending =
-    let client = client_of v in
-    let same : map update_of p.updates ≡ us = ap (map update_of) updates ∙ updates-priced (client_of v) us in
-    record {
-      least = subst (IsLeast (client_of v) goal) (sym same) least;
-      fees = subst (All (λ u. u.fee ≡ (client_of v).fee u.update.trusted u.update.height)) (sym updates) (fees-priced (client_of v) us);
-      total = same_cost p.total (cost_of (client_of v) (map update_of p.updates))
-          (fee ∙ ap (sum_by (λ (u : PricedUpdate). u.fee)) updates ∙ total-priced (client_of v) us ∙ sym (ap (total_fee (client_of v)) same))
-          (count ∙ ap length updates ∙ length-priced (client_of v) us ∙ sym (ap length same));
-      sending = subst (λ vs. IsSending config v vs p.sending) (sym same) sending;
-    }
+abbrev pub told_plan : List CodePriced → Cost → List Message → Sending → Plan
+told_plan ps total messages sending = record { updates = map priced_view ps; total = total; messages = messages; sending = sending }
+
+-- the plan that is reported
+pub plan_told : (t : Task) (number : ℕ) (p : SentPlan) (ps : List CodePriced) (total : Cost) (messages : List Message) (sending : Sending) → map priced_view ps ≡ map (priced t) p.updates
+    → total.fee ≡ sum_by (λ (u : CodePriced). u.fee) ps → total.count ≡ length ps → messages ≡ p.messages → sending ≡ numbered number p.sending
+    → told_plan ps total messages sending ≡ reported_plan t number p
+plan_told t number p ps total messages sending updates fee count same_messages same_sending =
+    let us = p.updates in
+    let long : length ps ≡ length us = sym (length-map ps priced_view) ∙ ap length updates ∙ length-map us (priced t) in
+    let whole : total ≡ cost_of (client_of t.view) us = same_cost total (cost_of (client_of t.view) us) (fee ∙ fees_in_all t us ps updates) (count ∙ long) in
+    λ i. record { updates = updates i; total = whole i; messages = same_messages i; sending = same_sending i }
 
 -- ---- the least list costs what a label says
 
@@ -90,3 +86,15 @@ total_is_small client labels goal us labelling exact least =
     (λ cheaper. least.least reached.0 reached.1 (met.0, reached.2, met.2) (inl (subst (λ c. IsCheaper c (cost_of client us)) (sym reached.3) cheaper))) in
     let bound = labelled_small labels met.0 label.0 labelling.small label.1 in
     omega (arith, no_less, bound)
+
+-- a plan that is right costs little enough
+pub plan_is_small : (t : Task) (a : Answer) → IsPlanned t a → IfSome a.plan (λ (p : SentPlan). total_fee (client_of t.view) p.updates < 2 ^ 63)
+plan_is_small t a is = go a.plan is.plan
+  where
+    go : (o : Option SentPlan) → MatchOption o (IsUnreachable (client_of t.view) a.goal) (IsPlan t a.goal (messages_of t is.reach)) → IfSome o (λ (p : SentPlan). total_fee (client_of t.view) p.updates < 2 ^ 63)
+    go None right = tt
+    go (Some p) right = total_is_small (client_of t.view) a.labels a.goal p.updates is.labels is.exact right.least
+
+-- the answer of a draft is right for its job
+pub answer_right : (d : Draft) (a : Answer) (t : Task) → IsDraft d → Some a ≡ d.answer → t ≡ d.job.task → IsPlanned t a
+answer_right d a t is answer task = subst (λ (u : Task). IsPlanned u a) (sym task) (subst (IsAnswer d.job.task) (sym answer) is)

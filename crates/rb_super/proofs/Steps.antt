@@ -1,165 +1,135 @@
--- One step more of a turn: an event, a report, a client.
-use Rattle.std.proofs.Common.{◌≡◌, ℕ, zero, suc, ◌+◌, ◌<◌, Bool, true, false, cond, List, [], ◌∷◌, ◌++◌, All, Option, Some, None, is_some, length, fold, map, take, drop, get_or, set, refl, sym, ap, ◌∙◌, subst, arith, append_assoc, add-one}
-use Rattle.std.specs.List.{AllZip, slice_get}
-use Rattle.std.specs.Option.{option_map, option_map_or, option_to_list}
-use Rattle.std.proofs.lemmas.List.{drop_more, length-set, drop-map, append-nil}
-use Rattle.std.proofs.lemmas.List.Elements.{All-head, All-drop}
-use Rattle.rb_events.specs.declared.script.Asked.{Asked}
-use Rattle.rb_events.specs.declared.observation.Observation.{Observation}
-use Rattle.rb_events.specs.declared.observation.Observation.TheVariants.{SetSeen, HeaderSeen, StoredSeen, Sent, Received, AckWritten, Cleared, Closed}
-use Rattle.rb_super.specs.Report.{ClientReport, TurnReport, Report}
-use Rattle.rb_book.specs.Intake.{after_set, after_header, after_record}
+-- What an event makes of a relayer.
+use Rattle.std.proofs.Common.{◌≡◌, ℕ, ◌+◌, ◌<◌, Bool, true, false, cond, not, ltb, List, [], ◌∷◌, ◌++◌, Some, None, is_some, is_none, length, refl, sym, ap, ◌∙◌, subst, arith}
+use Rattle.std.specs.List.{fold}
+use Rattle.std.proofs.lemmas.Bool.{lt-ltb, not_from_true}
+use Rattle.std.proofs.lemmas.List.Sums.{fold-append}
 use Rattle.rb_base.specs.Window.{Span}
-use Rattle.rb_events.specs.declared.script.Turn.{Turn as CodeTurn}
-use Rattle.rb_events.specs.Script.{Turn, turn_view}
-use Rattle.rb_super.specs.State.{KnownClient, State, book_at, tracked, with_height, changed, goes_back, after_window, after_asked, judged, observed, after}
-use Rattle.rb_super.specs.Turns.{before_events, before_plans, after_outcome, after_reports, after_turn, IsTurnReport, AreTurnReports}
+use Rattle.rb_core.specs.Core.{Core, state_in, refusal_in}
+use Rattle.rb_core.specs.Event.{Event, Window, Scanned}
+use Rattle.rb_core.specs.Machine.{State, refusal_of, accepted, after, opening, is_known, is_scanned, knows_client, knows_path, client_view_refusal, path_view_refusal}
+use Rattle.rb_core.specs.Refusal.{refused_if}
+use Rattle.rb_core.specs.Seen.{observed}
+use Rattle.rb_core.specs.Standing.{Standing, path_view, goes_back, judged, standing_after}
+use Rattle.rb_core.specs.Scan.{Scan}
+use Rattle.rb_core.specs.Steps.{IsFromOutside, IsAfterScan}
+use Rattle.rb_scan.specs.Path.{Path}
+use Rattle.rb_scan.specs.declared.scan.Part.{Part}
+use Rattle.rb_scan.specs.declared.scan.Part.TheVariants.{Packets, Channel}
+use Rattle.rb_core.proofs.Accepted.{skip, front_of}
+use Rattle.rb_core.proofs.Options.{some_from}
+use Rattle.rb_core.proofs.Steps.{judged_by_standing, present_scans, scans_last}
+use Rattle.rb_events.specs.Config.{Config}
+use Rattle.rb_events.specs.Script.{IsSeen}
+use Rattle.rb_events.specs.declared.observation.Observation.{Observation}
+use Rattle.rb_events.specs.declared.observation.Observation.TheVariants as seen
+use Rattle.rb_events.specs.declared.refusal.Refusal.{Refusal}
+use Rattle.rb_events.specs.declared.refusal.Refusal.TheVariants.{UnknownObject, OutOfOrder, WindowBack}
+use Rattle.rb_super.proofs.Sizes.{HasSizes, sizes_accepted, sizes_opening}
+use Rattle.rb_super.specs.Phases.{standing_in, HasLogRoom, IsLater}
 
--- ---- as many books and clients as before
+-- ---- how much there is of everything
 
-length-changed_by : {X : Type 0} (f : X → X) (xs : List X) (i : ℕ) (o : Option X) → length (option_map_or (λ x. set xs i (f x)) o xs) ≡ length xs
-length-changed_by f xs i None = refl
-length-changed_by f xs i (Some x) = length-set xs i (f x)
-
-length-changed : {X : Type 0} (f : X → X) (xs : List X) (i : ℕ) → length (changed f xs i) ≡ length xs
-length-changed f xs i = length-changed_by f xs i (slice_get xs i)
-
-pub clients-after_asked : (s : State) (a : Asked) → length (after_asked s a).clients ≡ length s.clients
-clients-after_asked s a = length-changed (λ (c : KnownClient). record c { asked = Some a.goal }) s.clients a.client
-
--- a state with as many of them
-pub record HasSizesOf (s t : State) : Type 0 where
-  pub books : length t.books ≡ length s.books
-  pub clients : length t.clients ≡ length s.clients
-
-sizes-observed : {A : Type 0} → (s : State) (event : Observation A) → HasSizesOf s (observed s event)
-sizes-observed s (SetSeen chain set) = record { books = length-set s.books chain (after_set (book_at s.books chain) set); clients = refl }
-sizes-observed s (HeaderSeen chain header) = record { books = length-set s.books chain (after_header (book_at s.books chain) header); clients = refl }
-sizes-observed s (StoredSeen client height r) = record {
-  books = length-set s.books (tracked s.clients client) (after_record (book_at s.books (tracked s.clients client)) height r);
-  clients = length-changed (λ (c : KnownClient). record c { stored = with_height height c.stored }) s.clients client;
-}
-sizes-observed s (Sent path sequence block timeout_height timeout_time) = record { books = refl; clients = refl }
-sizes-observed s (Received path sequence block) = record { books = refl; clients = refl }
-sizes-observed s (AckWritten path sequence block) = record { books = refl; clients = refl }
-sizes-observed s (Cleared path sequence) = record { books = refl; clients = refl }
-sizes-observed s (Closed path) = record { books = refl; clients = refl }
-
-either_state : (P : State → Type 0) (b : Bool) (s t : State) → P s → P t → P (cond b s t)
-either_state P true s t p q = p
-either_state P false s t p q = q
-
-pub sizes-after : {A : Type 0} → (s : State) (event : Observation A) → HasSizesOf s (after s event)
-sizes-after s event =
-    either_state (HasSizesOf s) (is_some (judged s event)) s (observed s event) (record { books = refl; clients = refl }) (sizes-observed s event)
-
-sizes-events : {A : Type 0} → (s : State) (events : List (Observation A)) → HasSizesOf s (fold after s events)
-sizes-events s [] = record { books = refl; clients = refl }
-sizes-events s (event ∷ events) =
-    let step = sizes-after s event in
-    let rest = sizes-events (after s event) events in
-    record { books = rest.books ∙ step.books; clients = rest.clients ∙ step.clients }
-
--- ---- one client more
-
-same_place : (cs : List KnownClient) (rs : List ClientReport) (i : ℕ) (d : KnownClient) → i < length cs → i < length rs → get_or (after_reports (take i cs) (take i rs) ++ drop i cs) i d ≡ get_or cs i d
-same_place [] rs i d lt within = absurd (omega arith)
-same_place (c ∷ cs) [] i d lt within = absurd (omega arith)
-same_place (c ∷ cs) (r ∷ rs) zero d lt within = refl
-same_place (c ∷ cs) (r ∷ rs) (suc i) d lt within = same_place cs rs i d (omega arith) (omega arith)
-
-closed_next : (cs : List KnownClient) (rs : List ClientReport) (i : ℕ) (c : KnownClient) (r : ClientReport) → i < length cs → i < length rs
-    → set (after_reports (take i cs) (take i rs) ++ drop i cs) i (after_outcome (get_or cs i c) (get_or rs i r).outcome) ≡ after_reports (take (suc i) cs) (take (suc i) rs) ++ drop (suc i) cs
-closed_next [] rs i c r lt within = absurd (omega arith)
-closed_next (d ∷ cs) [] i c r lt within = absurd (omega arith)
-closed_next (d ∷ cs) (q ∷ rs) zero c r lt within = refl
-closed_next (d ∷ cs) (q ∷ rs) (suc i) c r lt within = ap (λ xs. after_outcome d q.outcome ∷ xs) (closed_next cs rs i c r (omega arith) (omega arith))
-
-pub closed_more : (cs xs ys : List KnownClient) (rs : List ClientReport) (i : ℕ) (c : KnownClient) (r : ClientReport) → i < length cs → i < length rs
-    → xs ≡ after_reports (take i cs) (take i rs) ++ drop i cs → c ≡ get_or xs i c → r ≡ get_or rs i r → ys ≡ set xs i (after_outcome c r.outcome)
-    → ys ≡ after_reports (take (i + 1) cs) (take (i + 1) rs) ++ drop (i + 1) cs
-closed_more cs xs ys rs i c r lt within so_far here report e =
-    let same : c ≡ get_or cs i c = here ∙ ap (λ zs. get_or zs i c) so_far ∙ same_place cs rs i c lt within in
-    e ∙ ap (λ zs. set zs i (after_outcome c r.outcome)) so_far
-    ∙ ap (λ (p : KnownClient × ClientReport). set (after_reports (take i cs) (take i rs) ++ drop i cs) i (after_outcome p.0 p.1.outcome)) (λ j. (same j, report j))
-    ∙ closed_next cs rs i c r lt within
-    ∙ ap (λ n. after_reports (take n cs) (take n rs) ++ drop n cs) (sym (add-one i))
-
--- ---- one report more
-
-pub all_zip_more : {X Y : Type 0} (R : X → Y → Type 0) (xs : List X) (ys : List Y) (i : ℕ) (x : X) (y : Y) → i < length xs → x ≡ get_or xs i x
-    → AllZip R (take i xs) ys → R x y → AllZip R (take (i + 1) xs) (ys ++ y ∷ [])
-all_zip_more {X = X} {Y = Y} R xs ys i x y lt at all here = subst (λ n. AllZip R (take n xs) (ys ++ y ∷ [])) (sym (add-one i)) (more xs ys i lt at all)
+sizes_after : (config : Config) (s : State) (e : Event) → HasSizes config s → HasSizes config (after s e)
+sizes_after config s e sizes = go (is_some (refusal_of s e))
   where
-    more : (xs : List X) (ys : List Y) (i : ℕ) → i < length xs → x ≡ get_or xs i x → AllZip R (take i xs) ys → AllZip R (take (suc i) xs) (ys ++ y ∷ [])
-    more [] ys i lt at all = absurd (omega arith)
-    more (z ∷ xs) [] zero lt at all = (subst (λ w. R w y) at here, tt)
-    more (z ∷ xs) (w ∷ ys) zero lt at all = absurd all
-    more (z ∷ xs) [] (suc i) lt at all = absurd all
-    more (z ∷ xs) (w ∷ ys) (suc i) lt at all = (all.0, more xs ys i (omega arith) at all.1)
+    go : (b : Bool) → HasSizes config (cond b s (accepted s e))
+    go true = sizes
+    go false = sizes_accepted config s e sizes
 
--- ---- before a turn's events
+sizes_fold : (config : Config) (events : List Event) (s : State) → HasSizes config s → HasSizes config (fold after s events)
+sizes_fold config [] s sizes = sizes
+sizes_fold config (e ∷ events) s sizes = sizes_fold config events (after s e) (sizes_after config s e sizes)
 
-HasSizesOf-trans : (s t u : State) → HasSizesOf s t → HasSizesOf t u → HasSizesOf s u
-HasSizesOf-trans s t u p q = record { books = q.books ∙ p.books; clients = q.clients ∙ p.clients }
+pub sizes_in : (core : Core) → HasSizes core.config (state_in core)
+sizes_in core = sizes_fold core.config core.log (opening core.config) (sizes_opening core.config)
 
-sizes-asked : (s : State) (goals : List Asked) → HasSizesOf s (fold after_asked s goals)
-sizes-asked s [] = record { books = refl; clients = refl }
-sizes-asked s (a ∷ goals) =
-    HasSizesOf-trans s (after_asked s a) (fold after_asked (after_asked s a) goals)
-    (record { books = refl; clients = clients-after_asked s a }) (sizes-asked (after_asked s a) goals)
+-- ---- an event that is judged
 
-sizes-window : (s : State) (window : Span) → HasSizesOf s (after_window s window)
-sizes-window s window =
-    either_state (HasSizesOf s) (goes_back s.window window) s (record s { window = window }) (record { books = refl; clients = refl })
-    (record { books = refl; clients = refl })
+pub after_refused : (s : State) (e : Event) (r : Refusal) → refusal_of s e ≡ Some r → after s e ≡ s
+after_refused s e r due = ap (λ o. cond (is_some o) s (accepted s e)) due
 
-pub sizes-before_events : {A : Type 0} → (s : State) (turn : Turn A) → HasSizesOf s (before_events s turn)
-sizes-before_events s turn =
-    HasSizesOf-trans s (after_window s turn.window) (before_events s turn) (sizes-window s turn.window) (sizes-asked (after_window s turn.window) turn.goals)
+-- the core whose log has one more
+pub one_more : (old new : Core) (e : Event) → new.config ≡ old.config → new.log ≡ old.log ++ e ∷ [] → state_in new ≡ after (state_in old) e
+one_more old new e config log =
+    ap (λ c. fold after (opening c) new.log) config
+    ∙ ap (fold after (opening old.config)) log
+    ∙ fold-append after (opening old.config) old.log (e ∷ [])
 
-pub sizes-before_plans : {A : Type 0} → (s : State) (turn : Turn A) → HasSizesOf s (before_plans s turn)
-sizes-before_plans s turn = HasSizesOf-trans s (before_events s turn) (before_plans s turn) (sizes-before_events s turn) (sizes-events (before_events s turn) turn.events)
+pub same_state : (old new : Core) → new.config ≡ old.config → new.log ≡ old.log → state_in new ≡ state_in old
+same_state old new config log = ap (λ c. fold after (opening c) new.log) config ∙ ap (fold after (opening old.config)) log
 
--- ---- after a turn
+pub later : (old new : Core) (e : Event) → new.config ≡ old.config → state_in new ≡ after (state_in old) e → IsLater 1 old new
+later old new e config state = record { config = config; front = let most = front_of (state_in old) e in let same = ap (λ (s : State). s.front) state in omega arith }
 
-length-after_reports : (cs : List KnownClient) (rs : List ClientReport) → length (after_reports cs rs) ≡ length cs
-length-after_reports [] rs = refl
-length-after_reports (c ∷ cs) [] = refl
-length-after_reports (c ∷ cs) (r ∷ rs) = ap (λ n. suc n) (length-after_reports cs rs)
+pub later_none : (core : Core) → IsLater 0 core core
+later_none core = record { config = refl; front = omega arith }
 
-pub sizes-after_turn : {A : Type 0} → (s : State) (turn : Turn A) (r : TurnReport) → HasSizesOf s (after_turn s turn r)
-sizes-after_turn s turn r =
-    let before = sizes-before_plans s turn in
-    record { books = before.books; clients = length-after_reports (before_plans s turn).clients r.clients ∙ before.clients }
+pub later_trans : (m n : ℕ) (a b c : Core) → IsLater m a b → IsLater n b c → IsLater (m + n) a c
+later_trans m n a b c p q = record { config = q.config ∙ p.config; front = let one = p.front in let two = q.front in omega arith }
 
--- ---- one turn more
+-- an event from outside is judged by how things stand
+pub by_standing : (old new : Core) (e : Event) → IsFromOutside e → is_known (state_in old) e ≡ true → HasLogRoom old 1 → state_in new ≡ after (state_in old) e
+    → (refusal_in old e ≡ judged (standing_in old) e) × (standing_in new ≡ standing_after (standing_in old) e)
+by_standing old new e outside known room state =
+    let law = judged_by_standing (state_in old) e outside known (omega arith) in
+    (law.0, ap (λ (s : State). s.standing) state ∙ law.1)
 
--- what is left to report in a state completes what was reported since the start
-abbrev pub Continues : {A : Type 0} → State → List (Turn A) → Report → State → List (Turn A) → Type 0
-Continues start turns done s left = (rest : Report) → AreTurnReports s left rest → AreTurnReports start turns (done ++ rest)
+-- ---- what is there
 
-pub turns_more : {A : Type 0} → (start s next : State) (turns left : List (Turn A)) (done : Report) (t : Turn A) (r : TurnReport) → IsTurnReport s t r → next ≡ after_turn s t r
-    → Continues start turns done s (t ∷ left) → Continues start turns (done ++ r ∷ []) next left
-turns_more start s next turns left done t r here is continues rest reports =
-    subst (AreTurnReports start turns) (sym (append_assoc done (r ∷ []) rest))
-    (continues (r ∷ rest) (here, subst (λ (u : State). AreTurnReports u left rest) is reports))
+below : (n m k : ℕ) → n < m → k ≡ m → ltb n k ≡ true
+below n m k lt e = lt-ltb n k (subst (λ x. n < x) (sym e) lt)
 
--- the turn at a place, as a script's view has it
-pub turn_at : {A : Type 0} → (turns items : List (CodeTurn A)) (i : ℕ) (t : CodeTurn A) → items ≡ turns → i < length items → t ≡ get_or items i t
-    → map turn_view (drop i turns) ≡ turn_view t ∷ map turn_view (drop (i + 1) turns)
-turn_at turns items i t same lt at =
-    ap (λ xs. map turn_view (drop i xs)) (sym same)
-    ∙ ap (map turn_view) (drop_more items i t lt)
-    ∙ ap (λ (p : CodeTurn _ × List (CodeTurn _)). turn_view p.0 ∷ map turn_view (drop (i + 1) p.1)) (λ j. (sym at j, same j))
+pub heard : {A : Type 0} (core : Core) (o : Observation A) → IsSeen (length core.config.chains) (length core.config.clients) (length core.config.paths) o
+    → IsFromOutside (observed o) × (is_known (state_in core) (observed o) ≡ true)
+heard core (seen.SetSeen chain x) is = (tt, below chain _ _ is (sizes_in core).books)
+heard core (seen.HeaderSeen chain header) is = (tt, below chain _ _ is (sizes_in core).books)
+heard core (seen.StoredSeen client height stored) is = (tt, below client _ _ is (sizes_in core).clients)
+heard core (seen.Sent path sequence block timeout_height timeout_time) is = (tt, below path _ _ is (sizes_in core).paths)
+heard core (seen.Received path sequence block) is = (tt, below path _ _ is (sizes_in core).paths)
+heard core (seen.AckWritten path sequence block) is = (tt, below path _ _ is (sizes_in core).paths)
+heard core (seen.Cleared path sequence) is = (tt, below path _ _ is (sizes_in core).paths)
+heard core (seen.Closed path) is = (tt, below path _ _ is (sizes_in core).paths)
 
-pub turn_of_all : {A : Type 0} → (P : Turn A → Type 0) (turns items : List (CodeTurn A)) (i : ℕ) (t : CodeTurn A) → All P (map turn_view turns) → items ≡ turns → i < length items → t ≡ get_or items i t → P (turn_view t)
-turn_of_all P turns items i t all same lt at =
-    let rest = turn_at turns items i t same lt at in
-    All-head P (turn_view t) (map turn_view (drop (i + 1) turns))
-    (subst (All P) (drop-map turn_view i turns ∙ rest) (All-drop P i (map turn_view turns) all))
+pub client_there : (core : Core) (client : ℕ) → client < length core.config.clients → ltb client (length (standing_in core).clients) ≡ true
+client_there core client lt = below client _ _ lt (sizes_in core).clients
 
--- no turn is left
-pub turns_done : {A : Type 0} → (start s : State) (turns : List (Turn A)) (done : Report) (left : List (Turn A)) → left ≡ [] → Continues start turns done s left → AreTurnReports start turns done
-turns_done start s turns done left none continues =
-    subst (AreTurnReports start turns) (append-nil done) (continues [] (subst (λ ts. AreTurnReports s ts []) (sym none) tt))
+pub path_there : (core : Core) (path : ℕ) → path < length core.config.paths → ltb path (length (standing_in core).paths) ≡ true
+path_there core path lt = below path _ _ lt (sizes_in core).paths
+
+-- views that are given
+
+pub path_is_shown : (core : Core) (path : ℕ) → path < length core.config.paths → path_view_refusal (state_in core) path ≡ None
+path_is_shown core path lt = skip (not (knows_path (state_in core) path)) UnknownObject None (not_from_true (knows_path (state_in core) path) (path_there core path lt))
+
+pub client_is_shown : (core : Core) (client : ℕ) → client < length core.config.clients → is_some (standing_in core).window ≡ true → client_view_refusal (state_in core) client ≡ None
+client_is_shown core client lt entered =
+    let w = some_from (standing_in core).window entered in
+    skip (not (knows_client (state_in core) client)) UnknownObject (refused_if (is_none (standing_in core).window) OutOfOrder None)
+    (not_from_true (knows_client (state_in core) client) (client_there core client lt))
+    ∙ ap (λ o. refused_if (is_none o) OutOfOrder None) w.1
+
+-- ---- a scan
+
+pub scan_fits : (core : Core) (path : ℕ) (part : Part) (v : Path) → path < length core.config.paths → HasLogRoom core 1 → path_view (standing_in core) path ≡ Some v → is_scanned (state_in core) path part ≡ false
+    → (scan : Scan) → scan ≡ record { view = v; part = part } → refusal_in core (Scanned path scan) ≡ None
+scan_fits core path part v lt room view not_yet scan is =
+    ap (λ x. refusal_in core (Scanned path x)) is ∙ present_scans (state_in core) path part v (path_there core path lt) (omega arith) view not_yet
+
+pub after_scan : (old new : Core) (path : ℕ) (scan : Scan) → path < length old.config.paths → refusal_in old (Scanned path scan) ≡ None → state_in new ≡ after (state_in old) (Scanned path scan)
+    → IsAfterScan (state_in old) (state_in new) path scan
+after_scan old new path scan lt ok state =
+    subst (λ t. IsAfterScan (state_in old) t path scan) (sym state)
+    (scans_last (state_in old) path scan (subst (λ n. path < n) (sym (sizes_in old).scans) lt) ok)
+
+pub for_both : (P : Part → Type 0) → P Packets → P Channel → (part : Part) → P part
+for_both P one two Packets = one
+for_both P one two Channel = two
+
+-- ---- a window
+
+pub goes_back_told : (s : Standing) (window : Span) → is_some (judged s (Window window)) ≡ goes_back s.window window
+goes_back_told s window = go (goes_back s.window window)
+  where
+    go : (b : Bool) → is_some (refused_if b WindowBack None) ≡ b
+    go true = refl
+    go false = refl

@@ -1,47 +1,52 @@
 -- What is said of an answer that was made for a client in a turn (own choice, over the certifier's verdicts).
 use Rattle.std.specs.Option.{option_map}
-use Rattle.std.specs.Prelude.{◌≡◌, ℕ, List, [], ◌∷◌, take, map, slice_get, Option, Some, None, is_some, if◌then◌else◌}
+use Rattle.std.specs.Prelude.{◌≡◌, ℕ, List, [], ◌∷◌, take, map, slice_get, Option, Some, None, MatchOption}
+use Rattle.rb_base.specs.Window.{Span}
 use Rattle.rb_cert.specs.declared.verdict.Verdict2.{Verdict2}
 use Rattle.rb_cert.specs.Judgement.{Judges}
+use Rattle.rb_core.specs.Reach.{IsReach}
+use Rattle.rb_core.specs.Standing.{KnownClient, Standing, opening_standing, task_in}
+use Rattle.rb_core.specs.Task.{Task, goal_of}
 use Rattle.rb_events.specs.declared.goal.Goal.{Goal}
 use Rattle.rb_plan.specs.Answer.{Shows}
 use Rattle.rb_plan.specs.Labelling.{Labels, IsSound, label_of}
 use Rattle.rb_step.specs.LightClient.{Update}
 use Rattle.rb_step.specs.View.{View, client_of}
-use Rattle.rb_super.specs.Goal.{goal_of}
 use Rattle.rb_super.specs.Report.{Plan, Planned, planned, ClientReport, TurnReport, Report}
-use Rattle.rb_events.specs.Script.{Script, Turn}
-use Rattle.rb_super.specs.State.{KnownClient, State, opening, book_at}
-use Rattle.rb_super.specs.Turns.{before_plans, view_of, update_of, IsTurnReport, after_turn}
+use Rattle.rb_super.specs.Script.{Turn, Script}
+use Rattle.rb_super.specs.Turns.{before_plans, update_of, IsTurnReport, after_turn}
 
 -- ---- where a client stands
 
--- the turns lead from the one state to the other, each by a report of it in the state that those before it left
-abbrev pub Leads : {A : Type 0} → State → List (Turn A) → State → Type 0
+-- the turns lead from how things stand to how they stand then, each by a report of it as those before it left things
+abbrev pub Leads : Standing → List Turn → Standing → Type 0
 Leads s [] u = s ≡ u
 Leads s (t ∷ ts) u = (r : TurnReport) × IsTurnReport s t r × Leads (after_turn s t r) ts u
 
--- the state in which the clients of a script's turn are planned; turns are counted from 0
-pub record IsPlanPhase {A : Type 0} (script : Script A) (turn : ℕ) (s : State) : Type 0 where
-  pub begun : State
-  pub earlier : Leads (opening script) (take turn script.turns) begun
-  pub this : Turn A
+-- how things stand where the clients of a script's turn are planned; turns are counted from 0
+pub record IsPlanPhase (script : Script) (turn : ℕ) (s : Standing) : Type 0 where
+  pub begun : Standing
+  pub earlier : Leads (opening_standing script.config) (take turn script.turns) begun
+  pub this : Turn
   pub is : slice_get script.turns turn ≡ Some this
   pub taken_in : s ≡ before_plans begun this
 
-abbrev pub view_in : State → KnownClient → View
-view_in s c = view_of s.window (book_at s.books c.config.tracks) c
+-- a client, by its place, as it is known then, and what a plan for it goes by in the window
+pub record IsClientIn (s : Standing) (client : ℕ) (known : KnownClient) (task : Task) : Type 0 where
+  pub window : Span
+  pub is_window : s.window ≡ Some window
+  pub is_known : slice_get s.clients client ≡ Some known
+  pub is_task : task ≡ task_in s window client known
 
--- a client, by its place, and its view, where the turn's clients are planned
-pub record IsClientIn {A : Type 0} (script : Script A) (turn client : ℕ) (c : KnownClient) (v : View) : Type 0 where
-  pub state : State
-  pub phase : IsPlanPhase script turn state
-  pub is : slice_get state.clients client ≡ Some c
-  pub view : v ≡ view_in state c
+-- what a client is to be brought to, by the greatest height that it can be brought to
+pub record IsWanted (task : Task) (goal : Option Goal) : Type 0 where
+  pub reach : Option ℕ
+  pub is_reach : IsReach (client_of task.view) reach
+  pub is_goal : goal ≡ goal_of task reach
 
--- the goal that the client is planned for; none where it is held or idle
-abbrev pub planned_goal : KnownClient → View → Option Goal
-planned_goal c v = if is_some c.batch then None else goal_of c.asked c.config.refresh v
+-- the goal that it is planned for: none while a batch of its is open
+abbrev pub IsPlannedGoal : KnownClient → Task → Option Goal → Type 0
+IsPlannedGoal known task goal = MatchOption known.batch (IsWanted task goal) (λ b. goal ≡ None)
 
 -- ---- what is said
 
@@ -51,26 +56,36 @@ IsVerdictFor v None labels claim verdict = verdict ≡ None
 IsVerdictFor v (Some goal) labels claim None = ⊥
 IsVerdictFor v (Some goal) labels claim (Some verdict) = Judges (client_of v) labels goal claim verdict
 
--- the labelling is sound, and the claim true for the goal that the client is planned for
-pub record IsRight (c : KnownClient) (v : View) (labels : Labels) (claim : Option (List Update)) : Type 0 where
+-- the verdict on an answer for a client as things stand
+pub record IsVerdictIn (s : Standing) (client : ℕ) (labels : Labels) (claim : Option (List Update)) (verdict : Option Verdict2) : Type 0 where
+  pub known : KnownClient
+  pub task : Task
+  pub is : IsClientIn s client known task
+  pub goal : Option Goal
+  pub is_planned : IsPlannedGoal known task goal
+  pub judged : IsVerdictFor task.view goal labels claim verdict
+
+-- the labelling is sound, and the claim true for the goal that the client is planned for as things stand
+pub record IsRightAs (s : Standing) (client : ℕ) (labels : Labels) (claim : Option (List Update)) : Type 0 where
+  pub known : KnownClient
+  pub task : Task
+  pub is : IsClientIn s client known task
   pub goal : Goal
-  pub wanted : planned_goal c v ≡ Some goal
-  pub sound : IsSound (client_of v) labels
-  pub shows : Shows (client_of v) goal claim
+  pub is_planned : IsPlannedGoal known task (Some goal)
+  pub sound : IsSound (client_of task.view) labels
+  pub shows : Shows (client_of task.view) goal claim
 
 -- the verdict on an answer for a script's client in a turn
-pub record IsVerdictOn {A : Type 0} (script : Script A) (turn client : ℕ) (labels : Labels) (claim : Option (List Update)) (verdict : Option Verdict2) : Type 0 where
-  pub known : KnownClient
-  pub view : View
-  pub is : IsClientIn script turn client known view
-  pub judged : IsVerdictFor view (planned_goal known view) labels claim verdict
+pub record IsVerdictOn (script : Script) (turn client : ℕ) (labels : Labels) (claim : Option (List Update)) (verdict : Option Verdict2) : Type 0 where
+  pub standing : Standing
+  pub phase : IsPlanPhase script turn standing
+  pub judged : IsVerdictIn standing client labels claim verdict
 
 -- the answer is right for it
-pub record IsRightIn {A : Type 0} (script : Script A) (turn client : ℕ) (labels : Labels) (claim : Option (List Update)) : Type 0 where
-  pub known : KnownClient
-  pub view : View
-  pub is : IsClientIn script turn client known view
-  pub right : IsRight known view labels claim
+pub record IsRightIn (script : Script) (turn client : ℕ) (labels : Labels) (claim : Option (List Update)) : Type 0 where
+  pub standing : Standing
+  pub phase : IsPlanPhase script turn standing
+  pub right : IsRightAs standing client labels claim
 
 -- ---- answers of a report
 

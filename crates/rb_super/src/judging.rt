@@ -1,74 +1,187 @@
 //! The judgement of an answer that was made for a client in a turn of a script.
-ghost use Rattle.std.specs.Prelude.{◌≡◌, ◌<◌, Ok, Some, All, length, map, IfOk};
-ghost use Rattle.rb_plan.specs.Answer.{labels_of, claim_of};
-ghost use Rattle.rb_super.specs.Judging.{Leads, IsPlanPhase, IsVerdictOn, IsRightIn, IsReported};
+ghost use Rattle.std.specs.Prelude.{◌≡◌, ◌<◌, Ok, Some, None, length, take, slice_get, IfOk};
+ghost use denote.Param.Send.{Frees};
+ghost use Rattle.rb_core.specs.Batches.{batch_open};
+ghost use Rattle.rb_core.specs.Standing.{KnownClient};
+ghost use Rattle.rb_core.specs.Task.{Task};
+ghost use Rattle.rb_events.specs.declared.goal.Goal.{Goal as AnyGoal};
+ghost use Rattle.rb_events.specs.Script.{script_view, IsScript};
+ghost use Rattle.rb_plan.specs.Answer.{labels_of, claim_of, Shows};
+ghost use Rattle.rb_plan.specs.Labelling.{IsSound, IsExact};
+ghost use Rattle.rb_step.specs.View.{client_of};
+ghost use Rattle.rb_super.specs.Judging.{IsPlanPhase, IsClientIn, IsWanted, IsPlannedGoal, IsVerdictFor, IsVerdictIn, IsRightAs, IsVerdictOn, IsRightIn, IsReported};
+ghost use Rattle.rb_super.specs.Phases.{standing_in, HasLogRoom, IsPlannable};
 ghost use Rattle.rb_super.specs.Report.{Report};
-ghost use Rattle.rb_events.specs.Script.{IsScript, IsOfUpdates, IsTurn, script_view, turn_view};
-ghost use Rattle.rb_super.specs.State.{opening};
+ghost use Rattle.rb_super.specs.Told.{told};
 ghost use Rattle.rb_super.specs.Turns.{IsReportOf};
 
-use crate::state::State;
+use crate::crew::Crew;
+use crate::planning::{draft_of, view_of};
+use crate::run::run_turns;
+use crate::supervisor::Supervisor;
 use rb_batch::laws::least_cut_is_one;
-use rb_cert::Verdict2;
+use rb_cert::{Verdict2, certify_par};
+use rb_core::{Core, JobView};
 use rb_events::{Script, Turn};
-use rb_plan::Answer;
+use rb_gang::{Gate, OpenGate};
 use rb_plan::laws::answers_are_one;
-use std::alloc::{AllocError, Global};
+use rb_plan::{Answer, Goal};
+use rb_step::ClientView;
+use std::alloc::{AllocError, Allocator};
+use std::thread::Threads;
 
-/// Runs the turns, from the opening state of the script.
-fn run_turns(alloc: Global, script: &Script, turns: &[Turn]) -> Result<State, AllocError>
-    requires script { IsScript (script_view script.now) }
-    requires turns { All (IsTurn (length script.now.config.chains.items) (length script.now.config.clients.items) 0) (map turn_view turns.now) }
-    ensures leads { IfOk result (λ s. Leads (opening (script_view script.now)) (map turn_view turns.now) s) }
-    ensures books { IfOk result (λ s. length s.books ≡ length script.now.config.chains.items) }
-    ensures clients { IfOk result (λ s. length s.clients ≡ length script.now.config.clients.items) }
+/// The turns before a place, and the one there.
+fn turns_to<A: Allocator + Copy>(turns: Vec<Turn<A>, A>, place: usize) -> (Vec<Turn<A>, A>, Turn<A>)
+    requires { place < length turns.items }
+    ensures before { result.0.items ≡ take place turns.items }
+    ensures there { slice_get turns.items place ≡ Some result.1 }
 {
-    let mut state = State::opening(alloc, script)?;
-    for turn in turns {
-        let (next, _) = state.run_turn(alloc, turn)?;
-        state = next;
-    }
-    Ok(state)
+    let mut turns = turns;
+    let this = turns.remove(place);
+    turns.truncate(place);
+    (turns, this)
 }
 
-/// The state in which the clients of a turn are planned.
-fn plan_phase(alloc: Global, script: &Script, turn: usize) -> Result<State, AllocError>
-    requires script { IsScript (script_view script.now) }
-    requires updates { IsOfUpdates (script_view script.now) }
-    requires turn { turn < length script.now.turns.items }
-    ensures phase { IfOk result (λ s. IsPlanPhase (script_view script.now) turn s) }
-    ensures clients { IfOk result (λ s. length s.clients ≡ length script.now.config.clients.items) }
+/// The relayer where the clients of a script's turn are planned.
+fn plan_phase<R: Threads + Sync, G: Gate + Sync, A: Allocator + Copy + Send + Sync>(
+    crew: &Crew<R, G>,
+    alloc: A,
+    script: Script<A>,
+    turn: usize,
+) -> Result<Core<A>, AllocError>
+    requires script { IsScript (script_view script) }
+    requires turn { turn < length script.turns.items }
+    requires alloc { Frees A.Allocator A.dealloc_token }
+    ensures phase { IfOk result (λ core. IsPlanPhase (told (script_view script)) turn (standing_in core)) }
+    ensures ready { IfOk result IsPlannable }
+    ensures clients { IfOk result (λ core. length core.config.clients ≡ length script.config.clients.items) }
+    ensures room { IfOk result (λ core. HasLogRoom core (length core.config.clients)) }
 {
-    let turns = script.turns.as_slice();
-    let mut state = run_turns(alloc, script, &turns[..turn])?;
-    state.take_in(alloc, &turns[turn])?;
-    Ok(state)
+    let Script { config, turns } = script;
+    let (earlier, this) = turns_to(turns, turn);
+    let supervisor = Supervisor::new(alloc, config)?;
+    let (_, begun) = run_turns(crew, alloc, supervisor, earlier)?;
+    let core = begun.plan_phase(crew, this)?;
+    Ok(core)
+}
+
+/// What a client is to be brought to, by the greatest height that it can be brought to.
+fn wanted<R: Threads + Sync, G: Gate + Sync, A: Allocator + Copy + Send + Sync>(
+    crew: &Crew<R, G>,
+    alloc: A,
+    job: &JobView<A>,
+) -> Result<Option<Goal>, AllocError>
+    requires { Frees A.Allocator A.dealloc_token }
+    ensures { IfOk result (IsWanted job.now.task) }
+{
+    let draft = draft_of(crew, alloc, &mut None, job)?;
+    match draft.answer() {
+        Some(planned) => Ok(Some(planned.goal())),
+        None => Ok(None),
+    }
+}
+
+/// The certifier's verdict on an answer, where there is a goal.
+fn verdict_for<R: Threads + Sync, G: Gate + Sync, A: Allocator + Copy + Send + Sync>(
+    crew: &Crew<R, G>,
+    view: &ClientView<'_, A>,
+    goal: Option<Goal>,
+    answer: &Answer<A>,
+) -> Option<Verdict2>
+    ensures judged { IsVerdictFor view.now goal (labels_of answer.now) (claim_of answer.now) result }
+    ensures right { result ≡ Some Verdict2.Yes
+        → (g : AnyGoal) × (goal ≡ Some g) × IsSound (client_of view.now) (labels_of answer.now) × Shows (client_of view.now) g (claim_of answer.now) }
+    ensures accepts { (g : AnyGoal) → goal ≡ Some g → IsExact (client_of view.now) (labels_of answer.now)
+        → Shows (client_of view.now) g (claim_of answer.now)
+        → result ≡ Some Verdict2.Yes }
+{
+    match goal {
+        Some(goal) => Some(certify_par(crew.rt(), view, goal, answer)),
+        None => None,
+    }
+}
+
+/// The verdict on an answer for a client that has no open batch.
+fn verdict_unheld<R: Threads + Sync, G: Gate + Sync, A: Allocator + Copy + Send + Sync>(
+    crew: &Crew<R, G>,
+    alloc: A,
+    core: &Core<A>,
+    client: usize,
+    answer: &Answer<A>,
+) -> Result<Option<Verdict2>, AllocError>
+    requires client { client < length core.now.config.clients }
+    requires none_open { batch_open (standing_in core.now) client ≡ None }
+    requires ready { IsPlannable core.now }
+    requires room { HasLogRoom core.now 1 }
+    requires alloc { Frees A.Allocator A.dealloc_token }
+    ensures judged { IfOk result (λ verdict. IsVerdictIn (standing_in core.now) client (labels_of answer.now) (claim_of answer.now) verdict) }
+    ensures right { result ≡ Ok (Some Verdict2.Yes) → IsRightAs (standing_in core.now) client (labels_of answer.now) (claim_of answer.now) }
+    ensures accepts { (known : KnownClient) (task : Task) (goal : AnyGoal) → IsClientIn (standing_in core.now) client known task
+        → IsPlannedGoal known task (Some goal)
+        → IsExact (client_of task.view) (labels_of answer.now)
+        → Shows (client_of task.view) goal (claim_of answer.now)
+        → IfOk result (λ verdict. verdict ≡ Some Verdict2.Yes) }
+{
+    let job = view_of(core, client)?;
+    let goal = wanted(crew, alloc, &job)?;
+    let view = job.view();
+    let verdict = verdict_for(crew, &view, goal, answer);
+    Ok(verdict)
+}
+
+/// The verdict on an answer for a client as things stand.
+fn verdict_on<R: Threads + Sync, G: Gate + Sync, A: Allocator + Copy + Send + Sync>(
+    crew: &Crew<R, G>,
+    alloc: A,
+    core: &Core<A>,
+    client: usize,
+    answer: &Answer<A>,
+) -> Result<Option<Verdict2>, AllocError>
+    requires client { client < length core.now.config.clients }
+    requires ready { IsPlannable core.now }
+    requires room { HasLogRoom core.now 1 }
+    requires alloc { Frees A.Allocator A.dealloc_token }
+    ensures judged { IfOk result (λ verdict. IsVerdictIn (standing_in core.now) client (labels_of answer.now) (claim_of answer.now) verdict) }
+    ensures right { result ≡ Ok (Some Verdict2.Yes) → IsRightAs (standing_in core.now) client (labels_of answer.now) (claim_of answer.now) }
+    ensures accepts { (known : KnownClient) (task : Task) (goal : AnyGoal) → IsClientIn (standing_in core.now) client known task
+        → IsPlannedGoal known task (Some goal)
+        → IsExact (client_of task.view) (labels_of answer.now)
+        → Shows (client_of task.view) goal (claim_of answer.now)
+        → IfOk result (λ verdict. verdict ≡ Some Verdict2.Yes) }
+{
+    if let Some(_) = core.open_batch(client) {
+        return Ok(None);
+    }
+    verdict_unheld(crew, alloc, core, client, answer)
 }
 
 /// Judges an answer that was made for a client in a turn, both by their places in the script: the
 /// certifier's verdict for the view and the goal that a run of the script plans the client by in
 /// that turn. None where the client is held or idle. `Yes` says that the labelling is sound and the
-/// answer right; the answer that a report of the script has there gets `Yes`. Takes memory for the
-/// run alone. So far the script has no paths and no settlements.
-pub fn judge(
-    alloc: Global,
-    script: &Script,
+/// answer right; the answer that a report of the script has there gets `Yes`. The headers are split
+/// among as many threads as there are processors. Takes memory for the run alone: an error comes only
+/// where a growth is refused.
+pub fn judge<R: Threads + Sync, A: Allocator + Copy + Send + Sync>(
+    rt: &R,
+    alloc: A,
+    script: Script<A>,
     turn: usize,
     client: usize,
-    answer: &Answer,
+    answer: &Answer<A>,
 ) -> Result<Option<Verdict2>, AllocError>
-    requires script { IsScript (script_view script.now) }
-    requires updates { IsOfUpdates (script_view script.now) }
-    requires turn { turn < length script.now.turns.items }
-    requires client { client < length script.now.config.clients.items }
-    ensures judged { IfOk result (λ verdict. IsVerdictOn (script_view script.now) turn client (labels_of answer.now) (claim_of answer.now) verdict) }
-    ensures right { result ≡ Ok (Some Verdict2.Yes) → IsRightIn (script_view script.now) turn client (labels_of answer.now) (claim_of answer.now) }
-    ensures accepts { (report : Report) → IsReportOf (script_view script.now) report
+    requires script { IsScript (script_view script) }
+    requires turn { turn < length script.turns.items }
+    requires client { client < length script.config.clients.items }
+    requires alloc { Frees A.Allocator A.dealloc_token }
+    ensures judged { IfOk result (λ verdict. IsVerdictOn (told (script_view script)) turn client (labels_of answer.now) (claim_of answer.now) verdict) }
+    ensures right { result ≡ Ok (Some Verdict2.Yes) → IsRightIn (told (script_view script)) turn client (labels_of answer.now) (claim_of answer.now) }
+    ensures accepts { (report : Report) → IsReportOf (told (script_view script)) report
         → IsReported report turn client (labels_of answer.now) (claim_of answer.now)
         → IfOk result (λ verdict. verdict ≡ Some Verdict2.Yes) }
 {
     answers_are_one();
     least_cut_is_one();
-    let state = plan_phase(alloc, script, turn)?;
-    Ok(state.verdict_on(client, answer))
+    let crew = Crew::new(rt, 0, &OpenGate);
+    let core = plan_phase(&crew, alloc, script, turn)?;
+    verdict_on(&crew, alloc, &core, client, answer)
 }

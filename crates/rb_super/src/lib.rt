@@ -1,28 +1,26 @@
-//! What is to be run, and what a run reports: for each client and turn the least list of updates
-//! with the labelling that proves it, and its transactions; and what is said of answers that others
-//! made for them.
+//! Turns: what a script's turns report, the supervisor that leads a relayer through them, what is
+//! said of answers that others made for its clients (`judge`), and the law of all schedules.
 #![tactic(auto)]
 
-mod client;
-mod goal;
-mod intake;
+mod clients;
+mod crew;
 mod judging;
 pub mod laws;
+mod observing;
+mod outcome;
 mod planning;
 mod report;
-mod reporting;
 mod run;
-mod sending;
-mod state;
-mod verdict;
+mod scanning;
+mod settling;
+mod supervisor;
+mod taking;
 
+pub use crew::Crew;
 pub use judging::judge;
-pub use rb_events::{
-    Asked, ClientConfig, Config, Observation, PathConfig, Refusal, Script, Settlement, Turn,
-    is_of_updates, is_script,
-};
 pub use report::{
     Batch, ClientReport, Outcome, Plan, Planned, PricedUpdate, RefusedEvent, Report, Sending,
-    TurnReport,
+    SettlementReport, TurnReport,
 };
 pub use run::run_script;
+pub use supervisor::Supervisor;

@@ -1,148 +1,162 @@
-//! What is planned for a client.
-ghost use Rattle.std.specs.Prelude.{◌≡◌, ◌<◌, ◌^◌, length, map, sum_by, IfOk};
-ghost use Rattle.rb_plan.specs.Labelling.{IsLabelling, IsExact, label_of};
-ghost use Rattle.rb_plan.specs.Least.{IsLeast};
-ghost use Rattle.rb_step.specs.LightClient.{total_fee};
-ghost use Rattle.rb_step.specs.View.{client_of, AreKnown};
-ghost use Rattle.rb_super.specs.Goal.{goal_of};
-ghost use Rattle.rb_super.specs.Report.{plan_view, planned_view, outcome_view};
-ghost use Rattle.rb_super.specs.Turns.{view_of, update_of, IsPlan, IsPlanned, IsOutcome};
-ghost use Rattle.rb_super.specs.Priced.{priced_by};
+//! Plans for clients.
+ghost use Rattle.std.specs.Prelude.{◌≡◌, ◌<◌, true, Some, None, length, is_some, slice_get, IfOk, OnOk, map};
+ghost use denote.Param.Send.{Frees};
+ghost use Rattle.rb_core.specs.Batches.{batch_open};
+ghost use Rattle.rb_core.specs.Core.{state_in};
+ghost use Rattle.rb_core.specs.Draft.{IsDraft};
+ghost use Rattle.rb_core.specs.Machine.{client_view};
+ghost use Rattle.rb_core.specs.Standing.{KnownClient};
+ghost use Rattle.rb_super.specs.Phases.{standing_in, HasLogRoom, IsLater, IsPlannable, IsReportedOf, AreReported};
+ghost use Rattle.rb_super.specs.Views.{outcome_view, client_report_view};
 
-use crate::client::KnownClient;
-use crate::goal::goal_of;
-use crate::report::{Outcome, Plan, Planned, PricedUpdate};
-use crate::sending::sending;
-use rb_base::Window;
+use crate::clients::config_of;
+use crate::crew::Crew;
+use crate::outcome::outcome_of;
+use crate::report::{ClientReport, Outcome};
+use crate::taking::note;
 use rb_book::ChainBook;
-use rb_events::ClientConfig;
+use rb_core::{Core, CoreError, Draft, Event, JobView, draft};
+use rb_gang::{Gate, Place};
 use rb_graph::Graph;
-use rb_plan::{Answer, Cost, Goal, Labelling, Update, plan};
-use rb_step::ClientView;
-use std::alloc::{AllocError, Global};
+use std::alloc::{AllocError, Allocator};
+use std::thread::Threads;
 
-/// Each update with its fee.
-fn priced(
-    alloc: Global,
-    view: &ClientView,
-    updates: &[Update],
-) -> Result<Vec<PricedUpdate>, AllocError>
-    ensures { IfOk result (λ priced. priced.items ≡ map (priced_by (client_of view.now)) updates.now) }
+/// A client that is there, once a window was entered, as it is planned for.
+#[tactic(auto, using(crate::proofs::Steps::client_is_shown))]
+pub(crate) fn view_of<A: Allocator + Copy>(
+    core: &Core<A>,
+    client: usize,
+) -> Result<JobView<A>, AllocError>
+    requires client { client < length core.now.config.clients }
+    requires window { is_some (standing_in core.now).window ≡ true }
+    ensures { IfOk result (λ job. client_view (state_in core.now) client ≡ Some job) }
 {
-    let mut priced = Vec::with_capacity(alloc, updates.len())?;
-    for update in updates {
-        let fee = view.fee(update.trusted(), update.height());
-        priced.push(PricedUpdate {
-            update: *update,
-            fee,
-        })?;
-    }
-    Ok(priced)
-}
-
-/// What the updates cost in all.
-fn total_of(updates: &[PricedUpdate]) -> Cost
-    requires { sum_by (λ u. u.fee) updates.now < 2 ^ 64 }
-    ensures fee { result.fee ≡ sum_by (λ u. u.fee) updates.now }
-    ensures count { result.count ≡ length updates.now }
-{
-    Cost {
-        fee: updates.iter().map(|update| update.fee).sum(),
-        count: updates.len() as u64,
+    match core.client_view(client) {
+        Ok(job) => Ok(job),
+        Err(CoreError::Refused(_)) => unreachable!(),
+        Err(CoreError::NoMemory) => Err(AllocError),
     }
 }
 
-/// The plan of the least list of updates.
-fn plan_of(
-    alloc: Global,
-    view: &ClientView,
-    config: &ClientConfig,
-    goal: &Goal,
-    updates: Vec<Update>,
-) -> Result<Plan, AllocError>
-    requires least { IsLeast (client_of view.now) goal.now updates.items }
-    requires small { total_fee (client_of view.now) updates.items < 2 ^ 63 }
-    ensures { IfOk result (λ p. IsPlan config.now view.now goal.now (plan_view p)) }
+/// The table of a book: the one that is there, if it is of the book, else a new one.
+fn table_of<R: Threads + Sync, G: Gate + Sync, A: Allocator + Copy + Send + Sync>(
+    crew: &Crew<R, G>,
+    alloc: A,
+    table: Option<Graph<A>>,
+    book: &ChainBook<A>,
+) -> Result<Graph<A>, AllocError>
+    requires { Frees A.Allocator A.dealloc_token }
+    ensures { IfOk result (λ graph. graph ≡ book.now) }
 {
-    let sending = sending(alloc, view, config, goal, updates.as_slice())?;
-    let updates = priced(alloc, view, updates.as_slice())?;
-    Ok(Plan {
-        total: total_of(updates.as_slice()),
-        updates,
-        sending,
+    if let Some(graph) = table {
+        if graph.is_of(book) {
+            return Ok(graph);
+        }
+    }
+    let copy = book.copy()?;
+    let graph = crew.table(alloc, copy)?;
+    Ok(graph)
+}
+
+/// What is planned for a client, by the table of its chain, which is kept for the next one.
+pub(crate) fn draft_of<R: Threads + Sync, G: Gate + Sync, A: Allocator + Copy + Send + Sync>(
+    crew: &Crew<R, G>,
+    alloc: A,
+    table: &mut Option<Graph<A>>,
+    job: &JobView<A>,
+) -> Result<Draft<A>, AllocError>
+    requires { Frees A.Allocator A.dealloc_token }
+    ensures job { IfOk result (λ draft. draft.job ≡ job.now) }
+    ensures right { IfOk result IsDraft }
+{
+    let graph = table_of(crew, alloc, table.take(), job.view().book())?;
+    let draft = draft(job, &graph)?;
+    *table = Some(graph);
+    Ok(draft)
+}
+
+/// Plans for a client that has no open batch.
+fn plan_open<R: Threads + Sync, G: Gate + Sync, A: Allocator + Copy + Send + Sync>(
+    crew: &Crew<R, G>,
+    alloc: A,
+    core: &mut Core<A>,
+    table: &mut Option<Graph<A>>,
+    client: usize,
+) -> Result<Outcome<A>, AllocError>
+    requires client { client < length core.old.config.clients }
+    requires none_open { batch_open (standing_in core.old) client ≡ None }
+    requires ready { IsPlannable core.old }
+    requires room { HasLogRoom core.old 1 }
+    requires alloc { Frees A.Allocator A.dealloc_token }
+    ensures report { IfOk result (λ o. (known : KnownClient) → slice_get (standing_in core.old).clients client ≡ Some known
+        → IsReportedOf (standing_in core.old) (standing_in core.new) client (record { id = known.config.id; outcome = outcome_view o })) }
+    ensures ready { OnOk result (IsPlannable core.new) }
+    ensures later { OnOk result (IsLater 1 core.old core.new) }
+{
+    let job = view_of(core, client)?;
+    crew.before(Place::Plan(client));
+    let draft = draft_of(crew, alloc, table, &job)?;
+    crew.after(Place::Plan(client));
+    let copy = draft.copy()?;
+    let reply = note(core, Event::Planned(copy))?;
+    crew.after(Place::Taken(client));
+    let outcome = outcome_of(alloc, &draft, reply)?;
+    Ok(outcome)
+}
+
+/// Plans for a client, unless a batch of it is open.
+fn plan_client<R: Threads + Sync, G: Gate + Sync, A: Allocator + Copy + Send + Sync>(
+    crew: &Crew<R, G>,
+    alloc: A,
+    core: &mut Core<A>,
+    tables: &mut Vec<Option<Graph<A>>, A>,
+    client: usize,
+) -> Result<ClientReport<A>, AllocError>
+    requires client { client < length core.old.config.clients }
+    requires tables { length tables.old.items ≡ length core.old.config.chains }
+    requires ready { IsPlannable core.old }
+    requires room { HasLogRoom core.old 1 }
+    requires alloc { Frees A.Allocator A.dealloc_token }
+    ensures report { IfOk result (λ r. IsReportedOf (standing_in core.old) (standing_in core.new) client (client_report_view r)) }
+    ensures tables { OnOk result (length tables.new.items ≡ length tables.old.items) }
+    ensures ready { OnOk result (IsPlannable core.new) }
+    ensures later { OnOk result (IsLater 1 core.old core.new) }
+{
+    let config = config_of(core, client);
+    if let Some(batch) = core.open_batch(client) {
+        let outcome = Outcome::Held(batch.number());
+        return Ok(ClientReport {
+            id: config.id,
+            outcome,
+        });
+    }
+    let outcome = plan_open(crew, alloc, core, &mut tables[config.tracks], client)?;
+    Ok(ClientReport {
+        id: config.id,
+        outcome,
     })
 }
 
-/// A goal that can be reached.
-fn reached(
-    alloc: Global,
-    view: &ClientView,
-    config: &ClientConfig,
-    goal: &Goal,
-    updates: Vec<Update>,
-    labelling: Labelling,
-) -> Result<Planned, AllocError>
-    requires labels { IsLabelling labelling }
-    requires exact { IsExact (client_of view.now) (label_of labelling) }
-    requires least { IsLeast (client_of view.now) goal.now updates.items }
-    ensures goal { IfOk result (λ p. p.goal ≡ goal.now) }
-    ensures planned { IfOk result (λ p. IsPlanned config.now view.now (planned_view p)) }
+/// Plans for the clients, in their order. There is a place for a table of each chain.
+pub(crate) fn plan_all<R: Threads + Sync, G: Gate + Sync, A: Allocator + Copy + Send + Sync>(
+    crew: &Crew<R, G>,
+    alloc: A,
+    core: &mut Core<A>,
+    tables: &mut Vec<Option<Graph<A>>, A>,
+) -> Result<Vec<ClientReport<A>, A>, AllocError>
+    requires tables { length tables.old.items ≡ length core.old.config.chains }
+    requires ready { IsPlannable core.old }
+    requires room { HasLogRoom core.old (length core.old.config.clients) }
+    requires alloc { Frees A.Allocator A.dealloc_token }
+    ensures reports { IfOk result (λ reports. AreReported (standing_in core.old) (standing_in core.new) 0 (length core.old.config.clients)
+        (map client_report_view reports.items)) }
+    ensures tables { OnOk result (length tables.new.items ≡ length tables.old.items) }
+    ensures later { OnOk result (IsLater (length core.old.config.clients) core.old core.new) }
 {
-    let plan = plan_of(alloc, view, config, goal, updates)?;
-    Ok(Planned {
-        goal: *goal,
-        labelling,
-        plan: Some(plan),
-    })
-}
-
-/// The exact labelling, and the plan where the goal can be reached.
-fn planned(
-    alloc: Global,
-    view: &ClientView,
-    graph: &Graph,
-    config: &ClientConfig,
-    goal: &Goal,
-) -> Result<Planned, AllocError>
-    requires { graph.now ≡ view.now.book }
-    ensures goal { IfOk result (λ p. p.goal ≡ goal.now) }
-    ensures planned { IfOk result (λ p. IsPlanned config.now view.now (planned_view p)) }
-{
-    match plan(alloc, view, graph, *goal)? {
-        Answer::Plan { updates, labelling } => {
-            reached(alloc, view, config, goal, updates, labelling)
-        }
-        Answer::Unreachable { labelling } => Ok(Planned {
-            goal: *goal,
-            labelling,
-            plan: None,
-        }),
+    let clients = core.config().clients.len();
+    let mut reports = Vec::with_capacity(alloc, clients)?;
+    for client in 0..clients {
+        reports.push(plan_client(crew, alloc, core, tables, client)?)?;
     }
-}
-
-/// What comes of a client in the window; the book of the chain that it tracks goes into its step
-/// table and comes back.
-pub(crate) fn outcome_of(
-    alloc: Global,
-    client: &KnownClient,
-    window: Window,
-    book: ChainBook,
-) -> Result<(Outcome, ChainBook), AllocError>
-    requires { AreKnown book client.now.stored }
-    ensures outcome { IfOk result (λ r. IsOutcome client.now (view_of window book client.now) (outcome_view r.0)) }
-    ensures book { IfOk result (λ r. r.1 ≡ book) }
-{
-    if let Some(batch) = client.batch() {
-        return Ok((Outcome::Held(batch), book));
-    }
-    let config = client.config();
-    match goal_of(client.asked(), config.refresh, &client.view(window, &book)) {
-        None => Ok((Outcome::Idle, book)),
-        Some(goal) => {
-            let graph = Graph::from_book(alloc, book)?;
-            let view = client.view(window, graph.book());
-            let planned = planned(alloc, &view, &graph, config, &goal)?;
-            Ok((Outcome::Planned(planned), graph.into_book()))
-        }
-    }
+    Ok(reports)
 }

@@ -1,22 +1,26 @@
 //! What a run reports.
-use rb_base::{ClientId, Height};
+use rb_base::{ClientId, Height, PathId};
 use rb_batch::Transaction;
-use rb_events::Refusal;
-use rb_plan::{Cost, Goal, Labelling, Update};
+use rb_core::Message;
+use rb_events::{Goal, Refusal};
+use rb_plan::{Cost, Labelling, Update};
+use std::alloc::{Allocator, Global};
 
-/// The report of a run, turn by turn.
+/// The report of a run, turn by turn, with the identifiers of the paths by their places.
 #[derive(Debug, Drop)]
-pub struct Report {
-    pub turns: Vec<TurnReport>,
+pub struct Report<A: Allocator = Global> {
+    pub paths: Vec<PathId, A>,
+    pub turns: Vec<TurnReport<A>, A>,
 }
 
 /// What came of a turn: whether its window was refused because it goes back, the events that were
-/// refused, in their order, and what came of each client, in script order.
+/// refused, in their order, what came of each client, in script order, and of each settlement.
 #[derive(Debug, Drop)]
-pub struct TurnReport {
+pub struct TurnReport<A: Allocator = Global> {
     pub window_back: bool,
-    pub refused: Vec<RefusedEvent>,
-    pub clients: Vec<ClientReport>,
+    pub refused: Vec<RefusedEvent, A>,
+    pub clients: Vec<ClientReport<A>, A>,
+    pub settlements: Vec<SettlementReport, A>,
 }
 
 /// An event that was refused, by its place among the turn's events from 0, and why.
@@ -28,37 +32,38 @@ pub struct RefusedEvent {
 
 /// A client in a turn, by its identifier, and what came of it.
 #[derive(Debug, Drop)]
-pub struct ClientReport {
+pub struct ClientReport<A: Allocator = Global> {
     pub id: ClientId,
-    pub outcome: Outcome,
+    pub outcome: Outcome<A>,
 }
 
 /// What came of a client in a turn.
 #[derive(Debug, Drop)]
-pub enum Outcome {
+pub enum Outcome<A: Allocator = Global> {
     /// The batch with this number is open, so nothing was planned.
     Held(u64),
     /// There was no goal.
     Idle,
     /// There was a goal.
-    Planned(Planned),
+    Planned(Planned<A>),
 }
 
-/// A goal, the exact labelling, and the least list of updates that meets the goal; none where the
-/// goal can't be reached.
+/// A goal, the exact labelling, and the plan; none where the goal can't be reached.
 #[derive(Debug, Drop)]
-pub struct Planned {
+pub struct Planned<A: Allocator = Global> {
     pub goal: Goal,
-    pub labelling: Labelling,
-    pub plan: Option<Plan>,
+    pub labelling: Labelling<A>,
+    pub plan: Option<Plan<A>>,
 }
 
-/// A list of updates, their fees and number in all, and how they are sent.
+/// The least list of updates that meets the goal, their fees and number in all, the packet messages
+/// that follow them, and how they are sent.
 #[derive(Debug, Drop)]
-pub struct Plan {
-    pub updates: Vec<PricedUpdate>,
+pub struct Plan<A: Allocator = Global> {
+    pub updates: Vec<PricedUpdate, A>,
     pub total: Cost,
-    pub sending: Sending,
+    pub messages: Vec<Message, A>,
+    pub sending: Sending<A>,
 }
 
 /// An update and its fee.
@@ -68,22 +73,32 @@ pub struct PricedUpdate {
     pub fee: u64,
 }
 
-/// How messages are sent. They are numbered from 0.
+/// How messages are sent. They are numbered from 0, the updates first.
 #[derive(Debug, Drop)]
-pub enum Sending {
+pub enum Sending<A: Allocator = Global> {
     /// There is no message.
     Nothing,
     /// The message with this number is over the gas limit alone.
     TooBig(usize),
     /// They open a batch.
-    Batch(Batch),
+    Batch(Batch<A>),
 }
 
 /// A batch by its number, from 1 for each client, the height that proofs are made for, and its
 /// transactions.
 #[derive(Debug, Drop)]
-pub struct Batch {
+pub struct Batch<A: Allocator = Global> {
     pub number: u64,
     pub proof: Height,
-    pub transactions: Vec<Transaction>,
+    pub transactions: Vec<Transaction, A>,
+}
+
+/// That so many transactions of a batch were taken, the client by its identifier and the batch by
+/// its number, and why that was refused, if it was.
+#[derive(Clone, Copy, Debug, PartialEq, Eq)]
+pub struct SettlementReport {
+    pub id: ClientId,
+    pub batch: u64,
+    pub done: u64,
+    pub refusal: Option<Refusal>,
 }

@@ -1,18 +1,30 @@
-use Rattle.std.proofs.Common.{◌<◌, sym, subst}
-use Rattle.rb_plan.specs.Answer.{labels_of, claim_of}
+use Rattle.std.proofs.Common.{◌<◌, sym, subst, arith}
+use Rattle.std.proofs.lemmas.Result.{IfOk-weaker}
 use Rattle.rb_events.specs.Script.{script_view}
+use Rattle.rb_plan.specs.Answer.{labels_of, claim_of}
+use Rattle.rb_super.specs.Phases.{standing_in}
+use Rattle.rb_super.specs.Told.{told}
 use Rattle.rb_super.proofs.OwnAnswers.{own_answer}
-use Rattle.rb_super.proofs.Phases.{right_in}
 use Rattle.rb_super.proofs.judging.judge.Goals as goal
 
+pub verdict_on-requires-clause-client : goal.verdict_on-requires-clause-client
+verdict_on-requires-clause-client g c = λ ks _. subst (λ n. c.args.client < n) (sym c.in_ok-core.ensures.clients) c.requires.client
+
+pub verdict_on-requires-clause-room : goal.verdict_on-requires-clause-room
+verdict_on-requires-clause-room g c = λ ks _.
+    let room = c.in_ok-core.ensures.room in
+    let clients = c.in_ok-core.ensures.clients in
+    let lt = c.requires.client in
+    omega arith
+
+pub returns-clause-judged : goal.returns-clause-judged
+returns-clause-judged g c =
+    IfOk-weaker c.verdict_on.result _ _ (λ verdict judged. record { standing = standing_in c.in_ok-core.core; phase = c.in_ok-core.ensures.phase; judged = judged }) c.verdict_on.ensures.judged
+
 pub returns-clause-right : goal.returns-clause-right
-returns-clause-right c =
-    right_in (script_view c.args.script.now) c.args.turn c.args.client (labels_of c.args.answer.now) (claim_of c.args.answer.now) c.in_ok-state.state
-    c.verdict_on.result c.in_ok-state.ensures.phase
-    (subst (λ n. c.args.client < n) (sym c.in_ok-state.ensures.clients) c.requires.client) c.verdict_on.ensures.right
+returns-clause-right g c = λ yes. record { standing = standing_in c.in_ok-core.core; phase = c.in_ok-core.ensures.phase; right = c.verdict_on.ensures.right yes }
 
 pub returns-clause-accepts : goal.returns-clause-accepts
-returns-clause-accepts c =
-    own_answer c.answers_are_one.ensures c.least_cut_is_one.ensures (script_view c.args.script.now) c.args.turn c.args.client (labels_of c.args.answer.now)
-    (claim_of c.args.answer.now) c.in_ok-state.state c.verdict_on.result c.in_ok-state.ensures.phase
-    (subst (λ n. c.args.client < n) (sym c.in_ok-state.ensures.clients) c.requires.client) c.verdict_on.ensures.accepts
+returns-clause-accepts g c =
+    own_answer c.answers_are_one.ensures c.least_cut_is_one.ensures (told (script_view c.args.script)) c.args.turn c.args.client (labels_of c.args.answer.now) (claim_of c.args.answer.now)
+    (standing_in c.in_ok-core.core) _ c.in_ok-core.ensures.phase c.verdict_on.ensures.accepts

@@ -1,39 +1,42 @@
-use Rattle.std.proofs.Common.{ℕ, ◌<◌, length, ap, sym, subst, ◌∙◌}
-use Rattle.rb_super.specs.Judging.{Leads}
-use Rattle.rb_events.specs.Script.{IsTurn, script_view, turn_view}
-use Rattle.rb_super.specs.State.{State, opening}
-use Rattle.rb_super.proofs.Phases.{of_updates, earlier_turns, before_place, at_place}
-use Rattle.rb_super.proofs.Steps.{turn_of_all, sizes-before_plans}
+use Rattle.std.proofs.Common.{length, refl, sym, ap, ◌∙◌, subst}
+use Rattle.rb_events.specs.Config.{Config}
+use Rattle.rb_events.specs.Script.{script_view}
+use Rattle.rb_super.specs.Phases.{standing_in, HasLogRoom}
+use Rattle.rb_super.proofs.Earlier.{earlier_for, earlier_fit, this_for, this_fits, phase_there}
 use Rattle.rb_super.proofs.judging.plan_phase.Goals as goal
 
 pub run_turns-requires-clause-turns : goal.run_turns-requires-clause-turns
-run_turns-requires-clause-turns c =
-    let script = c.args.script.now in
-    earlier_turns (IsTurn (length script.config.chains.items) (length script.config.clients.items) 0) script.turns.items c.as_slice-turns.result.now c.args.turn
-    (of_updates (script_view script) c.requires.script c.requires.updates) c.as_slice-turns.ensures.value
+run_turns-requires-clause-turns g c = λ ks _.
+    earlier_for (script_view c.args.script) c.in_ok-supervisor.supervisor c.args.script.turns.items c.in_ok-supervisor.ensures.config c.in_ok-supervisor.ensures.log refl c.requires.script
+    c.args.turn c.requires.turn c.turns_to-earlier.result.0.items c.turns_to-earlier.ensures.before c.turns_to-earlier.result.1 c.turns_to-earlier.ensures.there
 
-pub take_in-requires : goal.take_in-requires
-take_in-requires c =
-    let script = c.args.script.now in
-    let P : ℕ × ℕ → Type 0 = λ p. IsTurn p.0 p.1 0 (turn_view c.index-turns-turn.result) in
-    subst P (λ i. (sym c.in_ok-state.ensures.books i, sym c.in_ok-state.ensures.clients i))
-    (turn_of_all (IsTurn (length script.config.chains.items) (length script.config.clients.items) 0) script.turns.items c.as_slice-turns.result.now c.args.turn
-    c.index-turns-turn.result (of_updates (script_view script) c.requires.script c.requires.updates) c.as_slice-turns.ensures.value (subst (λ ts. c.args.turn < length ts) (sym c.as_slice-turns.ensures.value) c.requires.turn) c.index-turns-turn.is)
+pub run_turns-requires-clause-room : goal.run_turns-requires-clause-room
+run_turns-requires-clause-room g c = λ ks _.
+    earlier_fit (script_view c.args.script) c.in_ok-supervisor.supervisor c.args.script.turns.items c.in_ok-supervisor.ensures.config c.in_ok-supervisor.ensures.log refl c.requires.script
+    c.args.turn c.requires.turn c.turns_to-earlier.result.0.items c.turns_to-earlier.ensures.before c.turns_to-earlier.result.1 c.turns_to-earlier.ensures.there
+
+pub plan_phase-requires-clause-turn : goal.plan_phase-requires-clause-turn
+plan_phase-requires-clause-turn g c = λ ks _.
+    this_for (script_view c.args.script) c.in_ok-supervisor.supervisor c.args.script.turns.items c.in_ok-supervisor.ensures.config c.in_ok-supervisor.ensures.log refl c.requires.script
+    c.args.turn c.requires.turn c.turns_to-earlier.result.0.items c.turns_to-earlier.ensures.before c.turns_to-earlier.result.1 c.turns_to-earlier.ensures.there
+    c.in_ok-begun.begun c.in_ok-begun.ensures.later.config
+
+pub plan_phase-requires-clause-room : goal.plan_phase-requires-clause-room
+plan_phase-requires-clause-room g c = λ ks _.
+    this_fits (script_view c.args.script) c.in_ok-supervisor.supervisor c.args.script.turns.items c.in_ok-supervisor.ensures.config c.in_ok-supervisor.ensures.log refl c.requires.script
+    c.args.turn c.requires.turn c.turns_to-earlier.result.0.items c.turns_to-earlier.ensures.before c.turns_to-earlier.result.1 c.turns_to-earlier.ensures.there
+    c.in_ok-begun.begun c.in_ok-begun.ensures.later
 
 pub returns-clause-phase : goal.returns-clause-phase
-returns-clause-phase c =
-    let turns = c.args.script.now.turns.items in
-    let same = c.as_slice-turns.ensures.value in
-    record {
-      begun = c.in_ok-state.state;
-      earlier = subst (λ ts. Leads (opening (script_view c.args.script.now)) ts c.in_ok-state.state)
-          (before_place turns c.as_slice-turns.result.now c.args.turn same) c.in_ok-state.ensures.leads;
-      this = turn_view c.index-turns-turn.result;
-      is = at_place turns c.as_slice-turns.result.now c.args.turn c.index-turns-turn.result same c.requires.turn c.index-turns-turn.is;
-      taken_in = c.in_ok-take_in.ensures.after;
-    }
+returns-clause-phase g c =
+    phase_there (script_view c.args.script) c.in_ok-supervisor.supervisor c.args.script.turns.items c.in_ok-supervisor.ensures.config c.in_ok-supervisor.ensures.log refl c.requires.script
+    c.args.turn c.requires.turn c.turns_to-earlier.result.0.items c.turns_to-earlier.ensures.before c.turns_to-earlier.result.1 c.turns_to-earlier.ensures.there
+    (standing_in c.in_ok-begun.begun) (standing_in c.in_ok-core.core) c.in_ok-begun.ensures.leads c.in_ok-core.ensures.standing
 
 pub returns-clause-clients : goal.returns-clause-clients
-returns-clause-clients c =
-    ap (λ (s : State). length s.clients) c.in_ok-take_in.ensures.after
-    ∙ (sizes-before_plans c.in_ok-state.state (turn_view c.index-turns-turn.result)).clients ∙ c.in_ok-state.ensures.clients
+returns-clause-clients g c =
+    ap (λ (k : Config). length k.clients) (c.in_ok-core.ensures.config ∙ c.in_ok-begun.ensures.later.config ∙ c.in_ok-supervisor.ensures.config)
+
+pub returns-clause-room : goal.returns-clause-room
+returns-clause-room g c =
+    subst (λ (k : Config). HasLogRoom c.in_ok-core.core (length k.clients)) (sym c.in_ok-core.ensures.config) c.in_ok-core.ensures.room

@@ -1,5 +1,0 @@
-use Rattle.rb_turns.proofs.Steps.{client_there}
-use Rattle.rb_turns.proofs.observing.ask.Goals as goal
-
-pub hear-requires-clause-known : goal.hear-requires-clause-known
-hear-requires-clause-known g c = client_there c.args.core.now c.args.asked.client c.requires.client
