@@ -4,16 +4,15 @@ use Rattle.std.specs.declared.alloc.Global.{Global}
 use Rattle.std.specs.List.{position, position_or_len, prefix_len}
 use Rattle.std.specs.Str.{bytes_eq}
 use Rattle.std.proofs.lemmas.Bool.{and_parts, eq-eqb, eqb-true, leb-true, ltb-false, true≢false}
-use Rattle.std.proofs.lemmas.List.{length-map, get_or-map, length_push}
+use Rattle.std.proofs.lemmas.List.{length-map, map_push, get_or-map, length_push}
 use Rattle.std.proofs.lemmas.List.Sums.{sum_by_push}
 use Rattle.std.proofs.lemmas.List.Elements.{All-cons, All-push}
 use Rattle.std.proofs.lemmas.List.Quantifiers.{all_pairs_push, position-Some}
 use Rattle.std.proofs.lemmas.Slice.Eq.{bytes_eq-Decides}
 use Rattle.toml.specs.Data.{Items, no_items, item}
-use Rattle.rb_base.specs.Fraction.{one_third}
 use Rattle.rb_events.specs.Script.{Script, Turn, IsScript, IsTurn, IsSeen, entry_count, script_view}
 use Rattle.rb_events.specs.Config.{Config, IsConfig, IsClient, IsPathConfig}
-use Rattle.rb_events.specs.Limits.{max_chains, max_clients, max_paths, max_turns, max_entries}
+use Rattle.rb_events.specs.Limits.{max_chains, max_clients, max_paths, max_turns, max_entries, max_records as most_records}
 use Rattle.rb_events.specs.declared.script.Script.{Script as CodeScript}
 use Rattle.rb_events.specs.declared.config.ClientConfig.{ClientConfig}
 use Rattle.rb_events.specs.declared.config.PathConfig.{PathConfig}
@@ -23,11 +22,17 @@ use Rattle.rb_events.specs.declared.observation.Observation.{Observation}
 use Rattle.rb_fields.specs.Faults.{Fault, ◌>>=◌, check, Gives}
 use Rattle.rb_fields.specs.declared.fault.RunError.{RunError}
 use Rattle.rb_fields.specs.declared.fault.FaultName.{FaultName}
-use Rattle.rb_fields.specs.declared.fault.FaultName.TheVariants.{OutOfRange, DuplicateIdentifier, SameChain, WrongClient, TwoGoals, TooManyEvents, TooManyObjects, BadVersion, BadWindow}
+use Rattle.rb_fields.specs.declared.fault.FaultName.TheVariants.{OutOfRange, DuplicateIdentifier, SameChain, WrongClient, TwoGoals, TooManyEvents, TooManyObjects, BadWindow}
 use Rattle.rb_fields.specs.Fields.{Field, Section, section_at, at_element, elements, next_in_sequence, in_sequence, identifier, needs, required, optional, or_default, only, number, fee_table, trust, max_number, height, time, hash, zero_hash, items, items_count, array}
 use Rattle.rb_fields.specs.Places.{child, element}
 use Rattle.rb_script.specs.Named.{known, reference, new_identifier}
-use Rattle.rb_script.specs.Clients.{chain, chain_keys, client, client_keys, client_ids, limits}
+use Rattle.rb_script.specs.declared.version.Version.{Version}
+use Rattle.rb_script.specs.declared.version.Version.TheVariants as versions
+use Rattle.rb_script.specs.declared.defaults.Defaults.{Defaults}
+use Rattle.rb_script.specs.declared.chain.Chain.{Chain}
+use Rattle.rb_script.specs.Versions.{version, max_records}
+use Rattle.rb_script.specs.Chains.{chain, chain_keys, chain_ids, shared, no_defaults}
+use Rattle.rb_script.specs.Clients.{client, client_keys, client_ids, limits, own, shared_by}
 use Rattle.rb_script.specs.declared.event.Kind.{Kind}
 use Rattle.rb_script.specs.declared.event.Kind.TheVariants as kinds
 use Rattle.rb_script.specs.Names.{Names, new_set_name, set_reference}
@@ -125,7 +130,7 @@ tables-few : (s : Section) (t : Tables) → tables s ≡ Ok t → AreFew t
 unfolding tables
 tables-few s t h =
     pass (only top_keys s) _ t h (λ u e0 h0.
-    pass (needs (codes "version") (number 1 1 BadVersion) s) _ t h0 (λ version e1 h1.
+    pass (needs (codes "version") version s) _ t h0 (λ v e1 h1.
     pass (or_default no_items (array max_chains) (optional (codes "chain") s)) _ t h1 (λ chains e2 h2.
     pass (or_default no_items (array max_clients) (optional (codes "client") s)) _ t h2 (λ clients e3 h3.
     pass (or_default no_items (array max_paths) (optional (codes "path") s)) _ t h3 (λ paths e4 h4.
@@ -180,40 +185,60 @@ new_identifier-new ids f id h =
 
 -- ---- chains and clients
 
-chain-new : (before : List (List ℕ)) (s : Section) (id : List ℕ) → chain before s ≡ Ok id → All (λ x. x ≢ id) before
+chain-new : (v : Version) (before : List Chain) (s : Section) (c : Chain) → chain v before s ≡ Ok c → All (λ x. x ≢ c.id) (chain_ids before)
 unfolding chain
-chain-new before s id h =
-    pass (only chain_keys s) _ id h (λ u e h1. needs-field (codes "id") (new_identifier before) s id h1 (λ f r. new_identifier-new before f id r))
+chain-new v before s c h =
+    pass (only (chain_keys v) s) _ c h (λ u e0 h0.
+    pass (needs (codes "id") (new_identifier (chain_ids before)) s) _ c h0 (λ id e1 h1.
+    pass (shared v s) _ c h1 (λ d e2 same.
+    subst (λ x. All (λ i. i ≢ x.id) (chain_ids before)) (same_ok _ c same)
+    (needs-field (codes "id") (new_identifier (chain_ids before)) s id e1 (λ f r. new_identifier-new (chain_ids before) f id r)))))
 
-chains-form : (ds : Items) (chains : List (List ℕ)) → elements chain (codes "chain") [] ds ≡ Ok chains → AllPairs (λ a b. a ≢ b) chains
-chains-form ds chains h =
-    elements-keep chain (AllPairs (λ a b. a ≢ b)) (λ before s x kept read. all_pairs_push (λ a b. a ≢ b) before x kept (chain-new before s x read))
+chains-form : (v : Version) (ds : Items) (chains : List Chain) → elements (chain v) (codes "chain") [] ds ≡ Ok chains → AllPairs (λ a b. a ≢ b) (chain_ids chains)
+chains-form v ds chains h =
+    elements-keep (chain v) (λ cs. AllPairs (λ a b. a ≢ b) (chain_ids cs)) (λ before s c kept read.
+    subst (AllPairs (λ a b. a ≢ b)) (sym (map_push (λ (x : Chain). x.id) before c)) (all_pairs_push (λ a b. a ≢ b) (chain_ids before) c.id kept (chain-new v before s c read)))
     (codes "chain") [] ds chains (λ i j d lt end. absurd (omega arith)) h
+
+chain-alone : (before : List Chain) (s : Section) (c : Chain) → chain versions.One before s ≡ Ok c → c.defaults ≡ no_defaults
+unfolding chain
+chain-alone before s c h =
+    pass (only (chain_keys versions.One) s) _ c h (λ u e0 h0.
+    pass (needs (codes "id") (new_identifier (chain_ids before)) s) _ c h0 (λ id e1 same.
+    ap (λ (x : Chain). x.defaults) (sym (same_ok _ c same))))
+
+pub chains-alone : (ds : Items) (chains : List Chain) → elements (chain versions.One) (codes "chain") [] ds ≡ Ok chains → All (λ c. c.defaults ≡ no_defaults) chains
+chains-alone ds chains h =
+    elements-keep (chain versions.One) (All (λ c. c.defaults ≡ no_defaults)) (λ before s c kept read.
+    All-push (λ c. c.defaults ≡ no_defaults) before c kept (chain-alone before s c read))
+    (codes "chain") [] ds chains (λ k d lt. absurd (omega arith)) h
 
 different : (i j : ℕ) → not (i == j) ≡ true → i ≢ j
 different i j h e = true≢false (sym h ∙ ap not (eq-eqb i j e))
 
-client-form : (chains : List (List ℕ)) (before : List ClientConfig) (s : Section) (c : ClientConfig) → client chains before s ≡ Ok c
-    → IsClient (length chains) c × All (λ x. x ≢ c.id) (client_ids before)
+client-form : (chains : List Chain) (before : List ClientConfig) (s : Section) (c : ClientConfig) → client chains before s ≡ Ok c
+    → IsClient (length (chain_ids chains)) c × All (λ x. x ≢ c.id) (client_ids before)
 unfolding client
 client-form chains before s c h =
+    let ids = chain_ids chains in
     pass (only client_keys s) _ c h (λ u e0 h0.
     pass (needs (codes "id") (new_identifier (client_ids before)) s) _ c h0 (λ id e1 h1.
-    pass (needs (codes "host") (reference chains) s) _ c h1 (λ host e2 h2.
-    pass (needs (codes "of") (reference chains) s) _ c h2 (λ tracks e3 h3.
-    pass (needs (codes "period_ns") (number 1 max_number OutOfRange) s) _ c h3 (λ period e4 h4.
-    pass (needs (codes "drift_ns") (number 0 max_number OutOfRange) s) _ c h4 (λ drift e5 h5.
-    pass (or_default 0 (number 0 max_number OutOfRange) (optional (codes "refresh_ns") s)) _ c h5 (λ refresh e6 h6.
-    pass (needs (codes "fee") fee_table s) _ c h6 (λ fees e7 h7.
-    pass (needs (codes "gas") fee_table s) _ c h7 (λ gas e8 h8.
+    pass (needs (codes "host") (reference ids) s) _ c h1 (λ host e2 h2.
+    pass (needs (codes "of") (reference ids) s) _ c h2 (λ tracks e3 h3.
+    let d = shared_by chains tracks in
+    pass (own d.period (codes "period_ns") (number 1 max_number OutOfRange) s) _ c h3 (λ period e4 h4.
+    pass (own d.drift (codes "drift_ns") (number 0 max_number OutOfRange) s) _ c h4 (λ drift e5 h5.
+    pass (or_default d.refresh (number 0 max_number OutOfRange) (optional (codes "refresh_ns") s)) _ c h5 (λ refresh e6 h6.
+    pass (own d.fees (codes "fee") fee_table s) _ c h6 (λ fees e7 h7.
+    pass (own d.gas (codes "gas") fee_table s) _ c h7 (λ gas e8 h8.
     pass (needs (codes "limits") limits s) _ c h8 (λ limit e9 h9.
-    pass (or_default one_third trust (optional (codes "trust") s)) _ c h9 (λ level e10 h10.
+    pass (or_default d.trust trust (optional (codes "trust") s)) _ c h9 (λ level e10 h10.
     pass (check (not (host == tracks)) SameChain s.path) _ c h10 (λ v passed same.
     let it = same_ok _ c same in
-    subst (λ x. IsClient (length chains) x × All (λ i. i ≢ x.id) (client_ids before)) it (
+    subst (λ x. IsClient (length ids) x × All (λ i. i ≢ x.id) (client_ids before)) it (
       record {
-        host = needs-field (codes "host") (reference chains) s host e2 (λ f r. reference-within chains f host r);
-        tracks = needs-field (codes "of") (reference chains) s tracks e3 (λ f r. reference-within chains f tracks r);
+        host = needs-field (codes "host") (reference ids) s host e2 (λ f r. reference-within ids f host r);
+        tracks = needs-field (codes "of") (reference ids) s tracks e3 (λ f r. reference-within ids f tracks r);
         different = different host tracks (check-passed _ SameChain s.path v passed);
       },
       needs-field (codes "id") (new_identifier (client_ids before)) s id e1 (λ f r. new_identifier-new (client_ids before) f id r),
@@ -222,14 +247,15 @@ client-form chains before s c h =
 abbrev AreClients : ℕ → List ClientConfig → Type 0
 AreClients chains cs = AllPairs (λ c d. c.id ≢ d.id) cs × All (IsClient chains) cs
 
-clients-form : (chains : List (List ℕ)) (ds : Items) (clients : List ClientConfig) → elements (client chains) (codes "client") [] ds ≡ Ok clients → AreClients (length chains) clients
+clients-form : (chains : List Chain) (ds : Items) (clients : List ClientConfig) → elements (client chains) (codes "client") [] ds ≡ Ok clients
+    → AreClients (length (chain_ids chains)) clients
 clients-form chains ds clients h =
-    elements-keep (client chains) (AreClients (length chains)) (λ before s c kept read.
+    elements-keep (client chains) (AreClients (length (chain_ids chains))) (λ before s c kept read.
     let one = client-form chains before s c read in (
       all_pairs_push (λ a b. a.id ≢ b.id) before c kept.0
           (λ k d lt. let short : k < length (client_ids before) = omega (arith, length-map before (λ (x : ClientConfig). x.id)) in
           λ e. one.1 k d.id short (get_or-map (λ (x : ClientConfig). x.id) before k d d.id lt ∙ e)),
-      All-push (IsClient (length chains)) before c kept.1 one.0,
+      All-push (IsClient (length (chain_ids chains))) before c kept.1 one.0,
     )) (codes "client") [] ds clients ((λ i j d lt end. absurd (omega arith)), (λ k d lt. absurd (omega arith))) h
 
 client-within : (key : List ℕ) (clients : List ClientConfig) (s : Section) (i : ℕ) → needs key (reference (client_ids clients)) s ≡ Ok i → i < length clients
@@ -290,20 +316,24 @@ paths-form chains clients ds paths h =
 
 -- ---- what a script is set up with
 
+limit-form : (v : Version) → (1 ≤ max_records v) × (max_records v ≤ most_records)
+limit-form versions.One = (omega arith, omega arith)
+limit-form versions.Two = (omega arith, omega arith)
+
 config-form : (t : Tables) (c : Config) → AreFew t → config t ≡ Ok c → IsConfig c
 unfolding config
 config-form t c few h =
-    pass (elements chain (codes "chain") [] t.chains) _ c h (λ chains e0 h0.
+    pass (elements (chain t.version) (codes "chain") [] t.chains) _ c h (λ chains e0 h0.
     pass (elements (client chains) (codes "client") [] t.clients) _ c h0 (λ clients e1 h1.
-    pass (elements (path chains clients) (codes "path") [] t.paths) _ c h1 (λ paths e2 same.
+    pass (elements (path (chain_ids chains) clients) (codes "path") [] t.paths) _ c h1 (λ paths e2 same.
     let are_clients = clients-form chains t.clients clients e1 in
-    let are_paths = paths-form chains clients t.paths paths e2 in
+    let are_paths = paths-form (chain_ids chains) clients t.paths paths e2 in
     subst IsConfig (same_ok _ c same) (record {
-      limit = (omega arith, omega arith);
-      few_chains = omega (arith, few.chains, elements-count chain (codes "chain") [] t.chains chains e0);
+      limit = limit-form t.version;
+      few_chains = omega (arith, few.chains, elements-count (chain t.version) (codes "chain") [] t.chains chains e0, length-map chains (λ (x : Chain). x.id));
       few_clients = omega (arith, few.clients, elements-count (client chains) (codes "client") [] t.clients clients e1);
-      few_paths = omega (arith, few.paths, elements-count (path chains clients) (codes "path") [] t.paths paths e2);
-      chain_ids = chains-form t.chains chains e0;
+      few_paths = omega (arith, few.paths, elements-count (path (chain_ids chains) clients) (codes "path") [] t.paths paths e2);
+      chain_ids = chains-form t.version t.chains chains e0;
       client_ids = are_clients.0;
       path_ids = are_paths.0;
       clients = are_clients.1;

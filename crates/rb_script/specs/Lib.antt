@@ -3,9 +3,11 @@ pub use Rattle.rb_events.specs.Script
 pub use Rattle.rb_fields.specs.Faults
 pub mod Limits
 pub mod Documents
+pub mod Versions
 pub mod Named
 pub mod Directories
 pub mod Names
+pub mod Chains
 pub mod Clients
 pub mod Paths
 pub mod Setups
@@ -14,3 +16,4 @@ pub mod Packets
 pub mod Events
 pub mod Turns
 pub mod Scripts
+pub mod Laws

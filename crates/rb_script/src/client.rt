@@ -1,59 +1,22 @@
-//! The chains and clients of a script.
-ghost use Rattle.std.specs.Prelude.{[], codes};
+//! The clients of a script.
+ghost use Rattle.std.specs.Prelude.{◌≡◌, ◌<◌, [], codes, length};
 ghost use Rattle.toml.specs.View.{view, items_view};
-ghost use Rattle.rb_base.specs.Fraction.{one_third};
 ghost use Rattle.rb_fields.specs.Faults.{Gives};
-ghost use Rattle.rb_fields.specs.Fields.{field_view, section_view, only, needs, optional, or_default, trust, at_element, elements};
-ghost use Rattle.rb_script.specs.Clients.{chain, chain_keys, limits, client, client_keys};
+ghost use Rattle.rb_fields.specs.Fields.{field_view, section_view, only, needs, number, fee_table, max_number, at_element, elements};
+ghost use Rattle.rb_fields.specs.declared.fault.FaultName.TheVariants.{OutOfRange};
+ghost use Rattle.rb_script.specs.Clients.{limits, client, client_keys, own, shared_by};
 
+use crate::chain::Chain;
+use crate::defaults::{Defaults, read_drift, read_period, trust_or};
 use crate::directory::Directory;
+use crate::drift::Drift;
 use crate::named::{new_identifier, reference};
-use rb_base::{ChainId, ClientId, Fraction, Options, Period};
+use rb_base::{ClientId, FeeTable, Options, Period};
 use rb_batch::Limits;
 use rb_events::ClientConfig;
 use rb_fields::{FaultName, Field, MAX_NUMBER, RunError, Section, element_path, section_at};
 use std::alloc::Global;
 use toml::Value;
-
-fn only_chain_keys(section: &Section<'_>) -> Result<(), RunError>
-    ensures { Gives (λ u. u) result (only chain_keys (section_view section.now)) }
-{
-    section.only(&["id"])
-}
-
-#[tactic(auto, using(rb_fields::proofs::Steps::steps), unfolding(crate::specs::Clients::chain))]
-fn read_chain(section: &Section<'_>, before: &Directory<ChainId>) -> Result<ChainId, RunError>
-    ensures { Gives (λ c. c) result (chain before.now (section_view section.now)) }
-{
-    only_chain_keys(section)?;
-    let id = new_identifier(section, before)?;
-    Ok(ChainId::new(id).unwrap())
-}
-
-#[tactic(auto, using(rb_fields::proofs::Steps::steps))]
-fn read_chain_at(
-    alloc: Global,
-    value: &Value,
-    before: &Directory<ChainId>,
-) -> Result<ChainId, RunError>
-    ensures { Gives (λ c. c) result (at_element chain (codes "chain") before.now (view value.now)) }
-{
-    let path = element_path(alloc, "chain", before.as_slice().len())?;
-    let section = section_at(alloc, path.as_str(), value)?;
-    read_chain(&section, before)
-}
-
-/// Reads the chains, each beside those before it.
-pub fn read_chains(alloc: Global, items: &[Value]) -> Result<Directory<ChainId>, RunError>
-    ensures { Gives (λ d. d) result (elements chain (codes "chain") [] (items_view items.now)) }
-{
-    let mut chains = Directory::new(alloc);
-    for value in items {
-        let chain = read_chain_at(alloc, value, &chains)?;
-        chains = chains.with(chain)?;
-    }
-    Ok(chains)
-}
 
 #[tactic(auto, using(rb_fields::proofs::Steps::steps), unfolding(crate::specs::Clients::limits))]
 fn limits(field: &Field<'_>) -> Result<Limits, RunError>
@@ -79,13 +42,54 @@ fn needed_limits(section: &Section<'_>) -> Result<Limits, RunError>
     limits(&section.required("limits")?)
 }
 
-#[tactic(auto, using(rb_fields::proofs::Steps::steps))]
-fn trust_or_third(section: &Section<'_>) -> Result<Fraction, RunError>
-    ensures { Gives (λ t. t) result (or_default one_third trust (optional (codes "trust") (section_view section.now))) }
+/// What the clients that track this chain share.
+fn shared_by(chains: &Directory<Chain>, place: usize) -> Defaults
+    requires { place < length chains.now }
+    ensures { result ≡ shared_by chains.now place }
 {
-    match section.optional("trust") {
-        Some(field) => field.trust(),
-        None => Ok(Fraction::one_third()),
+    chains.as_slice()[place].defaults
+}
+
+#[tactic(auto, using(rb_fields::proofs::Steps::steps))]
+fn own_period(section: &Section<'_>, shared: Option<Period>) -> Result<Period, RunError>
+    ensures { Gives (λ p. p) result (own shared (codes "period_ns") (number 1 max_number OutOfRange) (section_view section.now)) }
+{
+    let Some(shared) = shared else {
+        return read_period(&section.required("period_ns")?);
+    };
+    match section.optional("period_ns") {
+        Some(field) => read_period(&field),
+        None => Ok(shared),
+    }
+}
+
+#[tactic(auto, using(rb_fields::proofs::Steps::steps))]
+fn own_drift(section: &Section<'_>, shared: Option<Drift>) -> Result<Drift, RunError>
+    ensures { Gives (λ d. d) result (own shared (codes "drift_ns") (number 0 max_number OutOfRange) (section_view section.now)) }
+{
+    let Some(shared) = shared else {
+        return read_drift(&section.required("drift_ns")?);
+    };
+    match section.optional("drift_ns") {
+        Some(field) => read_drift(&field),
+        None => Ok(shared),
+    }
+}
+
+#[tactic(auto, using(rb_fields::proofs::Steps::steps))]
+fn own_fees<'a>(
+    section: &Section<'a>,
+    key: &'a str,
+    shared: Option<FeeTable>,
+) -> Result<FeeTable, RunError>
+    ensures { Gives (λ t. t) result (own shared key.entry.now fee_table (section_view section.now)) }
+{
+    let Some(shared) = shared else {
+        return section.fee_table(key);
+    };
+    match section.optional(key) {
+        Some(field) => field.fee_table(),
+        None => Ok(shared),
     }
 }
 
@@ -109,7 +113,7 @@ fn only_client_keys(section: &Section<'_>) -> Result<(), RunError>
 #[tactic(auto, using(rb_fields::proofs::Steps::steps), unfolding(crate::specs::Clients::client))]
 fn read_client(
     section: &Section<'_>,
-    chains: &Directory<ChainId>,
+    chains: &Directory<Chain>,
     before: &Directory<ClientConfig>,
 ) -> Result<ClientConfig, RunError>
     ensures { Gives (λ c. c) result (client chains.now before.now (section_view section.now)) }
@@ -118,13 +122,14 @@ fn read_client(
     let id = new_identifier(section, before)?;
     let host = reference(section, "host", chains)?;
     let tracks = reference(section, "of", chains)?;
-    let period = section.number("period_ns", 1, Period::MAX, FaultName::OutOfRange)?;
-    let drift = section.number("drift_ns", 0, MAX_NUMBER, FaultName::OutOfRange)?;
-    let refresh = section.number_or("refresh_ns", 0, 0, MAX_NUMBER)?;
-    let fees = section.fee_table("fee")?;
-    let gas = section.fee_table("gas")?;
+    let shared = shared_by(chains, tracks);
+    let period = own_period(section, shared.period)?;
+    let drift = own_drift(section, shared.drift)?;
+    let refresh = section.number_or("refresh_ns", shared.refresh, 0, MAX_NUMBER)?;
+    let fees = own_fees(section, "fee", shared.fees)?;
+    let gas = own_fees(section, "gas", shared.gas)?;
     let limits = needed_limits(section)?;
-    let trust = trust_or_third(section)?;
+    let trust = trust_or(section, shared.trust)?;
     if host == tracks {
         return Err(section.fault(FaultName::SameChain));
     }
@@ -132,7 +137,7 @@ fn read_client(
         id: ClientId::new(id).unwrap(),
         host,
         tracks,
-        options: Options::new(Period::new(period).unwrap(), drift).with_trust(trust),
+        options: Options::new(period, drift.nanoseconds()).with_trust(trust),
         refresh,
         fees,
         gas,
@@ -144,7 +149,7 @@ fn read_client(
 fn read_client_at(
     alloc: Global,
     value: &Value,
-    chains: &Directory<ChainId>,
+    chains: &Directory<Chain>,
     before: &Directory<ClientConfig>,
 ) -> Result<ClientConfig, RunError>
     ensures { Gives (λ c. c) result (at_element (client chains.now) (codes "client") before.now (view value.now)) }
@@ -158,7 +163,7 @@ fn read_client_at(
 pub fn read_clients(
     alloc: Global,
     items: &[Value],
-    chains: &Directory<ChainId>,
+    chains: &Directory<Chain>,
 ) -> Result<Directory<ClientConfig>, RunError>
     ensures { Gives (λ d. d) result (elements (client chains.now) (codes "client") [] (items_view items.now)) }
 {

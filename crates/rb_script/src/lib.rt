@@ -2,10 +2,14 @@
 //! or its first fault.
 #![tactic(auto)]
 
+mod chain;
 mod client;
+mod defaults;
 mod directory;
 mod document;
+mod drift;
 mod event;
+pub mod laws;
 mod limits;
 mod named;
 mod names;
@@ -15,6 +19,7 @@ mod script;
 mod set;
 mod setup;
 mod turn;
+mod version;
 
 pub use document::read_table;
 pub use named::{Named, place_of};

@@ -1,7 +1,4 @@
-//! How much a text may have, and a book of its script.
+//! How much a text may have.
 
 /// Bytes of a text.
 pub const MAX_BYTES: usize = 16_777_216;
-
-/// Records of a book.
-pub const MAX_RECORDS: usize = 1024;

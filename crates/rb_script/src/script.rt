@@ -9,20 +9,23 @@ ghost use Rattle.rb_script.specs.Turns.{turn, reading_view};
 ghost use Rattle.rb_script.specs.Setups.{setup_view};
 ghost use Rattle.rb_script.specs.Scripts.{script, script_of, config, tables, tables_view, top_keys, opening};
 
-use crate::client::{read_chains, read_clients};
+use crate::chain::{ids_of, read_chains};
+use crate::client::read_clients;
 use crate::document::read_table;
 use crate::names::SetNames;
 use crate::path::read_paths;
 use crate::setup::Setup;
 use crate::turn::{Reading, read_turn_at};
+use crate::version::{Version, needed_version};
 use rb_events::{MAX_CHAINS, MAX_CLIENTS, MAX_ENTRIES, MAX_PATHS, MAX_TURNS, Script, Turn};
-use rb_fields::{FaultName, RunError, Section};
+use rb_fields::{RunError, Section};
 use std::alloc::Global;
 use toml::{Table, Value};
 
 /// What the keys of the whole text hold.
 #[derive(Clone, Copy)]
 pub struct Tables<'a> {
+    pub version: Version,
     pub chains: &'a [Value],
     pub clients: &'a [Value],
     pub paths: &'a [Value],
@@ -40,12 +43,13 @@ fn read_tables<'a>(section: Section<'a>) -> Result<Tables<'a>, RunError>
     ensures { Gives tables_view result (tables (section_view section.entry)) }
 {
     only_top_keys(&section)?;
-    let _version = section.number("version", 1, 1, FaultName::BadVersion)?;
+    let version = needed_version(&section)?;
     let chains = section.array("chain", MAX_CHAINS)?;
     let clients = section.array("client", MAX_CLIENTS)?;
     let paths = section.array("path", MAX_PATHS)?;
     let turns = section.array("turn", MAX_TURNS)?;
     Ok(Tables {
+        version,
         chains,
         clients,
         paths,
@@ -57,10 +61,12 @@ fn read_tables<'a>(section: Section<'a>) -> Result<Tables<'a>, RunError>
 fn read_setup(alloc: Global, tables: Tables<'_>) -> Result<Setup, RunError>
     ensures { Gives setup_view result (config (tables_view tables.entry)) }
 {
-    let chains = read_chains(alloc, tables.chains)?;
+    let chains = read_chains(alloc, tables.version, tables.chains)?;
     let clients = read_clients(alloc, tables.clients, &chains)?;
+    let chains = ids_of(alloc, &chains)?;
     let paths = read_paths(alloc, tables.paths, &chains, &clients)?;
     Ok(Setup {
+        limit: tables.version.max_records(),
         chains,
         clients,
         paths,

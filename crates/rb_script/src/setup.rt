@@ -4,13 +4,14 @@ ghost use Rattle.rb_events.specs.Config.{config_view};
 ghost use Rattle.rb_script.specs.Setups.{setup_view};
 
 use crate::directory::Directory;
-use crate::limits::MAX_RECORDS;
 use rb_base::ChainId;
 use rb_events::{ClientConfig, Config, PathConfig};
 
-/// The chains, the clients and the paths of a script, each found by its identifier.
+/// How many records a book may have, and the chains, the clients and the paths of a script, each
+/// found by its identifier.
 #[derive(Drop)]
 pub struct Setup {
+    pub limit: usize,
     pub chains: Directory<ChainId>,
     pub clients: Directory<ClientConfig>,
     pub paths: Directory<PathConfig>,
@@ -22,7 +23,7 @@ impl Setup {
         ensures { config_view result ≡ setup_view self }
     {
         Config {
-            limit: MAX_RECORDS,
+            limit: self.limit,
             chains: self.chains.into_vec(),
             clients: self.clients.into_vec(),
             paths: self.paths.into_vec(),
