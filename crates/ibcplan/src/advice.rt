@@ -9,7 +9,7 @@ pub fn advice_for(name: FaultName) -> &'static str {
         FaultName::UnknownKey => "there is no such key here",
         FaultName::WrongType =>
             "a value of another type, or an array of another length, belongs here",
-        FaultName::BadVersion => "the version is 1",
+        FaultName::BadVersion => "the version of a script is 1 or 2, of a setup or a certificate 1",
         FaultName::OutOfRange => "this number is too small or too big",
         FaultName::BadIdentifier => {
             "an identifier has 1 to 64 letters, digits and . _ + - # [ ] < >, a set's name at most 32"
@@ -29,7 +29,7 @@ pub fn advice_for(name: FaultName) -> &'static str {
             "forward is a client on dest that follows source, back one on source that follows dest"
         }
         FaultName::TooManyObjects => {
-            "there may be 64 chains, 256 clients and 500 turns, and in this version no path and no settlement"
+            "there may be 64 chains, 256 clients, 256 paths and 500 turns"
         }
         FaultName::TooManyEvents => "there may be 200,000 goals, events and settlements in all",
         FaultName::UnknownSetName => "no earlier set event of the chain has this name",

@@ -1,5 +1,6 @@
 //! Importing: the files of a folder are read, and the script that they make is written.
 use crate::failure::Failure;
+use crate::host::Host;
 use crate::input::{Input, bytes_of};
 use rb_import::{ImportError, Saved, SavedAnswers, SavedError, compose, read_saved};
 use rb_setup::{Setup, read_setup};
@@ -8,8 +9,8 @@ use std::fs::File;
 use std::{fs, io};
 
 /// The text of the script that a setup and the answers in a folder make.
-pub fn imported<'a>(
-    rt: &HostRuntime,
+pub fn imported<'a, R: Host>(
+    rt: &R,
     input: &Input<'a>,
     folder: &str,
 ) -> Result<String, Failure<'a>> {
@@ -42,8 +43,8 @@ fn refused<'a>(text: Result<String, AllocError>) -> Failure<'a> {
 
 /// Reads the answers of the chains that clients track, of the clients and of the paths, each from
 /// the folder of its identifier.
-fn read_answers<'a>(
-    rt: &HostRuntime,
+fn read_answers<'a, R: Host>(
+    rt: &R,
     setup: &Setup,
     folder: &str,
 ) -> Result<SavedAnswers, Failure<'a>> {
@@ -75,8 +76,8 @@ fn read_answers<'a>(
 }
 
 /// Adds the answers in the folder of an identifier, or none where there is no identifier.
-fn add_folder<'a>(
-    rt: &HostRuntime,
+fn add_folder<'a, R: Host>(
+    rt: &R,
     folder: &str,
     id: Option<&str>,
     answers: &mut Vec<Vec<Saved>>,
@@ -92,7 +93,7 @@ fn add_folder<'a>(
 }
 
 /// Reads the answers in the folder of an identifier: its files `*.json`, by name.
-fn read_folder<'a>(rt: &HostRuntime, folder: &str, id: &str) -> Result<Vec<Saved>, Failure<'a>> {
+fn read_folder<'a, R: Host>(rt: &R, folder: &str, id: &str) -> Result<Vec<Saved>, Failure<'a>> {
     let Ok(path) = format!(in rt.alloc(); "{folder}/{id}") else {
         return Err(Failure::NoMemory);
     };
@@ -111,7 +112,7 @@ fn read_folder<'a>(rt: &HostRuntime, folder: &str, id: &str) -> Result<Vec<Saved
 }
 
 /// The names of a folder's files `*.json`, in the order of their bytes.
-fn names_in(rt: &HostRuntime, path: &str) -> io::Result<Vec<String>> {
+fn names_in<R: Host>(rt: &R, path: &str) -> io::Result<Vec<String>> {
     let mut names = Vec::new(rt.alloc());
     for entry in fs::read_dir(rt, path)? {
         let entry = entry?;
@@ -124,7 +125,7 @@ fn names_in(rt: &HostRuntime, path: &str) -> io::Result<Vec<String>> {
 }
 
 /// Reads the answer in a file.
-fn read_file<'a>(rt: &HostRuntime, folder: &str, name: &str) -> Result<Saved, Failure<'a>> {
+fn read_file<'a, R: Host>(rt: &R, folder: &str, name: &str) -> Result<Saved, Failure<'a>> {
     let alloc = rt.alloc();
     let Ok(file) = format!(in alloc; "{folder}/{name}") else {
         return Err(Failure::NoMemory);
@@ -143,6 +144,6 @@ fn read_file<'a>(rt: &HostRuntime, folder: &str, name: &str) -> Result<Saved, Fa
     }
 }
 
-fn read_bytes(rt: &HostRuntime, path: &str) -> io::Result<Vec<u8>> {
+fn read_bytes<R: Host>(rt: &R, path: &str) -> io::Result<Vec<u8>> {
     bytes_of(rt.alloc(), File::open(rt, path)?)
 }

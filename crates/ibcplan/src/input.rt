@@ -2,6 +2,7 @@
 ghost use Rattle.std.specs.Prelude.{◌≡◌};
 
 use crate::failure::Failure;
+use crate::host::Host;
 use std::alloc::Global;
 use std::fs::File;
 use std::io;
@@ -23,7 +24,7 @@ pub struct Input<'a> {
 
 impl<'a> Input<'a> {
     /// Reads a file, or standard input.
-    pub fn read(rt: &HostRuntime, path: &'a str) -> Result<Input<'a>, Failure<'a>> {
+    pub fn read<R: Host>(rt: &R, path: &'a str) -> Result<Input<'a>, Failure<'a>> {
         match bytes_at(rt, path) {
             Ok(bytes) => Ok(Input { path, bytes }),
             Err(error) if error.kind() == io::ErrorKind::OutOfMemory => { Err(Failure::NoMemory) }
@@ -55,7 +56,7 @@ fn name_of<'a>(path: &'a str) -> &'a str {
     }
 }
 
-fn bytes_at(rt: &HostRuntime, path: &str) -> io::Result<Vec<u8>> {
+fn bytes_at<R: Host>(rt: &R, path: &str) -> io::Result<Vec<u8>> {
     if path == STANDARD_INPUT {
         bytes_of(rt.alloc(), rt.reader())
     } else {

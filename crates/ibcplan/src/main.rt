@@ -6,12 +6,17 @@
 mod advice;
 mod failure;
 mod flaw;
+mod host;
 mod importing;
 mod input;
 mod perform;
 mod status;
+mod tally;
 mod task;
+mod workers;
 
+use crate::host::Host;
+use std::io::IsTerminal;
 use std::process::ExitCode;
 use std::{env, io};
 
@@ -20,17 +25,18 @@ const NOT_UTF_8: &str = "error: the command line isn't UTF-8
 Rename the file, or give it as standard input: ibcplan plan - < FILE
 For more information, try '--help'.";
 
-/// Does what the command line asks for, and answers the status to end with.
-fn run(rt: &HostRuntime) -> io::Result<u8> {
+/// Does what the command line asks for, and answers the status to end with. Where somebody watches
+/// what goes to standard error, it says there how many events were refused.
+fn run<R: Host>(rt: &R, is_watched: bool) -> io::Result<u8> {
     let words: Vec<String> = env::args(rt)?.collect(rt.alloc())?;
     Ok(match task::read_task(rt.alloc(), words.as_slice()) {
-        Ok(task) => perform::perform(rt, task),
+        Ok(task) => perform::perform(rt, task, is_watched),
         Err(message) => perform::show(rt, &message),
     })
 }
 
 fn main(rt: HostRuntime) -> ExitCode {
-    let status = match run(&rt) {
+    let status = match run(&rt, rt.stderr().is_terminal()) {
         Ok(status) => status,
         Err(error) if error.kind() == io::ErrorKind::InvalidData => {
             let _ = eprintln!(rt; "{NOT_UTF_8}");

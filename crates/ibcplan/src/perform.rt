@@ -3,23 +3,29 @@ ghost use Rattle.std.specs.Prelude.{◌≡◌, ◌⊎◌, false, IfOk};
 ghost use Rattle.ibcplan.specs.Status.{IsPlanned, IsConfirmed, IsDenied};
 
 use crate::failure::Failure;
+use crate::host::Host;
 use crate::importing::imported;
 use crate::input::Input;
 use crate::status;
+use crate::tally::Tally;
 use crate::task::Task;
+use crate::workers::Workers;
 use clap::error::ErrorKind;
 use rb_base::{Counted, Sink, write_whole};
 use rb_fields::RunError;
+use rb_gang::OpenGate;
 use rb_output::{commands_of, json_of};
 use rb_super::run_script;
-use rb_text::{certify_over, plan_over, read_script_to_run};
+use rb_text::{certify_over, read_script, run_over};
 use std::alloc::Global;
 use std::io;
 use std::io::{Printer, Write};
+use std::thread::Threads;
 
-/// Does a task, and answers the status to end with.
-pub fn perform(rt: &HostRuntime, task: Task<'_>) -> u8 {
-    match outcome_of(rt, task) {
+/// Does a task, and answers the status to end with; says how many events were refused, if that is to
+/// be told.
+pub fn perform<R: Host>(rt: &R, task: Task<'_>, tells_refused: bool) -> u8 {
+    match outcome_of(rt, task, tells_refused) {
         Ok(status) => status,
         Err(failure) => {
             let _ = eprintln!(rt; "{failure}");
@@ -29,7 +35,7 @@ pub fn perform(rt: &HostRuntime, task: Task<'_>) -> u8 {
 }
 
 /// Shows the help that was asked for, or what is wrong with the command line.
-pub fn show(rt: &HostRuntime, message: &clap::Error) -> u8 {
+pub fn show<R: Print + Eprint>(rt: &R, message: &clap::Error) -> u8 {
     if message.kind() == ErrorKind::OutOfMemory {
         return no_memory(rt);
     }
@@ -44,27 +50,27 @@ pub fn show(rt: &HostRuntime, message: &clap::Error) -> u8 {
 }
 
 /// Ends for want of memory.
-pub fn no_memory(rt: &HostRuntime) -> u8 {
+pub fn no_memory<R: Eprint>(rt: &R) -> u8 {
     let _ = eprintln!(rt; "{}", Failure::NoMemory);
     status::FAILED
 }
 
 /// Reads the files of a task, does it, and sends on what the writer may still hold.
-fn outcome_of<'a>(rt: &HostRuntime, task: Task<'a>) -> Result<u8, Failure<'a>> {
-    let mut output = Counted::new(io::writer(rt));
+fn outcome_of<'a, R: Host>(rt: &R, task: Task<'a>, tells_refused: bool) -> Result<u8, Failure<'a>> {
+    let mut output = Tally::new(Counted::new(io::writer(rt)));
     let status = match task {
-        Task::Plan { script } => {
+        Task::Plan { script, workers } => {
             let script = Input::read(rt, script)?;
-            plan(rt.alloc(), &script, &mut output)?
+            plan(rt, rt.alloc(), &script, workers, &mut output)?
         }
         Task::PlanJson { script } => {
             let script = Input::read(rt, script)?;
-            let text = planned_text(rt.alloc(), &script, Form::Json)?;
+            let text = planned_text(rt, rt.alloc(), &script, Form::Json)?;
             write(&text, &mut output)?
         }
         Task::Commands { script } => {
             let script = Input::read(rt, script)?;
-            let text = planned_text(rt.alloc(), &script, Form::Commands)?;
+            let text = planned_text(rt, rt.alloc(), &script, Form::Commands)?;
             write(&text, &mut output)?
         }
         Task::Import { setup, folder } => {
@@ -78,19 +84,32 @@ fn outcome_of<'a>(rt: &HostRuntime, task: Task<'a>) -> Result<u8, Failure<'a>> {
         } => {
             let script = Input::read(rt, script)?;
             let certificate = Input::read(rt, certificate)?;
-            certify(rt.alloc(), &script, &certificate, &mut output)?
+            certify(rt, rt.alloc(), &script, &certificate, &mut output)?
         }
     };
-    flush(output)?;
+    let refused = output.refused();
+    flush(output.into_inner())?;
+    if tells_refused && refused > 0 {
+        let _ = eprintln!(rt;
+            "refused events: {refused}; their lines in the report begin with 'refused event'"
+        );
+    }
     Ok(status)
 }
 
-/// Writes the report of the script that a file holds.
-fn plan<'a, W: Sink>(alloc: Global, script: &Input<'a>, output: &mut W) -> Result<u8, Failure<'a>>
+/// Writes the report of the script that a file holds, by so many threads.
+fn plan<'a, R: Threads + Sync, W: Sink>(
+    rt: &R,
+    alloc: Global,
+    script: &Input<'a>,
+    workers: Workers,
+    output: &mut W,
+) -> Result<u8, Failure<'a>>
     requires { W.is_broken output.old ≡ false }
     ensures done { IfOk result (IsPlanned script.now.bytes.items (W.taken output.old) (W.taken output.new)) }
 {
-    match plan_over(alloc, script.bytes(), output) {
+    let workers = workers.count();
+    match run_over(rt, alloc, script.bytes(), output, workers, &OpenGate) {
         Ok(()) => Ok(status::DONE),
         Err(error) => Err(Failure::of_run(alloc, error, script)),
     }
@@ -104,20 +123,31 @@ enum Form {
 }
 
 /// The report of the script that a file holds, in another form.
-fn planned_text<'a>(alloc: Global, input: &Input<'a>, form: Form) -> Result<String, Failure<'a>> {
-    match form_of(alloc, input.bytes(), form) {
+fn planned_text<'a, R: Threads + Sync>(
+    rt: &R,
+    alloc: Global,
+    input: &Input<'a>,
+    form: Form,
+) -> Result<String, Failure<'a>> {
+    match form_of(rt, alloc, input.bytes(), form) {
         Ok(text) => Ok(text),
         Err(error) => Err(Failure::of_run(alloc, error, input)),
     }
 }
 
 /// Reads a script, runs it, and puts its report into a form.
-fn form_of(alloc: Global, bytes: &[u8], form: Form) -> Result<String, RunError> {
-    let script = read_script_to_run(alloc, bytes)?;
-    let report = run_script(alloc, &script)?;
+fn form_of<R: Threads + Sync>(
+    rt: &R,
+    alloc: Global,
+    bytes: &[u8],
+    form: Form,
+) -> Result<String, RunError> {
+    let script = read_script(alloc, bytes)?;
+    let config = script.config.copy()?;
+    let report = run_script(rt, alloc, script, 1, &OpenGate)?;
     match form {
         Form::Json => Ok(json_of(alloc, &report)?),
-        Form::Commands => Ok(commands_of(alloc, &script, &report)?),
+        Form::Commands => Ok(commands_of(alloc, &config, &report)?),
     }
 }
 
@@ -132,7 +162,8 @@ fn write<'a, W: Sink>(script: &String, output: &mut W) -> Result<u8, Failure<'a>
 }
 
 /// Writes the verdict on the certificate that a file holds.
-fn certify<'a, W: Sink>(
+fn certify<'a, R: Threads + Sync, W: Sink>(
+    rt: &R,
     alloc: Global,
     script: &Input<'a>,
     certificate: &Input<'a>,
@@ -143,7 +174,7 @@ fn certify<'a, W: Sink>(
         IsConfirmed script.now.bytes.items certificate.now.bytes.items (W.taken output.old) (W.taken output.new) status
         ⊎ IsDenied script.now.bytes.items certificate.now.bytes.items (W.taken output.old) (W.taken output.new) status) }
 {
-    match certify_over(alloc, script.bytes(), certificate.bytes(), output) {
+    match certify_over(rt, alloc, script.bytes(), certificate.bytes(), output) {
         Ok(true) => Ok(status::DONE),
         Ok(false) => Ok(status::DENIED),
         Err(error) => {
@@ -159,14 +190,14 @@ fn refused_input<'a, 'b>(
     script: &'b Input<'a>,
     certificate: &'b Input<'a>,
 ) -> &'b Input<'a> {
-    match read_script_to_run(alloc, script.bytes()) {
+    match read_script(alloc, script.bytes()) {
         Err(RunError::Fault(_)) => script,
         _ => certificate,
     }
 }
 
 /// Sends on what the writer may still hold.
-fn flush<'a>(output: Counted<Printer<'_, HostRuntime>>) -> Result<(), Failure<'a>> {
+fn flush<'a, R: Print>(output: Counted<Printer<'_, R>>) -> Result<(), Failure<'a>> {
     match output.into_inner().flush() {
         Ok(()) => Ok(()),
         Err(_) => Err(Failure::Unwritten),

@@ -1,15 +1,17 @@
 //! The command line: what the program is asked to do.
 use crate::input::STANDARD_INPUT;
+use crate::workers::Workers;
 use clap::error::ErrorKind;
-use clap::{Arg, ArgAction, ArgMatches, Command, Error};
+use clap::{Arg, ArgAction, ArgMatches, Command, Error, value_parser};
 use std::alloc::{AllocError, Global};
 
 /// What the program is asked to do, with the paths of its files.
 #[derive(Clone, Copy, Debug)]
 pub enum Task<'a> {
-    /// Write a script's report.
+    /// Write a script's report, by so many threads.
     Plan {
         script: &'a str,
+        workers: Workers,
     },
     /// Write a script's report as JSON.
     PlanJson {
@@ -33,9 +35,13 @@ pub enum Task<'a> {
 
 const PLAN: &str = "plan";
 
+const RUN: &str = "run";
+
 const COMMANDS: &str = "commands";
 
 const JSON: &str = "json";
+
+const WORKERS: &str = "workers";
 
 const IMPORT: &str = "import";
 
@@ -51,6 +57,7 @@ const CERT: &str = "CERT";
 
 const AFTER_HELP: &str = "Examples:
   ibcplan plan examples/smallest.toml
+  ibcplan run --workers 4 examples/hundred_headers.toml
   ibcplan certify examples/smallest.toml examples/smallest.certificate
 
 Results go to standard output; what went wrong goes to standard error.
@@ -66,6 +73,13 @@ Exit status:
 const AFTER_PLAN: &str = "Examples:
   ibcplan plan examples/smallest.toml
   ibcplan plan - < examples/smallest.toml > report.txt";
+
+const AFTER_RUN: &str = "Examples:
+  ibcplan run examples/packets.toml
+  ibcplan run --workers 4 examples/hundred_headers.toml
+
+It writes what plan writes, whatever the number of threads; several are faster
+where a script has many headers over many sets of validators.";
 
 const AFTER_COMMANDS: &str = "Examples:
   ibcplan commands examples/smallest.toml
@@ -104,6 +118,21 @@ fn plan_command<'a>(alloc: Global) -> Result<Command<'a>, AllocError> {
         .after_help(AFTER_PLAN)
         .arg(script)?
         .arg(json)
+}
+
+fn run_command<'a>(alloc: Global) -> Result<Command<'a>, AllocError> {
+    let script = file(alloc, SCRIPT, "The script's file; - for standard input");
+    let workers = Arg::new(alloc, WORKERS)
+        .long("workers")
+        .value_name("K")
+        .value_parser(value_parser!(usize).range(1..=64))
+        .default_value("1")
+        .help("How many threads make the step tables, 1 to 64");
+    Command::new(alloc, RUN)
+        .about("Writes the report of a script as plan does, by several threads")
+        .after_help(AFTER_RUN)
+        .arg(script)?
+        .arg(workers)
 }
 
 fn commands_command<'a>(alloc: Global) -> Result<Command<'a>, AllocError> {
@@ -150,6 +179,7 @@ fn command_line<'a>(alloc: Global) -> Result<Command<'a>, AllocError> {
         .subcommand_required(true)
         .arg_required_else_help(true)
         .subcommand(plan_command(alloc)?)?
+        .subcommand(run_command(alloc)?)?
         .subcommand(commands_command(alloc)?)?
         .subcommand(import_command(alloc)?)?
         .subcommand(certify_command(alloc)?)
@@ -180,10 +210,14 @@ fn task_of<'a>(matches: &ArgMatches<'a>) -> Option<Task<'a>> {
         })
     } else if name == COMMANDS {
         Some(Task::Commands { script })
+    } else if name == RUN {
+        let workers = Workers::new(given.get_one(WORKERS)?)?;
+        Some(Task::Plan { script, workers })
     } else if given.get_flag(JSON) {
         Some(Task::PlanJson { script })
     } else {
-        Some(Task::Plan { script })
+        let workers = Workers::one();
+        Some(Task::Plan { script, workers })
     }
 }
 

@@ -1,17 +1,18 @@
 //! The commands that a relayer (Hermes) runs for a report.
-use rb_super::{
-    ClientConfig, ClientReport, Outcome, Plan, PricedUpdate, Report, Script, TurnReport,
-};
+use rb_events::{ClientConfig, Config};
+use rb_super::{ClientReport, Outcome, Plan, PricedUpdate, Report, TurnReport};
 use std::alloc::{AllocError, Global};
 
-/// The commands for a report of this script: for each turn and client a comment line of what came of
-/// it, and after it a line for each update, in the order in which they are submitted.
-pub fn commands_of(alloc: Global, script: &Script, report: &Report) -> Result<String, AllocError> {
+/// The commands for a report of a script with this configuration: for each turn and client a comment
+/// line of what came of it, and after it a line for each update, in the order in which they are
+/// submitted. Of the packet messages that follow them the comment tells the number: a script doesn't
+/// have the ports and channels that commands for packets name.
+pub fn commands_of(alloc: Global, config: &Config, report: &Report) -> Result<String, AllocError> {
     let mut text = String::new(alloc);
     let mut number: u64 = 0;
     for turn in &report.turns {
         number = number.saturating_add(1);
-        push_turn(&mut text, number, script, turn)?;
+        push_turn(&mut text, number, config, turn)?;
     }
     Ok(text)
 }
@@ -19,18 +20,18 @@ pub fn commands_of(alloc: Global, script: &Script, report: &Report) -> Result<St
 fn push_turn(
     text: &mut String,
     number: u64,
-    script: &Script,
+    config: &Config,
     turn: &TurnReport,
 ) -> Result<(), AllocError> {
-    for (config, client) in script.config.clients.iter().zip(&turn.clients) {
-        push_client(text, number, host_of(script, config), client)?;
+    for (client, report) in config.clients.iter().zip(&turn.clients) {
+        push_client(text, number, host_of(config, client), report)?;
     }
     Ok(())
 }
 
 /// The identifier of the chain that hosts a client.
-fn host_of<'a>(script: &'a Script, config: &ClientConfig) -> &'a str {
-    match script.config.chains.get(config.host) {
+fn host_of<'a>(config: &'a Config, client: &ClientConfig) -> &'a str {
+    match config.chains.get(client.host) {
         Some(chain) => chain.as_str(),
         None => "",
     }
@@ -62,14 +63,24 @@ fn push_plan(
 ) -> Result<(), AllocError> {
     let fee = plan.total.fee;
     let count = plan.total.count;
-    writeln!(
+    write!(
         text,
         "# turn {turn} client {id}: total fee {fee}, updates {count}"
     )?;
+    push_messages(text, plan.messages.len())?;
     for update in &plan.updates {
         push_update(text, host, own_id(host, id), update)?;
     }
     Ok(())
+}
+
+/// Ends a plan's comment line, with the number of its packet messages where there are any.
+fn push_messages(text: &mut String, count: usize) -> Result<(), AllocError> {
+    if count == 0 {
+        text.push_str("\n")
+    } else {
+        writeln!(text, ", packet messages {count}")
+    }
 }
 
 /// What follows `HOST.` in a client's identifier where it begins with that and more, else the whole.

@@ -1,8 +1,13 @@
 //! A report as JSON. Identifiers have no character that JSON escapes.
+use rb_base::PathId;
 use rb_batch::Transaction;
-use rb_plan::{Goal, Label};
+use rb_core::Message;
+use rb_events::{Goal, Refusal};
+use rb_plan::Label;
+use rb_scan::Kind;
 use rb_super::{
-    ClientReport, Outcome, Plan, Planned, PricedUpdate, RefusedEvent, Report, Sending, TurnReport,
+    ClientReport, Outcome, Plan, Planned, PricedUpdate, RefusedEvent, Report, Sending,
+    SettlementReport, TurnReport,
 };
 use std::alloc::{AllocError, Global};
 
@@ -12,7 +17,7 @@ pub fn json_of(alloc: Global, report: &Report) -> Result<String, AllocError> {
     text.push_str("{\"ibcplan\": 1, \"turns\": [")?;
     for (place, turn) in report.turns.iter().enumerate() {
         push_comma(&mut text, place)?;
-        push_turn(&mut text, turn)?;
+        push_turn(&mut text, report.paths.as_slice(), turn)?;
     }
     text.push_str("]}\n")?;
     Ok(text)
@@ -27,7 +32,7 @@ fn push_comma(text: &mut String, place: usize) -> Result<(), AllocError> {
     }
 }
 
-fn push_turn(text: &mut String, turn: &TurnReport) -> Result<(), AllocError> {
+fn push_turn(text: &mut String, paths: &[PathId], turn: &TurnReport) -> Result<(), AllocError> {
     let window_back = turn.window_back;
     write!(text, "{{\"window_back\": {window_back}, \"refused\": [")?;
     for (place, refused) in turn.refused.iter().enumerate() {
@@ -37,32 +42,59 @@ fn push_turn(text: &mut String, turn: &TurnReport) -> Result<(), AllocError> {
     text.push_str("], \"clients\": [")?;
     for (place, client) in turn.clients.iter().enumerate() {
         push_comma(text, place)?;
-        push_client(text, client)?;
+        push_client(text, paths, client)?;
+    }
+    text.push_str("], \"settlements\": [")?;
+    for (place, settlement) in turn.settlements.iter().enumerate() {
+        push_comma(text, place)?;
+        push_settlement(text, settlement)?;
     }
     text.push_str("]}")
 }
 
 fn push_refused(text: &mut String, refused: &RefusedEvent) -> Result<(), AllocError> {
     let event = refused.event;
-    let number = refused.refusal.number();
-    let name = refused.refusal.name();
-    write!(
-        text,
-        "{{\"event\": {event}, \"number\": {number}, \"name\": \"{name}\"}}"
-    )
+    write!(text, "{{\"event\": {event}")?;
+    push_refusal(text, &refused.refusal)?;
+    text.push_str("}")
 }
 
-fn push_client(text: &mut String, client: &ClientReport) -> Result<(), AllocError> {
+/// Adds why something is refused, as the last keys of an object.
+fn push_refusal(text: &mut String, refusal: &Refusal) -> Result<(), AllocError> {
+    let number = refusal.number();
+    let name = refusal.name();
+    write!(text, ", \"number\": {number}, \"name\": \"{name}\"")
+}
+
+fn push_settlement(text: &mut String, settlement: &SettlementReport) -> Result<(), AllocError> {
+    let id = settlement.id.as_str();
+    let batch = settlement.batch;
+    let done = settlement.done;
+    write!(
+        text,
+        "{{\"client\": \"{id}\", \"batch\": {batch}, \"done\": {done}"
+    )?;
+    if let Some(refusal) = &settlement.refusal {
+        push_refusal(text, refusal)?;
+    }
+    text.push_str("}")
+}
+
+fn push_client(
+    text: &mut String,
+    paths: &[PathId],
+    client: &ClientReport,
+) -> Result<(), AllocError> {
     let id = client.id.as_str();
     write!(text, "{{\"id\": \"{id}\", ")?;
     match &client.outcome {
         Outcome::Held(batch) => write!(text, "\"outcome\": \"held\", \"batch\": {batch}}}"),
         Outcome::Idle => text.push_str("\"outcome\": \"idle\"}"),
-        Outcome::Planned(planned) => push_planned(text, planned),
+        Outcome::Planned(planned) => push_planned(text, paths, planned),
     }
 }
 
-fn push_planned(text: &mut String, planned: &Planned) -> Result<(), AllocError> {
+fn push_planned(text: &mut String, paths: &[PathId], planned: &Planned) -> Result<(), AllocError> {
     let outcome = match planned.plan {
         Some(_) => "plan",
         None => "unreachable",
@@ -76,7 +108,7 @@ fn push_planned(text: &mut String, planned: &Planned) -> Result<(), AllocError> 
     }
     text.push_str("]")?;
     match &planned.plan {
-        Some(plan) => push_plan(text, plan),
+        Some(plan) => push_plan(text, paths, plan),
         None => text.push_str("}"),
     }
 }
@@ -98,7 +130,7 @@ fn push_label(text: &mut String, label: &Label) -> Result<(), AllocError> {
     )
 }
 
-fn push_plan(text: &mut String, plan: &Plan) -> Result<(), AllocError> {
+fn push_plan(text: &mut String, paths: &[PathId], plan: &Plan) -> Result<(), AllocError> {
     text.push_str(", \"updates\": [")?;
     for (place, update) in plan.updates.iter().enumerate() {
         push_comma(text, place)?;
@@ -110,6 +142,12 @@ fn push_plan(text: &mut String, plan: &Plan) -> Result<(), AllocError> {
         text,
         "], \"total\": {{\"fee\": {fee}, \"updates\": {count}}}"
     )?;
+    text.push_str(", \"messages\": [")?;
+    for (place, message) in plan.messages.iter().enumerate() {
+        push_comma(text, place)?;
+        push_message(text, paths, message)?;
+    }
+    text.push_str("]")?;
     push_sending(text, &plan.sending)
 }
 
@@ -121,6 +159,34 @@ fn push_update(text: &mut String, priced: &PricedUpdate) -> Result<(), AllocErro
         text,
         "{{\"height\": {height}, \"trusted\": {trusted}, \"fee\": {fee}}}"
     )
+}
+
+fn push_message(text: &mut String, paths: &[PathId], message: &Message) -> Result<(), AllocError> {
+    let packet = message.packet();
+    let kind = kind_name(packet.kind);
+    let path = id_of(paths, message.path());
+    let sequence = packet.sequence;
+    write!(
+        text,
+        "{{\"kind\": \"{kind}\", \"path\": \"{path}\", \"sequence\": {sequence}}}"
+    )
+}
+
+/// The word that a report has for a message of this kind.
+fn kind_name(kind: Kind) -> &'static str {
+    match kind {
+        Kind::Receive => "recv",
+        Kind::Acknowledge => "ack",
+        Kind::Timeout => "timeout",
+    }
+}
+
+/// The identifier of the path at a place.
+fn id_of(paths: &[PathId], path: usize) -> &str {
+    match paths.get(path) {
+        Some(id) => id.as_str(),
+        None => "",
+    }
 }
 
 fn push_sending(text: &mut String, sending: &Sending) -> Result<(), AllocError> {

@@ -2,4 +2,3 @@ pub mod Beginnings
 pub mod Labels
 pub mod Numbered
 pub mod Cases
-pub mod Settled

@@ -1,29 +1,36 @@
--- What planning over a text promises.
-use Rattle.std.specs.Prelude.{◌≡◌, ℕ, List, Option, Ok}
+-- What a run over a text promises.
+use Rattle.std.specs.Prelude.{◌≡◌, ℕ, List, map, Option, Ok}
 use Rattle.std.specs.declared.alloc.Global.{Global}
 use Rattle.std.specs.Io.KnownBytes.{Appends}
 use Rattle.rb_base.specs.Sink.{AppendsBeginning}
-use Rattle.rb_super.specs.Report.{Report}
 use Rattle.rb_events.specs.Script.{Script}
+use Rattle.rb_events.specs.declared.config.PathConfig.{PathConfig}
+use Rattle.rb_script.specs.Scripts.{script_of}
+use Rattle.rb_super.specs.Report.{Report}
+use Rattle.rb_super.specs.Told.{told}
 use Rattle.rb_super.specs.Turns.{IsReportOf}
 use Rattle.rb_text.specs.Report.{text}
-use Rattle.rb_script.specs.Scripts.{script_of}
 
--- the bytes hold a script, and this is its report: for each client and turn the least list of updates, with the exact
--- labelling and the least cut
-pub record IsReportFor (bytes : List ℕ) (report : Report) : Type 0 where
-  pub script : Script Global
+-- the identifiers of a script's paths, by their places
+abbrev pub path_ids : Script Global → List (List ℕ)
+path_ids s = map (λ (p : PathConfig). p.id) s.config.paths
+
+-- the bytes hold the script, and this is its report: for each client and turn the least list of updates, with the exact
+-- labelling, and the least cut of its messages
+pub record IsReportFor (bytes : List ℕ) (script : Script Global) (report : Report) : Type 0 where
   pub read : script_of bytes ≡ Ok script
-  pub reported : IsReportOf script report
+  pub reported : IsReportOf (told script) report
 
 -- the writer took the text of that report, where its bytes are known before and after
 pub record WritesReport (bytes : List ℕ) (old new : Option (List ℕ)) : Type 0 where
+  pub script : Script Global
   pub report : Report
-  pub planned : IsReportFor bytes report
-  pub written : Appends old new (text report)
+  pub planned : IsReportFor bytes script report
+  pub written : Appends old new (text (path_ids script) report)
 
 -- the writer took a beginning of it, where its bytes are known
 pub record BeginsReport (bytes : List ℕ) (old new : Option (List ℕ)) : Type 0 where
+  pub script : Script Global
   pub report : Report
-  pub planned : IsReportFor bytes report
-  pub begun : AppendsBeginning old new (text report)
+  pub planned : IsReportFor bytes script report
+  pub begun : AppendsBeginning old new (text (path_ids script) report)

@@ -3,7 +3,6 @@ pub use Rattle.rb_script.specs.Scripts
 pub use Rattle.rb_super.specs.Turns as SuperTurns
 pub use Rattle.rb_super.specs.Judging as SuperJudging
 pub mod Certificates
-pub mod Runs
 pub mod Report
 pub mod Written
 pub mod Headline

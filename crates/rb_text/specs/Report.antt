@@ -1,5 +1,5 @@
 -- The text of a report (own choice): lines that end with one LF, numbers as plain decimals.
-use Rattle.std.specs.Prelude.{ℕ, ◌+◌, Bool, if◌then◌else◌, List, [], ◌∷◌, ◌++◌, codes, Option, Some, None}
+use Rattle.std.specs.Prelude.{ℕ, ◌+◌, Bool, if◌then◌else◌, List, [], ◌∷◌, ◌++◌, codes, Option, Some, None, slice_index_or}
 use Rattle.std.specs.Fmt.{decimal}
 use Rattle.std.specs.List.{flat_map}
 use Rattle.rb_batch.specs.declared.transaction.Transaction.{Transaction}
@@ -8,9 +8,11 @@ use Rattle.rb_plan.specs.declared.cost.Cost.{Cost}
 use Rattle.rb_events.specs.declared.goal.Goal.{Goal}
 use Rattle.rb_events.specs.declared.goal.Goal.TheVariants.{Exactly, AtLeast}
 use Rattle.rb_plan.specs.declared.labelling.Label.{Label}
-use Rattle.rb_super.specs.declared.report.PricedUpdate.{PricedUpdate}
-use Rattle.rb_super.specs.declared.report.RefusedEvent.{RefusedEvent}
-use Rattle.rb_super.specs.Report.{Sending, nothing, too_big, batched, Plan, Outcome, held, idle, planned, ClientReport, TurnReport, Report}
+use Rattle.rb_events.specs.declared.refusal.Refusal.{Refusal}
+use Rattle.rb_scan.specs.declared.message.Kind.{Kind}
+use Rattle.rb_scan.specs.declared.message.Kind.TheVariants.{Receive, Acknowledge, Timeout}
+use Rattle.rb_core.specs.Task.{Message}
+use Rattle.rb_super.specs.Report.{RefusedEvent, PricedUpdate, Sending, nothing, too_big, batched, Plan, Outcome, held, idle, planned, ClientReport, SettlementReport, TurnReport, Report}
 
 -- ---- lines
 
@@ -44,6 +46,16 @@ update_line u =
 abbrev pub total_line : Cost → List ℕ
 total_line total = codes "total " ++ decimal total.fee ++ codes " updates " ++ decimal total.count ++ codes "\n"
 
+abbrev pub kind_name : Kind → List ℕ
+kind_name Receive = codes "recv"
+kind_name Acknowledge = codes "ack"
+kind_name Timeout = codes "timeout"
+
+-- a packet message, its path by its identifier
+abbrev pub message_line : List (List ℕ) → Message → List ℕ
+message_line paths m =
+    kind_name m.packet.kind ++ codes " " ++ slice_index_or paths m.path [] ++ codes " " ++ decimal m.packet.sequence ++ codes "\n"
+
 abbrev pub too_big_line : ℕ → List ℕ
 too_big_line index = codes "toobig " ++ decimal index ++ codes "\n"
 
@@ -54,6 +66,16 @@ abbrev pub transaction_line : ℕ → Transaction → List ℕ
 transaction_line number t =
     codes "tx " ++ decimal number ++ codes " first " ++ decimal t.first ++ codes " count " ++ decimal t.count ++ codes " gas " ++ decimal t.gas
     ++ codes "\n"
+
+abbrev pub settled_line : List ℕ → ℕ → ℕ → List ℕ
+settled_line id batch done = codes "settled " ++ id ++ codes " " ++ decimal batch ++ codes " " ++ decimal done ++ codes "\n"
+
+-- why something was refused, at the end of its line
+abbrev pub refusal_text : Refusal → List ℕ
+refusal_text refusal = decimal (number_of refusal) ++ codes " " ++ name_of refusal ++ codes "\n"
+
+abbrev pub refused_settle_line : ℕ → Refusal → List ℕ
+refused_settle_line number refusal = codes "refused settle " ++ decimal number ++ codes " " ++ refusal_text refusal
 
 -- ---- parts
 
@@ -67,25 +89,37 @@ sending_text nothing = []
 sending_text (too_big index) = too_big_line index
 sending_text (batched b) = batch_line b.number b.proof ++ numbered transaction_line 1 b.transactions
 
-abbrev pub plan_text : Option Plan → List ℕ
-plan_text None = unreachable_line
-plan_text (Some p) = flat_map update_line p.updates ++ total_line p.total ++ sending_text p.sending
+-- with the identifiers of the paths by their places
+abbrev pub plan_text : List (List ℕ) → Option Plan → List ℕ
+plan_text paths None = unreachable_line
+plan_text paths (Some p) =
+    flat_map update_line p.updates ++ total_line p.total ++ flat_map (message_line paths) p.messages ++ sending_text p.sending
 
-abbrev pub outcome_text : List ℕ → Outcome → List ℕ
-outcome_text id (held batch) = held_line id batch
-outcome_text id idle = idle_line id
-outcome_text id (planned p) = goal_line id p.goal ++ flat_map label_line p.labels ++ plan_text p.plan
+abbrev pub outcome_text : List (List ℕ) → List ℕ → Outcome → List ℕ
+outcome_text paths id (held batch) = held_line id batch
+outcome_text paths id idle = idle_line id
+outcome_text paths id (planned p) = goal_line id p.goal ++ flat_map label_line p.labels ++ plan_text paths p.plan
 
-abbrev pub client_text : ClientReport → List ℕ
-client_text c = outcome_text c.id c.outcome
+abbrev pub client_text : List (List ℕ) → ClientReport → List ℕ
+client_text paths c = outcome_text paths c.id c.outcome
+
+-- a settlement by its number in its turn, from 0
+abbrev pub settlement_text_by : ℕ → SettlementReport → Option Refusal → List ℕ
+settlement_text_by number x None = settled_line x.id x.batch x.done
+settlement_text_by number x (Some refusal) = refused_settle_line number refusal
+
+abbrev pub settlement_text : ℕ → SettlementReport → List ℕ
+settlement_text number x = settlement_text_by number x x.refusal
 
 -- a turn and what became of its window
 abbrev pub head_text : ℕ → Bool → List ℕ
 head_text number window_back = codes "turn " ++ decimal number ++ codes "\n" ++ (if window_back then window_line else [])
 
-abbrev pub turn_text : ℕ → TurnReport → List ℕ
-turn_text number t = head_text number t.window_back ++ flat_map refused_line t.refused ++ flat_map client_text t.clients
+abbrev pub turn_text : List (List ℕ) → ℕ → TurnReport → List ℕ
+turn_text paths number t =
+    head_text number t.window_back ++ flat_map refused_line t.refused ++ flat_map (client_text paths) t.clients
+    ++ numbered settlement_text 0 t.settlements
 
 -- the text of a report, its turns numbered from 1
-abbrev pub text : Report → List ℕ
-text turns = codes "ibcplan 1\n" ++ numbered turn_text 1 turns ++ codes "end\n"
+abbrev pub text : List (List ℕ) → Report → List ℕ
+text paths turns = codes "ibcplan 1\n" ++ numbered (turn_text paths) 1 turns ++ codes "end\n"

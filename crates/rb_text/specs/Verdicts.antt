@@ -17,11 +17,12 @@ use Rattle.rb_plan.specs.Labelling.{label_of}
 use Rattle.rb_events.specs.declared.config.ClientConfig.{ClientConfig}
 use Rattle.rb_super.specs.Judging.{IsVerdictOn, IsRightIn, IsReported}
 use Rattle.rb_super.specs.Report.{Report}
+use Rattle.rb_super.specs.Told.{told}
 use Rattle.rb_events.specs.Script.{Script, script_view}
 use Rattle.rb_text.specs.declared.case.Case.{Case as CodeCase}
 use Rattle.rb_text.specs.Certificates.{Certificate, certificate_of, certificate_view}
-use Rattle.rb_text.specs.Runs.{script_to_run}
 use Rattle.rb_script.specs.Named.{known}
+use Rattle.rb_script.specs.Scripts.{script_of}
 
 -- ---- the line of a verdict
 
@@ -64,17 +65,17 @@ case_in s c = do
 
 unfoldable pub case_of : List ℕ → List ℕ → Result Case Fault
 case_of script certificate = do
-  s ← script_to_run script
+  s ← script_of script
   c ← certificate_of certificate
   case_in s c
 
 -- the verdict on the certificate's answer, for its client in its turn; none where the client is held or idle there
 abbrev pub IsVerdictOf : Case → Option Verdict2 → Type 0
-IsVerdictOf c verdict = IsVerdictOn c.script c.turn c.client (label_of c.certificate.labels) c.certificate.claim verdict
+IsVerdictOf c verdict = IsVerdictOn (told c.script) c.turn c.client (label_of c.certificate.labels) c.certificate.claim verdict
 
 -- the labelling is sound, and the answer right
 abbrev pub IsRightCase : Case → Type 0
-IsRightCase c = IsRightIn c.script c.turn c.client (label_of c.certificate.labels) c.certificate.claim
+IsRightCase c = IsRightIn (told c.script) c.turn c.client (label_of c.certificate.labels) c.certificate.claim
 
 -- a report has this answer for the client in the turn
 abbrev pub IsReportedCase : Report → Case → Type 0

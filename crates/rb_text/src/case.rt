@@ -3,18 +3,20 @@ ghost use Rattle.std.specs.Prelude.{◌≡◌, ◌<◌, Ok, Some, None, length, 
 ghost use Rattle.rb_fields.specs.declared.fault.Fault.{Fault as CodeFault};
 ghost use Rattle.rb_fields.specs.Faults.{Gives, fault_view};
 ghost use Rattle.rb_super.specs.Report.{Report};
-ghost use Rattle.rb_events.specs.Script.{IsScript, IsOfUpdates, script_view};
+ghost use Rattle.rb_events.specs.Script.{IsScript, script_view};
+ghost use Rattle.rb_super.specs.Told.{told};
 ghost use Rattle.rb_super.specs.Turns.{IsReportOf};
 ghost use Rattle.rb_text.specs.Certificates.{certificate_view};
 ghost use Rattle.rb_text.specs.Verdicts.{case_view, case_in, case_of, IsVerdictOf, IsRightCase, IsReportedCase, no_goal};
 
 use crate::certificate::{Certificate, read_certificate};
-use crate::runs::read_script_to_run;
 use rb_cert::Verdict2;
+use rb_events::Script;
 use rb_fields::{FaultName, RunError, fault_at};
-use rb_script::place_of;
-use rb_super::{Script, judge};
+use rb_script::{place_of, read_script};
+use rb_super::judge;
 use std::alloc::Global;
+use std::thread::Threads;
 
 /// A script, a certificate, and the places of the certificate's turn and client in the script.
 #[derive(Debug, Drop)]
@@ -57,37 +59,39 @@ fn case_in(alloc: Global, script: Script, certificate: Certificate) -> Result<Ca
 pub(crate) fn read_case(alloc: Global, script: &[u8], certificate: &[u8]) -> Result<Case, RunError>
     ensures read { Gives case_view result (case_of script.now certificate.now) }
     ensures script { IfOk result (λ c. IsScript (script_view c.script)) }
-    ensures updates { IfOk result (λ c. IsOfUpdates (script_view c.script)) }
     ensures turn { IfOk result (λ c. c.turn < length c.script.turns.items) }
     ensures client { IfOk result (λ c. c.client < length c.script.config.clients.items) }
 {
-    let script = read_script_to_run(alloc, script)?;
+    let script = read_script(alloc, script)?;
     let certificate = read_certificate(alloc, certificate)?;
     case_in(alloc, script, certificate)
 }
 
 /// The verdict on the certificate's answer; a fault where its client is held or idle in its turn.
-pub(crate) fn judge_case(alloc: Global, case: &Case) -> Result<Verdict2, RunError>
-    requires script { IsScript (script_view case.now.script) }
-    requires updates { IsOfUpdates (script_view case.now.script) }
-    requires turn { case.now.turn < length case.now.script.turns.items }
-    requires client { case.now.client < length case.now.script.config.clients.items }
-    ensures judged { IfOk result (λ verdict. IsVerdictOf (case_view case.now) (Some verdict)) }
-    ensures right { result ≡ Ok Verdict2.Yes → IsRightCase (case_view case.now) }
-    ensures accepts { (report : Report) → IsReportOf (script_view case.now.script) report
-        → IsReportedCase report (case_view case.now)
+pub(crate) fn judge_case<R: Threads + Sync>(
+    rt: &R,
+    alloc: Global,
+    case: Case,
+) -> Result<Verdict2, RunError>
+    requires script { IsScript (script_view case.script) }
+    requires turn { case.turn < length case.script.turns.items }
+    requires client { case.client < length case.script.config.clients.items }
+    ensures judged { IfOk result (λ verdict. IsVerdictOf (case_view case) (Some verdict)) }
+    ensures right { result ≡ Ok Verdict2.Yes → IsRightCase (case_view case) }
+    ensures accepts { (report : Report) → IsReportOf (told (script_view case.script)) report
+        → IsReportedCase report (case_view case)
         → IfOk result (λ verdict. verdict ≡ Verdict2.Yes) }
     ensures fault { (f : CodeFault) → IsErrOf result (RunError.Fault f) → fault_view f ≡ no_goal }
-    ensures no_goal { (f : CodeFault) → IsErrOf result (RunError.Fault f) → IsVerdictOf (case_view case.now) None }
+    ensures no_goal { (f : CodeFault) → IsErrOf result (RunError.Fault f) → IsVerdictOf (case_view case) None }
     ensures works { ¬ IsErrOf result RunError.Device }
 {
-    match judge(
-        alloc,
-        &case.script,
-        case.turn,
-        case.client,
-        &case.certificate.answer,
-    )? {
+    let Case {
+        script,
+        certificate,
+        turn,
+        client,
+    } = case;
+    match judge(rt, alloc, script, turn, client, &certificate.answer)? {
         Some(verdict) => Ok(verdict),
         None => Err(fault_at(alloc, "client", FaultName::NoGoal)),
     }

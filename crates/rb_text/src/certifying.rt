@@ -5,6 +5,7 @@ ghost use Rattle.rb_base.specs.Sink.{AppendsBeginning};
 ghost use Rattle.rb_fields.specs.declared.fault.Fault.{Fault as CodeFault};
 ghost use Rattle.rb_fields.specs.Faults.{fault_view};
 ghost use Rattle.rb_super.specs.Report.{Report};
+ghost use Rattle.rb_super.specs.Told.{told};
 ghost use Rattle.rb_super.specs.Turns.{IsReportOf};
 ghost use Rattle.rb_text.specs.Verdicts.{Case, case_of, verdict_line, IsReportedCase, IsFaultFor, WritesVerdict, BeginsVerdict, IsCertified};
 ghost use Rattle.rb_text.specs.Written.{IsWriteError};
@@ -16,6 +17,7 @@ use rb_base::Sink;
 use rb_cert::Verdict2;
 use rb_fields::RunError;
 use std::alloc::Global;
+use std::thread::Threads;
 
 /// Writes the line of a verdict.
 #[tactic(auto, using(crate::proofs::Beginnings::beginnings))]
@@ -41,7 +43,8 @@ fn put_verdict<W: Sink>(alloc: Global, verdict: &Verdict2, writer: &mut W) -> Re
 /// have its turn or its client, then that the client is held or idle in that turn; nothing is then
 /// written. `Device` is answered where the writer fails, `NoMemory` where a growth is refused, and a
 /// beginning of the line, or nothing, was then taken. The writer must not have failed before.
-pub fn certify_over<W: Sink>(
+pub fn certify_over<R: Threads + Sync, W: Sink>(
+    rt: &R,
     alloc: Global,
     script: &[u8],
     certificate: &[u8],
@@ -50,7 +53,7 @@ pub fn certify_over<W: Sink>(
     requires { W.is_broken writer.old ≡ false }
     ensures verdict { IfOk result (λ yes. WritesVerdict script.now certificate.now yes (W.taken writer.old) (W.taken writer.new)) }
     ensures right { result ≡ Ok true → IsCertified script.now certificate.now }
-    ensures accepts { (case : Case) (report : Report) → case_of script.now certificate.now ≡ Ok case → IsReportOf case.script report
+    ensures accepts { (case : Case) (report : Report) → case_of script.now certificate.now ≡ Ok case → IsReportOf (told case.script) report
         → IsReportedCase report case → IfOk result (λ yes. yes ≡ true) }
     ensures fault { (f : CodeFault) → IsErrOf result (RunError.Fault f) → IsFaultFor script.now certificate.now (fault_view f) }
     ensures nothing_written { (f : CodeFault) → IsErrOf result (RunError.Fault f) → writer.new ≡ writer.old }
@@ -58,7 +61,7 @@ pub fn certify_over<W: Sink>(
     ensures begun { OnErr result ((writer.new ≡ writer.old) ⊎ BeginsVerdict script.now certificate.now (W.taken writer.old) (W.taken writer.new)) }
 {
     let case = read_case(alloc, script, certificate)?;
-    let verdict = judge_case(alloc, &case)?;
+    let verdict = judge_case(rt, alloc, case)?;
     put_verdict(alloc, &verdict, writer)?;
     Ok(is_yes(&verdict))
 }

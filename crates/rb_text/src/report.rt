@@ -1,21 +1,25 @@
 //! The text of a turn's report.
-ghost use Rattle.std.specs.Prelude.{◌≡◌, ◌++◌, map, OnOk, string_bytes};
+ghost use Rattle.std.specs.Prelude.{◌≡◌, ◌++◌, [], map, slice_index_or, OnOk, string_bytes};
 ghost use Rattle.std.specs.List.{flat_map};
 ghost use Rattle.std.specs.Option.{option_map};
-ghost use Rattle.rb_super.specs.Report.{sending_view, plan_view, planned_view, client_report_view, turn_report_view};
+ghost use Rattle.rb_super.specs.Views.{refused_view, priced_view, sending_view, plan_view, planned_view, client_report_view, settlement_view, turn_report_view};
 ghost use Rattle.rb_super.specs.Report.{planned as outcome_planned};
-ghost use Rattle.rb_text.specs.Report.{refused_line, goal_line, label_line, update_line, total_line, batch_line, transaction_line, numbered, sending_text, plan_text, outcome_text, client_text, head_text, turn_text};
+ghost use Rattle.rb_text.specs.Report.{refused_line, goal_line, label_line, update_line, total_line, kind_name, message_line, batch_line, transaction_line, numbered, sending_text, plan_text, outcome_text, client_text, settled_line, refusal_text, refused_settle_line, settlement_text, head_text, turn_text};
 
-use rb_base::Height;
+use rb_base::{Height, PathId};
 use rb_batch::Transaction;
+use rb_core::Message;
+use rb_events::Refusal;
 use rb_plan::{Cost, Goal, Label};
+use rb_scan::Kind;
 use rb_super::{
-    ClientReport, Outcome, Plan, Planned, PricedUpdate, RefusedEvent, Sending, TurnReport,
+    ClientReport, Outcome, Plan, Planned, PricedUpdate, RefusedEvent, Sending, SettlementReport,
+    TurnReport,
 };
 use std::alloc::AllocError;
 
 fn push_refused(text: &mut String, refused: &RefusedEvent) -> Result<(), AllocError>
-    ensures { OnOk result (string_bytes text.new ≡ string_bytes text.old ++ refused_line refused.now) }
+    ensures { OnOk result (string_bytes text.new ≡ string_bytes text.old ++ refused_line (refused_view refused.now)) }
 {
     let event = refused.event;
     let number = refused.refusal.number();
@@ -24,7 +28,7 @@ fn push_refused(text: &mut String, refused: &RefusedEvent) -> Result<(), AllocEr
 }
 
 fn push_refusals(text: &mut String, refusals: &[RefusedEvent]) -> Result<(), AllocError>
-    ensures { OnOk result (string_bytes text.new ≡ string_bytes text.old ++ flat_map refused_line refusals.now) }
+    ensures { OnOk result (string_bytes text.new ≡ string_bytes text.old ++ flat_map refused_line (map refused_view refusals.now)) }
 {
     for refused in refusals {
         push_refused(text, refused)?;
@@ -59,7 +63,7 @@ fn push_labels(text: &mut String, labels: &[Label]) -> Result<(), AllocError>
 }
 
 fn push_update(text: &mut String, priced: &PricedUpdate) -> Result<(), AllocError>
-    ensures { OnOk result (string_bytes text.new ≡ string_bytes text.old ++ update_line priced.now) }
+    ensures { OnOk result (string_bytes text.new ≡ string_bytes text.old ++ update_line (priced_view priced.now)) }
 {
     let height = priced.update.height();
     let trusted = priced.update.trusted();
@@ -68,7 +72,7 @@ fn push_update(text: &mut String, priced: &PricedUpdate) -> Result<(), AllocErro
 }
 
 fn push_updates(text: &mut String, updates: &[PricedUpdate]) -> Result<(), AllocError>
-    ensures { OnOk result (string_bytes text.new ≡ string_bytes text.old ++ flat_map update_line updates.now) }
+    ensures { OnOk result (string_bytes text.new ≡ string_bytes text.old ++ flat_map update_line (map priced_view updates.now)) }
 {
     for update in updates {
         push_update(text, update)?;
@@ -124,45 +128,152 @@ fn push_sending(text: &mut String, sending: &Sending) -> Result<(), AllocError>
     }
 }
 
-fn push_plan(text: &mut String, plan: &Option<Plan>) -> Result<(), AllocError>
-    ensures { OnOk result (string_bytes text.new ≡ string_bytes text.old ++ plan_text (option_map plan_view plan.now)) }
+/// The identifier of the path at a place.
+fn id_of(paths: &[PathId], path: usize) -> &str
+    ensures { result.now ≡ slice_index_or paths.now path [] }
+{
+    match paths.get(path) {
+        Some(id) => id.as_str(),
+        None => "",
+    }
+}
+
+/// What a packet message is called.
+fn kind_name(kind: Kind) -> &'static str
+    ensures { result.now ≡ kind_name kind }
+{
+    match kind {
+        Kind::Receive => "recv",
+        Kind::Acknowledge => "ack",
+        Kind::Timeout => "timeout",
+    }
+}
+
+fn push_message(text: &mut String, paths: &[PathId], message: &Message) -> Result<(), AllocError>
+    ensures { OnOk result (string_bytes text.new ≡ string_bytes text.old ++ message_line paths.now message.now) }
+{
+    let id = id_of(paths, message.path());
+    let packet = message.packet();
+    let kind = kind_name(packet.kind);
+    let sequence = packet.sequence;
+    writeln!(text, "{kind} {id} {sequence}")
+}
+
+fn push_messages(
+    text: &mut String,
+    paths: &[PathId],
+    messages: &[Message],
+) -> Result<(), AllocError>
+    ensures { OnOk result (string_bytes text.new ≡ string_bytes text.old ++ flat_map (message_line paths.now) messages.now) }
+{
+    for message in messages {
+        push_message(text, paths, message)?;
+    }
+    Ok(())
+}
+
+fn push_plan(text: &mut String, paths: &[PathId], plan: &Option<Plan>) -> Result<(), AllocError>
+    ensures { OnOk result (string_bytes text.new ≡ string_bytes text.old ++ plan_text paths.now (option_map plan_view plan.now)) }
 {
     match plan {
         Some(plan) => {
             push_updates(text, plan.updates.as_slice())?;
             push_total(text, plan.total)?;
+            push_messages(text, paths, plan.messages.as_slice())?;
             push_sending(text, &plan.sending)
         }
         None => text.push_str("unreachable\n"),
     }
 }
 
-fn push_planned(text: &mut String, id: &str, planned: &Planned) -> Result<(), AllocError>
+fn push_planned(
+    text: &mut String,
+    paths: &[PathId],
+    id: &str,
+    planned: &Planned,
+) -> Result<(), AllocError>
     ensures { OnOk result (string_bytes text.new
-        ≡ string_bytes text.old ++ outcome_text id.now (outcome_planned (planned_view planned.now))) }
+        ≡ string_bytes text.old ++ outcome_text paths.now id.now (outcome_planned (planned_view planned.now))) }
 {
     push_goal(text, id, planned.goal)?;
     push_labels(text, planned.labelling.labels())?;
-    push_plan(text, &planned.plan)
+    push_plan(text, paths, &planned.plan)
 }
 
-fn push_client(text: &mut String, client: &ClientReport) -> Result<(), AllocError>
-    ensures { OnOk result (string_bytes text.new ≡ string_bytes text.old ++ client_text (client_report_view client.now)) }
+fn push_client(text: &mut String, paths: &[PathId], client: &ClientReport) -> Result<(), AllocError>
+    ensures { OnOk result (string_bytes text.new ≡ string_bytes text.old ++ client_text paths.now (client_report_view client.now)) }
 {
     let id = client.id.as_str();
     match &client.outcome {
         Outcome::Held(batch) => writeln!(text, "client {id} held {batch}"),
         Outcome::Idle => writeln!(text, "client {id} idle"),
-        Outcome::Planned(planned) => push_planned(text, id, planned),
+        Outcome::Planned(planned) => push_planned(text, paths, id, planned),
     }
 }
 
-fn push_clients(text: &mut String, clients: &[ClientReport]) -> Result<(), AllocError>
+fn push_clients(
+    text: &mut String,
+    paths: &[PathId],
+    clients: &[ClientReport],
+) -> Result<(), AllocError>
     ensures { OnOk result (string_bytes text.new
-        ≡ string_bytes text.old ++ flat_map client_text (map client_report_view clients.now)) }
+        ≡ string_bytes text.old ++ flat_map (client_text paths.now) (map client_report_view clients.now)) }
 {
     for client in clients {
-        push_client(text, client)?;
+        push_client(text, paths, client)?;
+    }
+    Ok(())
+}
+
+fn push_settled(text: &mut String, settlement: &SettlementReport) -> Result<(), AllocError>
+    ensures { OnOk result (string_bytes text.new
+        ≡ string_bytes text.old ++ settled_line settlement.now.id settlement.now.batch settlement.now.done) }
+{
+    let id = settlement.id.as_str();
+    let batch = settlement.batch;
+    let done = settlement.done;
+    writeln!(text, "settled {id} {batch} {done}")
+}
+
+/// Adds why something was refused, and ends the line.
+fn push_refusal(text: &mut String, refusal: &Refusal) -> Result<(), AllocError>
+    ensures { OnOk result (string_bytes text.new ≡ string_bytes text.old ++ refusal_text refusal.now) }
+{
+    let number = refusal.number();
+    let name = refusal.name();
+    writeln!(text, "{number} {name}")
+}
+
+fn push_refused_settlement(
+    text: &mut String,
+    settlement: usize,
+    refusal: &Refusal,
+) -> Result<(), AllocError>
+    ensures { OnOk result (string_bytes text.new ≡ string_bytes text.old ++ refused_settle_line settlement refusal.now) }
+{
+    write!(text, "refused settle {settlement} ")?;
+    push_refusal(text, refusal)
+}
+
+fn push_settlement(
+    text: &mut String,
+    number: usize,
+    settlement: &SettlementReport,
+) -> Result<(), AllocError>
+    ensures { OnOk result (string_bytes text.new ≡ string_bytes text.old ++ settlement_text number (settlement_view settlement.now)) }
+{
+    match &settlement.refusal {
+        None => push_settled(text, settlement),
+        Some(refusal) => push_refused_settlement(text, number, refusal),
+    }
+}
+
+fn push_settlements(text: &mut String, settlements: &[SettlementReport]) -> Result<(), AllocError>
+    ensures { OnOk result (string_bytes text.new
+        ≡ string_bytes text.old ++ numbered settlement_text 0 (map settlement_view settlements.now)) }
+{
+    for (number, settlement) in settlements.iter().enumerate() {
+        push_settlement(text, number, settlement)?;
     }
     Ok(())
 }
@@ -177,11 +288,17 @@ fn push_head(text: &mut String, number: u64, window_back: bool) -> Result<(), Al
     Ok(())
 }
 
-/// Adds the lines of a turn, by its number from 1.
-pub(crate) fn push_turn(text: &mut String, number: u64, turn: &TurnReport) -> Result<(), AllocError>
-    ensures { OnOk result (string_bytes text.new ≡ string_bytes text.old ++ turn_text number (turn_report_view turn.now)) }
+/// Adds the lines of a turn, by its number from 1, with the identifiers of the paths by their places.
+pub(crate) fn push_turn(
+    text: &mut String,
+    paths: &[PathId],
+    number: u64,
+    turn: &TurnReport,
+) -> Result<(), AllocError>
+    ensures { OnOk result (string_bytes text.new ≡ string_bytes text.old ++ turn_text paths.now number (turn_report_view turn.now)) }
 {
     push_head(text, number, turn.window_back)?;
     push_refusals(text, turn.refused.as_slice())?;
-    push_clients(text, turn.clients.as_slice())
+    push_clients(text, paths, turn.clients.as_slice())?;
+    push_settlements(text, turn.settlements.as_slice())
 }

@@ -2,12 +2,12 @@
 ghost use Rattle.std.specs.Prelude.{◌≡◌, false, map, OnOk, OnErr, IfErr};
 ghost use Rattle.std.specs.Io.KnownBytes.{Appends};
 ghost use Rattle.rb_base.specs.Sink.{AppendsBeginning};
-ghost use Rattle.rb_super.specs.Report.{turn_report_view, report_view};
+ghost use Rattle.rb_super.specs.Views.{turn_report_view, report_view};
 ghost use Rattle.rb_text.specs.Report.{text, turn_text, numbered};
 ghost use Rattle.rb_text.specs.Written.{IsWriteError};
 
 use crate::report::push_turn;
-use rb_base::{Device, Sink, write_whole};
+use rb_base::{Device, PathId, Sink, write_whole};
 use rb_fields::RunError;
 use rb_super::{Report, TurnReport};
 use std::alloc::Global;
@@ -26,38 +26,45 @@ pub(crate) fn put<W: Sink>(writer: &mut W, bytes: &[u8]) -> Result<(), RunError>
     }
 }
 
-/// Writes the lines of a turn, by its number from 1.
+/// Writes the lines of a turn, by its number from 1, with the identifiers of the paths by their
+/// places.
 #[tactic(auto, using(crate::proofs::Beginnings::beginnings))]
 fn put_turn<W: Sink>(
     alloc: Global,
+    paths: &[PathId],
     number: u64,
     turn: &TurnReport,
     writer: &mut W,
 ) -> Result<(), RunError>
     requires { W.is_broken writer.old ≡ false }
-    ensures written { OnOk result (Appends (W.taken writer.old) (W.taken writer.new) (turn_text number (turn_report_view turn.now))) }
+    ensures written { OnOk result (Appends (W.taken writer.old) (W.taken writer.new) (turn_text paths.now number (turn_report_view turn.now))) }
     ensures works { OnOk result (W.is_broken writer.new ≡ false) }
-    ensures begun { OnErr result (AppendsBeginning (W.taken writer.old) (W.taken writer.new) (turn_text number (turn_report_view turn.now))) }
+    ensures begun { OnErr result (AppendsBeginning (W.taken writer.old) (W.taken writer.new) (turn_text paths.now number (turn_report_view turn.now))) }
     ensures failed { IfErr result (λ e. IsWriteError e (W.is_broken writer.new)) }
 {
     let mut text = String::new(alloc);
-    push_turn(&mut text, number, turn)?;
+    push_turn(&mut text, paths, number, turn)?;
     put(writer, text.as_bytes())
 }
 
 /// Writes the lines of the turns, which are numbered from 1.
 #[tactic(auto, using(crate::proofs::Beginnings::beginnings))]
-fn put_turns<W: Sink>(alloc: Global, turns: &[TurnReport], writer: &mut W) -> Result<(), RunError>
+fn put_turns<W: Sink>(
+    alloc: Global,
+    paths: &[PathId],
+    turns: &[TurnReport],
+    writer: &mut W,
+) -> Result<(), RunError>
     requires { W.is_broken writer.old ≡ false }
-    ensures written { OnOk result (Appends (W.taken writer.old) (W.taken writer.new) (numbered turn_text 1 (map turn_report_view turns.now))) }
+    ensures written { OnOk result (Appends (W.taken writer.old) (W.taken writer.new) (numbered (turn_text paths.now) 1 (map turn_report_view turns.now))) }
     ensures works { OnOk result (W.is_broken writer.new ≡ false) }
-    ensures begun { OnErr result (AppendsBeginning (W.taken writer.old) (W.taken writer.new) (numbered turn_text 1 (map turn_report_view turns.now))) }
+    ensures begun { OnErr result (AppendsBeginning (W.taken writer.old) (W.taken writer.new) (numbered (turn_text paths.now) 1 (map turn_report_view turns.now))) }
     ensures failed { IfErr result (λ e. IsWriteError e (W.is_broken writer.new)) }
 {
     let mut number = 0;
     for turn in turns {
         number += 1;
-        put_turn(alloc, number, turn, writer)?;
+        put_turn(alloc, paths, number, turn, writer)?;
     }
     Ok(())
 }
@@ -68,12 +75,14 @@ fn put_turns<W: Sink>(alloc: Global, turns: &[TurnReport], writer: &mut W) -> Re
 #[tactic(auto, using(crate::proofs::Beginnings::beginnings))]
 pub fn write_report<W: Sink>(alloc: Global, report: &Report, writer: &mut W) -> Result<(), RunError>
     requires { W.is_broken writer.old ≡ false }
-    ensures written { OnOk result (Appends (W.taken writer.old) (W.taken writer.new) (text (report_view report.now))) }
+    ensures written { OnOk result (Appends (W.taken writer.old) (W.taken writer.new) (text report.now.paths.items (report_view report.now))) }
     ensures works { OnOk result (W.is_broken writer.new ≡ false) }
-    ensures begun { OnErr result (AppendsBeginning (W.taken writer.old) (W.taken writer.new) (text (report_view report.now))) }
+    ensures begun { OnErr result (AppendsBeginning (W.taken writer.old) (W.taken writer.new) (text report.now.paths.items (report_view report.now))) }
     ensures failed { IfErr result (λ e. IsWriteError e (W.is_broken writer.new)) }
 {
+    let paths = report.paths.as_slice();
+    let turns = report.turns.as_slice();
     put(writer, b"ibcplan 1\n")?;
-    put_turns(alloc, report.turns.as_slice(), writer)?;
+    put_turns(alloc, paths, turns, writer)?;
     put(writer, b"end\n")
 }
