@@ -1,11 +1,12 @@
 use crate::make::{height, make_heights, make_set_with, options, second};
 use rb_base::{FeeTable, Height, Window};
 use rb_book::{ChainBook, Header, Record, Vote};
-use rb_cert::{Reason, Verdict2, certify};
+use rb_cert::{Reason, Verdict2, certify, certify_par};
 use rb_plan::{Answer, Cost, Goal, Label, Labelling, Update, are_labels};
 use rb_step::{ClientView, are_known};
 use std::alloc::Global;
 use std::test::Fail;
+use std::thread::Threads;
 
 /// A block at a height: the set that signed it and signs the next, as key bytes and powers, and
 /// how many validators of power 1 it has beside these. Height h has the time 10 h seconds.
@@ -280,27 +281,31 @@ fn goal_of(wanted: Wanted) -> Result<Goal, Fail> {
     })
 }
 
-/// What the case's certificate gets over this book.
-fn judge_over(
+/// What the case's certificate gets over this book, by one thread and by several.
+fn judge_over<R: Threads + Sync>(
+    rt: &R,
     alloc: Global,
     book: &ChainBook,
     stored: &[Height],
     case: &Case,
-) -> Result<String, Fail> {
+) -> Result<[String; 2], Fail> {
     if !are_known(stored, book) {
         return Err(Fail::from("stored heights"));
     }
     let fees = FeeTable::new(100, 1, 1)?;
     let view = ClientView::new(options()?, fees, stored, window_until(case.until)?, book);
     let answer = make_answer(alloc, case)?;
-    to_text(alloc, certify(&view, goal_of(case.wanted)?, &answer))
+    let goal = goal_of(case.wanted)?;
+    let alone = to_text(alloc, certify(&view, goal, &answer))?;
+    let together = to_text(alloc, certify_par(rt, &view, goal, &answer))?;
+    Ok([alone, together])
 }
 
-/// What the case's certificate gets.
-fn judge(alloc: Global, case: &Case) -> Result<String, Fail> {
+/// What the case's certificate gets, by one thread and by several.
+fn judge<R: Threads + Sync>(rt: &R, alloc: Global, case: &Case) -> Result<[String; 2], Fail> {
     let book = make_book(alloc, case.chain)?;
     let stored = make_heights(alloc, case.stored)?;
-    judge_over(alloc, &book, stored.as_slice(), case)
+    judge_over(rt, alloc, &book, stored.as_slice(), case)
 }
 
 /// Certificates and their verdicts.
@@ -520,8 +525,14 @@ const CASES: &[Case] = &[
 #[test]
 fn judges_certificates(rt: HostRuntime) -> Result<(), Fail> {
     for case in CASES {
-        let verdict = judge(rt.alloc(), case)?;
-        assert_eq!(rt; verdict.as_str(), case.verdict, "{}", case.name);
+        let [alone, together] = judge(&rt, rt.alloc(), case)?;
+        assert_eq!(rt; alone.as_str(), case.verdict, "{}", case.name);
+        assert_eq!(rt;
+            together.as_str(),
+            case.verdict,
+            "{}, by threads",
+            case.name
+        );
     }
     Ok(())
 }

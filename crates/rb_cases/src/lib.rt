@@ -17,8 +17,6 @@ mod graph;
 #[cfg(test)]
 mod lanes;
 #[cfg(test)]
-mod machine;
-#[cfg(test)]
 mod make;
 #[cfg(test)]
 mod merkle;

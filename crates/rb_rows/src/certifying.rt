@@ -5,6 +5,7 @@ use rb_text::certify_over;
 use std::alloc::Global;
 use std::process::Abort;
 use std::test::Fail;
+use std::thread::Threads;
 
 const PLAN: &str = "version = 1
 turn = 1
@@ -28,6 +29,12 @@ const LABELS: &str = "labels = [[1, 0, 0], [3, 112, 1], [5, 304, 1], [7, 224, 2]
 /// The exact labels where each height is one step from height 1.
 const TEN_LABELS: &str = "labels = [[1, 0, 0], [2, 111, 1], [3, 111, 1], [4, 111, 1], [5, 111, 1],
   [6, 111, 1], [7, 111, 1], [8, 111, 1], [9, 111, 1], [10, 111, 1]]
+";
+
+/// The same where height 10 is stored as well.
+const TEN_IS_STORED: &str =
+    "labels = [[1, 0, 0], [2, 111, 1], [3, 111, 1], [4, 111, 1], [5, 111, 1],
+  [6, 111, 1], [7, 111, 1], [8, 111, 1], [9, 111, 1], [10, 0, 0]]
 ";
 
 const THREE_UPDATES: &str = "updates = [[3, 1]]\n";
@@ -59,6 +66,22 @@ const RIGHT: &[Row] = &[
         Base::OneStep,
         &[("[[turn]]", EARLY_TURN)],
         &[SECOND_TURN, "updates = [[10, 1]]\n", TEN_LABELS],
+        "yes\ntrue",
+    ),
+    // A packet that is received wants height 10.
+    (
+        "packets",
+        Base::Packets,
+        &[],
+        &[PLAN, "updates = [[10, 1]]\n", TEN_LABELS],
+        "yes\ntrue",
+    ),
+    // What was settled leaves height 10 stored, and the packet is sent again.
+    (
+        "packets_sent_again",
+        Base::Packets,
+        &[("limits = [100000, 100, 0]", "limits = [115, 100, 0]")],
+        &[SECOND_TURN, TEN_IS_STORED],
         "yes\ntrue",
     ),
     // The stored height meets the goal.
@@ -432,16 +455,13 @@ const FAULTS: &[Row] = &[
         &[SECOND_TURN, "updates = [[10, 1]]\n", TEN_LABELS],
         "fault 1028 NoGoal at client",
     ),
-    // No settlement is the limit of this stage; the script's fault comes first.
+    // The batch that wasn't settled is open in that turn.
     (
-        "settled",
-        Base::OneStep,
-        &[(
-            "[[turn]]",
-            "[[turn]]\nsettle = [{ client = 'c0', batch = 1, done = 1 }]",
-        )],
-        &["version = 9"],
-        "fault 1017 TooManyObjects at turn[0].settle",
+        "held_after_a_settlement",
+        Base::Packets,
+        &[("done = 1", "done = 3")],
+        &[SECOND_TURN, "updates = []\n", TEN_LABELS],
+        "fault 1028 NoGoal at client",
     ),
     // Labels are needed.
     (
@@ -579,9 +599,15 @@ const FAULTS: &[Row] = &[
 ];
 
 /// What is written, and after it the answer or the error.
-fn answer_to(alloc: Global, script: &str, certificate: &str) -> Result<String, Fail> {
+fn answer_to<R: Threads + Sync>(
+    rt: &R,
+    alloc: Global,
+    script: &str,
+    certificate: &str,
+) -> Result<String, Fail> {
     let mut writer = Counted::new(Vec::new(alloc));
     let certified = certify_over(
+        rt,
         alloc,
         script.as_bytes(),
         certificate.as_bytes(),
@@ -595,11 +621,11 @@ fn answer_to(alloc: Global, script: &str, certificate: &str) -> Result<String, F
     Ok(answer)
 }
 
-fn check_rows(rt: &impl Abort, alloc: Global, rows: &[Row]) -> Result<(), Fail> {
+fn check_rows<R: Threads + Sync + Abort>(rt: &R, alloc: Global, rows: &[Row]) -> Result<(), Fail> {
     for (name, base, edits, certificate, expected) in rows {
         let script = edited(alloc, *base, edits)?;
         let certificate = joined(alloc, certificate)?;
-        let answer = answer_to(alloc, script.as_str(), certificate.as_str())?;
+        let answer = answer_to(rt, alloc, script.as_str(), certificate.as_str())?;
         assert_eq!(rt; answer.as_str(), *expected, "{name}");
     }
     Ok(())

@@ -6,45 +6,11 @@ use std::test::Fail;
 /// Scripts, as edits of one that is made of pieces, and their first fault: its number, its name and the path of what is
 /// wrong.
 const ROWS: &[(&str, Base, &[(&str, &str)], &str)] = &[
-    // No path is the limit of this stage.
-    (
-        "a_path",
-        Base::OneStep,
-        &[("[[turn]]", A_PATH)],
-        "1017 TooManyObjects at path",
-    ),
-    // Nothing is settled in this stage.
-    (
-        "settle",
-        Base::OneStep,
-        &[(
-            "until = '1970-01-01T00:03:20Z'",
-            "until = '1970-01-01T00:03:20Z'\nsettle = [{ client = 'c0', batch = 1, done = 1 }]",
-        )],
-        "1017 TooManyObjects at turn[0].settle",
-    ),
-    // A path comes before a settlement.
-    (
-        "a_path, and a settlement in the second turn",
-        Base::OneStep,
-        &[("[[turn]]", A_PATH), ("[[turn]]", SETTLED_LATER)],
-        "1017 TooManyObjects at path",
-    ),
-    // The second turn settles something.
-    (
-        "settled later",
-        Base::OneStep,
-        &[("[[turn]]", SETTLED_LATER)],
-        "1017 TooManyObjects at turn[1].settle",
-    ),
-    // All other faults come before those.
+    // A set that no event gave, beside a path.
     (
         "a_path, and an unknown set",
-        Base::OneStep,
-        &[
-            ("[[turn]]", A_PATH),
-            ("next = 'A', votes", "next = 'B', votes"),
-        ],
+        Base::Packets,
+        &[("next = 'A', votes", "next = 'B', votes")],
         "1019 UnknownSetName at turn[0].event[2].next",
     ),
     // A path leads from a chain.
@@ -403,37 +369,6 @@ const LATER_ROWS: &[(&str, Base, &[(&str, &str)], &str)] = &[
     ),
 ];
 
-/// A path, and its client on the source.
-const A_PATH: &str = "[[client]]
-id = 'c1'
-host = 'alpha'
-of = 'beta'
-period_ns = 1000000000000
-drift_ns = 10000000000
-fee = [100, 1, 1]
-gas = [100, 1, 1]
-limits = [100000, 100, 0]
-
-[[path]]
-id = 'p0'
-source = 'alpha'
-dest = 'beta'
-order = 'unordered'
-forward = 'c0'
-back = 'c1'
-gas = [5, 5, 5]
-
-[[turn]]";
-
-/// A turn that settles nothing, and one that settles something.
-const SETTLED_LATER: &str = "[[turn]]
-from = '1970-01-01T00:03:20Z'
-until = '1970-01-01T00:03:20Z'
-settle = []
-
-[[turn]]
-settle = [{ client = 'c0', batch = 2, done = 0 }]";
-
 /// Whole texts and their first fault.
 const TEXTS: &[(&str, &str)] = &[
     (
@@ -487,7 +422,7 @@ fn tells_the_first_fault(rt: HostRuntime) -> Result<(), Fail> {
     for (name, base, edits, fault) in ROWS {
         let script = edited(alloc, *base, edits)?;
         let line = format!(in alloc; "fault {fault}")?;
-        let answer = answer_to(alloc, script.as_bytes())?;
+        let answer = answer_to(&rt, alloc, script.as_bytes())?;
         assert_eq!(rt; answer.as_str(), line.as_str(), "{name}");
     }
     Ok(())
@@ -499,7 +434,7 @@ fn tells_the_first_fault_later(rt: HostRuntime) -> Result<(), Fail> {
     for (name, base, edits, fault) in LATER_ROWS {
         let script = edited(alloc, *base, edits)?;
         let line = format!(in alloc; "fault {fault}")?;
-        let answer = answer_to(alloc, script.as_bytes())?;
+        let answer = answer_to(&rt, alloc, script.as_bytes())?;
         assert_eq!(rt; answer.as_str(), line.as_str(), "{name}");
     }
     Ok(())
@@ -510,7 +445,7 @@ fn tells_the_first_fault_of_a_whole_text(rt: HostRuntime) -> Result<(), Fail> {
     let alloc = rt.alloc();
     for (script, fault) in TEXTS {
         let line = format!(in alloc; "fault {fault}")?;
-        let answer = answer_to(alloc, script.as_bytes())?;
+        let answer = answer_to(&rt, alloc, script.as_bytes())?;
         assert_eq!(rt; answer.as_str(), line.as_str(), "{script}");
     }
     Ok(())
@@ -518,7 +453,7 @@ fn tells_the_first_fault_of_a_whole_text(rt: HostRuntime) -> Result<(), Fail> {
 
 #[test]
 fn tells_that_it_is_no_text(rt: HostRuntime) -> Result<(), Fail> {
-    let answer = answer_to(rt.alloc(), &[0xff])?;
+    let answer = answer_to(&rt, rt.alloc(), &[0xff])?;
     assert_eq!(rt; answer.as_str(), "fault 1001 NotToml at -");
     Ok(())
 }
@@ -570,7 +505,7 @@ fn tells_what_is_too_much(rt: HostRuntime) -> Result<(), Fail> {
         let script = repeated(alloc, head, words, *count, tail)?;
         let line = format!(in alloc; "fault {fault}")?;
         assert_eq!(rt;
-            answer_to(alloc, script.as_bytes())?.as_str(),
+            answer_to(&rt, alloc, script.as_bytes())?.as_str(),
             line.as_str()
         );
     }
@@ -581,7 +516,7 @@ fn tells_what_is_too_much(rt: HostRuntime) -> Result<(), Fail> {
 fn tells_that_a_text_is_too_long(rt: HostRuntime) -> Result<(), Fail> {
     let alloc = rt.alloc();
     let bytes = vec![in alloc; b'\n'; 16_777_217]?;
-    let answer = answer_to(alloc, bytes.as_slice())?;
+    let answer = answer_to(&rt, alloc, bytes.as_slice())?;
     assert_eq!(rt; answer.as_str(), "fault 1030 InputTooBig at -");
     Ok(())
 }

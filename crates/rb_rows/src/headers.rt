@@ -1,6 +1,6 @@
 use crate::planning::{ASKED, LABELS, PLAN, answer_to, report_of};
 use crate::scripts::{CHAINS, CLIENT, GOAL, HEADERS, SET, STORED, TURN, joined};
-use std::alloc::{AllocError, Global};
+use std::alloc::Global;
 use std::test::Fail;
 
 /// Scripts in pieces, by what their headers are refused or not trusted for, and the lines of their turn.
@@ -354,40 +354,8 @@ fn judges_headers(rt: HostRuntime) -> Result<(), Fail> {
     for (name, pieces, lines) in ROWS {
         let script = joined(alloc, pieces)?;
         let report = report_of(alloc, lines)?;
-        let answer = answer_to(alloc, script.as_bytes())?;
+        let answer = answer_to(&rt, alloc, script.as_bytes())?;
         assert_eq!(rt; answer.as_str(), report.as_str(), "{name}");
     }
-    Ok(())
-}
-
-/// Headers at the heights 1 to 1,025, ten seconds after one another.
-fn push_headers(text: &mut String) -> Result<(), AllocError> {
-    for height in 1..=1025 {
-        let (hours, minutes, tens) = (height / 360, height / 6 % 60, height % 6);
-        write!(
-            text,
-            "  {{ kind = 'header', chain = 'alpha', height = {height}, "
-        )?;
-        write!(
-            text,
-            "time = '1970-01-01T{hours:02}:{minutes:02}:{tens}0Z', "
-        )?;
-        writeln!(text, "set = 'A', next = 'A', votes = 'CCCA' }},")?;
-    }
-    Ok(())
-}
-
-/// A book keeps 1,024 records.
-#[test]
-fn tells_that_a_book_is_full(rt: HostRuntime) -> Result<(), Fail> {
-    let alloc = rt.alloc();
-    let mut script = joined(alloc, &[CHAINS, TURN, SET])?;
-    push_headers(&mut script)?;
-    script.push_str("]")?;
-    let report = report_of(alloc, &["refused event 1025 406 Full\n"])?;
-    assert_eq!(rt;
-        answer_to(alloc, script.as_bytes())?.as_str(),
-        report.as_str()
-    );
     Ok(())
 }

@@ -1,5 +1,5 @@
 //! What no contract of the layers that read and write bytes says, by their public calls: the report that
-//! `plan_over` writes for a script, each fault with the path of what is wrong, what `certify_over` says of
+//! `run_over` writes for a script, each fault with the path of what is wrong, what `certify_over` says of
 //! a certificate, and what is read of scripts, certificates and values. And the reports of scripts that
 //! are made without a text, of several turns and clients.
 #![tactic(auto)]
@@ -30,3 +30,7 @@ mod reading;
 mod scripts;
 #[cfg(test)]
 mod turns;
+#[cfg(test)]
+mod version2;
+#[cfg(test)]
+mod whole;

@@ -1,17 +1,19 @@
 use crate::scripts::{Base, GOAL, ONE_STEP, edited, joined};
 use rb_base::{Counted, Fault, Faulty};
 use rb_fields::RunError;
-use rb_text::plan_over;
+use rb_gang::OpenGate;
+use rb_text::run_over;
 use std::alloc::{AllocError, Global};
 use std::process::Abort;
 use std::test::Fail;
+use std::thread::Threads;
 
 /// What is written for a script, and after it the error, if there is one.
-pub fn answer_to(alloc: Global, script: &[u8]) -> Result<String, Fail> {
+pub fn answer_to<R: Threads + Sync>(rt: &R, alloc: Global, script: &[u8]) -> Result<String, Fail> {
     let mut writer = Counted::new(Vec::new(alloc));
-    let planned = plan_over(alloc, script, &mut writer);
+    let ran = run_over(rt, alloc, script, &mut writer, 2, &OpenGate);
     let mut answer = String::from_utf8_lossy(alloc, writer.into_inner().as_slice())?;
-    if let Err(error) = planned {
+    if let Err(error) = ran {
         write!(answer, "{error}")?;
     }
     Ok(answer)
@@ -521,30 +523,30 @@ fn plans(rt: HostRuntime) -> Result<(), Fail> {
     for (name, base, edits, lines) in ROWS {
         let script = edited(alloc, *base, edits)?;
         let report = report_of(alloc, lines)?;
-        let answer = answer_to(alloc, script.as_bytes())?;
+        let answer = answer_to(&rt, alloc, script.as_bytes())?;
         assert_eq!(rt; answer.as_str(), report.as_str(), "{name}");
     }
     assert_eq!(rt;
-        answer_to(alloc, b"version = 1")?.as_str(),
+        answer_to(&rt, alloc, b"version = 1")?.as_str(),
         "ibcplan 1\nend\n"
     );
     Ok(())
 }
 
-/// Plans over a writer that takes a byte a call and fails at this one, counted from 1: it has taken a byte
+/// Runs a script over a writer that takes a byte a call and fails at this one, counted from 1: it has taken a byte
 /// of the report at each call before. Whether the report is written whole.
-fn is_written(
-    rt: &impl Abort,
+pub fn is_written<R: Threads + Sync + Abort>(
+    rt: &R,
     alloc: Global,
     (script, report): (&str, &str),
     failing: u64,
 ) -> Result<bool, Fail> {
     let mut writer = Counted::new(Faulty::new(alloc, 1, failing, Fault::Zero));
-    let planned = plan_over(alloc, script.as_bytes(), &mut writer);
+    let ran = run_over(rt, alloc, script.as_bytes(), &mut writer, 1, &OpenGate);
     let faulty = writer.into_inner();
     let taken = (failing.saturating_sub(1) as usize).min(report.len());
     assert_eq!(rt; faulty.bytes(), &report.as_bytes()[..taken], "{failing}");
-    match planned {
+    match ran {
         Ok(()) => Ok(true),
         Err(RunError::Device) => Ok(false),
         Err(_) => Err(Fail::from("another error")),
@@ -566,14 +568,14 @@ fn tells_that_the_writer_failed(rt: HostRuntime) -> Result<(), Fail> {
     Ok(())
 }
 
-/// Whether a beginning of a script is planned: then its report is whole; else a fault is told, and
+/// Whether a beginning of a script is run: then its report is whole; else a fault is told, and
 /// nothing is written.
-fn is_planned(rt: &impl Abort, alloc: Global, beginning: &[u8]) -> bool {
+fn is_run<R: Threads + Sync + Abort>(rt: &R, alloc: Global, beginning: &[u8]) -> bool {
     let mut writer = Counted::new(Vec::new(alloc));
-    let planned = plan_over(alloc, beginning, &mut writer);
+    let ran = run_over(rt, alloc, beginning, &mut writer, 1, &OpenGate);
     let written = writer.into_inner();
     let length = beginning.len();
-    match planned {
+    match ran {
         Ok(()) => {
             assert!(rt; written.ends_with(b"end\n"), "{length}");
             true
@@ -591,7 +593,7 @@ fn plans_or_tells_a_fault_of_each_beginning(rt: HostRuntime) -> Result<(), Fail>
     let script = edited(rt.alloc(), Base::Three, &[])?;
     let mut is_whole = false;
     for length in 0..=script.len() {
-        is_whole = is_planned(&rt, rt.alloc(), &script.as_bytes()[..length]);
+        is_whole = is_run(&rt, rt.alloc(), &script.as_bytes()[..length]);
     }
     assert!(rt; is_whole);
     Ok(())

@@ -122,7 +122,7 @@ const FAULTS: &[(&str, &str, &str)] = &[
         "2', '30']",
         "1004 WrongType at turn[0].event[0].validators[1][1]",
     ),
-    ("version = 1", "version = 2", "1005 BadVersion at version"),
+    ("version = 1", "version = 3", "1005 BadVersion at version"),
     (
         "period_ns = 1000",
         "period_ns = 0",

@@ -127,6 +127,94 @@ pub const TIE: &[&str] = &[
 ",
 ];
 
+/// A client of the second chain on the first, and a path between the two.
+const PATH: &str = "[[client]]
+id = 'c1'
+host = 'alpha'
+of = 'beta'
+period_ns = 1000000000000
+drift_ns = 10000000000
+fee = [100, 1, 1]
+gas = [100, 1, 1]
+limits = [100000, 100, 0]
+
+[[path]]
+id = 'p0'
+source = 'alpha'
+dest = 'beta'
+order = 'unordered'
+forward = 'c0'
+back = 'c1'
+gas = [5, 5, 5]
+
+";
+
+/// Two packets that were sent, and the end of the events.
+const SENT: &str = "  { kind = 'sent', path = 'p0', seq = 1, height = 9 },
+  { kind = 'sent', path = 'p0', seq = 2, height = 10 },
+]
+";
+
+/// What is settled, and a second turn in which nothing is seen.
+const SETTLED: &str = "settle = [{ client = 'c0', batch = 1, done = 1 }]
+
+[[turn]]
+from = '1970-01-01T00:03:20Z'
+until = '1970-01-01T00:03:20Z'
+";
+
+/// Packets of a path whose client takes any of ten headers in one step, and a settlement.
+const PACKETS: &[&str] = &[
+    CHAINS,
+    CLIENT,
+    PATH,
+    TURN,
+    SET,
+    STORED,
+    HEADERS,
+    LAST_HEADERS,
+    SENT,
+    SETTLED,
+];
+
+/// A path that leads back.
+const BACK: &str = "[[path]]
+id = 'p1'
+source = 'beta'
+dest = 'alpha'
+order = 'unordered'
+forward = 'c1'
+back = 'c0'
+gas = [6, 7, 8]
+
+";
+
+/// What is known of the one chain, and then of the other, and of the packets of both paths.
+const BOTH_WAYS: &str =
+    "  { kind = 'header', chain = 'alpha', height = 5, time = '1970-01-01T00:00:50Z', set = 'A', next = 'A', votes = 'CCCA' },
+  { kind = 'header', chain = 'alpha', height = 10, time = '1970-01-01T00:01:40Z', set = 'A', next = 'A', votes = 'CCCA' },
+  { kind = 'set', chain = 'beta', name = 'A', validators = [
+    ['a1a1a1a1a1a1a1a1a1a1a1a1a1a1a1a1a1a1a1a1a1a1a1a1a1a1a1a1a1a1a1a1', 10],
+    ['a2a2a2a2a2a2a2a2a2a2a2a2a2a2a2a2a2a2a2a2a2a2a2a2a2a2a2a2a2a2a2a2', 10],
+    ['a3a3a3a3a3a3a3a3a3a3a3a3a3a3a3a3a3a3a3a3a3a3a3a3a3a3a3a3a3a3a3a3', 10],
+    ['a4a4a4a4a4a4a4a4a4a4a4a4a4a4a4a4a4a4a4a4a4a4a4a4a4a4a4a4a4a4a4a4', 10],
+  ] },
+  { kind = 'stored', client = 'c1', height = 1, time = '1970-01-01T00:00:10Z', next = 'A' },
+  { kind = 'header', chain = 'beta', height = 5, time = '1970-01-01T00:00:50Z', set = 'A', next = 'A', votes = 'CCCA' },
+  { kind = 'header', chain = 'beta', height = 10, time = '1970-01-01T00:01:40Z', set = 'A', next = 'A', votes = 'CCCA' },
+  { kind = 'sent', path = 'p0', seq = 1, height = 4 },
+  { kind = 'sent', path = 'p0', seq = 2, height = 9 },
+  { kind = 'sent', path = 'p0', seq = 3, height = 3, timeout_height = 5 },
+  { kind = 'sent', path = 'p1', seq = 1, height = 2, timeout_height = 5 },
+  { kind = 'sent', path = 'p1', seq = 2, height = 2 },
+  { kind = 'received', path = 'p1', seq = 2, height = 4 },
+  { kind = 'ack', path = 'p1', seq = 2, height = 4 },
+]
+";
+
+/// Two paths of the same clients, one each way.
+const TWO_WAYS: &[&str] = &[CHAINS, CLIENT, PATH, BACK, TURN, SET, STORED, BOTH_WAYS];
+
 /// The script that a row edits.
 #[derive(Clone, Copy)]
 pub enum Base {
@@ -134,6 +222,8 @@ pub enum Base {
     Tie,
     Detour,
     Three,
+    Packets,
+    TwoWays,
 }
 
 impl Base {
@@ -143,6 +233,8 @@ impl Base {
             Base::Tie => TIE,
             Base::Detour => DETOUR,
             Base::Three => THREE,
+            Base::Packets => PACKETS,
+            Base::TwoWays => TWO_WAYS,
         }
     }
 }

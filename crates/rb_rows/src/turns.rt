@@ -5,12 +5,14 @@
 //! votes and 4 + 4 for the two sets: 111 or, at a base of 200, 211.
 use crate::made::{CLIENT, ClientRow, QUIET, ScriptRow, Seen, TurnRow, Wanted, make_script};
 use rb_base::Counted;
-use rb_events::{Script, is_of_updates, is_script};
+use rb_events::{Script, is_script};
+use rb_gang::OpenGate;
 use rb_super::{Report, run_script};
 use rb_text::write_report;
 use std::alloc::Global;
 use std::process::Abort;
 use std::test::Fail;
+use std::thread::Threads;
 
 /// A script without paths, and its report.
 #[derive(Clone, Copy)]
@@ -212,14 +214,10 @@ fn text_of(alloc: Global, report: &Report) -> Result<String, Fail> {
     Ok(String::from_utf8_lossy(alloc, writer.into_inner().as_slice())?)
 }
 
-fn run(rt: &impl Abort, alloc: Global, row: &Row) -> Result<(), Fail> {
+fn run<R: Threads + Sync + Abort>(rt: &R, alloc: Global, row: &Row) -> Result<(), Fail> {
     let script = make_row(alloc, row)?;
-    assert!(rt;
-        is_script(&script) && is_of_updates(&script),
-        "{}",
-        row.name
-    );
-    let text = text_of(alloc, &run_script(alloc, &script)?)?;
+    assert!(rt; is_script(&script), "{}", row.name);
+    let text = text_of(alloc, &run_script(rt, alloc, script, 2, &OpenGate)?)?;
     assert_eq!(rt; text.as_str(), row.report, "{}", row.name);
     Ok(())
 }
