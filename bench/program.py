@@ -6,6 +6,7 @@ import tempfile
 
 import inputs
 import measure
+from relays import Relay
 
 TOP = pathlib.Path(__file__).resolve().parent.parent
 PROGRAM = TOP / "crates" / "ibcplan" / "out" / "ibcplan"
@@ -79,10 +80,39 @@ def print_certificates(folder):
     measure.print_group("certify: 1,024 headers, one set of 100 validators", lines, statuses=(0, 3))
 
 
+def print_relays(folder):
+    def line(name, **sizes):
+        return folder.plan(name, Relay(**sizes).text())
+
+    lines = [line(f"{n} turns", turns=n, headers=n, packets=n) for n in (125, 250, 500)]
+    measure.print_group("plan: turns with a header of each chain and a packet", lines)
+    lines = [line(f"{n} chains", zones=n - 1, turns=4, headers=64, packets=16) for n in (16, 32, 64)]
+    measure.print_group("plan: a hub and its zones, a pair of clients each", lines)
+    lines = [line(f"{2 * n} clients", pairs=n, headers=512, packets=1) for n in (32, 64, 128)]
+    measure.print_group("plan: clients of two chains of 512 headers", lines)
+    lines = [line(f"{n} packets a path", pairs=8, turns=4, headers=16, packets=n) for n in (1024, 2048, 4096)]
+    measure.print_group("plan: packets of 8 paths", lines)
+    lines = [line(f"{n} packets a path", zones=63, pairs=2, turns=10, headers=100, packets=n) for n in (135, 270, 540)]
+    measure.print_group("plan: 64 chains, 252 clients, 126 paths, 10 turns; 200,000 entries at last", lines)
+
+
+def print_reading(folder):
+    """Reading alone: scripts of which the last turn is refused, and the same without a version, of which only the TOML is read."""
+    read, parsed = [], []
+    for packets, validators in (135, 95), (270, 190), (540, 380):
+        text = Relay(zones=63, pairs=2, turns=10, headers=100, packets=packets, validators=validators).text() + "[[turn]]\n"
+        read.append(folder.plan(f"{packets} packets a path, read", text))
+        parsed.append(folder.plan(f"{packets} packets a path, parsed", text.replace("version = 1\n", "", 1)))
+    measure.print_group("plan: a fault at the end", read, statuses=(1,))
+    measure.print_group("plan: a fault at the beginning, after the TOML was read", parsed, statuses=(1,))
+
+
 def print_tables():
     """Builds the program where it isn't, by ./ibcplan, and prints its tables."""
     subprocess.run([TOP / "ibcplan", "--version"], check=True, stdout=subprocess.DEVNULL)
     with tempfile.TemporaryDirectory() as path:
         folder = Folder(path)
         print_plans(folder)
+        print_relays(folder)
+        print_reading(folder)
         print_certificates(folder)

@@ -4,7 +4,6 @@
     reference.py plan SCRIPT            prints the report of a script, or `fault ..` on standard error (exit 1)
     reference.py certificate SCRIPT     prints the certificate that the script's report amounts to
     reference.py certify SCRIPT CERT    prints the verdict on a certificate (exit 0, 3 or 1)
-    reference.py whole SCRIPT           as `plan`, with the paths and settlements that the program doesn't take yet
 
 `-` stands for standard input.
 
@@ -20,7 +19,7 @@ import sys
 from scripts import FAULTS, Fault, need, read_certificate, read_script
 
 EXHAUSTIVE = 11
-MAX_RECORDS, MAX_SETS, MAX_ADDRESSES, MAX_PACKETS = 1024, 1024, 65_536, 4096
+MAX_SETS, MAX_ADDRESSES, MAX_PACKETS = 1024, 65_536, 4096
 NAMES = FAULTS | {
     401: "UnknownSet", 402: "WrongVerdictCount", 403: "BadVote", 404: "Conflict", 405: "TimeOrder", 406: "Full", 407: "HashClash",
     601: "SourceLabel", 602: "LabelTooHigh", 603: "PlanNotAccepted", 604: "PlanNotTight", 605: "NotTheTie", 606: "GoalLabelled",
@@ -38,7 +37,8 @@ class Refused(Exception):
 class Book:
     """Sets by hash, records and headers by height; a record is (time, root, next), a header (record, set, votes)."""
 
-    def __init__(self):
+    def __init__(self, limit):
+        self.limit = limit  # of records
         self.sets, self.records, self.headers = {}, {}, {}
 
     def add_set(self, members):
@@ -58,7 +58,7 @@ class Book:
             raise Refused(405)
         if any(self.records[h][0] <= record[0] for h in self.records if h > at):
             raise Refused(405)
-        if len(self.records) >= MAX_RECORDS:
+        if len(self.records) >= self.limit:
             raise Refused(406)
         self.records[at] = record
 
@@ -367,7 +367,7 @@ class Relayer:
 
     def __init__(self, script):
         self.script = script
-        self.books = {chain: Book() for chain in script.chains}
+        self.books = {chain: Book(script.limit) for chain in script.chains}
         self.stored = {client: set() for client in script.clients}
         self.channels = {name: Channel(path) for name, path in script.paths.items()}
         self.window, self.asked = None, {}
@@ -606,15 +606,6 @@ def certify(script, source):
     return "yes" if reason is None else " ".join(["no", str(reason[0]), NAMES[reason[0]], *map(str, reason[1:])])
 
 
-def script_to_run(source):
-    """A script, if the program runs it so far: paths and settlements come later."""
-    script = read_script(source)
-    need(not script.paths, 1017, "path")
-    for i, turn in enumerate(script.turns):
-        need(not turn.settlements, 1017, f"turn[{i}].settle")
-    return script
-
-
 def read_file(name):
     if name == "-":
         return sys.stdin.buffer.read()
@@ -626,13 +617,11 @@ def main():
     words = sys.argv[1:]
     try:
         if words[:1] == ["plan"] and len(words) == 2:
-            sys.stdout.write(report(script_to_run(read_file(words[1]))))
-        elif words[:1] == ["whole"] and len(words) == 2:
             sys.stdout.write(report(read_script(read_file(words[1]))))
         elif words[:1] == ["certificate"] and len(words) == 2:
-            sys.stdout.write(certificate(script_to_run(read_file(words[1]))))
+            sys.stdout.write(certificate(read_script(read_file(words[1]))))
         elif words[:1] == ["certify"] and len(words) == 3:
-            verdict = certify(script_to_run(read_file(words[1])), read_file(words[2]))
+            verdict = certify(read_script(read_file(words[1])), read_file(words[2]))
             print(verdict)
             sys.exit(0 if verdict == "yes" else 3)
         else:

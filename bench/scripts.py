@@ -10,6 +10,7 @@ MAX_BYTES = 16_777_216
 MAX_POWER = 1152921504606846975
 MAX_MEMBERS = 10_000
 MAX_CHAINS, MAX_CLIENTS, MAX_PATHS, MAX_TURNS, MAX_ENTRIES = 64, 256, 256, 500, 200_000
+MAX_RECORDS = {1: 1024, 2: 4096}  # by version
 FAULTS = {
     1001: "NotToml", 1002: "MissingKey", 1003: "UnknownKey", 1004: "WrongType", 1005: "BadVersion", 1006: "OutOfRange",
     1007: "BadIdentifier", 1008: "DuplicateIdentifier", 1009: "UnknownIdentifier", 1010: "BadHex", 1011: "BadTime",
@@ -19,7 +20,8 @@ FAULTS = {
     1030: "InputTooBig", 1031: "BadTrust",
 }
 
-Script = namedtuple("Script", "chains clients paths turns")  # clients and paths by id, in their order
+# how many records a book has; by id, in their order, what clients of a chain share, the clients and the paths; and the turns
+Script = namedtuple("Script", "limit chains clients paths turns")
 Path = namedtuple("Path", "id source dest order first forward back gas")
 Turn = namedtuple("Turn", "begin end asked events settlements")  # the asked goals by client
 
@@ -242,20 +244,39 @@ def parse(source):
     return document
 
 
+# what the clients that track a chain may share
+TERMS = {
+    "period_ns": number(1, MAX_NUMBER), "drift_ns": number(0, MAX_NUMBER), "refresh_ns": number(0, MAX_NUMBER),
+    "fee": fees, "gas": fees, "trust": trust,
+}
+
+
+def read_defaults(value, path):
+    table = Section(value, path, TERMS)
+    return {key: table.read(key, read) for key, read in TERMS.items() if key in table.table}
+
+
+def read_chain(value, path, version, chains):
+    """The identifier, and what is shared."""
+    table = Section(value, path, ["id", "defaults"][:version])
+    return table.read("id", new_identifier(chains)), table.read("defaults", read_defaults, {})
+
+
 def read_client(value, path, chains, clients):
-    keys = "id host of period_ns drift_ns refresh_ns fee gas limits trust".split()
-    table = Section(value, path, keys)
+    table = Section(value, path, ["id", "host", "of", "limits", *TERMS])
     client = Client()
     client.id = table.read("id", new_identifier(clients))
     client.host = table.read("host", reference(chains))
     client.of = table.read("of", reference(chains))
-    client.period = table.read("period_ns", number(1, MAX_NUMBER))
-    client.drift = table.read("drift_ns", number(0, MAX_NUMBER))
-    client.refresh = table.read("refresh_ns", number(0, MAX_NUMBER), 0)
-    client.fee = table.read("fee", fees)
-    client.gas = table.read("gas", fees)
+    shared = {"refresh_ns": 0, "trust": (1, 3)} | chains[client.of]
+
+    def term(key):
+        return table.read(key, TERMS[key], *(shared[k] for k in [key] if k in shared))
+
+    client.period, client.drift, client.refresh = term("period_ns"), term("drift_ns"), term("refresh_ns")
+    client.fee, client.gas = term("fee"), term("gas")
     client.limits = table.read("limits", limits)
-    client.trust = table.read("trust", trust, (1, 3))
+    client.trust = term("trust")
     need(client.host != client.of, 1015, path)
     return client
 
@@ -401,12 +422,13 @@ def read_turn(value, path, setup, names, room):
 
 def read_script(source):
     top = Section(parse(source), "", "version chain client path turn".split())
-    top.read("version", number(1, 1, 1005))
+    version = top.read("version", number(1, 2, 1005))
     entries = [top.read(key, array(most), []) for key, most in
                (("chain", MAX_CHAINS), ("client", MAX_CLIENTS), ("path", MAX_PATHS), ("turn", MAX_TURNS))]
-    chains, clients, paths, turns = [], {}, {}, []
+    chains, clients, paths, turns = {}, {}, {}, []
     for i, value in enumerate(entries[0]):
-        chains.append(Section(value, f"chain[{i}]", ["id"]).read("id", new_identifier(chains)))
+        name, shared = read_chain(value, f"chain[{i}]", version, chains)
+        chains[name] = shared
     for i, value in enumerate(entries[1]):
         client = read_client(value, f"client[{i}]", chains, clients)
         clients[client.id] = client
@@ -417,7 +439,7 @@ def read_script(source):
     for i, value in enumerate(entries[3]):
         turn, room = read_turn(value, f"turn[{i}]", (chains, clients, paths), names, room)
         turns.append(turn)
-    return Script(chains, clients, paths, turns)
+    return Script(MAX_RECORDS[version], chains, clients, paths, turns)
 
 
 # ---- certificates

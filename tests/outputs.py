@@ -5,6 +5,7 @@ import tomllib
 
 from program import TOP, Case
 
+MESSAGES = ("recv", "ack", "timeout")
 KEYS = {"label": ("labels", "height fee count"), "update": ("updates", "height trusted fee"), "tx": ("transactions", "first count gas")}
 
 
@@ -12,17 +13,22 @@ def numbers(words):
     return [int(word) for word in words if word.isdigit()]
 
 
-def value_of(report):
-    """The value that a report is as JSON."""
-    turns = []
+def value_of(script, report):
+    """The value that the report of a script is as JSON."""
+    turns, settlements = [], []
     for line in report.splitlines()[1:-1]:
         kind, *words = line.split()
         if kind == "turn":
-            turns.append({"window_back": False, "refused": [], "clients": []})
+            settlements = script["turn"][len(turns)].get("settle", [])
+            turns.append({"window_back": False, "refused": [], "clients": [], "settlements": []})
         elif kind == "refused" and words[0] == "event":
             turns[-1]["refused"].append({"event": int(words[1]), "number": int(words[2]), "name": words[3]})
         elif kind == "refused" and words[0] == "window":
             turns[-1]["window_back"] = True
+        elif kind == "settled" or kind == "refused":
+            settlement = {key: settlements[len(turns[-1]["settlements"])][key] for key in ("client", "batch", "done")}
+            refusal = {"number": int(words[2]), "name": words[3]} if kind == "refused" else {}
+            turns[-1]["settlements"].append(settlement | refusal)
         elif kind == "client":
             client = {"id": words[0], "outcome": words[1]}
             if words[1] == "goal":
@@ -37,7 +43,9 @@ def value_of(report):
         elif kind == "total":
             fee, count = numbers(words)
             client.setdefault("updates", [])
-            client |= {"outcome": "plan", "total": {"fee": fee, "updates": count}}
+            client |= {"outcome": "plan", "total": {"fee": fee, "updates": count}, "messages": []}
+        elif kind in MESSAGES:
+            client["messages"].append({"kind": kind, "path": words[0], "sequence": int(words[1])})
         elif kind == "toobig":
             client["too_big"] = int(words[0])
         elif kind == "batch":
@@ -64,7 +72,8 @@ def commands_of(script, value):
                 continue
             host = hosts[client["id"]]
             own = client["id"].removeprefix(host + ".") or client["id"]
-            lines.append(f"{head}total fee {client['total']['fee']}, updates {client['total']['updates']}")
+            packets = f", packet messages {len(client['messages'])}" if client["messages"] else ""
+            lines.append(f"{head}total fee {client['total']['fee']}, updates {client['total']['updates']}{packets}")
             lines += [f"hermes update client --host-chain {word(host)} --client {word(own)} --height {u['height']} --trusted-height {u['trusted']}"
                       for u in client["updates"]]
     return "".join(line + "\n" for line in lines)
@@ -104,9 +113,10 @@ def output_cases(are_few):
     smallest = TOP / "examples" / "smallest.toml"
     stored += renamed_texts(smallest.read_text(), smallest.with_suffix(".report").read_text())
     for script, report in stored:
-        value, given, what = value_of(report), script.encode(), " ".join(report.split()[:9])
+        table, given, what = tomllib.loads(script), script.encode(), " ".join(report.split()[:9])
+        value = value_of(table, report)
         yield Case(f"JSON of {what}", ["plan", "--json", "-"], given, value, b"", 0, reader=json.loads)
-        yield Case(f"commands of {what}", ["commands", "-"], given, commands_of(tomllib.loads(script), value).encode(), b"", 0)
+        yield Case(f"commands of {what}", ["commands", "-"], given, commands_of(table, value).encode(), b"", 0)
     for words in ["plan", "--json", "-"], ["commands", "-"]:
         yield Case(f"a fault of {words[0]}", words, b"version =", b"", b"fault 1001 NotToml at -\n", 1)
 
@@ -115,5 +125,6 @@ def jq_cases(program):
     """The JSON of the examples, by a program that the shell runs, as `jq` reads and writes it."""
     line = f'{" ".join(map(shlex.quote, program))} plan --json "$0" | jq -c .'
     for example in sorted((TOP / "examples").glob("*.toml")):
-        value = json.dumps(value_of(example.with_suffix(".report").read_text()), separators=(",", ":"))
+        table, report = tomllib.loads(example.read_text()), example.with_suffix(".report").read_text()
+        value = json.dumps(value_of(table, report), separators=(",", ":"))
         yield Case(f"JSON of {example.name} by jq", ["sh", "-c", line, str(example)], b"", f"{value}\n".encode(), b"", 0)

@@ -1,7 +1,9 @@
 """Runs of the program in tests, as ./ibcplan builds it or as `rt try` builds it, and what they have to come to."""
 import contextlib
 import dataclasses
+import os
 import pathlib
+import pty
 import re
 import subprocess
 import sys
@@ -26,6 +28,7 @@ class Case:
     device: pathlib.Path | None = None  # what standard output is, if it isn't read
     reader: Callable | None = None  # what reads the output, where values are compared and not bytes
     named: tuple = ()  # what standard error has to name, in any line
+    is_watched: bool = False  # whether standard error is a terminal
 
     def is_met_by(self, output, error, status):
         """Whether the run went as it has to; tells where not."""
@@ -50,9 +53,26 @@ def run_program(program, cases):
     for case in cases:
         with open(case.device, "wb") if case.device else contextlib.nullcontext(subprocess.PIPE) as output:
             words = [*program, *case.words]
-            done = subprocess.run(words, input=case.given, stdout=output, stderr=subprocess.PIPE, timeout=120)
-        wrong += not case.is_met_by(done.stdout or b"", done.stderr, done.returncode)
+            run = run_watched if case.is_watched else run_alone
+            done, error = run(words, case.given, output)
+        wrong += not case.is_met_by(done.stdout or b"", error, done.returncode)
     return wrong
+
+
+def run_alone(words, given, output):
+    done = subprocess.run(words, input=given, stdout=output, stderr=subprocess.PIPE, timeout=120)
+    return done, done.stderr
+
+
+def run_watched(words, given, output):
+    """The same with a terminal for standard error, which ends lines with a carriage return, too."""
+    ours, theirs = pty.openpty()
+    done = subprocess.run(words, input=given, stdout=output, stderr=theirs, timeout=120)
+    os.write(theirs, b".")  # so that there is something to read
+    os.close(theirs)
+    error = os.read(ours, 65_536).removesuffix(b".")
+    os.close(ours)
+    return done, error.replace(b"\r\n", b"\n")
 
 
 def run_unproved(cases):

@@ -6,9 +6,11 @@ mod book;
 mod certificate;
 mod gang;
 mod graph;
+mod machine;
 mod plan;
 mod scan;
 mod share;
+mod turn;
 
 use anyhow::{Context, Result, bail};
 use std::rt::{Clock, Env};
@@ -28,6 +30,9 @@ bench scan PACKETS
 bench share CLIENTS VIEWS HEADERS VALIDATORS
 bench share-turns CLIENTS VIEWS HEADERS VALIDATORS
 bench batch MESSAGES PER_TRANSACTION
+bench events PACKETS PATHS
+bench views CLIENTS VIEWS HEADERS
+bench turn CLIENTS PATHS PACKETS HEADERS
 ";
 
 /// A subcommand and its numbers.
@@ -76,6 +81,37 @@ fn share_task(task: &Task) -> Result<share::Task> {
         headers: number(task, 2)?,
         validators: number(task, 3)?,
     })
+}
+
+/// What a relayer machine is to know: so many clients, paths, packets of each path, and headers.
+fn machine_task(clients: u32, paths: u32, packets: u32, headers: u32) -> machine::Task {
+    machine::Task {
+        clients,
+        paths,
+        packets,
+        headers,
+    }
+}
+
+/// The work of the relayer machine; nothing where no such work is known.
+fn perform_machine<R: Clock + AllocGlobal>(rt: &R, task: &Task) -> Result<Option<String>> {
+    let told = match task.name.as_str() {
+        "events" => {
+            let known = machine_task(2, number(task, 1)?, number(task, 0)?, 0);
+            machine::take_packets(rt, &known)?
+        }
+        "views" => {
+            let known = machine_task(number(task, 0)?, 0, 0, number(task, 2)?);
+            machine::hold_views(rt, &known, number(task, 1)?)?
+        }
+        "turn" => {
+            let (clients, paths) = (number(task, 0)?, number(task, 1)?);
+            let known = machine_task(clients, paths, number(task, 2)?, number(task, 3)?);
+            turn::take_turn(rt, &known)?
+        }
+        _ => return Ok(None),
+    };
+    Ok(Some(told))
 }
 
 /// Plans over a book filled with headers, and tells how long that took when the table stood.
@@ -144,7 +180,7 @@ fn perform<R: Clock + Threads + AllocGlobal + Sync>(rt: &R, task: &Task) -> Resu
             let transactions = batch::cut_messages(alloc, number(task, 0)?, number(task, 1)?)?;
             format!(in alloc; "{transactions} transactions")?
         }
-        _ => return Ok(None),
+        _ => return perform_machine(rt, task),
     };
     Ok(Some(told))
 }
