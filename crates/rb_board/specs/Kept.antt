@@ -1,0 +1,44 @@
+-- The board's rule, and what the pen and the desks hold by it.
+use Rattle.std.specs.Prelude.{◌≡◌, ℕ, List, [], drop, Option, Some, None}
+use mathlib.Core.Option.{some}
+use lib.ListN.{get_elem?}
+use Rattle.atomic_table.specs.declared.shared.Seat.{Seat}
+use Rattle.left_right.specs.Sides.{view}
+use Rattle.left_right.specs.declared.Absorb.{Ghosts}
+use Rattle.left_right.specs.declared.board.Doing.{Doing}
+use Rattle.left_right.specs.declared.part.Part.{Part}
+use Rattle.left_right.specs.declared.reader.Reader.{Reader}
+use Rattle.left_right.specs.declared.writer.Writer.{Writer}
+use Rattle.rb_events.specs.Config.{Config}
+use Rattle.rb_board.specs.Knowledge.{Knowledge, nothing_yet, Begins}
+use Rattle.rb_board.specs.declared.held.Held.{Held}
+
+-- what a copy of the board shows
+abbrev pub knowledge_of : {A : Type 0} → Held A → Knowledge
+knowledge_of held = record { config = Some held.core.config; log = held.core.log }
+
+-- the rule: what each seat knows is a beginning of what is published
+abbrev pub Known : {A : Type 0} → Held A → List Knowledge → Type 0
+Known held views = (seat : ℕ) (v : Knowledge) → get_elem? views seat ≡ some v → Begins v (knowledge_of held)
+
+-- what is known after a publish or a look: all that is published, which begins with what was known before
+abbrev pub Sees : {A : Type 0} → Knowledge → Held A → Held A → Knowledge → Type 0
+Sees v before after w = Begins v (knowledge_of after) × (w ≡ knowledge_of after)
+
+-- what a seat knows
+abbrev pub known_by : {A : Type 0} → Seat (Option (Part (Held A))) (Doing (Held A) Knowledge) → Knowledge
+known_by seat = view seat
+
+-- what a reader knows, where there is one
+abbrev pub known_of : {A P : Type 0} → Option (Reader (Held A) Knowledge P A) → Knowledge
+known_of (Some reader) = view reader.place
+known_of None = nothing_yet
+
+-- what waits for the next publish
+abbrev pub pending : {T O V P A S : Type 0} {g : Ghosts T O S} → Writer T O V P A S g → List O
+pending writer = drop writer.behind writer.log.items
+
+-- the configuration, where it is known
+abbrev pub config_or : Option Config → Config
+config_or (Some config) = config
+config_or None = record { limit = 0; chains = []; clients = []; paths = [] }

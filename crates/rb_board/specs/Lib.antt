@@ -1,0 +1,5 @@
+pub mod Waiting
+pub mod Knowledge
+pub mod Ends
+pub mod Kept
+pub mod Unseen

@@ -1,0 +1,173 @@
+//! The pen.
+ghost use Rattle.std.specs.Prelude.{◌≡◌, ◌++◌, ◌∷◌, [], ◌<◌, ◌^◌, length, None, IfOk, IfErr, OnOk, MatchResult};
+ghost use mathlib.Core.List.{IsPrefix};
+ghost use Rattle.rb_core.specs.Machine.{refusal_of, reply_of, state_of};
+ghost use Rattle.rb_core.specs.Refused.{IsRefusal};
+ghost use Rattle.rb_core.specs.Replied.{reply_view};
+ghost use Rattle.rb_core.specs.Seen.{event_view};
+ghost use Rattle.rb_board.specs.Kept.{pending};
+
+use crate::desk::Desk;
+use crate::held::Held;
+use crate::note::Note;
+use crate::operation::Operation;
+use crate::rule::{Knows, Looks, Published, Tells};
+use left_right::Absorb;
+use left_right::writer::Writer;
+use rb_core::{Core, CoreError, Event, Reply};
+use std::alloc::{AllocError, Allocator, Global};
+use std::marker::Model;
+use std::sync::Wait;
+
+/// The end that appends. A contract sees how the board's core is configured, the board's log, which
+/// is that of all appended events, and the published beginning of it. It is not `Drop`: end it by
+/// `close`.
+pub struct Pen<A: Allocator + Copy = Global>
+where
+    Held<A>: Absorb<Operation<A>, State = Knows>,
+{
+    alloc: A,
+    writer: Writer<Held<A>, Operation<A>, Knows, Published, A>,
+    head: Core<A>,
+}
+
+impl<A: Allocator + Copy> Model for Pen<A>
+where
+    Held<A>: Absorb<Operation<A>, State = Knows>,
+{
+    ghost use Rattle.std.specs.Prelude.{◌≡◌, ◌++◌, map};
+    ghost use Rattle.rb_board.specs.Ends as ends;
+    ghost use Rattle.rb_board.specs.Kept.{knowledge_of, known_by, pending};
+    ghost use Rattle.rb_board.specs.Waiting.{operation_view};
+
+    ghost Value = { ends.Pen };
+
+    ghost view = { λ p. record { config = p.head.config; log = p.head.log; published = p.writer.desk.shown.value.core.log } };
+
+    ghost invariant = { λ p. (known_by p.writer.desk.place ≡ knowledge_of p.writer.desk.shown.value) × (p.writer.desk.shown.value.core.config ≡ p.head.config) × (p.head.log ≡ p.writer.desk.shown.value.core.log ++ map operation_view (pending p.writer)) };
+}
+
+impl<A: Allocator + Copy> Pen<A> {
+    /// The pen of a board with room for so many desks. What the core has taken in is published.
+    pub(crate) fn new<R: Wait>(
+        rt: &R,
+        alloc: A,
+        core: Core<A>,
+        places: usize,
+    ) -> Result<Pen<A>, AllocError>
+        requires { (0 < places) × (places < 2 ^ 32) }
+        ensures { IfOk result (λ pen. pen ≡ record { config = core.config; log = core.log; published = core.log }) }
+    {
+        let first = Held { core: core.copy()? };
+        let second = Held { core: core.copy()? };
+        let writer = Writer::new(alloc, first, second, places)?;
+        let (writer, shown) = writer.publish_as::<Looks, R>(rt);
+        if shown.is_err() {
+            writer.take(rt);
+            return Err(AllocError);
+        }
+        Ok(Pen {
+            alloc,
+            writer,
+            head: core,
+        })
+    }
+
+    /// Appends an event to the board's log, where the core after all appended events accepts it, and
+    /// answers as that core. Desks don't see it before the next `publish`. After an error nothing has
+    /// changed.
+    pub fn append(&mut self, event: Event<A>) -> Result<Reply, CoreError>
+        ensures config { self.new.config ≡ self.old.config }
+        ensures published { self.new.published ≡ self.old.published }
+        ensures appended { OnOk result (self.new.log ≡ self.old.log ++ event_view event ∷ []) }
+        ensures unchanged { IfErr result (λ _. self.new.log ≡ self.old.log) }
+        ensures accepted { OnOk result (refusal_of (state_of self.old.config self.old.log) (event_view event) ≡ None) }
+        ensures refused { IfErr result (λ e. IsRefusal e (refusal_of (state_of self.old.config self.old.log) (event_view event))) }
+        ensures reply { IfOk result (λ reply. reply_view reply ≡ reply_of (state_of self.old.config self.old.log) (event_view event)) }
+    {
+        let ready = self.head.judge(event)?;
+        let copy = ready.event().copy()?;
+        let operation = Operation::new(self.alloc, copy)?;
+        keep(&mut self.writer, operation)?;
+        Ok(self.head.settle(ready))
+    }
+
+    /// The core after all appended events. Takes no memory.
+    pub fn head(&self) -> &Core<A>
+        ensures config { result.now.config ≡ self.now.config }
+        ensures log { result.now.log ≡ self.now.log }
+        ensures published { IsPrefix self.now.published self.now.log }
+    {
+        &self.head
+    }
+
+    /// Makes all appended events visible, at one step. Waits for desks that still look at what was
+    /// published before the last time. Where a growth is refused, nothing becomes visible, and what
+    /// was appended waits for the next publish.
+    pub fn publish<R: Wait>(self, rt: &R) -> (Pen<A>, Result<(), AllocError>)
+        ensures config { result.0.config ≡ self.config }
+        ensures log { result.0.log ≡ self.log }
+        ensures published { OnOk result.1 (result.0.published ≡ self.log) }
+        ensures unchanged { IfErr result.1 (λ _. result.0.published ≡ self.published) }
+    {
+        let Pen {
+            alloc,
+            writer,
+            head,
+        } = self;
+        let (writer, published) = writer.publish_as::<Looks, R>(rt);
+        let pen = Pen {
+            alloc,
+            writer,
+            head,
+        };
+        (pen, published)
+    }
+
+    /// How many events are published, for desks to learn. Takes no memory.
+    pub fn tell(&self) -> Note
+        ensures { result.front ≡ length self.now.published }
+    {
+        Note {
+            front: self.writer.published().core.front(),
+        }
+    }
+
+    /// A desk that knows what is published. An error comes only where each place is in use.
+    pub(crate) fn desk(&mut self) -> Result<Desk<A>, AllocError>
+        ensures same { self.new ≡ self.old }
+        ensures knows { IfOk result (λ desk. desk ≡ record { config = self.old.config; seen = self.old.published; told = 0 }) }
+    {
+        let mut reader = self.writer.factory().reader()?;
+        reader.learn::<Tells>(self.writer.tell::<Tells>());
+        Ok(Desk::new(reader))
+    }
+
+    /// Waits for the desks, and ends the board. The core is the one after all appended events.
+    pub fn close<R: Wait>(self, rt: &R) -> Core<A>
+        ensures config { result.config ≡ self.config }
+        ensures log { result.log ≡ self.log }
+    {
+        let Pen {
+            alloc: _,
+            writer,
+            head,
+        } = self;
+        writer.take(rt);
+        head
+    }
+}
+
+/// Puts an event behind those that are to be published.
+fn keep<A: Allocator + Copy>(
+    writer: &mut Writer<Held<A>, Operation<A>, Knows, Published, A>,
+    operation: Operation<A>,
+) -> Result<(), AllocError>
+    ensures desk { writer.new.desk ≡ writer.old.desk }
+    ensures pending { MatchResult result (λ _. pending writer.new ≡ pending writer.old ++ operation ∷ []) (λ _. pending writer.new ≡ pending writer.old) }
+{
+    match writer.append(operation) {
+        Ok(()) => Ok(()),
+        Err(_operation) => Err(AllocError),
+    }
+}

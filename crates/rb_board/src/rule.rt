@@ -1,0 +1,62 @@
+//! The rule that each step of the board keeps, and what the steps tell.
+ghost use Rattle.rb_board.specs.Knowledge.{nothing_yet};
+ghost use Rattle.rb_board.specs.Kept.{Known, Sees};
+
+use crate::held::Held;
+use atomic_table::{Join, Split};
+use crossbeam_utils::rule::{Outcome, Protocol};
+use rb_core::Event;
+use rb_events::Config;
+use std::alloc::Allocator;
+use std::collections::LinkedList;
+use std::marker::Model;
+
+/// What a seat at the board knows: how the board's core is configured, if that is known, and a
+/// beginning of the board's log. No value of it is made.
+pub(crate) struct Knows {
+    config: Option<Config>,
+    log: LinkedList<Event>,
+}
+
+impl Model for Knows {
+    ghost use Rattle.std.specs.Prelude.{map};
+    ghost use Rattle.std.specs.Option.{option_map};
+    ghost use Rattle.rb_core.specs.Seen.{event_view};
+    ghost use Rattle.rb_events.specs.Config.{config_view};
+    ghost use Rattle.rb_board.specs.Knowledge.{Knowledge};
+
+    ghost Value = { Knowledge };
+
+    ghost view = { λ k. record { config = option_map config_view k.config; log = map event_view k.log } };
+}
+
+/// The rule: what each seat knows is a beginning of what is published.
+pub(crate) struct Published;
+
+impl<A: Allocator> Protocol<Held<A>, Knows> for Published {
+    ghost holds = { Known };
+
+    ghost first = { nothing_yet };
+}
+
+/// A look at what is published.
+pub(crate) struct Looks;
+
+impl<A: Allocator> Outcome<Held<A>, Knows> for Looks {
+    ghost then = { Sees };
+}
+
+/// All that the pen's seat knows, for a desk's seat.
+pub(crate) struct Tells;
+
+impl Split<Knows> for Tells {
+    ghost left = { λ v. v };
+
+    ghost right = { λ v. v };
+}
+
+impl Join<Knows> for Tells {
+    ghost both = { λ v w. w };
+
+    ghost spent = { nothing_yet };
+}

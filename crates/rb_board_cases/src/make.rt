@@ -1,0 +1,114 @@
+//! What the tables of cases are made of; none where a number is out of range or a growth is refused.
+use rb_base::{ChainId, ClientId, FeeTable, Height, Moment, Options, PathId, Period};
+use rb_batch::Limits;
+use rb_book::{Header, Record, Vote};
+use rb_core::Core;
+use rb_events::{ClientConfig, Config, PathConfig, PathGas, is_config};
+use rb_scan::{Order, Sequence};
+use rb_valset::{Validator, ValidatorSet};
+use std::alloc::Allocator;
+use std::fmt::Debug;
+use std::process::Abort;
+
+/// Asserts in one place for all tests, since each `assert_eq!` makes the proof of the function around
+/// it dearer.
+pub fn assert_same<T: PartialEq + Debug>(rt: &impl Abort, row: &impl Debug, given: &T, wanted: &T) {
+    assert!(rt; *given == *wanted, "{row:?}: {given:?}, not {wanted:?}");
+}
+
+pub fn second(number: u64) -> Option<Moment> {
+    Moment::new(u128::from(number) * 1_000_000_000)
+}
+
+/// A period of 1,000 s, a drift of 10 s and a trust of 1/3.
+fn options() -> Option<Options> {
+    Some(Options::new(Period::new(1_000_000_000_000)?, 10_000_000_000))
+}
+
+/// Four members of power 10, whose keys repeat this byte and the three that follow it.
+pub fn make_set<A: Allocator + Copy>(alloc: A, first: u8) -> Option<ValidatorSet<A>> {
+    let mut members = Vec::new(alloc);
+    for place in 0..4 {
+        let member = Validator::new([first.wrapping_add(place); 32], 10).ok()?;
+        members.push(member).ok()?;
+    }
+    ValidatorSet::new(alloc, members).ok()
+}
+
+/// A record of this time in seconds, which names the set as the next one.
+pub fn make_record<A: Allocator + Copy>(alloc: A, seconds: u64, set: u8) -> Option<Record> {
+    let set = make_set(alloc, set)?;
+    Some(Record::new(second(seconds)?, [0; 32], *set.hash()))
+}
+
+/// A header of this height and time in seconds with votes of the set, which is the next one too.
+pub fn make_header<A: Allocator + Copy>(
+    alloc: A,
+    number: u64,
+    seconds: u64,
+    set: u8,
+    votes: &[Vote],
+) -> Option<Header<A>> {
+    let record = make_record(alloc, seconds, set)?;
+    let votes = Vec::from_slice(alloc, votes).ok()?;
+    let own = *record.next();
+    Some(Header::new(Height::new(number)?, record, own, votes))
+}
+
+/// A client of the one chain that tracks the other. An update takes 111 of the 115 that a transaction
+/// may take.
+fn make_client(id: &str, host: usize, tracks: usize) -> Option<ClientConfig> {
+    Some(ClientConfig {
+        id: ClientId::new(id)?,
+        host,
+        tracks,
+        options: options()?,
+        refresh: 0,
+        fees: FeeTable::new(100, 1, 1).ok()?,
+        gas: FeeTable::new(100, 1, 1).ok()?,
+        limits: Limits::new(115, 100, 0),
+    })
+}
+
+/// A path from the first chain to the second. A message takes 60, so that each has a transaction of its
+/// own.
+fn make_path(id: &str, order: Order, first: u64) -> Option<PathConfig> {
+    Some(PathConfig {
+        id: PathId::new(id)?,
+        source: 0,
+        destination: 1,
+        order,
+        first: Sequence::new(first)?,
+        forward: 0,
+        back: 1,
+        gas: PathGas::new(60, 60, 60)?,
+    })
+}
+
+/// Two chains, a client of each that tracks the other, the one of the second chain first, and two
+/// paths: one that is UNORDERED, and one that is ORDERED and begins with sequence 3.
+fn make_config<A: Allocator + Copy>(alloc: A) -> Option<Config<A>> {
+    let mut clients = Vec::new(alloc);
+    clients.push(make_client("forward", 1, 0)?).ok()?;
+    clients.push(make_client("back", 0, 1)?).ok()?;
+    let chains = [ChainId::new("a")?, ChainId::new("b")?];
+    let paths = [
+        make_path("plain", Order::Unordered, 1)?,
+        make_path("turns", Order::Ordered, 3)?,
+    ];
+    Some(Config {
+        limit: 12,
+        chains: Vec::from_slice(alloc, chains.as_slice()).ok()?,
+        clients,
+        paths: Vec::from_slice(alloc, paths.as_slice()).ok()?,
+    })
+}
+
+/// A relayer that has taken in nothing.
+pub fn start<A: Allocator + Copy>(alloc: A) -> Option<Core<A>> {
+    let config = make_config(alloc)?;
+    if !is_config(&config) {
+        return None;
+    }
+    Core::new(alloc, config).ok()
+}
