@@ -4,9 +4,15 @@ import hashlib
 import random
 
 EPOCH = datetime.datetime(2025, 1, 1)
-HEAD = """version = 1
+OPTIONS = """period_ns = 1_000_000_000_000_000
+drift_ns = 10_000_000_000
+fee = [100, 1, 1]
+gas = [100, 1, 1]
+limits = [1_000_000_000_000, 10_000, 0]
+"""
+HEAD = f"""version = 1
 chain = [
-  { id = "host" },
+  {{ id = "host" }},
   %s
 ]
 
@@ -14,16 +20,11 @@ chain = [
 id = "client"
 host = "host"
 of = "chain-0"
-period_ns = 1_000_000_000_000_000
-drift_ns = 10_000_000_000
-fee = [100, 1, 1]
-gas = [100, 1, 1]
-limits = [1_000_000_000_000, 10_000, 0]
-
+{OPTIONS}
 [[turn]]
 from = "2025-01-02T00:00:00Z"
 until = "2025-01-02T00:00:00Z"
-goal = [{ client = "client", at_least = %d }]
+goal = [{{ client = "client", at_least = %d }}]
 event = [
 """
 

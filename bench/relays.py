@@ -1,16 +1,11 @@
 """Scripts of a hub and zones for the benches: many chains, clients, paths, packets and turns, the same at every run."""
-from inputs import key, time_at
+from inputs import OPTIONS, key, time_at
 
-CLIENT = """[[client]]
+CLIENT = f"""[[client]]
 id = "%s"
 host = "%s"
 of = "%s"
-period_ns = 1_000_000_000_000_000
-drift_ns = 10_000_000_000
-fee = [100, 1, 1]
-gas = [100, 1, 1]
-limits = [1_000_000_000_000, 10_000, 0]
-
+{OPTIONS}
 """
 PATH = """[[path]]
 id = "%s"
