@@ -15,4 +15,7 @@ pub mod Numbering
 pub mod Room
 pub mod OwnPlace
 pub mod Targets
+pub mod Inserted
+pub mod Entered
+pub mod Laned
 pub mod Finishing

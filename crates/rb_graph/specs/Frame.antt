@@ -1,5 +1,5 @@
 -- The rows of a step table one by one, and when they are all its rows (own choice of form).
-use Rattle.std.specs.Prelude.{◌≡◌, ℕ, ◌<◌, ◌≤◌, ◌==◌, List, length, map, count_by, Option, Some, slice_get}
+use Rattle.std.specs.Prelude.{◌≡◌, ℕ, ◌<◌, ◌≤◌, ◌==◌, List, map, count_by, Some, slice_get}
 use Rattle.rb_book.specs.Book.{Book}
 use Rattle.rb_graph.specs.Kept.{Kept, kept_of}
 

@@ -34,7 +34,10 @@ pub fn next_places<A: Allocator + Copy>(
 }
 
 /// The height of the lowest known record that names the set as its next.
-fn first_naming<A: Allocator + Copy>(book: &ChainBook<A>, set: &ValidatorSet<A>) -> Option<Height>
+pub fn first_naming<A: Allocator + Copy>(
+    book: &ChainBook<A>,
+    set: &ValidatorSet<A>,
+) -> Option<Height>
     ensures { result ≡ first_naming book.now set.now }
 {
     book.records()
@@ -61,7 +64,7 @@ pub fn first_namings<A: Allocator + Copy>(
 }
 
 /// The header's own set, which the book knows.
-fn own_set<'a, A: Allocator + Copy>(
+pub fn own_set<'a, A: Allocator + Copy>(
     book: &'a ChainBook<A>,
     header: &Header<A>,
 ) -> &'a ValidatorSet<A>
@@ -75,9 +78,22 @@ fn own_set<'a, A: Allocator + Copy>(
 /// The place of the header's own set among the book's sets.
 fn own_place<A: Allocator + Copy>(book: &ChainBook<A>, header: &Header<A>) -> usize
     requires { IsBacked book.now header.now }
-    ensures { slice_get book.now.sets result ≡ Some (own_set book.now header.now) }
+    ensures place { slice_get book.now.sets result ≡ Some (own_set book.now header.now) }
+    ensures signed { IsSignedBy header.now (own_set book.now header.now) }
 {
     book.set_place(header.set_hash()).unwrap()
+}
+
+/// The header's own set, which stands at this place.
+fn own_at<'a, A: Allocator + Copy>(
+    book: &'a ChainBook<A>,
+    header: &Header<A>,
+    place: usize,
+) -> &'a ValidatorSet<A>
+    requires { slice_get book.now.sets place ≡ Some (own_set book.now header.now) }
+    ensures own { result.now ≡ own_set book.entry.now header.now }
+{
+    &book.sets()[place]
 }
 
 /// The signed power of a header in a set, where a lower record names the set. `tally` is the set's,
@@ -108,24 +124,27 @@ fn kept_power<A: Allocator + Copy>(
     }
 }
 
-/// What is kept of a header: all its sums are read from one plane of its commit voters.
+/// What is kept of a header whose own set stands at a place: all its sums are read from one plane of
+/// its commit voters.
 #[tactic(auto, unfolding(crate::specs::Kept::kept_of))]
-pub fn kept_of<A: Allocator + Copy>(
+pub fn kept_by_lanes<A: Allocator + Copy>(
     alloc: A,
     book: &ChainBook<A>,
     header: &Header<A>,
+    own_place: usize,
     lowest: &[Option<Height>],
     columns: &Columns<A>,
     tallies: &[Tally<A>],
 ) -> Result<Kept<A>, AllocError>
-    requires backed { IsBacked book.now header.now }
+    requires own { slice_get book.now.sets own_place ≡ Some (own_set book.now header.now) }
+    requires signed { IsSignedBy header.now (own_set book.now header.now) }
     requires lowest { lowest.now ≡ map (first_naming book.now) book.now.sets }
     requires numbered { All (AreNumbered columns.now) book.now.sets }
     requires tallies { tallies.now ≡ map (entries_of columns.now) book.now.sets }
     ensures { IfOk result (λ kept. kept ≡ kept_of book.now header.now) }
 {
-    let own = own_set(book, header);
-    let own_tally = &tallies[own_place(book, header)];
+    let own = own_at(book, header, own_place);
+    let own_tally = &tallies[own_place];
     let plane = voters_plane(alloc, columns, own, own_tally, header)?;
     let own_signed = tallied(columns, own, own_tally, own, header, &plane);
     let is_signed = Fraction::two_thirds().is_exceeded_by(own_signed, own.total());
@@ -143,6 +162,25 @@ pub fn kept_of<A: Allocator + Copy>(
         ))?;
     }
     Ok(Kept::new(own.size(), is_signed, signed))
+}
+
+/// What is kept of a header of the book.
+pub fn kept_of<A: Allocator + Copy>(
+    alloc: A,
+    book: &ChainBook<A>,
+    header: &Header<A>,
+    lowest: &[Option<Height>],
+    columns: &Columns<A>,
+    tallies: &[Tally<A>],
+) -> Result<Kept<A>, AllocError>
+    requires backed { IsBacked book.now header.now }
+    requires lowest { lowest.now ≡ map (first_naming book.now) book.now.sets }
+    requires numbered { All (AreNumbered columns.now) book.now.sets }
+    requires tallies { tallies.now ≡ map (entries_of columns.now) book.now.sets }
+    ensures { IfOk result (λ kept. kept ≡ kept_of book.now header.now) }
+{
+    let place = own_place(book, header);
+    kept_by_lanes(alloc, book, header, place, lowest, columns, tallies)
 }
 
 /// The signed power of a header in a set, where a lower record names the set, by the members one

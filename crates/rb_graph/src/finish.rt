@@ -9,6 +9,7 @@ use crate::cause::Cause;
 use crate::frame::Frame;
 use crate::frame_row::FrameRow;
 use crate::graph::Graph;
+use crate::lanes::Lanes;
 use crate::source::Kept;
 use std::alloc::{Allocator, Global};
 
@@ -38,11 +39,15 @@ impl<A: Allocator + Copy> Frame<A> {
         let Frame {
             book,
             next_places,
-            ..
+            lowest,
+            columns,
+            tallies,
         } = self;
         Ok(Graph {
             book,
             next_places,
+            lowest,
+            lanes: Some(Lanes { columns, tallies }),
             rows: kept_in_order(rows, kept),
         })
     }

@@ -19,9 +19,9 @@ use std::marker::Model;
 pub struct Frame<A: Allocator = Global> {
     pub(crate) book: ChainBook<A>,
     pub(crate) next_places: Vec<Option<usize>, A>,
-    lowest: Vec<Option<Height>, A>,
-    columns: Columns<A>,
-    tallies: Vec<Tally<A>, A>,
+    pub(crate) lowest: Vec<Option<Height>, A>,
+    pub(crate) columns: Columns<A>,
+    pub(crate) tallies: Vec<Tally<A>, A>,
 }
 
 impl<A: Allocator> Model for Frame<A> {

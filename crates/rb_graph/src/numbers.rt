@@ -46,7 +46,7 @@ pub fn number_sets<A: Allocator + Copy>(
 }
 
 /// A set's powers by column.
-fn tally_of<A: Allocator + Copy>(
+pub fn tally_of<A: Allocator + Copy>(
     alloc: A,
     columns: &Columns<A>,
     set: &ValidatorSet<A>,

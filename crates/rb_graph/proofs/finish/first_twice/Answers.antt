@@ -1,5 +1,5 @@
 use Rattle.std.proofs.Common.{arith}
-use Rattle.rb_graph.proofs.Finishing.{twice_found, once_more, once_begun, once_all}
+use Rattle.rb_graph.proofs.Finishing.{twice_found, once_more, once_all}
 use Rattle.rb_graph.proofs.finish.first_twice.Goals as goal
 
 pub returns-then-number : goal.returns-then-number

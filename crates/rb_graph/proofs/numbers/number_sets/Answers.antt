@@ -1,8 +1,5 @@
-use Rattle.std.proofs.Common.{◌≡◌, ℕ, true, List, get_or, length, take, subst, sym, ap, ◌∙◌, arith}
-use Rattle.std.specs.List.{All}
+use Rattle.std.proofs.Common.{get_or, take, subst, ◌∙◌, arith}
 use Rattle.std.proofs.lemmas.List.{length-take}
-use Rattle.rb_valset.specs.Validator.{Member, address_of}
-use Rattle.rb_book.specs.Book.{is_known_address}
 use Rattle.rb_graph.specs.Numbering.{IsNumbered, AreNumbered}
 use Rattle.rb_graph.proofs.Numbering.{intern_step, intern_keeps, all-more, all-whole}
 use Rattle.rb_graph.proofs.Room.{has_room, none-of_sets, interned-of_sets, member_known}

@@ -1,4 +1,4 @@
-use Rattle.std.proofs.Common.{◌≡◌, ◌≤◌, ℕ, All, length}
+use Rattle.std.proofs.Common.{All}
 use Rattle.rb_graph.specs.Frame.{IsRowOf}
 use Rattle.rb_graph.proofs.Finishing.{MadeBelow}
 use Rattle.rb_graph.proofs.frame.Frame.all_rows.Given as goal

@@ -1,4 +1,4 @@
-use Rattle.std.proofs.Common.{◌≡◌, ℕ, List, length, map, All, subst, sym, ap, ◌∙◌}
+use Rattle.std.proofs.Common.{ℕ, List, length, subst, sym, ap, ◌∙◌}
 use Rattle.std.proofs.lemmas.List.Sorted.{All-permutation}
 use Rattle.rb_book.specs.Book.{Book}
 use Rattle.rb_graph.specs.Frame.{FrameRow, IsRowOf, IsWhole, kept_rows}
@@ -33,8 +33,12 @@ invariant_of-result g c =
     let right = All-permutation (IsRowOf b) c.args.rows.items sorted c.sort_by_number.ensures.same c.requires in
     let placed : AreInPlace (length b.headers) sorted =
     subst (λ (l : List FrameRow). AreInPlace (length b.headers) l) c.as_slice.ensures.value
-    (subst (λ (n : ℕ). AreInPlace n c.as_slice.result.now) c.rows.ensures c.in_default.ensures.in_place) in
-    (c.self.invariant.0, c.kept_in_order.ensures ∙ all_kept b sorted right placed ∙ ap kept_rows (sym c.self.view_is))
+    (subst (λ (n : ℕ). AreInPlace n c.as_slice.result.now) c.rows.ensures c.in_default.ensures.in_place) in (
+      c.self.invariant.0,
+      c.kept_in_order.ensures ∙ all_kept b sorted right placed ∙ ap kept_rows (sym c.self.view_is),
+      c.self.invariant.1,
+      (c.self.invariant.2, c.self.invariant.3),
+    )
 
 pub returns-clause-whole : goal.returns-clause-whole
 returns-clause-whole g c =

@@ -1,7 +1,6 @@
-use Rattle.std.proofs.Common.{List, length, subst, arith}
+use Rattle.std.proofs.Common.{length, subst, arith}
 use Rattle.rb_book.specs.Book.{Book}
 use Rattle.rb_graph.specs.declared.cause.Cause.{Cause}
-use Rattle.rb_graph.specs.Frame.{FrameRow, IsWhole}
 use Rattle.rb_graph.specs.Cause.{Explains}
 use Rattle.rb_graph.proofs.graph.Graph.from_book.Goals as goal
 

@@ -12,35 +12,35 @@ use Rattle.rb_graph.specs.Numbering.{AreNumbered, entries_of}
 use Rattle.rb_graph.proofs.Accepted.{exceeds-test}
 use Rattle.rb_graph.proofs.Numbering.{map_step}
 use Rattle.rb_graph.proofs.Sources.{made_at}
-use Rattle.rb_graph.proofs.build.kept_of.Goals as goal
+use Rattle.rb_graph.proofs.build.kept_by_lanes.Goals as goal
 
 pub voters_plane-requires-clause-numbered : goal.voters_plane-requires-clause-numbered
 voters_plane-requires-clause-numbered g c =
     let b = c.args.book.now in
     let own : List Member = own_set b c.args.header.now in
-    subst (AreNumbered c.args.columns.now) (get_or_from_slice_get b.sets c.own_place.result own own c.own_place.ensures ∙ sym c.own_set-own.ensures.own)
-    (c.requires.numbered c.own_place.result own (slice_get_within b.sets c.own_place.result own c.own_place.ensures))
+    subst (AreNumbered c.args.columns.now) (get_or_from_slice_get b.sets c.args.own_place own own c.requires.own ∙ sym c.own_at-own.ensures.own)
+    (c.requires.numbered c.args.own_place own (slice_get_within b.sets c.args.own_place own c.requires.own))
 
 pub voters_plane-requires-clause-tally : goal.voters_plane-requires-clause-tally
 voters_plane-requires-clause-tally g c =
     let b = c.args.book.now in
     c.index-tallies-own_place.is
-    ∙ made_at (entries_of c.args.columns.now) b.sets c.args.tallies.now c.own_place.result (own_set b c.args.header.now) c.index-tallies-own_place.result c.requires.tallies c.own_place.ensures
-    ∙ ap (entries_of c.args.columns.now) (sym c.own_set-own.ensures.own)
+    ∙ made_at (entries_of c.args.columns.now) b.sets c.args.tallies.now c.args.own_place (own_set b c.args.header.now) c.index-tallies-own_place.result c.requires.tallies c.requires.own
+    ∙ ap (entries_of c.args.columns.now) (sym c.own_at-own.ensures.own)
 
 pub tallied-own_signed-requires-clause-numbered : goal.tallied-own_signed-requires-clause-numbered
 tallied-own_signed-requires-clause-numbered g c =
     let b = c.args.book.now in
     let own : List Member = own_set b c.args.header.now in
-    subst (AreNumbered c.args.columns.now) (get_or_from_slice_get b.sets c.own_place.result own own c.own_place.ensures ∙ sym c.own_set-own.ensures.own)
-    (c.requires.numbered c.own_place.result own (slice_get_within b.sets c.own_place.result own c.own_place.ensures))
+    subst (AreNumbered c.args.columns.now) (get_or_from_slice_get b.sets c.args.own_place own own c.requires.own ∙ sym c.own_at-own.ensures.own)
+    (c.requires.numbered c.args.own_place own (slice_get_within b.sets c.args.own_place own c.requires.own))
 
 pub tallied-own_signed-requires-clause-tally : goal.tallied-own_signed-requires-clause-tally
 tallied-own_signed-requires-clause-tally g c =
     let b = c.args.book.now in
     c.index-tallies-own_place.is
-    ∙ made_at (entries_of c.args.columns.now) b.sets c.args.tallies.now c.own_place.result (own_set b c.args.header.now) c.index-tallies-own_place.result c.requires.tallies c.own_place.ensures
-    ∙ ap (entries_of c.args.columns.now) (sym c.own_set-own.ensures.own)
+    ∙ made_at (entries_of c.args.columns.now) b.sets c.args.tallies.now c.args.own_place (own_set b c.args.header.now) c.index-tallies-own_place.result c.requires.tallies c.requires.own
+    ∙ ap (entries_of c.args.columns.now) (sym c.own_at-own.ensures.own)
 
 pub kept_power-requires-clause-numbered : goal.kept_power-requires-clause-numbered
 kept_power-requires-clause-numbered g c =
@@ -58,8 +58,8 @@ unfolding kept_of
 returns g c =
     let b = c.args.book.now in
     let h = c.args.header.now in
-    let own = c.own_set-own.result.now in
-    let e : own ≡ own_set b h = c.own_set-own.ensures.own in
+    let own = c.own_at-own.result.now in
+    let e : own ≡ own_set b h = c.own_at-own.ensures.own in
     let size : c.size.result ≡ length (own_set b h) = c.size.ensures.value ∙ ap (λ (s : List Member). length s) e in
     let power : c.tallied-own_signed.result ≡ signed_power (own_set b h) (own_set b h) h = c.tallied-own_signed.ensures ∙ ap (λ (s : List Member). signed_power s s h) e in
     let total : c.total.result ≡ total_of (own_set b h) = c.total.ensures.value ∙ ap total_of e in
