@@ -11,16 +11,16 @@ use Rattle.rb_events.specs.declared.refusal.Refusal.{Refusal}
 use Rattle.rb_events.specs.declared.refusal.Refusal.TheVariants.{UnknownObject, Stale, Busy, Repeat, OutOfOrder, NotOwed, LogFull}
 use Rattle.rb_scan.specs.Same.{same_path, same_path-Decides}
 use Rattle.rb_core.specs.Core.{IsFold}
-use Rattle.rb_core.specs.Draft.{Draft}
-use Rattle.rb_core.specs.Entry.{Logged, logged_of, event_of, events_of}
-use Rattle.rb_core.specs.Event.{Event, IsEvent, Window, Asked, SetSeen, HeaderSeen, StoredSeen, Sent, Received, AckWritten, Cleared, Closed, Scanned, Planned, Settled}
-use Rattle.rb_core.specs.Log.{accepted_from, log_of, IsLog}
-use Rattle.rb_core.specs.Machine.{State, opening, plan_number, is_held, all_scanned, is_view, is_scanned, is_job, client_view, max_events, is_known, refusal_beside, refusal_of, accepted, after, state_of}
-use Rattle.rb_core.specs.Refusal.{refused_if}
-use Rattle.rb_core.specs.Same.{same_job, same_job-Decides}
-use Rattle.rb_core.specs.Scan.{Scan}
-use Rattle.rb_core.specs.Standing.{judged, path_view}
-use Rattle.rb_core.proofs.Options.{passes, tested}
+use Rattle.rb_task.specs.Draft.{Draft}
+use Rattle.rb_machine.specs.Entry.{Logged, logged_of, event_of, events_of}
+use Rattle.rb_machine.specs.Event.{Event, IsEvent, Window, Asked, SetSeen, HeaderSeen, StoredSeen, Sent, Received, AckWritten, Cleared, Closed, Scanned, Planned, Settled}
+use Rattle.rb_machine.specs.Log.{accepted_from, log_of, IsLog}
+use Rattle.rb_machine.specs.Machine.{State, opening, plan_number, is_held, all_scanned, is_view, is_scanned, is_job, client_view, max_events, is_known, refusal_beside, refusal_of, accepted, after, state_of}
+use Rattle.rb_machine.specs.Refusal.{refused_if}
+use Rattle.rb_task.specs.Same.{same_job, same_job-Decides}
+use Rattle.rb_machine.specs.Scan.{Scan}
+use Rattle.rb_machine.specs.Standing.{judged, path_view}
+use Rattle.rb_machine.proofs.Options.{passes, tested}
 
 -- ---- events that aren't refused
 

@@ -15,15 +15,15 @@ use Rattle.rb_book.specs.Shared.{Shared}
 use Rattle.rb_scan.specs.Path.{Path, heights_of as path_heights, times_of as path_times}
 use Rattle.rb_scan.specs.Same.{same_path, same_path-Decides}
 use Rattle.rb_step.specs.View.{View}
-use Rattle.rb_core.proofs.Options.{tested}
-use Rattle.rb_core.specs.Held.{books_of}
+use Rattle.rb_machine.proofs.Options.{tested}
+use Rattle.rb_known.specs.Held.{books_of}
 use Rattle.rb_scan.specs.declared.scan.Part.{Part}
 use Rattle.rb_scan.specs.declared.scan.Part.TheVariants.{Packets, Channel}
-use Rattle.rb_core.specs.Machine.{State, is_view, no_scans, scan_of, client_view, job_of, plan_number, seen_owed}
-use Rattle.rb_core.specs.Same.{same_fees, same_options, same_span, same_view}
-use Rattle.rb_core.specs.Scan.{Scan}
-use Rattle.rb_core.specs.Standing.{KnownClient, book_at, empty_book, path_view, path_tasks, view_of}
-use Rattle.rb_core.specs.Task.{PathTask}
+use Rattle.rb_machine.specs.Machine.{State, is_view, no_scans, scan_of, client_view, job_of, plan_number, seen_owed}
+use Rattle.rb_task.specs.Same.{same_fees, same_options, same_span, same_view}
+use Rattle.rb_machine.specs.Scan.{Scan}
+use Rattle.rb_machine.specs.Standing.{KnownClient, book_at, empty_book, path_view, path_tasks, view_of}
+use Rattle.rb_task.specs.Task.{PathTask}
 
 -- ---- look-ups
 
@@ -122,23 +122,6 @@ pub client_seen : (s : State) (client : ℕ) (window : Span) (k : KnownClient) �
     → client_view s client ≡ Some (job_of s client window k)
 client_seen s client window k e f =
     ap (option_and_then (λ w. option_map (job_of s client w) (slice_get s.standing.clients client))) e ∙ ap (option_map (job_of s client window)) f
-
--- a job of these parts
-pub job_made : (s : State) (client : ℕ) (window : Span) (k : KnownClient) (book : Book) (paths : List PathTask) (plan : ℕ)
-    → book ≡ book_at s.standing.books k.config.tracks → paths ≡ path_tasks (seen_owed s) s.standing.paths client → plan ≡ plan_number s client
-    → record {
-      client = client;
-      task = record { view = view_of window book k; gas = k.config.gas; limits = k.config.limits; refresh = k.config.refresh; paths = paths; asked = k.asked };
-      plan = plan;
-      held = is_some k.batch;
-    } ≡ job_of s client window k
-job_made s client window k book paths plan e f h =
-    λ i. record {
-      client = client;
-      task = record { view = view_of window (e i) k; gas = k.config.gas; limits = k.config.limits; refresh = k.config.refresh; paths = f i; asked = k.asked };
-      plan = h i;
-      held = is_some k.batch;
-    }
 
 -- a view of these parts
 pub view_made : (v : View) (window : Span) (book : Book) (k : KnownClient) (a b : Bool)

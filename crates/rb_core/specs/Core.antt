@@ -3,14 +3,14 @@ use Rattle.std.specs.Prelude.{◌≡◌, ℕ, ◌<◌, ◌≤◌, Bool, true, Li
 use Rattle.rb_book.specs.Shared.{Shared}
 use Rattle.rb_events.specs.Config.{Config}
 use Rattle.rb_events.specs.declared.refusal.Refusal.{Refusal}
-use Rattle.rb_core.specs.Batches.{batch_open}
-use Rattle.rb_core.specs.Config.{IsSetUp}
-use Rattle.rb_core.specs.Event.{Event, IsEvent, SetSeen, HeaderSeen, StoredSeen, Sent, Settled}
-use Rattle.rb_core.specs.Held.{HeldClient, HeldPath}
-use Rattle.rb_core.specs.Judged.{Ready}
-use Rattle.rb_core.specs.Log.{IsLog}
-use Rattle.rb_core.specs.Machine.{State, state_of, refusal_of}
-use Rattle.rb_core.specs.Standing.{OpenBatch, tracked}
+use Rattle.rb_machine.specs.Batches.{batch_open}
+use Rattle.rb_machine.specs.Config.{IsSetUp}
+use Rattle.rb_machine.specs.Event.{Event, IsEvent, SetSeen, HeaderSeen, StoredSeen, Sent, Settled}
+use Rattle.rb_known.specs.Held.{HeldClient, HeldPath}
+use Rattle.rb_machine.specs.Judged.{Ready}
+use Rattle.rb_machine.specs.Log.{IsLog}
+use Rattle.rb_machine.specs.Machine.{State, state_of, refusal_of}
+use Rattle.rb_machine.specs.Standing.{OpenBatch, tracked}
 use Rattle.rb_core.specs.declared.known.Known.{Known}
 
 -- for how many more there is room: events in the log, stored heights of each client, packets of each path; and whether

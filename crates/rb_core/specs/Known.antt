@@ -1,20 +1,15 @@
 -- What the code knows, as a state, and where it has room for an event.
-use Rattle.std.specs.Prelude.{ℕ, ◌<◌, length}
 use Rattle.rb_core.specs.declared.known.Known.{Known}
-use Rattle.rb_core.specs.Event.{Event, SetSeen, HeaderSeen, StoredSeen, Sent, Settled}
-use Rattle.rb_core.specs.Held.{books_of, clients_of, paths_of, IsApart, HasStoredRoom, HasSettleRoom, HasPacketRoom}
-use Rattle.rb_core.specs.Machine.{State}
-use Rattle.rb_core.specs.Standing.{Standing, tracked}
+use Rattle.rb_machine.specs.Event.{Event, SetSeen, HeaderSeen, StoredSeen, Sent, Settled}
+use Rattle.rb_known.specs.Held.{books_of, clients_of, paths_of, IsApart, HasStoredRoom, HasSettleRoom, HasPacketRoom}
+use Rattle.rb_machine.specs.Machine.{State}
+use Rattle.rb_machine.specs.Standing.{Standing, tracked}
 
 abbrev pub standing_view : {A : Type 0} → Known A → Standing
 standing_view k = record { window = k.window; books = books_of k.books.items; clients = clients_of k.clients.items; paths = paths_of k.paths.items }
 
 abbrev pub state_view : {A : Type 0} → Known A → State
 state_view k = record { standing = standing_view k; plans = k.plans.items; scans = k.scans.items; front = k.front }
-
--- the chain that a client tracks is there
-abbrev pub AreTracked : Standing → Type 0
-AreTracked s = (client : ℕ) → client < length s.clients → tracked s.clients client < length s.books
 
 -- an event can be taken in without memory
 abbrev pub HasRoom : {A : Type 0} → Known A → Event → Type 0

@@ -5,26 +5,24 @@ ghost use Rattle.std.specs.Option.{option_to_list};
 ghost use Rattle.std.proofs.Common.{nat_eq};
 ghost use Rattle.rb_book.specs.Book.{same_book};
 ghost use Rattle.rb_step.specs.View.{IsView};
-ghost use Rattle.rb_core.specs.Draft.{Job};
-ghost use Rattle.rb_core.specs.Held.{books_of};
+ghost use Rattle.rb_task.specs.Draft.{Job};
+ghost use Rattle.rb_known.specs.Held.{books_of};
 ghost use Rattle.rb_core.specs.Known.{standing_view, state_view};
-ghost use Rattle.rb_core.specs.Machine.{job_of, client_view, client_view_refusal, is_job, plan_number, seen_owed};
-ghost use Rattle.rb_core.specs.Refused.{IsRefusal};
-ghost use Rattle.rb_core.specs.Same.{same_fees, same_job, same_options, same_path_task, same_span, same_task, same_view};
-ghost use Rattle.rb_core.specs.Standing.{book_at, empty_book, path_task, path_tasks, view_of};
+ghost use Rattle.rb_machine.specs.Machine.{job_of, client_view, client_view_refusal, is_job, plan_number, seen_owed};
+ghost use Rattle.rb_machine.specs.Refused.{IsRefusal};
+ghost use Rattle.rb_task.specs.Same.{same_fees, same_job, same_options, same_path_task, same_span, same_task, same_view};
+ghost use Rattle.rb_machine.specs.Standing.{book_at, empty_book, path_task, path_tasks, view_of};
 
-use crate::client::KnownClient;
-use crate::error::CoreError;
-use crate::job::{JobView, same_heights};
 use crate::known::Known;
-use crate::path::KnownPath;
 use crate::path_views::{find_book, part_for, seen_owed};
-use crate::task::{PathTask, Task, same_messages};
 use rb_base::Window;
 use rb_book::{ChainBook, SharedBook};
 use rb_events::{PathConfig, Refusal};
+use rb_known::{KnownClient, KnownPath};
+use rb_machine::CoreError;
 use rb_scan::Part;
 use rb_step::ClientView;
+use rb_task::{JobView, NextPlan, PathTask, Task, same_heights, same_messages};
 use std::alloc::{AllocError, Allocator};
 
 /// A client, if there is one at this place.
@@ -122,10 +120,23 @@ fn job_of<A: Allocator + Copy>(
     requires { IsView (job_of (state_view known.now) client window held.now.client).task.view }
     ensures { IfOk result (λ job. job ≡ job_of (state_view known.now) client window held.now.client) }
 {
-    let plan = plan_number(known, client);
-    let book = share_in(alloc, known.books.as_slice(), held.config().tracks)?;
+    let config = held.config();
+    let book = share_in(alloc, known.books.as_slice(), config.tracks)?;
     let paths = path_tasks(alloc, known, client)?;
-    let job = JobView::new(client, held, plan, window, book, paths)?;
+    let next = NextPlan {
+        client,
+        number: plan_number(known, client),
+        held: held.is_held(),
+    };
+    let job = JobView::new(
+        next,
+        config,
+        held.stored(),
+        held.asked(),
+        window,
+        book,
+        paths,
+    )?;
     Ok(job)
 }
 

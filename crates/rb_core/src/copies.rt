@@ -1,17 +1,16 @@
 //! New and copied parts of a core.
 ghost use Rattle.std.specs.Prelude.{◌≡◌, ◌≤◌, IfOk, replicate, map};
 ghost use Rattle.rb_events.specs.Config.{config_view};
-ghost use Rattle.rb_core.specs.Held.{books_of, clients_of, paths_of};
+ghost use Rattle.rb_known.specs.Held.{books_of, clients_of, paths_of};
 ghost use Rattle.rb_core.specs.Known.{state_view};
-ghost use Rattle.rb_core.specs.Machine.{opening, no_scans};
-ghost use Rattle.rb_core.specs.Standing.{empty_book, new_client, new_path};
+ghost use Rattle.rb_machine.specs.Machine.{opening, no_scans};
+ghost use Rattle.rb_machine.specs.Standing.{empty_book, new_client, new_path};
 
-use crate::client::KnownClient;
 use crate::known::Known;
-use crate::path::KnownPath;
 use crate::scans::Scans;
 use rb_book::{ChainBook, SharedBook};
 use rb_events::{ClientConfig, Config, PathConfig};
+use rb_known::{KnownClient, KnownPath};
 use std::alloc::{AllocError, Allocator};
 
 fn new_books<A: Allocator + Copy>(

@@ -1,23 +1,19 @@
 //! Events are judged, and then taken in.
 ghost use Rattle.std.specs.Prelude.{◌≡◌, ◌<◌, ◌++◌, ◌∷◌, [], map, vec_len, vec_capacity, None, IfOk, IfErr};
-ghost use Rattle.rb_core.specs.Entry.{entry_view, logged_of};
-ghost use Rattle.rb_core.specs.Event as events;
-ghost use Rattle.rb_core.specs.Event.{IsEvent};
-ghost use Rattle.rb_core.specs.Kept.{IsKept};
+ghost use Rattle.rb_machine.specs.Entry.{entry_view, logged_of};
+ghost use Rattle.rb_machine.specs.Event as events;
+ghost use Rattle.rb_machine.specs.Event.{IsEvent};
+ghost use Rattle.rb_machine.specs.Kept.{IsKept};
 ghost use Rattle.rb_core.specs.Known.{state_view, HasRoom};
-ghost use Rattle.rb_core.specs.Machine.{refusal_of, accepted, reply_of};
-ghost use Rattle.rb_core.specs.Refused.{IsRefusal};
-ghost use Rattle.rb_core.specs.Replied.{reply_view};
-ghost use Rattle.rb_core.specs.Seen.{event_view};
+ghost use Rattle.rb_machine.specs.Machine.{refusal_of, accepted, reply_of};
+ghost use Rattle.rb_machine.specs.Refused.{IsRefusal};
+ghost use Rattle.rb_machine.specs.Replied.{reply_view};
+ghost use Rattle.rb_machine.specs.Seen.{event_view};
 
-use crate::entry::Entry;
-use crate::error::CoreError;
-use crate::event::Event;
 use crate::known::Known;
-use crate::ready::Ready;
 use crate::refusing::refuse;
-use crate::reply::Reply;
 use crate::taking::{make_room, put};
+use rb_machine::{CoreError, Entry, Event, Ready, Reply};
 use std::alloc::Allocator;
 
 /// Judges an event, and makes what taking it in takes.

@@ -1,39 +1,35 @@
 //! What a relayer knows between two events, and what it makes of what is observed.
 ghost use Rattle.std.specs.Prelude.{◌≡◌, ◌<◌, suc, true, None, IfSome, IsSome, IsSomeAnd, OnOk, length, slice_get, slice_set, slice_index_or};
 ghost use Rattle.std.specs.Option.{option_and_then};
-ghost use Rattle.rb_core.specs.Event as events;
-ghost use Rattle.rb_core.specs.Event.{Event};
-ghost use Rattle.rb_core.specs.Held.{HasSettleRoom};
-ghost use Rattle.rb_core.specs.Known.{standing_view, state_view, AreTracked, HasRoom};
-ghost use Rattle.rb_core.specs.Machine.{is_known, max_events, no_scans, plan_number, reply_for, with_scan};
-ghost use Rattle.rb_core.specs.Replied.{reply_view};
-ghost use Rattle.rb_core.specs.Seen.{observed};
-ghost use Rattle.rb_core.specs.Standing as standings;
-ghost use Rattle.rb_core.specs.Standing.{goes_back, judged, changed, with_client, after_answer, batch_opened};
+ghost use Rattle.rb_machine.specs.Event as events;
+ghost use Rattle.rb_machine.specs.Event.{Event};
+ghost use Rattle.rb_known.specs.Held.{HasSettleRoom};
+ghost use Rattle.rb_core.specs.Known.{standing_view, state_view, HasRoom};
+ghost use Rattle.rb_machine.specs.Machine.{is_known, max_events, no_scans, plan_number, reply_for, with_scan};
+ghost use Rattle.rb_machine.specs.Replied.{reply_view};
+ghost use Rattle.rb_machine.specs.Seen.{observed};
+ghost use Rattle.rb_machine.specs.Standing as standings;
+ghost use Rattle.rb_machine.specs.Standing.{AreTracked, goes_back, judged, changed, with_client, after_answer, batch_opened};
 
-use crate::books::{
-    put_header, put_record, put_set, refuse_header, refuse_record, refuse_set, set_apart,
-    set_apart_for,
-};
-use crate::client::KnownClient;
-use crate::clients::{
-    ask, make_settle_room, make_stored_room, open, refuse_settled, settle, store, tracked,
-};
-use crate::mark::Mark;
-use crate::path::KnownPath;
-use crate::paths::{
-    close, make_packet_room, put_mark, put_sent, refuse_cleared, refuse_closed, refuse_received,
-    refuse_sent, refuse_written, settle_messages,
-};
-use crate::planned::Planned;
-use crate::reply::Reply;
 use crate::scans::Scans;
-use crate::seen::Scan;
-use crate::settling::settled_messages;
 use rb_base::Window;
 use rb_book::SharedBook;
 use rb_events::{Asked, Observation, Refusal, Settlement};
+use rb_known::books::{
+    put_header, put_record, put_set, refuse_header, refuse_record, refuse_set, set_apart,
+    set_apart_for,
+};
+use rb_known::clients::{
+    ask, make_settle_room, make_stored_room, open, refuse_settled, settle, store, tracked,
+};
+use rb_known::paths::{
+    close, make_packet_room, put_mark, put_sent, refuse_cleared, refuse_closed, refuse_received,
+    refuse_sent, refuse_written, settle_messages,
+};
+use rb_known::{KnownClient, KnownPath, Mark, settled_messages};
+use rb_machine::{Reply, Scan};
 use rb_scan::Packet;
+use rb_task::Planned;
 use std::alloc::{AllocError, Allocator, Global};
 
 /// The window, a book for each chain, the clients, the paths, the number of each client's next plan,

@@ -6,20 +6,19 @@ ghost use Rattle.std.specs.List.Sorted.{IsStrictlyIncreasing};
 ghost use Rattle.rb_book.specs.Book.{height_of, time_of, times_of};
 ghost use Rattle.rb_scan.specs.Path.{heights_of as path_heights, times_of as path_times};
 ghost use Rattle.rb_scan.specs.Same.{same_order, same_packet, same_path, same_record};
-ghost use Rattle.rb_core.specs.Config.{part_for};
-ghost use Rattle.rb_core.specs.Held.{books_of};
+ghost use Rattle.rb_machine.specs.Config.{part_for};
+ghost use Rattle.rb_known.specs.Held.{books_of};
 ghost use Rattle.rb_core.specs.Known.{standing_view, state_view};
-ghost use Rattle.rb_core.specs.Machine.{no_scans, scan_of, is_view, is_scanned, is_missed, all_scanned, seen_owed, path_view_refusal};
-ghost use Rattle.rb_core.specs.Refused.{IsRefusal};
-ghost use Rattle.rb_core.specs.Standing.{book_at, empty_book, view_of_path, path_view};
+ghost use Rattle.rb_machine.specs.Machine.{no_scans, scan_of, is_view, is_scanned, is_missed, all_scanned, seen_owed, path_view_refusal};
+ghost use Rattle.rb_machine.specs.Refused.{IsRefusal};
+ghost use Rattle.rb_machine.specs.Standing.{book_at, empty_book, view_of_path, path_view};
 
-use crate::error::CoreError;
 use crate::known::Known;
-use crate::path::KnownPath;
-use crate::seen::Scan;
 use rb_base::{Height, Moment};
 use rb_book::{Known as KnownRecord, SharedBook};
 use rb_events::{PathConfig, Refusal};
+use rb_known::KnownPath;
+use rb_machine::{CoreError, Scan};
 use rb_scan::{Packet, PacketMsg, Part, PathView};
 use std::alloc::{AllocError, Allocator};
 

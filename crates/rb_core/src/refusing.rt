@@ -1,17 +1,16 @@
 //! Why an event is refused.
 ghost use Rattle.std.specs.Prelude.{◌≡◌, true};
-ghost use Rattle.rb_core.specs.Kept.{IsKept};
+ghost use Rattle.rb_machine.specs.Kept.{IsKept};
 ghost use Rattle.rb_core.specs.Known.{state_view};
-ghost use Rattle.rb_core.specs.Machine.{is_known, is_held, scan_refusal, draft_refusal, refusal_beside, refusal_of};
-ghost use Rattle.rb_core.specs.Seen.{event_view};
+ghost use Rattle.rb_machine.specs.Machine.{is_known, is_held, scan_refusal, draft_refusal, refusal_beside, refusal_of};
+ghost use Rattle.rb_machine.specs.Seen.{event_view};
 
 use crate::client_views::{is_job, plan_number};
-use crate::drafts::Draft;
-use crate::event::Event;
 use crate::known::Known;
 use crate::path_views::{all_scanned, is_scanned, is_view};
-use crate::seen::Scan;
 use rb_events::Refusal;
+use rb_machine::{Event, Scan};
+use rb_task::Draft;
 use std::alloc::Allocator;
 
 /// The most events that are taken in.

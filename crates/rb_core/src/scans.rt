@@ -1,10 +1,10 @@
 //! The scans of a path.
 ghost use Rattle.std.specs.Prelude.{◌≡◌, IfOk};
 ghost use Rattle.std.specs.Option.{option_map, option_copied};
-ghost use Rattle.rb_core.specs.Machine.{no_scans, scan_of, with_scan};
-ghost use Rattle.rb_core.specs.Scan.{Scan};
+ghost use Rattle.rb_machine.specs.Machine.{no_scans, scan_of, with_scan};
+ghost use Rattle.rb_machine.specs.Scan.{Scan};
 
-use crate::seen::{Scan, copy_scan};
+use rb_machine::{Scan, copy_scan};
 use rb_scan::Part;
 use std::alloc::{AllocError, Allocator, Global};
 use std::marker::Model;
@@ -20,8 +20,8 @@ impl<A: Allocator> Model for Scans<A> {
     ghost use Rattle.std.specs.Prelude.{◌≡◌};
     ghost use Rattle.std.specs.Option.{option_map, ForSome};
     ghost use Rattle.rb_scan.specs.declared.scan.Part.TheVariants.{Packets, Channel};
-    ghost use Rattle.rb_core.specs.Machine as machines;
-    ghost use Rattle.rb_core.specs.Scan.{Scan};
+    ghost use Rattle.rb_machine.specs.Machine as machines;
+    ghost use Rattle.rb_machine.specs.Scan.{Scan};
 
     ghost Value = { machines.Scans };
 

@@ -1,16 +1,15 @@
 //! Events are taken in.
 ghost use Rattle.std.specs.Prelude.{◌≡◌, ◌<◌, true, None, IfSome, IsSome, IsSomeAnd, OnOk, length, slice_get};
-ghost use Rattle.rb_core.specs.Event as events;
-ghost use Rattle.rb_core.specs.Kept.{IsKept};
+ghost use Rattle.rb_machine.specs.Event as events;
+ghost use Rattle.rb_machine.specs.Kept.{IsKept};
 ghost use Rattle.rb_core.specs.Known.{standing_view, state_view, HasRoom};
-ghost use Rattle.rb_core.specs.Machine.{is_known, max_events, accepted, reply_of};
-ghost use Rattle.rb_core.specs.Replied.{reply_view};
-ghost use Rattle.rb_core.specs.Seen.{event_view};
-ghost use Rattle.rb_core.specs.Standing.{judged};
+ghost use Rattle.rb_machine.specs.Machine.{is_known, max_events, accepted, reply_of};
+ghost use Rattle.rb_machine.specs.Replied.{reply_view};
+ghost use Rattle.rb_machine.specs.Seen.{event_view};
+ghost use Rattle.rb_machine.specs.Standing.{judged};
 
-use crate::event::Event;
 use crate::known::Known;
-use crate::reply::Reply;
+use rb_machine::{Event, Reply};
 use std::alloc::{AllocError, Allocator};
 
 /// Makes what taking in an event that is not refused takes.

@@ -1,6 +1,6 @@
 use Rattle.std.proofs.Common.{ap, ◌∙◌}
-use Rattle.rb_core.specs.Held.{HeldClient, clients_of}
-use Rattle.rb_core.proofs.Copied.{one_more}
+use Rattle.rb_known.specs.Held.{HeldClient, clients_of}
+use Rattle.rb_machine.proofs.Copied.{one_more}
 use Rattle.rb_core.proofs.copies.copy_clients.Goals as goal
 
 pub loop-client-preserved : goal.loop-client-preserved

@@ -1,5 +1,5 @@
 use Rattle.std.proofs.Common.{◌≡◌, take}
-use Rattle.rb_core.specs.Held.{clients_of}
+use Rattle.rb_known.specs.Held.{clients_of}
 use Rattle.rb_core.proofs.copies.copy_clients.Given as goal
 
 abbrev pub invariant-loop-client : goal.invariant-loop-client

@@ -1,5 +1,5 @@
 use Rattle.std.proofs.Common.{◌≡◌, take}
-use Rattle.rb_core.specs.Held.{paths_of}
+use Rattle.rb_known.specs.Held.{paths_of}
 use Rattle.rb_core.proofs.copies.copy_paths.Given as goal
 
 abbrev pub invariant-loop-path : goal.invariant-loop-path

@@ -1,5 +1,5 @@
 use Rattle.std.proofs.Common.{◌≡◌, ℕ, replicate, ap, ◌∙◌, arith}
-use Rattle.rb_core.specs.Standing.{empty_book}
+use Rattle.rb_machine.specs.Standing.{empty_book}
 use Rattle.rb_core.proofs.copies.new_books.Goals as goal
 
 pub returns : goal.returns

@@ -1,6 +1,6 @@
 use Rattle.std.proofs.Common.{◌≡◌, replicate}
-use Rattle.rb_core.specs.Held.{books_of}
-use Rattle.rb_core.specs.Standing.{empty_book}
+use Rattle.rb_known.specs.Held.{books_of}
+use Rattle.rb_machine.specs.Standing.{empty_book}
 use Rattle.rb_core.proofs.copies.new_books.Given as goal
 
 abbrev pub invariant-loop : goal.invariant-loop

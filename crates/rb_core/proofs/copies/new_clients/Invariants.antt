@@ -1,6 +1,6 @@
 use Rattle.std.proofs.Common.{◌≡◌, map, take}
-use Rattle.rb_core.specs.Held.{clients_of}
-use Rattle.rb_core.specs.Standing.{new_client}
+use Rattle.rb_known.specs.Held.{clients_of}
+use Rattle.rb_machine.specs.Standing.{new_client}
 use Rattle.rb_core.proofs.copies.new_clients.Given as goal
 
 abbrev pub invariant-loop-config : goal.invariant-loop-config

@@ -1,8 +1,8 @@
 use Rattle.std.proofs.Common.{◌≡◌, ℕ, length, take, ap, ◌∙◌, arith}
 use Rattle.std.proofs.Math.Seq.{take-length}
 use Rattle.rb_book.specs.Shared.{Shared}
-use Rattle.rb_core.specs.Held.{books_of}
-use Rattle.rb_core.proofs.Copied.{one_more}
+use Rattle.rb_known.specs.Held.{books_of}
+use Rattle.rb_machine.proofs.Copied.{one_more}
 use Rattle.rb_core.proofs.copies.share_books.Goals as goal
 
 pub loop-book-preserved : goal.loop-book-preserved

@@ -1,5 +1,5 @@
 use Rattle.std.proofs.Common.{◌≡◌, take}
-use Rattle.rb_core.specs.Held.{books_of}
+use Rattle.rb_known.specs.Held.{books_of}
 use Rattle.rb_core.proofs.copies.share_books.Given as goal
 
 abbrev pub invariant-loop-book : goal.invariant-loop-book

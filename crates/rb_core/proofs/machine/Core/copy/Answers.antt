@@ -1,8 +1,8 @@
 use Rattle.std.proofs.Common.{◌≡◌, List, map, sym, ap, ◌∙◌, subst}
 use Rattle.rb_events.specs.Config.{Config}
 use Rattle.rb_core.specs.Core.{Core, IsFold}
-use Rattle.rb_core.specs.Entry.{Logged, entry_view, events_of}
-use Rattle.rb_core.specs.Machine.{State, opening}
+use Rattle.rb_machine.specs.Entry.{Logged, entry_view, events_of}
+use Rattle.rb_machine.specs.Machine.{State, opening}
 use Rattle.rb_core.proofs.machine.Core.copy.Goals as goal
 
 pub invariant_of-result : goal.invariant_of-result

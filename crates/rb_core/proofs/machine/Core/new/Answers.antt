@@ -2,7 +2,7 @@ use Rattle.std.proofs.Common.{List, All, map, ap, subst}
 use Rattle.rb_base.specs.Fee.{IsFeeTable}
 use Rattle.rb_events.specs.Config.{config_view}
 use Rattle.rb_events.specs.declared.config.ClientConfig.{ClientConfig}
-use Rattle.rb_core.specs.Entry.{entry_view}
+use Rattle.rb_machine.specs.Entry.{entry_view}
 use Rattle.rb_core.proofs.Rooms.{new_fold}
 use Rattle.rb_core.proofs.machine.Core.new.Goals as goal
 

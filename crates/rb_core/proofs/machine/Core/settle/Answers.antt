@@ -1,13 +1,13 @@
 use Rattle.std.proofs.Common.{◌≡◌, ◌++◌, ◌∷◌, ◌<◌, [], List, None, map, sym, ap, ◌∙◌, subst, arith, vec_len, vec_capacity}
 use Rattle.rb_events.specs.Config.{config_view}
 use Rattle.rb_core.specs.Core.{Core, Room, state_in}
-use Rattle.rb_core.specs.Entry.{entry_view, log_from}
-use Rattle.rb_core.specs.Event.{Event}
-use Rattle.rb_core.specs.Kept.{IsKept}
+use Rattle.rb_machine.specs.Entry.{entry_view, log_from}
+use Rattle.rb_machine.specs.Event.{Event}
+use Rattle.rb_machine.specs.Kept.{IsKept}
 use Rattle.rb_core.specs.Known.{state_view}
-use Rattle.rb_core.specs.Machine.{Reply, State, refusal_of, reply_of}
+use Rattle.rb_machine.specs.Machine.{Reply, State, refusal_of, reply_of}
 use Rattle.rb_core.proofs.Entries.{settled}
-use Rattle.rb_core.proofs.Keeping.{kept_of_events}
+use Rattle.rb_machine.proofs.Keeping.{kept_of_events}
 use Rattle.rb_core.proofs.Rooms.{has_room}
 use Rattle.rb_core.proofs.machine.Core.settle.Goals as goal
 

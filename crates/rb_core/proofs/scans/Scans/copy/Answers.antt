@@ -1,7 +1,7 @@
 use Rattle.std.proofs.Common.{◌≡◌, Option, sym, subst}
 use Rattle.std.specs.Option.{ForSome}
 use Rattle.rb_scan.specs.declared.scan.Part.TheVariants.{Packets, Channel}
-use Rattle.rb_core.specs.Scan.{Scan}
+use Rattle.rb_machine.specs.Scan.{Scan}
 use Rattle.rb_core.proofs.scans.Scans.copy.Goals as goal
 
 pub invariant_of-result : goal.invariant_of-result

@@ -1,0 +1,4 @@
+pub mod Places
+pub mod Counted
+pub mod Replaced
+pub mod Stored

@@ -1,0 +1,137 @@
+//! The books of the chains, by their places.
+ghost use Rattle.std.specs.Prelude.{◌≡◌, ◌<◌, ℕ, None, length, slice_set, IfOk, OnOk};
+ghost use Rattle.std.specs.Option.{option_and_then};
+ghost use Rattle.rb_book.specs.Intake.{set_refusal, header_refusal, record_refusal, after_set, after_header, after_record};
+ghost use Rattle.rb_events.specs.Refusal.{of_book};
+ghost use Rattle.rb_known.specs.Held.{books_of, IsApart};
+ghost use Rattle.rb_machine.specs.Standing.{book_at};
+
+use rb_base::Height;
+use rb_book::{BookError, ChainBook, Header, Record, SharedBook};
+use rb_events::Refusal;
+use rb_valset::ValidatorSet;
+use std::alloc::{AllocError, Allocator};
+
+/// The book of a chain.
+pub(crate) fn book_in<A: Allocator + Copy>(books: &[SharedBook<A>], chain: usize) -> &ChainBook<A>
+    requires { chain < length books.now }
+    ensures { result.now ≡ book_at (books_of books.now) chain }
+{
+    books[chain].book()
+}
+
+/// Why a set of a chain would be refused. Takes no memory.
+pub fn refuse_set<A: Allocator + Copy>(
+    books: &[SharedBook<A>],
+    chain: usize,
+    set: &ValidatorSet<A>,
+) -> Option<Refusal>
+    requires { chain < length books.now }
+    ensures { result ≡ option_and_then of_book (set_refusal (book_at (books_of books.now) chain) set.now) }
+{
+    match book_in(books, chain).judge_set(set) {
+        Ok(()) => None,
+        Err(error) => Refusal::of_book(error),
+    }
+}
+
+/// Why a header of a chain would be refused. Takes no memory.
+pub fn refuse_header<A: Allocator + Copy>(
+    books: &[SharedBook<A>],
+    chain: usize,
+    header: &Header<A>,
+) -> Option<Refusal>
+    requires { chain < length books.now }
+    ensures { result ≡ option_and_then of_book (header_refusal (book_at (books_of books.now) chain) header.now) }
+{
+    match book_in(books, chain).judge_header(header) {
+        Ok(()) => None,
+        Err(error) => Refusal::of_book(error),
+    }
+}
+
+/// Why a record of a chain would be refused. Takes no memory.
+pub fn refuse_record<A: Allocator + Copy>(
+    books: &[SharedBook<A>],
+    chain: usize,
+    height: Height,
+    entry: &Record,
+) -> Option<Refusal>
+    requires { chain < length books.now }
+    ensures { result ≡ option_and_then of_book (record_refusal (book_at (books_of books.now) chain) height entry.now) }
+{
+    match book_in(books, chain).judge_record(height, entry) {
+        Ok(()) => None,
+        Err(error) => Refusal::of_book(error),
+    }
+}
+
+/// Sets a chain's book apart, so that it can be changed.
+pub fn set_apart<A: Allocator + Copy>(
+    books: &mut Vec<SharedBook<A>, A>,
+    chain: usize,
+) -> Result<(), AllocError>
+    requires { chain < length books.old.items }
+    ensures same { books_of books.new.items ≡ books_of books.old.items }
+    ensures apart { OnOk result (IsApart books.new.items chain) }
+    ensures kept { (other : ℕ) → IsApart books.old.items other → IsApart books.new.items other }
+{
+    books[chain].set_apart()
+}
+
+/// The same, with room for the addresses of a set.
+pub fn set_apart_for<A: Allocator + Copy>(
+    books: &mut Vec<SharedBook<A>, A>,
+    chain: usize,
+    set: &ValidatorSet<A>,
+) -> Result<(), AllocError>
+    requires { chain < length books.old.items }
+    ensures same { books_of books.new.items ≡ books_of books.old.items }
+    ensures apart { OnOk result (IsApart books.new.items chain) }
+    ensures kept { (other : ℕ) → IsApart books.old.items other → IsApart books.new.items other }
+{
+    books[chain].set_apart_for(set)
+}
+
+/// Puts a set that is not refused into a chain's book, which stands apart. Takes no memory.
+pub fn put_set<A: Allocator + Copy>(
+    books: &mut Vec<SharedBook<A>, A>,
+    chain: usize,
+    set: ValidatorSet<A>,
+)
+    requires within { chain < length books.old.items }
+    requires apart { IsApart books.old.items chain }
+    requires accepted { set_refusal (book_at (books_of books.old.items) chain) set ≡ None }
+    ensures { books_of books.new.items ≡ slice_set (books_of books.old.items) chain (after_set (book_at (books_of books.old.items) chain) set) }
+{
+    books[chain].put_set(set);
+}
+
+/// Puts a header that is not refused into a chain's book, which stands apart. Takes no memory.
+pub fn put_header<A: Allocator + Copy>(
+    books: &mut Vec<SharedBook<A>, A>,
+    chain: usize,
+    header: Header<A>,
+)
+    requires within { chain < length books.old.items }
+    requires apart { IsApart books.old.items chain }
+    requires accepted { header_refusal (book_at (books_of books.old.items) chain) header ≡ None }
+    ensures { books_of books.new.items ≡ slice_set (books_of books.old.items) chain (after_header (book_at (books_of books.old.items) chain) header) }
+{
+    books[chain].put_header(header);
+}
+
+/// Puts a record that is not refused into a chain's book, which stands apart. Takes no memory.
+pub fn put_record<A: Allocator + Copy>(
+    books: &mut Vec<SharedBook<A>, A>,
+    chain: usize,
+    height: Height,
+    entry: Record,
+)
+    requires within { chain < length books.old.items }
+    requires apart { IsApart books.old.items chain }
+    requires accepted { record_refusal (book_at (books_of books.old.items) chain) height entry ≡ None }
+    ensures { books_of books.new.items ≡ slice_set (books_of books.old.items) chain (after_record (book_at (books_of books.old.items) chain) height entry) }
+{
+    books[chain].put_record(height, entry);
+}

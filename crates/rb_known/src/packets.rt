@@ -1,0 +1,58 @@
+//! Look-ups among the packets of a path.
+ghost use Rattle.std.specs.Prelude.{◌≡◌, ◌==◌, ◌+◌, ◌≤◌, false, nat_lt, map, find, vec_len, vec_capacity};
+ghost use Rattle.std.specs.List.Sorted.{IsStrictlyIncreasing};
+ghost use Rattle.std.specs.Option.{option_map_or, option_copied};
+ghost use Rattle.rb_book.specs.Search.{IsPlace};
+ghost use Rattle.rb_scan.specs.Packet.{Packet, is_finished};
+ghost use Rattle.rb_scan.specs.Path.{sequences_of};
+ghost use Rattle.rb_known.specs.Marked.{mark_by};
+ghost use Rattle.rb_machine.specs.Standing.{marked};
+
+use crate::mark::Mark;
+use rb_scan::Packet;
+use std::alloc::Allocator;
+
+/// The place of the packet with this sequence, or else the place where one belongs.
+pub(crate) fn place(packets: &[Packet], sequence: u64) -> Result<usize, usize>
+    requires { IsStrictlyIncreasing (sequences_of packets.now) }
+    ensures { IsPlace (λ (p : Packet). p.sequence == sequence) (λ (p : Packet). nat_lt p.sequence sequence) packets.now result }
+{
+    packets.binary_search_by_key(
+        &sequence,
+        |packet: &Packet| -> u64
+            ensures { result ≡ packet.now.sequence }
+        { packet.sequence().get() },
+    )
+}
+
+/// The packet with this sequence.
+pub(crate) fn packet(packets: &[Packet], sequence: u64) -> Option<&Packet>
+    requires { IsStrictlyIncreasing (sequences_of packets.now) }
+    ensures { option_copied result ≡ find (λ (p : Packet). p.sequence == sequence) packets.now }
+{
+    let place = place(packets, sequence).ok()?;
+    Some(&packets[place])
+}
+
+/// Whether the packet with this sequence is finished.
+pub(crate) fn is_finished(packets: &[Packet], sequence: u64) -> bool
+    requires { IsStrictlyIncreasing (sequences_of packets.now) }
+    ensures { result ≡ option_map_or (λ (p : Packet). is_finished p) (find (λ (p : Packet). p.sequence == sequence) packets.now) false }
+{
+    match packet(packets, sequence) {
+        Some(packet) => packet.is_finished(),
+        None => false,
+    }
+}
+
+/// Puts a mark on the packet with this sequence, if there is one. Takes no memory.
+pub(crate) fn put_mark<A: Allocator>(packets: &mut Vec<Packet, A>, sequence: u64, mark: Mark)
+    requires { IsStrictlyIncreasing (sequences_of packets.old.items) }
+    ensures items { packets.new.items ≡ map (marked (mark_by mark) sequence) packets.old.items }
+    ensures len { vec_len packets.new ≡ vec_len packets.old }
+    ensures capacity { vec_capacity packets.new ≡ vec_capacity packets.old }
+{
+    if let Ok(place) = place(packets.as_slice(), sequence) {
+        packets[place] = mark.put(packets[place]);
+    }
+}

@@ -1,0 +1,17 @@
+pub mod Config
+pub mod Refusal
+pub mod Scan
+pub mod Event
+pub mod Standing
+pub mod Machine
+pub mod Batches
+pub mod Examples
+pub mod Views
+pub mod Steps
+pub mod Log
+pub mod Seen
+pub mod Refused
+pub mod Replied
+pub mod Kept
+pub mod Entry
+pub mod Judged

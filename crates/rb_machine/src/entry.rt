@@ -1,0 +1,104 @@
+//! What a log keeps of an event.
+ghost use Rattle.std.specs.Prelude.{◌≡◌, IfOk, map};
+ghost use Rattle.std.specs.Option.{option_copied};
+ghost use Rattle.rb_machine.specs.Entry.{entry_view, logged_of};
+ghost use Rattle.rb_machine.specs.Seen.{event_view};
+
+use crate::event::Event;
+use rb_base::Window;
+use rb_events::{Asked, Observation, Settlement};
+use rb_scan::Part;
+use rb_task::Planned;
+use std::alloc::{AllocError, Allocator, Global};
+
+/// An event; of a scan and a plan what is left to say where the log before it is known: the path and
+/// the client are seen as they are after that log. So a log keeps no book alive.
+#[derive(Drop)]
+pub enum Entry<A: Allocator = Global> {
+    /// The window in which updates may be submitted.
+    Window(Window),
+    /// What a client is to be brought to.
+    Asked(Asked),
+    /// What was seen of a chain, a client or a path.
+    Observed(Observation<A>),
+    /// A scan of a part of a path, as the path is after the log before it.
+    Scan {
+        path: usize,
+        part: Part,
+    },
+    /// What was planned for a client, as it is seen after the log before it.
+    Plan {
+        client: usize,
+        answer: Option<Planned<A>>,
+    },
+    /// So many transactions of a client's batch, by its number, were taken.
+    Settled(Settlement),
+}
+
+impl<A: Allocator + Copy> Entry<A> {
+    /// What a log keeps of an event. An error comes only where a growth is refused.
+    pub(crate) fn of(event: &Event<A>) -> Result<Entry<A>, AllocError>
+        ensures { IfOk result (λ entry. entry_view entry ≡ logged_of (event_view event.now)) }
+    {
+        Ok(match event {
+            Event::Window(window) => Entry::Window(*window),
+            Event::Asked(asked) => Entry::Asked(*asked),
+            Event::Observed(observation) => Entry::Observed(observation.copy()?),
+            Event::Scanned { path, scan } => Entry::Scan {
+                path: *path,
+                part: scan.part(),
+            },
+            Event::Planned(draft) => Entry::Plan {
+                client: draft.job().client(),
+                answer: copy_answer(draft.answer())?,
+            },
+            Event::Settled(settlement) => Entry::Settled(*settlement),
+        })
+    }
+
+    /// An equal entry, on the same allocator. An error comes only where a growth is refused.
+    pub(crate) fn copy(&self) -> Result<Entry<A>, AllocError>
+        ensures { IfOk result (λ entry. entry_view entry ≡ entry_view self.now) }
+    {
+        Ok(match self {
+            Entry::Window(window) => Entry::Window(*window),
+            Entry::Asked(asked) => Entry::Asked(*asked),
+            Entry::Observed(observation) => Entry::Observed(observation.copy()?),
+            Entry::Scan { path, part } => Entry::Scan {
+                path: *path,
+                part: *part,
+            },
+            Entry::Plan { client, answer } => Entry::Plan {
+                client: *client,
+                answer: copy_answer(answer.as_ref())?,
+            },
+            Entry::Settled(settlement) => Entry::Settled(*settlement),
+        })
+    }
+}
+
+/// An equal answer, if there is one.
+fn copy_answer<A: Allocator + Copy>(
+    answer: Option<&Planned<A>>,
+) -> Result<Option<Planned<A>>, AllocError>
+    ensures { IfOk result (λ copy. copy ≡ option_copied answer.entry) }
+{
+    Ok(match answer {
+        Some(answer) => Some(answer.copy()?),
+        None => None,
+    })
+}
+
+/// Equal entries, in their order.
+pub fn copy_entries<A: Allocator + Copy>(
+    alloc: A,
+    entries: &[Entry<A>],
+) -> Result<Vec<Entry<A>, A>, AllocError>
+    ensures { IfOk result (λ copies. map entry_view copies.items ≡ map entry_view entries.now) }
+{
+    let mut copies = Vec::with_capacity(alloc, entries.len())?;
+    for entry in entries {
+        copies.push(entry.copy()?)?;
+    }
+    Ok(copies)
+}

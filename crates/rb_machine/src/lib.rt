@@ -1,0 +1,21 @@
+//! The relayer as a machine over events: what happens to it (`Event`), what its log keeps of that
+//! (`Entry`), what it replies and why it refuses; the definitions of its state and of what an event
+//! makes of it, with their laws in `laws`; and what a part of a path owes (`scan`).
+#![tactic(auto)]
+
+mod entry;
+mod error;
+mod event;
+pub mod laws;
+mod ready;
+mod reply;
+mod scanning;
+mod seen;
+
+pub use entry::{Entry, copy_entries};
+pub use error::CoreError;
+pub use event::Event;
+pub use ready::Ready;
+pub use reply::Reply;
+pub use scanning::scan;
+pub use seen::{Scan, copy_scan};
