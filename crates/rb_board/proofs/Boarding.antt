@@ -10,8 +10,8 @@ use Rattle.std.proofs.lemmas.List.{map-append}
 use Rattle.left_right.specs.Register.{Admits, Turns, TurnsAt, Forks, Merges}
 use Rattle.atomic_table.proofs.Lists.{at_set, at_snoc}
 use Rattle.rb_events.specs.Config.{Config}
-use Rattle.rb_core.specs.Event.{Event}
-use Rattle.rb_core.specs.Machine.{Reply, reply_of, state_of}
+use Rattle.rb_machine.specs.Event.{Event}
+use Rattle.rb_machine.specs.Machine.{Reply, reply_of, state_of}
 use Rattle.rb_board.specs.Waiting.{operation_view}
 use Rattle.rb_board.specs.declared.operation.Operation.{Operation}
 use Rattle.rb_board.specs.Knowledge.{Knowledge, nothing_yet, with_event, Begins}

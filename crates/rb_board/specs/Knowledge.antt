@@ -2,7 +2,7 @@
 use Rattle.std.specs.Prelude.{◌≡◌, ◌⊎◌, List, [], ◌∷◌, ◌++◌, Option, None}
 use mathlib.Core.List.{IsPrefix}
 use Rattle.rb_events.specs.Config.{Config}
-use Rattle.rb_core.specs.Event.{Event}
+use Rattle.rb_machine.specs.Event.{Event}
 use Rattle.rb_board.specs.Waiting.{operation_view}
 use Rattle.rb_board.specs.declared.operation.Operation.{Operation}
 

@@ -1,7 +1,7 @@
 -- What waits to be taken in by the two copies.
-use Rattle.rb_core.specs.Event.{Event}
-use Rattle.rb_core.specs.Event as events
-use Rattle.rb_core.specs.Seen.{event_view}
+use Rattle.rb_machine.specs.Event.{Event}
+use Rattle.rb_machine.specs.Event as events
+use Rattle.rb_machine.specs.Seen.{event_view}
 use Rattle.rb_board.specs.declared.operation.Operation.{Operation}
 use Rattle.rb_board.specs.declared.operation.Operation.TheVariants.{Sent, Received, AckWritten, Cleared, Apart}
 

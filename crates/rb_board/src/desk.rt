@@ -1,8 +1,8 @@
 //! The desks.
 ghost use Rattle.std.specs.Prelude.{◌≡◌, ◌≤◌, ◌<◌, length, max, Some, IsSome, IfOk, IfErr, IfNone, IfSome, OnOk};
 ghost use mathlib.Core.List.{IsPrefix};
-ghost use Rattle.rb_core.specs.Machine.{client_view, client_view_refusal, path_view_refusal, state_of};
-ghost use Rattle.rb_core.specs.Standing.{path_view};
+ghost use Rattle.rb_machine.specs.Machine.{client_view, client_view_refusal, path_view_refusal, state_of};
+ghost use Rattle.rb_machine.specs.Standing.{path_view};
 ghost use Rattle.rb_board.specs.Kept.{Sees, config_or, known_by, known_of};
 ghost use Rattle.rb_board.specs.Unseen.{IsUnseen};
 

@@ -1,6 +1,6 @@
 //! Events that wait to be taken in by the two copies.
 ghost use Rattle.std.specs.Prelude.{◌≡◌, IfOk, IfSome};
-ghost use Rattle.rb_core.specs.Seen.{event_view};
+ghost use Rattle.rb_machine.specs.Seen.{event_view};
 ghost use Rattle.rb_board.specs.Waiting.{operation_view};
 
 use rb_base::{Height, Moment};

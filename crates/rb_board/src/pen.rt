@@ -1,10 +1,10 @@
 //! The pen.
 ghost use Rattle.std.specs.Prelude.{◌≡◌, ◌++◌, ◌∷◌, [], ◌<◌, ◌^◌, length, None, IfOk, IfErr, OnOk, MatchResult};
 ghost use mathlib.Core.List.{IsPrefix};
-ghost use Rattle.rb_core.specs.Machine.{refusal_of, reply_of, state_of};
-ghost use Rattle.rb_core.specs.Refused.{IsRefusal};
-ghost use Rattle.rb_core.specs.Replied.{reply_view};
-ghost use Rattle.rb_core.specs.Seen.{event_view};
+ghost use Rattle.rb_machine.specs.Machine.{refusal_of, reply_of, state_of};
+ghost use Rattle.rb_machine.specs.Refused.{IsRefusal};
+ghost use Rattle.rb_machine.specs.Replied.{reply_view};
+ghost use Rattle.rb_machine.specs.Seen.{event_view};
 ghost use Rattle.rb_board.specs.Kept.{pending};
 
 use crate::desk::Desk;

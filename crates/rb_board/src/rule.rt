@@ -21,7 +21,7 @@ pub(crate) struct Knows {
 impl Model for Knows {
     ghost use Rattle.std.specs.Prelude.{map};
     ghost use Rattle.std.specs.Option.{option_map};
-    ghost use Rattle.rb_core.specs.Seen.{event_view};
+    ghost use Rattle.rb_machine.specs.Seen.{event_view};
     ghost use Rattle.rb_events.specs.Config.{config_view};
     ghost use Rattle.rb_board.specs.Knowledge.{Knowledge};
 

@@ -6,3 +6,7 @@
 mod board;
 #[cfg(test)]
 mod make;
+#[cfg(test)]
+mod team;
+#[cfg(test)]
+mod worker;

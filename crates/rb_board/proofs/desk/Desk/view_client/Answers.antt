@@ -1,6 +1,6 @@
 use Rattle.std.proofs.Common.{◌≡◌, ◌∙◌, sym}
 use Rattle.std.specs.Prelude.{Some, IfOk, IfErr}
-use Rattle.rb_core.specs.Machine.{client_view, client_view_refusal, state_of}
+use Rattle.rb_machine.specs.Machine.{client_view, client_view_refusal, state_of}
 use Rattle.left_right.specs.Sides.{view}
 use Rattle.rb_board.specs.Kept.{config_or, known_of}
 use Rattle.rb_board.specs.Knowledge.{Knowledge}

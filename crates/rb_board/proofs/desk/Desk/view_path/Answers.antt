@@ -1,7 +1,7 @@
 use Rattle.std.proofs.Common.{◌≡◌, ◌∙◌, sym}
 use Rattle.std.specs.Prelude.{Some, IfOk, IfErr}
-use Rattle.rb_core.specs.Machine.{path_view_refusal, state_of}
-use Rattle.rb_core.specs.Standing.{path_view}
+use Rattle.rb_machine.specs.Machine.{path_view_refusal, state_of}
+use Rattle.rb_machine.specs.Standing.{path_view}
 use Rattle.left_right.specs.Sides.{view}
 use Rattle.rb_board.specs.Kept.{config_or, known_of}
 use Rattle.rb_board.specs.Knowledge.{Knowledge}

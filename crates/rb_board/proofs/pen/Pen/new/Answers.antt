@@ -1,7 +1,7 @@
 use Rattle.std.proofs.Common.{rules, ap}
 use Rattle.std.specs.Prelude.{List}
 use Rattle.left_right.specs.Sides.{view}
-use Rattle.rb_core.specs.Event.{Event}
+use Rattle.rb_machine.specs.Event.{Event}
 use Rattle.rb_board.specs.Kept.{pending}
 use Rattle.rb_board.proofs.Boarding.{opens, shows, opened}
 use Rattle.rb_board.proofs.pen.Pen.new.Goals as goal

@@ -1,0 +1,21 @@
+//! Workers: what they are told to do, what they find, and the loop in which they work. A worker reads
+//! what a desk shows, does its jobs on that, and hands over what it found; it writes nothing. A team
+//! is the side of the one that tells them so.
+#![tactic(auto)]
+
+mod finding;
+mod held;
+mod order;
+mod place;
+mod seeing;
+mod slots;
+mod team;
+mod worker;
+mod working;
+
+pub use finding::{Finding, Findings};
+pub use held::Held;
+pub use order::{Order, Orders};
+pub use place::scan_place;
+pub use team::Team;
+pub use working::{work, worker_loop};

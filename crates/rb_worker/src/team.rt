@@ -1,0 +1,151 @@
+//! Workers, as their supervisor has them.
+ghost use Rattle.std.specs.Prelude.{◌≤◌, length, IfOk};
+
+use crate::held::Held;
+use crate::order::Order;
+use crate::worker::Worker;
+use crossbeam_utils::sync::Parker;
+use rb_board::Desk;
+use rb_gang::Gate;
+use rb_wire::LaneFull;
+use std::alloc::{AllocError, Global};
+use std::sync::{Arc, Wait};
+use std::thread::Threads;
+
+/// Workers in threads of their own, each with a desk, and the gate that is called round each job. It
+/// is not `Drop`: end it by `stop`. What they find is to be judged by who takes it in: no contract
+/// says that it is there.
+pub struct Team<G: Gate> {
+    alloc: Global,
+    workers: Vec<Worker>,
+    gate: Arc<G, Global>,
+    // what the supervisor sleeps on while nothing is found
+    home: Parker,
+}
+
+/// Starts a worker for each desk.
+fn start_workers<R, G>(
+    rt: &R,
+    alloc: Global,
+    desks: Vec<Desk>,
+    gate: &Arc<G, Global>,
+    home: &Parker,
+) -> Result<Vec<Worker>, AllocError>
+where
+    R: Threads + Wait + Copy + Send + 'static,
+    G: Gate + Send + Sync + Drop + 'static,
+    ensures { IfOk result (λ workers. length workers.items ≤ length desks.items) }
+{
+    let mut desks = desks;
+    let count = desks.len();
+    let mut workers = Vec::with_capacity(alloc, count)?;
+    for _ in 0..count {
+        let Some(desk) = desks.pop() else {
+            break;
+        };
+        if let Some(worker) = Worker::start(rt, alloc, desk, gate, home) {
+            workers.push_reserved(worker);
+        }
+    }
+    Ok(workers)
+}
+
+impl<G: Gate + Send + Sync + Drop + 'static> Team<G> {
+    /// Starts a worker for each desk; fewer where no thread can be made or a growth is refused.
+    pub fn start<R: Threads + Wait + Copy + Send + 'static>(
+        rt: &R,
+        alloc: Global,
+        desks: Vec<Desk>,
+        gate: &Arc<G, Global>,
+    ) -> Result<Team<G>, AllocError> {
+        let gate = Arc::try_clone(gate)?;
+        let home = Parker::new(alloc)?;
+        let workers = start_workers(rt, alloc, desks, &gate, &home)?;
+        Ok(Team {
+            alloc,
+            workers,
+            gate,
+            home,
+        })
+    }
+
+    /// How many workers there are.
+    pub fn len(&self) -> usize {
+        self.workers.len()
+    }
+
+    /// Takes what was found into what is held, looking at each worker once; whether there was
+    /// something.
+    fn collect(&mut self, held: &mut Held) -> bool {
+        let mut is_found = false;
+        for worker in self.workers.iter_mut() {
+            is_found = worker.collect(held, &*self.gate) || is_found;
+        }
+        is_found
+    }
+
+    /// Takes what was found into what is held; where nothing was, sleeps until something may be.
+    fn wait<R: Wait>(&mut self, rt: &R, held: &mut Held) {
+        if !self.collect(held) {
+            self.home.park(rt);
+        }
+    }
+
+    /// Sends an order to the worker whose job it is, if there is room for it: object k is the work of
+    /// worker k modulo the number of workers. One that ends a worker is dropped.
+    fn order(&mut self, order: Order) -> Result<(), LaneFull<Order>> {
+        let count = self.workers.len();
+        match order.object() {
+            Some(object) if count > 0 => self.workers[object % count].order(order),
+            _ => Ok(()),
+        }
+    }
+
+    /// Sends an order, and takes in what was found while there is no room for it.
+    fn send<R: Wait>(&mut self, rt: &R, order: Order, held: &mut Held) {
+        let mut order = order;
+        for _ in rt.forever() {
+            match self.order(order) {
+                Ok(()) => return,
+                Err(LaneFull { item }) => order = item,
+            }
+            self.wait(rt, held);
+        }
+    }
+
+    /// Gives out the orders, but those that end a worker, and waits until each job has come to an end;
+    /// what was found is held until then. Where there is no worker, nothing is found. An error comes
+    /// only where a growth was refused, also to a worker in one of the jobs.
+    pub fn find<R: Wait>(&mut self, rt: &R, orders: Vec<Order>) -> Result<Held, AllocError> {
+        let mut held = Held::new(self.alloc, orders.as_slice())?;
+        if self.workers.is_empty() {
+            return Ok(held);
+        }
+        for order in orders {
+            self.send(rt, order, &mut held);
+        }
+        for _ in rt.forever() {
+            if held.is_whole() {
+                break;
+            }
+            self.wait(rt, &mut held);
+        }
+        if held.is_short() {
+            return Err(AllocError);
+        }
+        Ok(held)
+    }
+
+    /// Tells the workers to end, and waits for that.
+    pub fn stop<R: Threads + Wait>(self, rt: &R) {
+        let Team {
+            alloc: _,
+            workers,
+            gate: _gate,
+            home: _home,
+        } = self;
+        for worker in workers {
+            worker.stop(rt);
+        }
+    }
+}
