@@ -6,10 +6,10 @@ use Rattle.std.proofs.lemmas.List.{map-set}
 use Rattle.std.proofs.lemmas.Option.{same_Some}
 use Rattle.rb_events.specs.declared.config.ClientConfig.{ClientConfig}
 use Rattle.rb_core.specs.Core.{Core}
-use Rattle.rb_core.specs.Event.{Event, Window, Asked, SetSeen, HeaderSeen, StoredSeen, Sent, Received, AckWritten, Cleared, Closed, Scanned, Planned, Settled}
-use Rattle.rb_core.specs.Machine.{State, refusal_of, accepted, after, opening}
-use Rattle.rb_core.specs.Standing.{OpenBatch, KnownClient, Standing, new_client, changed_at, changed, with_batch, batch_opened, after_settled, after_batch, open_batch}
-use Rattle.rb_core.proofs.Places.{found}
+use Rattle.rb_machine.specs.Event.{Event, Window, Asked, SetSeen, HeaderSeen, StoredSeen, Sent, Received, AckWritten, Cleared, Closed, Scanned, Planned, Settled}
+use Rattle.rb_machine.specs.Machine.{State, refusal_of, accepted, after, opening}
+use Rattle.rb_machine.specs.Standing.{OpenBatch, KnownClient, Standing, new_client, changed_at, changed, with_batch, batch_opened, after_settled, after_batch, open_batch}
+use Rattle.rb_known.proofs.Places.{found}
 use Rattle.rb_super.proofs.Reported.{set_same}
 use Rattle.rb_super.specs.Phases.{standing_in}
 
@@ -70,10 +70,13 @@ get_map f [] i x e = absurd (cc)
 get_map f (y ∷ xs) zero x e = ap (λ z. Some (f z)) (same_Some y x e)
 get_map f (y ∷ xs) (suc i) x e = get_map f xs i x e
 
+-- all clients have the configurations of their places
+pub configs_are : (core : Core) → map config_of (standing_in core).clients ≡ core.config.clients
+configs_are core = kept_by_all core.log (opening core.config) ∙ of_new core.config.clients
+
 -- a client that is known at a place has the configuration of that place
 pub known_config : (core : Core) (client : ℕ) (c : ClientConfig) → client < length core.config.clients → c ≡ get_or core.config.clients client c
     → (known : KnownClient) → slice_get (standing_in core).clients client ≡ Some known → known.config ≡ c
 known_config core client c lt at known e =
-    let all : map config_of (standing_in core).clients ≡ core.config.clients = kept_by_all core.log (opening core.config) ∙ of_new core.config.clients in
     same_Some known.config c
-    (sym (get_map config_of (standing_in core).clients client known e) ∙ ap (λ cs. slice_get cs client) all ∙ found core.config.clients client c lt at)
+    (sym (get_map config_of (standing_in core).clients client known e) ∙ ap (λ cs. slice_get cs client) (configs_are core) ∙ found core.config.clients client c lt at)

@@ -6,8 +6,8 @@ use Rattle.std.proofs.lemmas.List.Elements.{recursion_from_All}
 use Rattle.rb_scan.specs.declared.scan.Part.{Part}
 use Rattle.rb_scan.specs.declared.scan.Part.TheVariants.{Packets, Channel}
 use Rattle.rb_events.specs.Config.{Config}
-use Rattle.rb_core.specs.Event.{Event, IsEvent}
-use Rattle.rb_core.specs.Standing.{Standing}
+use Rattle.rb_machine.specs.Event.{Event, IsEvent}
+use Rattle.rb_machine.specs.Standing.{Standing}
 use Rattle.rb_super.specs.Agenda.{Item, enter, ask, observe, scan, plan, settle, observations, both_parts, agenda}
 use Rattle.rb_events.specs.declared.script.Asked.{Asked as Question}
 use Rattle.rb_events.specs.declared.script.Settlement.{Settlement}

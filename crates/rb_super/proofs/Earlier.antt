@@ -6,8 +6,8 @@ use Rattle.std.proofs.lemmas.List.Elements.{All-take, All-get_or}
 use Rattle.std.proofs.lemmas.List.Sums.{sum_by-take-le, sum_by_more_le}
 use Rattle.std.proofs.lemmas.Option.{slice_get-get_or, same_Some}
 use Rattle.rb_core.specs.Core.{Core}
-use Rattle.rb_core.specs.Standing.{Standing}
-use Rattle.rb_core.proofs.Places.{found_seen}
+use Rattle.rb_machine.specs.Standing.{Standing}
+use Rattle.rb_known.proofs.Places.{found_seen}
 use Rattle.rb_events.specs.Config.{Config}
 use Rattle.rb_events.specs.Script.{Script, turn_view, IsScript}
 use Rattle.rb_events.specs.declared.script.Turn.{Turn as CodeTurn}

@@ -7,14 +7,14 @@ use Rattle.std.specs.declared.alloc.AllocError.{AllocError}
 use Rattle.std.proofs.lemmas.Option.{none-some, same_Some}
 use Rattle.rb_cert.specs.declared.verdict.Verdict2.{Verdict2}
 use Rattle.rb_cert.specs.declared.verdict.Verdict2.TheVariants.{Yes}
-use Rattle.rb_core.specs.Batches.{batch_open}
+use Rattle.rb_machine.specs.Batches.{batch_open}
 use Rattle.rb_core.specs.Core.{Core, state_in}
-use Rattle.rb_core.specs.Draft.{Job, Draft}
-use Rattle.rb_core.specs.Machine.{client_view}
-use Rattle.rb_core.specs.Standing.{OpenBatch, KnownClient, Standing, task_in}
-use Rattle.rb_core.specs.Task.{Task, goal_of}
-use Rattle.rb_core.proofs.Drafted.{drafted}
-use Rattle.rb_core.proofs.Options.{some_from}
+use Rattle.rb_task.specs.Draft.{Job, Draft}
+use Rattle.rb_machine.specs.Machine.{client_view}
+use Rattle.rb_machine.specs.Standing.{OpenBatch, KnownClient, Standing, task_in}
+use Rattle.rb_task.specs.Task.{Task, goal_of}
+use Rattle.rb_machine.proofs.Drafted.{drafted}
+use Rattle.rb_machine.proofs.Options.{some_from}
 use Rattle.rb_events.specs.declared.goal.Goal.{Goal}
 use Rattle.rb_plan.specs.Answer.{Shows}
 use Rattle.rb_plan.specs.Labelling.{Labels, IsSound, IsExact}

@@ -19,3 +19,5 @@ pub mod Earlier
 pub mod Judged
 pub mod OwnAnswers
 pub mod OneVerdict
+pub mod Kept
+pub mod Drafts

@@ -4,9 +4,9 @@ use Rattle.std.specs.List.{fold}
 use Rattle.std.proofs.lemmas.List.{take_more, map-append}
 use Rattle.std.proofs.lemmas.List.Sums.{fold-append}
 use Rattle.rb_base.specs.Window.{Span}
-use Rattle.rb_core.specs.Event.{Event, Asked}
-use Rattle.rb_core.specs.Standing.{Standing, standing_after}
-use Rattle.rb_core.proofs.Accepted.{window_stays, window_entered}
+use Rattle.rb_machine.specs.Event.{Event, Asked}
+use Rattle.rb_machine.specs.Standing.{Standing, standing_after}
+use Rattle.rb_machine.proofs.Accepted.{window_stays, window_entered}
 use Rattle.rb_events.specs.declared.script.Asked.{Asked as Question}
 use Rattle.rb_events.specs.declared.script.Settlement.{Settlement}
 use Rattle.rb_super.specs.Report.{RefusedEvent}

@@ -18,10 +18,10 @@ use Rattle.rb_plan.specs.Least.{IsUnreachable}
 use Rattle.rb_plan.specs.ProofHeight.{IsProofHeight}
 use Rattle.rb_step.specs.LightClient.{Update, Client}
 use Rattle.rb_step.specs.View.{client_of}
-use Rattle.rb_core.specs.Draft.{Batch, Sending, nothing, too_big, batched, Plan, Planned as Answer, IsBatch, IsSending, IsPlan, IsPlanned, IsIdle}
-use Rattle.rb_core.specs.Reach.{IsReach}
-use Rattle.rb_core.specs.Standing.{OpenBatch, KnownClient, Standing, opening_standing, task_in}
-use Rattle.rb_core.specs.Task.{Task, Message, goal_of, messages_of, gas_of, gases}
+use Rattle.rb_task.specs.Draft.{Batch, Sending, nothing, too_big, batched, Plan, Planned as Answer, IsBatch, IsSending, IsPlan, IsPlanned, IsIdle}
+use Rattle.rb_task.specs.Reach.{IsReach}
+use Rattle.rb_machine.specs.Standing.{OpenBatch, KnownClient, Standing, opening_standing, task_in}
+use Rattle.rb_task.specs.Task.{Task, Message, goal_of, messages_of, gas_of, gases}
 use Rattle.rb_super.specs.Laws.{ReportIsOne}
 use Rattle.rb_super.specs.Report.{Outcome, held, idle, planned, ClientReport, TurnReport, Report}
 use Rattle.rb_super.specs.Script.{Turn}

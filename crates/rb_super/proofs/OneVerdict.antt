@@ -14,8 +14,8 @@ use Rattle.rb_plan.specs.Labelling.{Labels}
 use Rattle.rb_plan.specs.Laws.{AnswersAreOne}
 use Rattle.rb_step.specs.LightClient.{Update, Client}
 use Rattle.rb_step.specs.View.{View, client_of}
-use Rattle.rb_core.specs.Standing.{KnownClient, Standing, opening_standing}
-use Rattle.rb_core.specs.Task.{Task}
+use Rattle.rb_machine.specs.Standing.{KnownClient, Standing, opening_standing}
+use Rattle.rb_task.specs.Task.{Task}
 use Rattle.rb_super.specs.Judging.{Leads, IsPlanPhase, IsPlannedGoal, IsVerdictFor, IsVerdictIn}
 use Rattle.rb_super.specs.Laws.{VerdictIsOne}
 use Rattle.rb_super.specs.Report.{TurnReport}

@@ -4,15 +4,15 @@ use Rattle.std.specs.List.{AllZip, slice_get, flat_map, fold, enumerate_from, ra
 use Rattle.std.specs.Option.{option_map_or}
 use Rattle.std.proofs.lemmas.List.{set_at, length-append}
 use Rattle.std.proofs.lemmas.Option.{same_Some}
-use Rattle.rb_core.specs.Event.{Event, Window, Asked}
-use Rattle.rb_core.specs.Standing.{KnownClient, Standing, changed_at, goes_back, standing_after}
+use Rattle.rb_machine.specs.Event.{Event, Window, Asked}
+use Rattle.rb_machine.specs.Standing.{KnownClient, Standing, changed_at, goes_back, standing_after}
 use Rattle.rb_super.specs.Agenda.{Item, ask, plan, settle, observations, both_parts, empty_report, Finishes, OrderGivesReport}
 use Rattle.rb_super.specs.Report.{ClientReport, TurnReport}
 use Rattle.rb_events.specs.declared.script.Asked.{Asked as Question}
 use Rattle.rb_events.specs.declared.script.Settlement.{Settlement}
 use Rattle.rb_super.specs.Script.{Turn}
 use Rattle.rb_super.specs.Turns.{after_window, after_question, refusal_at, refusals, before_events, before_plans, IsClientReport, after_outcome, after_reports, after_settlement, settlement_report, settlement_reports}
-use Rattle.rb_core.proofs.Lengths.{lengths_after, lengths_fold}
+use Rattle.rb_machine.proofs.Lengths.{lengths_after, lengths_fold}
 
 -- ---- lists with one element more
 

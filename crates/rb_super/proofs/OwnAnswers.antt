@@ -4,9 +4,9 @@ use Rattle.std.specs.List.{AllZip, enumerate_from}
 use Rattle.std.specs.Option.{option_map}
 use Rattle.std.proofs.lemmas.Option.{same_Some}
 use Rattle.rb_batch.specs.Laws.{LeastCutIsOne}
-use Rattle.rb_core.specs.Draft.{Plan as SentPlan, Planned as Answer, IsPlan}
-use Rattle.rb_core.specs.Standing.{KnownClient, Standing, opening_standing, task_in}
-use Rattle.rb_core.specs.Task.{Task, messages_of}
+use Rattle.rb_task.specs.Draft.{Plan as SentPlan, Planned as Answer, IsPlan}
+use Rattle.rb_machine.specs.Standing.{KnownClient, Standing, opening_standing, task_in}
+use Rattle.rb_task.specs.Task.{Task, messages_of}
 use Rattle.rb_events.specs.declared.goal.Goal.{Goal}
 use Rattle.rb_plan.specs.Answer.{Shows}
 use Rattle.rb_plan.specs.Labelling.{Labels, IsExact, label_of}

@@ -2,8 +2,8 @@
 use Rattle.std.proofs.Common.{◌≡◌, ℕ, ◌+◌, Bool, List, [], ◌∷◌, ◌++◌, length, map, sym, ap, ◌∙◌, subst, append_assoc, append-nil, arith}
 use Rattle.std.specs.List.{flat_map, fold, range_with_len}
 use Rattle.std.proofs.lemmas.List.FromFn.{map-range_with_len_more}
-use Rattle.rb_core.specs.Event.{Event}
-use Rattle.rb_core.specs.Standing.{Standing, goes_back, standing_after}
+use Rattle.rb_machine.specs.Event.{Event}
+use Rattle.rb_machine.specs.Standing.{Standing, goes_back, standing_after}
 use Rattle.rb_events.specs.Config.{Config}
 use Rattle.rb_events.specs.declared.script.Asked.{Asked}
 use Rattle.rb_events.specs.declared.script.Settlement.{Settlement}

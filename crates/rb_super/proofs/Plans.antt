@@ -2,19 +2,19 @@
 use Rattle.std.proofs.Common.{◌≡◌, ℕ, ◌+◌, ◌<◌, [], Option, Some, None, is_some, length, map, get_or, set, refl, sym, ap, ◌∙◌, subst, arith}
 use Rattle.std.specs.List.{slice_get}
 use Rattle.std.specs.Option.{option_map, option_map_or, option_and_then}
-use Rattle.rb_core.specs.Batches.{batch_open}
+use Rattle.rb_machine.specs.Batches.{batch_open}
 use Rattle.rb_core.specs.Core.{Core, state_in, refusal_in}
-use Rattle.rb_core.specs.Draft.{Sending, nothing, too_big, batched, Plan, Planned as Answer, Job, Draft, IsDraft}
-use Rattle.rb_core.specs.Event.{Planned}
-use Rattle.rb_core.specs.Machine.{State, Reply, is_scanned, job_of, client_view, reply_for, reply_of, after}
-use Rattle.rb_core.specs.Standing.{OpenBatch, KnownClient, Standing, batch_of_sending, batch_of, batch_opened, with_client}
+use Rattle.rb_task.specs.Draft.{Sending, nothing, too_big, batched, Plan, Planned as Answer, Job, Draft, IsDraft}
+use Rattle.rb_machine.specs.Event.{Planned}
+use Rattle.rb_machine.specs.Machine.{State, Reply, is_scanned, job_of, client_view, reply_for, reply_of, after}
+use Rattle.rb_machine.specs.Standing.{OpenBatch, KnownClient, Standing, batch_of_sending, batch_of, batch_opened, with_client}
 use Rattle.rb_events.specs.Config.{Config}
 use Rattle.rb_events.specs.declared.config.ClientConfig.{ClientConfig}
 use Rattle.rb_plan.specs.Order.{cost_of}
 use Rattle.rb_step.specs.View.{client_of}
-use Rattle.rb_core.specs.Task.{Task}
-use Rattle.rb_core.proofs.Options.{mapped, chained, some_from}
-use Rattle.rb_core.proofs.Steps.{present_drafts, of_the_moment}
+use Rattle.rb_task.specs.Task.{Task}
+use Rattle.rb_machine.proofs.Options.{mapped, chained, some_from}
+use Rattle.rb_machine.proofs.Steps.{present_drafts, of_the_moment}
 use Rattle.rb_super.specs.Report.{Outcome, held, idle, planned}
 use Rattle.rb_super.specs.Turns.{priced, numbered, reported_plan, reported, outcome_of, IsClientReport, after_outcome, id_of}
 use Rattle.rb_super.proofs.Reported.{accepted_reported, set_same}

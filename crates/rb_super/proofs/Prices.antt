@@ -4,8 +4,8 @@ use Rattle.std.specs.Option.{option_map, IfSome}
 use Rattle.std.proofs.lemmas.List.{length-map}
 use Rattle.std.proofs.lemmas.List.Elements.{All-head, All-tail}
 use Rattle.std.proofs.lemmas.List.Sums.{sum_by-cons}
-use Rattle.rb_core.specs.Draft.{Plan as SentPlan, Planned as Answer, Draft, IsPlan, IsPlanned, IsAnswer, IsDraft}
-use Rattle.rb_core.specs.Task.{Task, Message, messages_of}
+use Rattle.rb_task.specs.Draft.{Plan as SentPlan, Planned as Answer, Draft, IsPlan, IsPlanned, IsAnswer, IsDraft}
+use Rattle.rb_task.specs.Task.{Task, Message, messages_of}
 use Rattle.rb_plan.specs.declared.cost.Cost.{Cost}
 use Rattle.rb_events.specs.declared.goal.Goal.{Goal}
 use Rattle.rb_plan.specs.declared.labelling.Label.{Label}

@@ -4,12 +4,12 @@ use Rattle.std.specs.List.{slice_get}
 use Rattle.std.specs.Option.{option_map, option_map_or, option_and_then}
 use Rattle.std.proofs.lemmas.Option.{same_Some}
 use Rattle.rb_step.specs.LightClient.{Update}
-use Rattle.rb_core.specs.Draft.{Sending, nothing, too_big, batched, Plan, Planned as Answer, Draft, IsDraft, IsIdle, IsPlanned, IsAnswer}
-use Rattle.rb_core.specs.Event.{Planned}
-use Rattle.rb_core.specs.Machine.{State, accepted, after}
-use Rattle.rb_core.specs.Standing.{KnownClient, task_in, with_batch, batch_of_sending, batch_of, after_answer, changed_at}
-use Rattle.rb_core.specs.Task.{Task}
-use Rattle.rb_core.proofs.Drafted.{drafted}
+use Rattle.rb_task.specs.Draft.{Sending, nothing, too_big, batched, Plan, Planned as Answer, Draft, IsDraft, IsIdle, IsPlanned, IsAnswer}
+use Rattle.rb_machine.specs.Event.{Planned}
+use Rattle.rb_machine.specs.Machine.{State, accepted, after}
+use Rattle.rb_machine.specs.Standing.{KnownClient, task_in, with_batch, batch_of_sending, batch_of, after_answer, changed_at}
+use Rattle.rb_task.specs.Task.{Task}
+use Rattle.rb_machine.proofs.Drafted.{drafted}
 use Rattle.rb_super.specs.Laws.{AcceptedDraftsAreReported}
 use Rattle.rb_super.specs.Report.{Plan as ReportedPlan, idle, planned}
 use Rattle.rb_super.specs.Turns.{priced, numbered, reported, reported_plan, outcome_of, update_of, batch_sent, opened, IsOutcome, after_outcome}

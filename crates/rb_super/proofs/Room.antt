@@ -5,7 +5,7 @@ use Rattle.std.proofs.lemmas.List.{length-append, length-map}
 use Rattle.std.proofs.lemmas.List.FromFn.{length-range_with_len}
 use Rattle.std.proofs.lemmas.List.Sums.{sum_by-cons}
 use Rattle.rb_events.specs.Config.{Config}
-use Rattle.rb_core.specs.Event.{Event}
+use Rattle.rb_machine.specs.Event.{Event}
 use Rattle.rb_super.specs.Agenda.{Item, ask, plan, settle, observations, both_parts, agenda}
 use Rattle.rb_super.specs.Schedule.{appends_in, inputs_of, LimitsFitLog}
 use Rattle.rb_super.specs.Script.{Turn}

@@ -4,8 +4,8 @@ use Rattle.std.specs.List.{sum_by, fold}
 use Rattle.std.proofs.lemmas.List.{length-map, get_or-map}
 use Rattle.std.proofs.lemmas.List.Sums.{sum_by-cons}
 use Rattle.rb_core.specs.Core.{Core, state_in}
-use Rattle.rb_core.specs.Machine.{opening, after}
-use Rattle.rb_core.specs.Standing.{Standing, opening_standing}
+use Rattle.rb_machine.specs.Machine.{opening, after}
+use Rattle.rb_machine.specs.Standing.{Standing, opening_standing}
 use Rattle.rb_events.specs.Config.{Config}
 use Rattle.rb_events.specs.Script.{Script, turn_view, entry_count, IsTurn, IsScript}
 use Rattle.rb_events.specs.declared.script.Turn.{Turn as CodeTurn}

@@ -10,18 +10,18 @@ use Rattle.rb_base.specs.Window.{Span}
 use Rattle.rb_scan.specs.Path.{Path}
 use Rattle.rb_scan.specs.declared.scan.Part.{Part}
 use Rattle.rb_scan.specs.declared.scan.Part.TheVariants.{Packets, Channel}
-use Rattle.rb_core.specs.Draft.{Draft, IsDraft}
-use Rattle.rb_core.specs.Event.{Event, IsEvent, Window, Asked, Scanned, Planned}
-use Rattle.rb_core.specs.Scan.{Scan}
-use Rattle.rb_core.specs.Machine.{State, opening, is_scanned, job_of, client_view, max_events, refusal_of, accepted, after, state_of}
+use Rattle.rb_task.specs.Draft.{Draft, IsDraft}
+use Rattle.rb_machine.specs.Event.{Event, IsEvent, Window, Asked, Scanned, Planned}
+use Rattle.rb_machine.specs.Scan.{Scan}
+use Rattle.rb_machine.specs.Machine.{State, opening, is_scanned, job_of, client_view, max_events, refusal_of, accepted, after, state_of}
 use Rattle.rb_events.specs.declared.refusal.Refusal.{Refusal}
 use Rattle.rb_events.specs.declared.refusal.Refusal.TheVariants.{WindowBack}
-use Rattle.rb_core.specs.Refusal.{refused_if}
-use Rattle.rb_core.specs.Standing.{OpenBatch, KnownClient, Standing, opening_standing, view_of_path, path_view, task_in, with_client, after_answer, goes_back, judged, standing_after}
-use Rattle.rb_core.proofs.Drafted.{drafted}
-use Rattle.rb_core.proofs.Marks.{all_at}
-use Rattle.rb_core.proofs.Options.{none_from, some_from}
-use Rattle.rb_core.proofs.Owed.{append_all}
+use Rattle.rb_machine.specs.Refusal.{refused_if}
+use Rattle.rb_machine.specs.Standing.{OpenBatch, KnownClient, Standing, opening_standing, view_of_path, path_view, task_in, with_client, after_answer, goes_back, judged, standing_after}
+use Rattle.rb_machine.proofs.Drafted.{drafted}
+use Rattle.rb_machine.proofs.Marks.{all_at}
+use Rattle.rb_machine.proofs.Options.{none_from, some_from}
+use Rattle.rb_machine.proofs.Owed.{append_all}
 use Rattle.rb_super.specs.Agenda.{Item, enter, ask, observe, scan, plan, settle, agenda, Finishes, OrderGivesReport}
 use Rattle.rb_super.specs.Report.{held, ClientReport, TurnReport, Report}
 use Rattle.rb_super.specs.Schedule.{Progress, World, RightDraft, Step, acts, publishes, tells, learns, scans, plans, first_world, own_scan, appended, next, same_part, if_fits, fits_scan, fits_draft, with_client_report, refused_as, draft_given, scan_taken, draft_taken, plan_done, item_done, begun, due_done, acted, step, after_steps, appends_in, FitsLog, world_after, Schedules, OwnDraftsServe}
@@ -30,7 +30,7 @@ use Rattle.rb_events.specs.declared.script.Settlement.{Settlement}
 use Rattle.rb_super.specs.Script.{Turn, Script, IsTurn, IsScript}
 use Rattle.rb_super.specs.Turns.{outcome_of, after_outcome, settlement_event, id_of, IsTurnReport, after_turn, AreTurnReports}
 use Rattle.rb_super.proofs.Covering.{Covers, Nothing, Plus, more, agenda_covers, IsItem, agenda_items, Entered, entered}
-use Rattle.rb_core.proofs.Accepted.{open_to, standing_of, front_of, scan_ok, now_scanned, still_scanned, draft_ok, plan_scanned, window_stays, window_entered}
+use Rattle.rb_machine.proofs.Accepted.{open_to, standing_of, front_of, scan_ok, now_scanned, still_scanned, draft_ok, plan_scanned, window_stays, window_entered}
 use Rattle.rb_super.proofs.Reported.{changed_by, set_same, right_outcome, same_client}
 use Rattle.rb_super.proofs.Sizes.{HasSizes, sizes_accepted, sizes_opening, seen_known, client_known, path_known, at_place}
 

@@ -4,11 +4,11 @@ use Rattle.std.specs.List.{slice_get}
 use Rattle.std.proofs.lemmas.Bool.{lt-ltb}
 use Rattle.std.proofs.lemmas.List.{length-set, length-replicate, length-map}
 use Rattle.rb_events.specs.Config.{Config}
-use Rattle.rb_core.specs.Event.{Event, Window, Asked, SetSeen, HeaderSeen, StoredSeen, Sent, Received, AckWritten, Cleared, Closed, Scanned, Planned, Settled}
-use Rattle.rb_core.specs.Machine.{State, no_scans, opening, is_known, refusal_beside, scans_after, accepted}
-use Rattle.rb_core.specs.Standing.{judged}
+use Rattle.rb_machine.specs.Event.{Event, Window, Asked, SetSeen, HeaderSeen, StoredSeen, Sent, Received, AckWritten, Cleared, Closed, Scanned, Planned, Settled}
+use Rattle.rb_machine.specs.Machine.{State, no_scans, opening, is_known, refusal_beside, scans_after, accepted}
+use Rattle.rb_machine.specs.Standing.{judged}
 use Rattle.rb_super.specs.Script.{IsSeen}
-use Rattle.rb_core.proofs.Lengths.{lengths_changed}
+use Rattle.rb_machine.proofs.Lengths.{lengths_changed}
 
 -- ---- sizes
 

@@ -5,19 +5,19 @@ use Rattle.std.proofs.lemmas.Bool.{lt-ltb, not_from_true}
 use Rattle.std.proofs.lemmas.List.Sums.{fold-append}
 use Rattle.rb_base.specs.Window.{Span}
 use Rattle.rb_core.specs.Core.{Core, state_in, refusal_in}
-use Rattle.rb_core.specs.Event.{Event, Window, Scanned}
-use Rattle.rb_core.specs.Machine.{State, refusal_of, accepted, after, opening, is_known, is_scanned, knows_client, knows_path, client_view_refusal, path_view_refusal}
-use Rattle.rb_core.specs.Refusal.{refused_if}
-use Rattle.rb_core.specs.Seen.{observed}
-use Rattle.rb_core.specs.Standing.{Standing, path_view, goes_back, judged, standing_after}
-use Rattle.rb_core.specs.Scan.{Scan}
-use Rattle.rb_core.specs.Steps.{IsFromOutside, IsAfterScan}
+use Rattle.rb_machine.specs.Event.{Event, Window, Scanned}
+use Rattle.rb_machine.specs.Machine.{State, refusal_of, accepted, after, opening, is_known, is_scanned, knows_client, knows_path, client_view_refusal, path_view_refusal}
+use Rattle.rb_machine.specs.Refusal.{refused_if}
+use Rattle.rb_machine.specs.Seen.{observed}
+use Rattle.rb_machine.specs.Standing.{Standing, path_view, goes_back, judged, standing_after}
+use Rattle.rb_machine.specs.Scan.{Scan}
+use Rattle.rb_machine.specs.Steps.{IsFromOutside, IsAfterScan}
 use Rattle.rb_scan.specs.Path.{Path}
 use Rattle.rb_scan.specs.declared.scan.Part.{Part}
 use Rattle.rb_scan.specs.declared.scan.Part.TheVariants.{Packets, Channel}
-use Rattle.rb_core.proofs.Accepted.{skip, front_of}
-use Rattle.rb_core.proofs.Options.{some_from}
-use Rattle.rb_core.proofs.Steps.{judged_by_standing, present_scans, scans_last}
+use Rattle.rb_machine.proofs.Accepted.{skip, front_of}
+use Rattle.rb_machine.proofs.Options.{some_from}
+use Rattle.rb_machine.proofs.Steps.{judged_by_standing, present_scans, scans_last}
 use Rattle.rb_events.specs.Config.{Config}
 use Rattle.rb_events.specs.Script.{IsSeen}
 use Rattle.rb_events.specs.declared.observation.Observation.{Observation}

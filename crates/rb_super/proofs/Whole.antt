@@ -2,8 +2,8 @@
 use Rattle.std.proofs.Common.{◌≡◌, ℕ, Bool, List, length, map, ap, ◌∙◌, subst}
 use Rattle.std.specs.List.{fold}
 use Rattle.rb_core.specs.Core.{Core}
-use Rattle.rb_core.specs.Seen.{observed}
-use Rattle.rb_core.specs.Standing.{goes_back, standing_after}
+use Rattle.rb_machine.specs.Seen.{observed}
+use Rattle.rb_machine.specs.Standing.{goes_back, standing_after}
 use Rattle.rb_events.specs.declared.script.Asked.{Asked}
 use Rattle.rb_events.specs.declared.script.Settlement.{Settlement}
 use Rattle.rb_events.specs.declared.script.Turn.{Turn as CodeTurn}

@@ -5,8 +5,8 @@ use Rattle.rb_base.specs.Window.{Span}
 use Rattle.rb_scan.specs.declared.scan.Part.{Part}
 use Rattle.rb_scan.specs.declared.scan.Part.TheVariants.{Packets, Channel}
 use Rattle.rb_events.specs.Config.{Config}
-use Rattle.rb_core.specs.Event.{Event}
-use Rattle.rb_core.specs.Standing.{KnownClient, Standing, goes_back, standing_after, with_client}
+use Rattle.rb_machine.specs.Event.{Event}
+use Rattle.rb_machine.specs.Standing.{KnownClient, Standing, goes_back, standing_after, with_client}
 use Rattle.rb_super.specs.Report.{ClientReport, TurnReport}
 use Rattle.rb_events.specs.declared.script.Asked.{Asked as Question}
 use Rattle.rb_events.specs.declared.script.Settlement.{Settlement}

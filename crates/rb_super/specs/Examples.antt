@@ -6,13 +6,13 @@ use Rattle.rb_scan.specs.declared.path.Order.TheVariants.{Ordered}
 use Rattle.rb_scan.specs.declared.scan.Part.TheVariants.{Packets}
 use Rattle.rb_step.specs.LightClient.{Client}
 use Rattle.rb_step.specs.View.{client_of}
-use Rattle.rb_core.specs.Draft.{Job, IsIdle}
-use Rattle.rb_core.specs.Event.{Sent}
-use Rattle.rb_core.specs.Examples.{a_config, a_client, no_fees}
-use Rattle.rb_core.specs.Machine.{client_view}
-use Rattle.rb_core.specs.Reach.{IsReachable}
-use Rattle.rb_core.specs.Standing.{empty_book}
-use Rattle.rb_core.specs.Task.{Task, goal_of}
+use Rattle.rb_task.specs.Draft.{Job, IsIdle}
+use Rattle.rb_machine.specs.Event.{Sent}
+use Rattle.rb_machine.specs.Examples.{a_config, a_client, no_fees}
+use Rattle.rb_machine.specs.Machine.{client_view}
+use Rattle.rb_task.specs.Reach.{IsReachable}
+use Rattle.rb_machine.specs.Standing.{empty_book}
+use Rattle.rb_task.specs.Task.{Task, goal_of}
 use Rattle.rb_super.specs.Report.{idle, ClientReport, TurnReport}
 use Rattle.rb_super.specs.Schedule.{RightDraft, Step, acts, publishes, tells, learns, scans, plans, world_after}
 use Rattle.rb_super.specs.Script.{Turn, Script}

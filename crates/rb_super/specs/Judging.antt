@@ -4,9 +4,9 @@ use Rattle.std.specs.Prelude.{◌≡◌, ℕ, List, [], ◌∷◌, take, map, sl
 use Rattle.rb_base.specs.Window.{Span}
 use Rattle.rb_cert.specs.declared.verdict.Verdict2.{Verdict2}
 use Rattle.rb_cert.specs.Judgement.{Judges}
-use Rattle.rb_core.specs.Reach.{IsReach}
-use Rattle.rb_core.specs.Standing.{KnownClient, Standing, opening_standing, task_in}
-use Rattle.rb_core.specs.Task.{Task, goal_of}
+use Rattle.rb_task.specs.Reach.{IsReach}
+use Rattle.rb_machine.specs.Standing.{KnownClient, Standing, opening_standing, task_in}
+use Rattle.rb_task.specs.Task.{Task, goal_of}
 use Rattle.rb_events.specs.declared.goal.Goal.{Goal}
 use Rattle.rb_plan.specs.Answer.{Shows}
 use Rattle.rb_plan.specs.Labelling.{Labels, IsSound, label_of}

@@ -1,10 +1,10 @@
 -- Laws of reports and of verdicts.
 use Rattle.std.specs.Prelude.{◌≡◌, ℕ, List, Option, Some, None, slice_get}
 use Rattle.rb_cert.specs.declared.verdict.Verdict2.{Verdict2}
-use Rattle.rb_core.specs.Draft.{Draft, IsDraft}
-use Rattle.rb_core.specs.Event.{Planned}
-use Rattle.rb_core.specs.Machine.{State, refusal_of, after}
-use Rattle.rb_core.specs.Standing.{KnownClient, with_client}
+use Rattle.rb_task.specs.Draft.{Draft, IsDraft}
+use Rattle.rb_machine.specs.Event.{Planned}
+use Rattle.rb_machine.specs.Machine.{State, refusal_of, after}
+use Rattle.rb_machine.specs.Standing.{KnownClient, with_client}
 use Rattle.rb_plan.specs.Labelling.{Labels}
 use Rattle.rb_step.specs.LightClient.{Update}
 use Rattle.rb_super.specs.Judging.{IsVerdictOn}

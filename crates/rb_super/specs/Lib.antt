@@ -8,4 +8,6 @@ pub mod Examples
 pub mod Views
 pub mod Told
 pub mod Phases
+pub mod Tables
+pub mod Drafts
 pub mod Judging

@@ -3,8 +3,8 @@ use Rattle.std.specs.Prelude.{◌≡◌, ℕ, ◌+◌, ◌<◌, ◌≤◌, true,
 use Rattle.std.specs.List.{range_with_len}
 use Rattle.rb_scan.specs.declared.scan.Part.{Part}
 use Rattle.rb_core.specs.Core.{Core, state_in}
-use Rattle.rb_core.specs.Machine.{is_scanned, max_events}
-use Rattle.rb_core.specs.Standing.{KnownClient, Standing, with_client}
+use Rattle.rb_machine.specs.Machine.{is_scanned, max_events}
+use Rattle.rb_machine.specs.Standing.{KnownClient, Standing, with_client}
 use Rattle.rb_super.specs.Agenda.{Item, plan, Finishes}
 use Rattle.rb_super.specs.Report.{ClientReport, TurnReport}
 use Rattle.rb_super.specs.Script.{Turn}

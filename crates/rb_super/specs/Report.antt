@@ -6,7 +6,7 @@ use Rattle.rb_events.specs.declared.goal.Goal.{Goal}
 use Rattle.rb_plan.specs.declared.labelling.Label.{Label}
 use Rattle.rb_step.specs.LightClient.{Update}
 use Rattle.rb_events.specs.declared.refusal.Refusal.{Refusal}
-use Rattle.rb_core.specs.Task.{Message}
+use Rattle.rb_task.specs.Task.{Message}
 
 -- an event that was refused, by its number in its turn, from 0
 pub record RefusedEvent : Type 0 where

@@ -6,11 +6,11 @@ use Rattle.rb_scan.specs.Path.{Path}
 use Rattle.rb_scan.specs.declared.scan.Part.{Part}
 use Rattle.rb_scan.specs.declared.scan.Part.TheVariants.{Packets, Channel}
 use Rattle.rb_events.specs.Config.{Config}
-use Rattle.rb_core.specs.Draft.{Draft, IsDraft}
-use Rattle.rb_core.specs.Event.{Event, Window, Asked, Scanned, Planned}
-use Rattle.rb_core.specs.Scan.{Scan}
-use Rattle.rb_core.specs.Machine.{State, opening, is_scanned, is_job, client_view, max_events, refusal_of, after, state_of}
-use Rattle.rb_core.specs.Standing.{OpenBatch, KnownClient, opening_standing, path_view}
+use Rattle.rb_task.specs.Draft.{Draft, IsDraft}
+use Rattle.rb_machine.specs.Event.{Event, Window, Asked, Scanned, Planned}
+use Rattle.rb_machine.specs.Scan.{Scan}
+use Rattle.rb_machine.specs.Machine.{State, opening, is_scanned, is_job, client_view, max_events, refusal_of, after, state_of}
+use Rattle.rb_machine.specs.Standing.{OpenBatch, KnownClient, opening_standing, path_view}
 use Rattle.rb_super.specs.Agenda.{Item, enter, ask, observe, scan, plan, settle, agenda, empty_report}
 use Rattle.rb_super.specs.Report.{RefusedEvent, Outcome, held, TurnReport, Report}
 use Rattle.rb_super.specs.Script.{Turn, Script, IsScript}

@@ -4,8 +4,8 @@ use Rattle.rb_base.specs.Window.{Span}
 use Rattle.rb_events.specs.Config.{Config}
 use Rattle.rb_events.specs.declared.script.Asked.{Asked as Question}
 use Rattle.rb_events.specs.declared.script.Settlement.{Settlement}
-use Rattle.rb_core.specs.Config.{IsSetUp}
-use Rattle.rb_core.specs.Event.{Event, IsEvent, Window, Asked, SetSeen, HeaderSeen, StoredSeen, Sent, Received, AckWritten, Cleared, Closed, Scanned, Planned, Settled}
+use Rattle.rb_machine.specs.Config.{IsSetUp}
+use Rattle.rb_machine.specs.Event.{Event, IsEvent, Window, Asked, SetSeen, HeaderSeen, StoredSeen, Sent, Received, AckWritten, Cleared, Closed, Scanned, Planned, Settled}
 
 -- the window, what is asked, what was seen before, and what was settled after
 pub record Turn : Type 0 where

@@ -3,7 +3,7 @@ use Rattle.std.specs.Prelude.{ℕ, ◌+◌, ◌*◌, map, length}
 use Rattle.rb_events.specs.Config.{Config}
 use Rattle.rb_events.specs.Script.{Turn as SeenTurn, Script as SeenScript, turn_view, entry_count, IsTurn}
 use Rattle.rb_events.specs.declared.script.Turn.{Turn as CodeTurn}
-use Rattle.rb_core.specs.Seen.{observed}
+use Rattle.rb_machine.specs.Seen.{observed}
 use Rattle.rb_super.specs.Script.{Turn, Script}
 
 abbrev pub told_turn : {A : Type 0} → SeenTurn A → Turn

@@ -6,10 +6,10 @@ use Rattle.rb_base.specs.Window.{Span}
 use Rattle.rb_plan.specs.Order.{cost_of}
 use Rattle.rb_step.specs.LightClient.{Update}
 use Rattle.rb_step.specs.View.{client_of}
-use Rattle.rb_core.specs.Draft.{Plan as SentPlan, Planned as Answer, Sending as SentAs, nothing as sent_nothing, too_big as sent_too_big, batched as sent_batched, Draft, IsIdle, IsPlanned}
-use Rattle.rb_core.specs.Event.{Event, Window, Asked, Settled}
-use Rattle.rb_core.specs.Standing.{OpenBatch, KnownClient, Standing, opening_standing, task_in, with_batch, goes_back, judged, standing_after}
-use Rattle.rb_core.specs.Task.{Task}
+use Rattle.rb_task.specs.Draft.{Plan as SentPlan, Planned as Answer, Sending as SentAs, nothing as sent_nothing, too_big as sent_too_big, batched as sent_batched, Draft, IsIdle, IsPlanned}
+use Rattle.rb_machine.specs.Event.{Event, Window, Asked, Settled}
+use Rattle.rb_machine.specs.Standing.{OpenBatch, KnownClient, Standing, opening_standing, task_in, with_batch, goes_back, judged, standing_after}
+use Rattle.rb_task.specs.Task.{Task}
 use Rattle.rb_super.specs.Report.{RefusedEvent, PricedUpdate, Sending, nothing, too_big, batched, Plan, Planned, Outcome, held, idle, planned, ClientReport, SettlementReport, TurnReport, Report}
 use Rattle.rb_events.specs.declared.script.Asked.{Asked as Question}
 use Rattle.rb_events.specs.declared.script.Settlement.{Settlement}

@@ -1,8 +1,8 @@
 -- Reports as they lie in memory, without that.
 use Rattle.std.specs.Prelude.{ℕ, List, map, Option}
 use Rattle.std.specs.Option.{option_map, option_map_or, option_to_list}
-use Rattle.rb_core.specs.Draft.{Draft}
-use Rattle.rb_core.specs.Machine.{Reply, Noted, Opened}
+use Rattle.rb_task.specs.Draft.{Draft}
+use Rattle.rb_machine.specs.Machine.{Reply, Noted, Opened}
 use Rattle.rb_events.specs.declared.refusal.Refusal.{Refusal}
 use Rattle.rb_super.specs.Report.{RefusedEvent, PricedUpdate, Batch, Sending, nothing, too_big, batched, Plan, Planned, Outcome, held, idle, planned, ClientReport, SettlementReport, TurnReport, Report}
 use Rattle.rb_super.specs.Turns.{reported}

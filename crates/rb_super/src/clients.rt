@@ -1,16 +1,16 @@
 //! How clients are configured.
 ghost use Rattle.std.specs.Prelude.{◌≡◌, ◌<◌, length, slice_index_or};
 
-use rb_core::Core;
+use crate::relayer::Relayer;
 use rb_events::ClientConfig;
 use std::alloc::Allocator;
 
 /// How a client that is there is configured.
-pub(crate) fn config_of<A: Allocator + Copy>(core: &Core<A>, client: usize) -> ClientConfig
-    requires { client < length core.now.config.clients }
-    ensures value { result ≡ slice_index_or core.now.config.clients client result }
-    ensures tracks { result.tracks < length core.now.config.chains }
+pub(crate) fn config_of<A: Allocator + Copy>(relayer: &Relayer<A>, client: usize) -> ClientConfig
+    requires { client < length relayer.now.config.clients }
+    ensures value { result ≡ slice_index_or relayer.now.config.clients client result }
+    ensures tracks { result.tracks < length relayer.now.config.chains }
 {
-    let config = core.config();
+    let config = relayer.config();
     config.clients[client]
 }

@@ -1,9 +1,11 @@
 //! The judgement of an answer that was made for a client in a turn of a script.
 ghost use Rattle.std.specs.Prelude.{◌≡◌, ◌<◌, Ok, Some, None, length, take, slice_get, IfOk};
 ghost use denote.Param.Send.{Frees};
-ghost use Rattle.rb_core.specs.Batches.{batch_open};
-ghost use Rattle.rb_core.specs.Standing.{KnownClient};
-ghost use Rattle.rb_core.specs.Task.{Task};
+ghost use Rattle.rb_machine.specs.Batches.{batch_open};
+ghost use Rattle.rb_core.specs.Core.{state_in};
+ghost use Rattle.rb_machine.specs.Machine.{client_view};
+ghost use Rattle.rb_machine.specs.Standing.{KnownClient};
+ghost use Rattle.rb_task.specs.Task.{Task};
 ghost use Rattle.rb_events.specs.declared.goal.Goal.{Goal as AnyGoal};
 ghost use Rattle.rb_events.specs.Script.{script_view, IsScript};
 ghost use Rattle.rb_plan.specs.Answer.{labels_of, claim_of, Shows};
@@ -17,11 +19,12 @@ ghost use Rattle.rb_super.specs.Turns.{IsReportOf};
 
 use crate::crew::Crew;
 use crate::planning::{draft_of, view_of};
+use crate::relayer::Relayer;
 use crate::run::run_turns;
 use crate::supervisor::Supervisor;
 use rb_batch::laws::least_cut_is_one;
 use rb_cert::{Verdict2, certify_par};
-use rb_core::{Core, JobView};
+use rb_core::JobView;
 use rb_events::{Script, Turn};
 use rb_gang::{Gate, OpenGate};
 use rb_plan::laws::answers_are_one;
@@ -48,33 +51,37 @@ fn plan_phase<R: Threads + Sync, G: Gate + Sync, A: Allocator + Copy + Send + Sy
     alloc: A,
     script: Script<A>,
     turn: usize,
-) -> Result<Core<A>, AllocError>
+) -> Result<Relayer<A>, AllocError>
     requires script { IsScript (script_view script) }
     requires turn { turn < length script.turns.items }
     requires alloc { Frees A.Allocator A.dealloc_token }
-    ensures phase { IfOk result (λ core. IsPlanPhase (told (script_view script)) turn (standing_in core)) }
+    ensures phase { IfOk result (λ relayer. IsPlanPhase (told (script_view script)) turn (standing_in relayer)) }
     ensures ready { IfOk result IsPlannable }
-    ensures clients { IfOk result (λ core. length core.config.clients ≡ length script.config.clients.items) }
-    ensures room { IfOk result (λ core. HasLogRoom core (length core.config.clients)) }
+    ensures clients { IfOk result (λ relayer. length relayer.config.clients ≡ length script.config.clients.items) }
+    ensures room { IfOk result (λ relayer. HasLogRoom relayer (length relayer.config.clients)) }
 {
     let Script { config, turns } = script;
     let (earlier, this) = turns_to(turns, turn);
     let supervisor = Supervisor::new(alloc, config)?;
     let (_, begun) = run_turns(crew, alloc, supervisor, earlier)?;
-    let core = begun.plan_phase(crew, this)?;
-    Ok(core)
+    let relayer = begun.plan_phase(crew, this)?;
+    Ok(relayer)
 }
 
 /// What a client is to be brought to, by the greatest height that it can be brought to.
 fn wanted<R: Threads + Sync, G: Gate + Sync, A: Allocator + Copy + Send + Sync>(
     crew: &Crew<R, G>,
     alloc: A,
+    relayer: &mut Relayer<A>,
+    client: usize,
     job: &JobView<A>,
 ) -> Result<Option<Goal>, AllocError>
-    requires { Frees A.Allocator A.dealloc_token }
+    requires client { client < length relayer.old.config.clients }
+    requires view { client_view (state_in relayer.old) client ≡ Some job.now }
+    requires alloc { Frees A.Allocator A.dealloc_token }
     ensures { IfOk result (IsWanted job.now.task) }
 {
-    let draft = draft_of(crew, alloc, &mut None, job)?;
+    let draft = draft_of(crew, alloc, relayer, client, job)?;
     match draft.answer() {
         Some(planned) => Ok(Some(planned.goal())),
         None => Ok(None),
@@ -105,25 +112,25 @@ fn verdict_for<R: Threads + Sync, G: Gate + Sync, A: Allocator + Copy + Send + S
 fn verdict_unheld<R: Threads + Sync, G: Gate + Sync, A: Allocator + Copy + Send + Sync>(
     crew: &Crew<R, G>,
     alloc: A,
-    core: &Core<A>,
+    relayer: &mut Relayer<A>,
     client: usize,
     answer: &Answer<A>,
 ) -> Result<Option<Verdict2>, AllocError>
-    requires client { client < length core.now.config.clients }
-    requires none_open { batch_open (standing_in core.now) client ≡ None }
-    requires ready { IsPlannable core.now }
-    requires room { HasLogRoom core.now 1 }
+    requires client { client < length relayer.old.config.clients }
+    requires none_open { batch_open (standing_in relayer.old) client ≡ None }
+    requires ready { IsPlannable relayer.old }
+    requires room { HasLogRoom relayer.old 1 }
     requires alloc { Frees A.Allocator A.dealloc_token }
-    ensures judged { IfOk result (λ verdict. IsVerdictIn (standing_in core.now) client (labels_of answer.now) (claim_of answer.now) verdict) }
-    ensures right { result ≡ Ok (Some Verdict2.Yes) → IsRightAs (standing_in core.now) client (labels_of answer.now) (claim_of answer.now) }
-    ensures accepts { (known : KnownClient) (task : Task) (goal : AnyGoal) → IsClientIn (standing_in core.now) client known task
+    ensures judged { IfOk result (λ verdict. IsVerdictIn (standing_in relayer.old) client (labels_of answer.now) (claim_of answer.now) verdict) }
+    ensures right { result ≡ Ok (Some Verdict2.Yes) → IsRightAs (standing_in relayer.old) client (labels_of answer.now) (claim_of answer.now) }
+    ensures accepts { (known : KnownClient) (task : Task) (goal : AnyGoal) → IsClientIn (standing_in relayer.old) client known task
         → IsPlannedGoal known task (Some goal)
         → IsExact (client_of task.view) (labels_of answer.now)
         → Shows (client_of task.view) goal (claim_of answer.now)
         → IfOk result (λ verdict. verdict ≡ Some Verdict2.Yes) }
 {
-    let job = view_of(core, client)?;
-    let goal = wanted(crew, alloc, &job)?;
+    let job = view_of(relayer, client)?;
+    let goal = wanted(crew, alloc, relayer, client, &job)?;
     let view = job.view();
     let verdict = verdict_for(crew, &view, goal, answer);
     Ok(verdict)
@@ -133,26 +140,26 @@ fn verdict_unheld<R: Threads + Sync, G: Gate + Sync, A: Allocator + Copy + Send 
 fn verdict_on<R: Threads + Sync, G: Gate + Sync, A: Allocator + Copy + Send + Sync>(
     crew: &Crew<R, G>,
     alloc: A,
-    core: &Core<A>,
+    relayer: &mut Relayer<A>,
     client: usize,
     answer: &Answer<A>,
 ) -> Result<Option<Verdict2>, AllocError>
-    requires client { client < length core.now.config.clients }
-    requires ready { IsPlannable core.now }
-    requires room { HasLogRoom core.now 1 }
+    requires client { client < length relayer.old.config.clients }
+    requires ready { IsPlannable relayer.old }
+    requires room { HasLogRoom relayer.old 1 }
     requires alloc { Frees A.Allocator A.dealloc_token }
-    ensures judged { IfOk result (λ verdict. IsVerdictIn (standing_in core.now) client (labels_of answer.now) (claim_of answer.now) verdict) }
-    ensures right { result ≡ Ok (Some Verdict2.Yes) → IsRightAs (standing_in core.now) client (labels_of answer.now) (claim_of answer.now) }
-    ensures accepts { (known : KnownClient) (task : Task) (goal : AnyGoal) → IsClientIn (standing_in core.now) client known task
+    ensures judged { IfOk result (λ verdict. IsVerdictIn (standing_in relayer.old) client (labels_of answer.now) (claim_of answer.now) verdict) }
+    ensures right { result ≡ Ok (Some Verdict2.Yes) → IsRightAs (standing_in relayer.old) client (labels_of answer.now) (claim_of answer.now) }
+    ensures accepts { (known : KnownClient) (task : Task) (goal : AnyGoal) → IsClientIn (standing_in relayer.old) client known task
         → IsPlannedGoal known task (Some goal)
         → IsExact (client_of task.view) (labels_of answer.now)
         → Shows (client_of task.view) goal (claim_of answer.now)
         → IfOk result (λ verdict. verdict ≡ Some Verdict2.Yes) }
 {
-    if let Some(_) = core.open_batch(client) {
+    if let Some(_) = relayer.open_batch(client) {
         return Ok(None);
     }
-    verdict_unheld(crew, alloc, core, client, answer)
+    verdict_unheld(crew, alloc, relayer, client, answer)
 }
 
 /// Judges an answer that was made for a client in a turn, both by their places in the script: the
@@ -182,6 +189,6 @@ pub fn judge<R: Threads + Sync, A: Allocator + Copy + Send + Sync>(
     answers_are_one();
     least_cut_is_one();
     let crew = Crew::new(rt, 0, &OpenGate);
-    let core = plan_phase(&crew, alloc, script, turn)?;
-    verdict_on(&crew, alloc, &core, client, answer)
+    let mut relayer = plan_phase(&crew, alloc, script, turn)?;
+    verdict_on(&crew, alloc, &mut relayer, client, answer)
 }

@@ -9,11 +9,13 @@ pub mod laws;
 mod observing;
 mod outcome;
 mod planning;
+mod relayer;
 mod report;
 mod run;
 mod scanning;
 mod settling;
 mod supervisor;
+mod tables;
 mod taking;
 
 pub use crew::Crew;

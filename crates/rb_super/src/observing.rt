@@ -1,72 +1,73 @@
 //! The window of a turn, what is asked, and what was seen before.
 ghost use Rattle.std.specs.Prelude.{◌≡◌, ◌<◌, ◌++◌, length, map, fold, All, IfOk, OnOk};
-ghost use Rattle.rb_core.specs.Seen.{observed};
-ghost use Rattle.rb_core.specs.Standing.{goes_back, judged, standing_after};
+ghost use Rattle.rb_machine.specs.Seen.{observed};
+ghost use Rattle.rb_machine.specs.Standing.{goes_back, judged, standing_after};
 ghost use Rattle.rb_events.specs.Script.{IsSeen};
 ghost use Rattle.rb_super.specs.Turns.{after_window, after_question, refusals};
 ghost use Rattle.rb_super.specs.Phases.{standing_in, HasLogRoom, IsLater};
 ghost use Rattle.rb_super.specs.Views.{refused_view, refused_as};
 
+use crate::relayer::Relayer;
 use crate::report::RefusedEvent;
 use crate::taking::hear;
 use rb_base::Window;
-use rb_core::{Core, Event};
+use rb_core::Event;
 use rb_events::{Asked, Observation, Refusal};
 use std::alloc::{AllocError, Allocator};
 
 /// Enters a window, unless it goes back; tells whether it does.
 pub(crate) fn enter<A: Allocator + Copy>(
-    core: &mut Core<A>,
+    relayer: &mut Relayer<A>,
     window: Window,
 ) -> Result<bool, AllocError>
-    requires { HasLogRoom core.old 1 }
-    ensures back { IfOk result (λ back. back ≡ goes_back (standing_in core.old).window window) }
-    ensures standing { OnOk result (standing_in core.new ≡ after_window (standing_in core.old) window) }
-    ensures later { OnOk result (IsLater 1 core.old core.new) }
+    requires { HasLogRoom relayer.old 1 }
+    ensures back { IfOk result (λ back. back ≡ goes_back (standing_in relayer.old).window window) }
+    ensures standing { OnOk result (standing_in relayer.new ≡ after_window (standing_in relayer.old) window) }
+    ensures later { OnOk result (IsLater 1 relayer.old relayer.new) }
 {
-    let refusal = hear(core, Event::Window(window))?;
+    let refusal = hear(relayer, Event::Window(window))?;
     Ok(refusal.is_some())
 }
 
 /// Asks a client for a goal.
-fn ask<A: Allocator + Copy>(core: &mut Core<A>, asked: Asked) -> Result<(), AllocError>
-    requires client { asked.client < length core.old.config.clients }
-    requires room { HasLogRoom core.old 1 }
-    ensures standing { OnOk result (standing_in core.new ≡ after_question (standing_in core.old) asked) }
-    ensures later { OnOk result (IsLater 1 core.old core.new) }
+fn ask<A: Allocator + Copy>(relayer: &mut Relayer<A>, asked: Asked) -> Result<(), AllocError>
+    requires client { asked.client < length relayer.old.config.clients }
+    requires room { HasLogRoom relayer.old 1 }
+    ensures standing { OnOk result (standing_in relayer.new ≡ after_question (standing_in relayer.old) asked) }
+    ensures later { OnOk result (IsLater 1 relayer.old relayer.new) }
 {
-    hear(core, Event::Asked(asked))?;
+    hear(relayer, Event::Asked(asked))?;
     Ok(())
 }
 
 /// Asks clients for goals.
 pub(crate) fn ask_all<A: Allocator + Copy>(
-    core: &mut Core<A>,
+    relayer: &mut Relayer<A>,
     goals: &[Asked],
 ) -> Result<(), AllocError>
-    requires clients { All (λ (g : Asked). g.client < length core.old.config.clients) goals.now }
-    requires room { HasLogRoom core.old (length goals.now) }
-    ensures standing { OnOk result (standing_in core.new ≡ fold after_question (standing_in core.old) goals.now) }
-    ensures later { OnOk result (IsLater (length goals.now) core.old core.new) }
+    requires clients { All (λ (g : Asked). g.client < length relayer.old.config.clients) goals.now }
+    requires room { HasLogRoom relayer.old (length goals.now) }
+    ensures standing { OnOk result (standing_in relayer.new ≡ fold after_question (standing_in relayer.old) goals.now) }
+    ensures later { OnOk result (IsLater (length goals.now) relayer.old relayer.new) }
 {
     for asked in goals {
-        ask(core, *asked)?;
+        ask(relayer, *asked)?;
     }
     Ok(())
 }
 
 /// Takes in what was seen, or tells why it is refused; what is refused changes nothing.
 fn observe<A: Allocator + Copy>(
-    core: &mut Core<A>,
+    relayer: &mut Relayer<A>,
     observation: Observation<A>,
 ) -> Result<Option<Refusal>, AllocError>
-    requires seen { IsSeen (length core.old.config.chains) (length core.old.config.clients) (length core.old.config.paths) observation }
-    requires room { HasLogRoom core.old 1 }
-    ensures judged { IfOk result (λ refusal. refusal ≡ judged (standing_in core.old) (observed observation)) }
-    ensures standing { OnOk result (standing_in core.new ≡ standing_after (standing_in core.old) (observed observation)) }
-    ensures later { OnOk result (IsLater 1 core.old core.new) }
+    requires seen { IsSeen (length relayer.old.config.chains) (length relayer.old.config.clients) (length relayer.old.config.paths) observation }
+    requires room { HasLogRoom relayer.old 1 }
+    ensures judged { IfOk result (λ refusal. refusal ≡ judged (standing_in relayer.old) (observed observation)) }
+    ensures standing { OnOk result (standing_in relayer.new ≡ standing_after (standing_in relayer.old) (observed observation)) }
+    ensures later { OnOk result (IsLater 1 relayer.old relayer.new) }
 {
-    hear(core, Event::Observed(observation))
+    hear(relayer, Event::Observed(observation))
 }
 
 /// Puts a refusal, if there is one, to the end of a list, with the number of the event.
@@ -86,19 +87,19 @@ fn push_refusal<A: Allocator>(
 /// Takes in what was seen, in its order, and tells what of it is refused.
 pub(crate) fn observe_all<A: Allocator + Copy>(
     alloc: A,
-    core: &mut Core<A>,
+    relayer: &mut Relayer<A>,
     observations: Vec<Observation<A>, A>,
 ) -> Result<Vec<RefusedEvent, A>, AllocError>
-    requires seen { All (IsSeen (length core.old.config.chains) (length core.old.config.clients) (length core.old.config.paths)) observations.items }
-    requires room { HasLogRoom core.old (length observations.items) }
-    ensures refused { IfOk result (λ refused. map refused_view refused.items ≡ refusals 0 (standing_in core.old) (map observed observations.items)) }
-    ensures standing { OnOk result (standing_in core.new ≡ fold standing_after (standing_in core.old) (map observed observations.items)) }
-    ensures later { OnOk result (IsLater (length observations.items) core.old core.new) }
+    requires seen { All (IsSeen (length relayer.old.config.chains) (length relayer.old.config.clients) (length relayer.old.config.paths)) observations.items }
+    requires room { HasLogRoom relayer.old (length observations.items) }
+    ensures refused { IfOk result (λ refused. map refused_view refused.items ≡ refusals 0 (standing_in relayer.old) (map observed observations.items)) }
+    ensures standing { OnOk result (standing_in relayer.new ≡ fold standing_after (standing_in relayer.old) (map observed observations.items)) }
+    ensures later { OnOk result (IsLater (length observations.items) relayer.old relayer.new) }
 {
     let mut refused = Vec::new(alloc);
     let mut event = 0;
     for observation in observations {
-        let refusal = observe(core, observation)?;
+        let refusal = observe(relayer, observation)?;
         push_refusal(&mut refused, event, refusal)?;
         event += 1;
     }

@@ -1,9 +1,9 @@
 //! What is reported of a draft.
 ghost use Rattle.std.specs.Prelude.{◌≡◌, ◌<◌, ◌^◌, length, map, sum_by, IfOk, IfSome};
 ghost use Rattle.std.specs.Option.{option_map, option_copied};
-ghost use Rattle.rb_core.specs.Draft.{IsPlanned};
-ghost use Rattle.rb_core.specs.Replied.{reply_view};
-ghost use Rattle.rb_core.specs.Sent.{sending_view as sent_view};
+ghost use Rattle.rb_task.specs.Draft.{IsPlanned};
+ghost use Rattle.rb_machine.specs.Replied.{reply_view};
+ghost use Rattle.rb_task.specs.Sent.{sending_view as sent_view};
 ghost use Rattle.rb_step.specs.LightClient.{total_fee};
 ghost use Rattle.rb_step.specs.View.{client_of};
 ghost use Rattle.rb_super.specs.Turns.{priced, numbered, reported_plan, reported};

@@ -5,25 +5,26 @@ ghost use Rattle.rb_super.specs.Phases.{standing_in, HasLogRoom, IsLater};
 ghost use Rattle.rb_super.specs.Views.{settlement_view};
 
 use crate::clients::config_of;
+use crate::relayer::Relayer;
 use crate::report::SettlementReport;
 use crate::taking::hear;
-use rb_core::{Core, Event};
+use rb_core::Event;
 use rb_events::Settlement;
 use std::alloc::{AllocError, Allocator};
 
 /// Takes in a settlement, or tells why it is refused.
 fn settle<A: Allocator + Copy>(
-    core: &mut Core<A>,
+    relayer: &mut Relayer<A>,
     settlement: Settlement,
 ) -> Result<SettlementReport, AllocError>
-    requires client { settlement.client < length core.old.config.clients }
-    requires room { HasLogRoom core.old 1 }
-    ensures report { IfOk result (λ r. settlement_view r ≡ settlement_report (standing_in core.old) settlement) }
-    ensures standing { OnOk result (standing_in core.new ≡ after_settlement (standing_in core.old) settlement) }
-    ensures later { OnOk result (IsLater 1 core.old core.new) }
+    requires client { settlement.client < length relayer.old.config.clients }
+    requires room { HasLogRoom relayer.old 1 }
+    ensures report { IfOk result (λ r. settlement_view r ≡ settlement_report (standing_in relayer.old) settlement) }
+    ensures standing { OnOk result (standing_in relayer.new ≡ after_settlement (standing_in relayer.old) settlement) }
+    ensures later { OnOk result (IsLater 1 relayer.old relayer.new) }
 {
-    let config = config_of(core, settlement.client);
-    let refusal = hear(core, Event::Settled(settlement))?;
+    let config = config_of(relayer, settlement.client);
+    let refusal = hear(relayer, Event::Settled(settlement))?;
     Ok(SettlementReport {
         id: config.id,
         batch: settlement.batch,
@@ -35,18 +36,18 @@ fn settle<A: Allocator + Copy>(
 /// Takes in settlements, in their order, and tells what comes of each.
 pub(crate) fn settle_all<A: Allocator + Copy>(
     alloc: A,
-    core: &mut Core<A>,
+    relayer: &mut Relayer<A>,
     settlements: &[Settlement],
 ) -> Result<Vec<SettlementReport, A>, AllocError>
-    requires clients { All (λ (x : Settlement). x.client < length core.old.config.clients) settlements.now }
-    requires room { HasLogRoom core.old (length settlements.now) }
-    ensures reports { IfOk result (λ reports. map settlement_view reports.items ≡ settlement_reports (standing_in core.old) settlements.now) }
-    ensures standing { OnOk result (standing_in core.new ≡ fold after_settlement (standing_in core.old) settlements.now) }
-    ensures later { OnOk result (IsLater (length settlements.now) core.old core.new) }
+    requires clients { All (λ (x : Settlement). x.client < length relayer.old.config.clients) settlements.now }
+    requires room { HasLogRoom relayer.old (length settlements.now) }
+    ensures reports { IfOk result (λ reports. map settlement_view reports.items ≡ settlement_reports (standing_in relayer.old) settlements.now) }
+    ensures standing { OnOk result (standing_in relayer.new ≡ fold after_settlement (standing_in relayer.old) settlements.now) }
+    ensures later { OnOk result (IsLater (length settlements.now) relayer.old relayer.new) }
 {
     let mut reports = Vec::with_capacity(alloc, settlements.len())?;
     for settlement in settlements {
-        reports.push(settle(core, *settlement)?)?;
+        reports.push(settle(relayer, *settlement)?)?;
     }
     Ok(reports)
 }

@@ -1,10 +1,15 @@
 //! The supervisor: a relayer that is led through turns.
-ghost use Rattle.std.specs.Prelude.{◌≡◌, ◌<◌, ◌+◌, ◌*◌, [], length, IfOk, OnOk, All, map, fold};
+ghost use Rattle.std.specs.Prelude.{◌≡◌, ◌<◌, ◌+◌, ◌*◌, ◌++◌, ◌∷◌, [], length, None, IfOk, IfErr, OnOk, OnErr, All, map, fold};
 ghost use denote.Param.Send.{Frees};
 ghost use Rattle.rb_events.specs.Config.{config_view, IsConfig};
 ghost use Rattle.rb_events.specs.Script.{IsSeen};
-ghost use Rattle.rb_core.specs.Seen.{observed};
-ghost use Rattle.rb_core.specs.Standing.{goes_back, standing_after};
+ghost use Rattle.rb_core.specs.Core.{refusal_in, state_in};
+ghost use Rattle.rb_machine.specs.Machine.{reply_of};
+ghost use Rattle.rb_machine.specs.Refused.{IsRefusal};
+ghost use Rattle.rb_machine.specs.Replied.{reply_view};
+ghost use Rattle.rb_machine.specs.Seen.{event_view, observed};
+ghost use Rattle.rb_machine.specs.Standing.{goes_back, standing_after};
+ghost use Rattle.rb_super.specs.Drafts.{AreDrafts};
 ghost use Rattle.rb_super.specs.Turns.{after_window, after_question, refusals, before_plans, IsTurnReport, after_turn};
 ghost use Rattle.rb_super.specs.Phases.{standing_in, HasLogRoom, IsLater, IsPlannable};
 ghost use Rattle.rb_super.specs.Views.{refused_view, turn_report_view};
@@ -12,51 +17,33 @@ ghost use Rattle.rb_super.specs.Told.{told_as, IsTurnFor, most_events};
 
 use crate::crew::Crew;
 use crate::observing::{ask_all, enter, observe_all};
-use crate::planning::plan_all;
+use crate::planning::{drafts_of, plan_all};
+use crate::relayer::Relayer;
 use crate::report::{RefusedEvent, TurnReport};
 use crate::scanning::scan_all;
 use crate::settling::settle_all;
 use rb_base::Window;
-use rb_core::Core;
+use rb_core::{Core, CoreError, Draft, Event, Reply};
 use rb_events::{Asked, Config, Observation, Turn};
 use rb_gang::Gate;
-use rb_graph::Graph;
 use std::alloc::{AllocError, Allocator, Global};
 use std::marker::Model;
 use std::thread::Threads;
 
-/// A relayer that is led through turns, with the step tables of the chains as they were planned by
-/// last. A contract sees the relayer.
+/// A relayer that is led through turns. It keeps the step tables of its chains from turn to turn. A
+/// contract sees what it has taken in.
 #[derive(Drop)]
 pub struct Supervisor<A: Allocator = Global> {
     alloc: A,
-    core: Core<A>,
-    tables: Vec<Option<Graph<A>>, A>,
+    relayer: Relayer<A>,
 }
 
 impl<A: Allocator> Model for Supervisor<A> {
-    ghost use Rattle.std.specs.Prelude.{◌≡◌, length};
     ghost use Rattle.rb_core.specs.Core as cores;
 
     ghost Value = { cores.Core };
 
-    ghost view = { λ s. s.core };
-
-    ghost invariant = { λ s. length s.tables.items ≡ length s.core.config.chains };
-}
-
-/// A place for a table of each chain.
-fn no_tables<A: Allocator + Copy>(
-    alloc: A,
-    chains: usize,
-) -> Result<Vec<Option<Graph<A>>, A>, AllocError>
-    ensures { IfOk result (λ tables. length tables.items ≡ chains) }
-{
-    let mut tables = Vec::with_capacity(alloc, chains)?;
-    for _ in 0..chains {
-        tables.push(None)?;
-    }
-    Ok(tables)
+    ghost view = { λ s. s.relayer };
 }
 
 /// Leads a relayer through a turn up to where its clients are planned; tells whether the window goes
@@ -64,26 +51,26 @@ fn no_tables<A: Allocator + Copy>(
 pub(crate) fn prepare<R: Threads + Sync, G: Gate + Sync, A: Allocator + Copy>(
     crew: &Crew<R, G>,
     alloc: A,
-    core: &mut Core<A>,
+    relayer: &mut Relayer<A>,
     window: Window,
     goals: &[Asked],
     events: Vec<Observation<A>, A>,
 ) -> Result<(bool, Vec<RefusedEvent, A>), AllocError>
-    requires goals { All (λ (g : Asked). g.client < length core.old.config.clients) goals.now }
-    requires events { All (IsSeen (length core.old.config.chains) (length core.old.config.clients) (length core.old.config.paths)) events.items }
-    requires room { HasLogRoom core.old (1 + length goals.now + length events.items + 2 * length core.old.config.paths) }
-    ensures back { IfOk result (λ r. r.0 ≡ goes_back (standing_in core.old).window window) }
+    requires goals { All (λ (g : Asked). g.client < length relayer.old.config.clients) goals.now }
+    requires events { All (IsSeen (length relayer.old.config.chains) (length relayer.old.config.clients) (length relayer.old.config.paths)) events.items }
+    requires room { HasLogRoom relayer.old (1 + length goals.now + length events.items + 2 * length relayer.old.config.paths) }
+    ensures back { IfOk result (λ r. r.0 ≡ goes_back (standing_in relayer.old).window window) }
     ensures refused { IfOk result (λ r. map refused_view r.1.items
-        ≡ refusals 0 (fold after_question (after_window (standing_in core.old) window) goals.now) (map observed events.items)) }
-    ensures standing { OnOk result (standing_in core.new
-        ≡ fold standing_after (fold after_question (after_window (standing_in core.old) window) goals.now) (map observed events.items)) }
-    ensures ready { OnOk result (IsPlannable core.new) }
-    ensures later { OnOk result (IsLater (1 + length goals.now + length events.items + 2 * length core.old.config.paths) core.old core.new) }
+        ≡ refusals 0 (fold after_question (after_window (standing_in relayer.old) window) goals.now) (map observed events.items)) }
+    ensures standing { OnOk result (standing_in relayer.new
+        ≡ fold standing_after (fold after_question (after_window (standing_in relayer.old) window) goals.now) (map observed events.items)) }
+    ensures ready { OnOk result (IsPlannable relayer.new) }
+    ensures later { OnOk result (IsLater (1 + length goals.now + length events.items + 2 * length relayer.old.config.paths) relayer.old relayer.new) }
 {
-    let window_back = enter(core, window)?;
-    ask_all(core, goals)?;
-    let refused = observe_all(alloc, core, events)?;
-    scan_all(crew, core)?;
+    let window_back = enter(relayer, window)?;
+    ask_all(relayer, goals)?;
+    let refused = observe_all(alloc, relayer, events)?;
+    scan_all(crew, relayer)?;
     Ok((window_back, refused))
 }
 
@@ -95,19 +82,37 @@ impl<A: Allocator + Copy> Supervisor<A> {
         ensures config { IfOk result (λ s. s.config ≡ config_view config) }
         ensures log { IfOk result (λ s. s.log ≡ []) }
     {
-        let tables = no_tables(alloc, config.chains.len())?;
-        Ok(Supervisor {
-            alloc,
-            core: Core::new(alloc, config)?,
-            tables,
-        })
+        let relayer = Relayer::new(alloc, config)?;
+        Ok(Supervisor { alloc, relayer })
     }
 
     /// The relayer after all that it has taken in. Takes no memory.
     pub fn core(&self) -> &Core<A>
         ensures { result.now ≡ self.now }
     {
-        &self.core
+        self.relayer.core()
+    }
+
+    /// Takes in an event, and answers as the machine does after all that was taken in. An error is
+    /// the first refusal that applies; or `NoMemory`, where a growth is refused. After an error
+    /// nothing has changed.
+    pub fn take_in(&mut self, event: Event<A>) -> Result<Reply, CoreError>
+        ensures config { self.new.config ≡ self.old.config }
+        ensures appended { OnOk result (self.new.log ≡ self.old.log ++ event_view event ∷ []) }
+        ensures unchanged { OnErr result (self.new.log ≡ self.old.log) }
+        ensures accepted { OnOk result (refusal_in self.old (event_view event) ≡ None) }
+        ensures refused { IfErr result (λ e. IsRefusal e (refusal_in self.old (event_view event))) }
+        ensures reply { IfOk result (λ reply. reply_view reply ≡ reply_of (state_in self.old) (event_view event)) }
+    {
+        self.relayer.take_in(event)
+    }
+
+    /// Ends it: what it has taken in is given back. Takes no memory.
+    pub fn stop(self) -> Core<A>
+        ensures { result ≡ self }
+    {
+        let Supervisor { relayer, .. } = self;
+        relayer.into_core()
     }
 
     /// The relayer where the clients of a turn are planned: the window, the asked goals, what was
@@ -117,13 +122,13 @@ impl<A: Allocator + Copy> Supervisor<A> {
         self,
         crew: &Crew<R, G>,
         turn: Turn<A>,
-    ) -> Result<Core<A>, AllocError>
+    ) -> Result<Relayer<A>, AllocError>
         requires turn { IsTurnFor self.config turn }
         requires room { HasLogRoom self (most_events self.config turn) }
-        ensures standing { IfOk result (λ core. standing_in core ≡ before_plans (standing_in self) (told_as turn)) }
+        ensures standing { IfOk result (λ relayer. standing_in relayer ≡ before_plans (standing_in self) (told_as turn)) }
         ensures ready { IfOk result IsPlannable }
-        ensures config { IfOk result (λ core. core.config ≡ self.config) }
-        ensures room { IfOk result (λ core. HasLogRoom core (length self.config.clients)) }
+        ensures config { IfOk result (λ relayer. relayer.config ≡ self.config) }
+        ensures room { IfOk result (λ relayer. HasLogRoom relayer (length self.config.clients)) }
     {
         let Turn {
             window,
@@ -131,13 +136,9 @@ impl<A: Allocator + Copy> Supervisor<A> {
             events,
             ..
         } = turn;
-        let Supervisor {
-            alloc,
-            mut core,
-            ..
-        } = self;
-        prepare(crew, alloc, &mut core, window, goals.as_slice(), events)?;
-        Ok(core)
+        let Supervisor { alloc, mut relayer } = self;
+        prepare(crew, alloc, &mut relayer, window, goals.as_slice(), events)?;
+        Ok(relayer)
     }
 }
 
@@ -164,34 +165,42 @@ impl<A: Allocator + Copy + Send + Sync> Supervisor<A> {
             events,
             settlements,
         } = turn;
-        let Supervisor {
-            alloc,
-            mut core,
-            mut tables,
-        } = self;
+        let Supervisor { alloc, mut relayer } = self;
         let (window_back, refused) = prepare(
             crew,
             alloc,
-            &mut core,
+            &mut relayer,
             window,
             goals.as_slice(),
             events,
         )?;
-        let clients = plan_all(crew, alloc, &mut core, &mut tables)?;
-        let settlements = settle_all(alloc, &mut core, settlements.as_slice())?;
+        let clients = plan_all(crew, alloc, &mut relayer)?;
+        let settlements = settle_all(alloc, &mut relayer, settlements.as_slice())?;
         let report = TurnReport {
             window_back,
             refused,
             clients,
             settlements,
         };
-        Ok((
-            Supervisor {
-                alloc,
-                core,
-                tables,
-            },
-            report,
-        ))
+        Ok((Supervisor { alloc, relayer }, report))
+    }
+
+    /// What is planned for each client where the clients of a turn are planned, in their order,
+    /// for a client whose batch is open as well. None of it is taken in, and nothing of the turn is
+    /// seen later: the supervisor is given up. An error comes only where a growth is refused.
+    pub fn drafts<R: Threads + Sync, G: Gate + Sync>(
+        self,
+        crew: &Crew<R, G>,
+        turn: Turn<A>,
+    ) -> Result<Vec<Draft<A>, A>, AllocError>
+        requires turn { IsTurnFor self.config turn }
+        requires room { HasLogRoom self (most_events self.config turn) }
+        requires alloc { Frees A.Allocator A.dealloc_token }
+        ensures { IfOk result (λ drafts. AreDrafts (before_plans (standing_in self) (told_as turn)) drafts.items) }
+    {
+        let alloc = self.alloc;
+        let mut relayer = self.plan_phase(crew, turn)?;
+        let drafts = drafts_of(crew, alloc, &mut relayer)?;
+        Ok(drafts)
     }
 }

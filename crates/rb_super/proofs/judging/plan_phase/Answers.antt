@@ -31,12 +31,12 @@ pub returns-clause-phase : goal.returns-clause-phase
 returns-clause-phase g c =
     phase_there (script_view c.args.script) c.in_ok-supervisor.supervisor c.args.script.turns.items c.in_ok-supervisor.ensures.config c.in_ok-supervisor.ensures.log refl c.requires.script
     c.args.turn c.requires.turn c.turns_to-earlier.result.0.items c.turns_to-earlier.ensures.before c.turns_to-earlier.result.1 c.turns_to-earlier.ensures.there
-    (standing_in c.in_ok-begun.begun) (standing_in c.in_ok-core.core) c.in_ok-begun.ensures.leads c.in_ok-core.ensures.standing
+    (standing_in c.in_ok-begun.begun) (standing_in c.in_ok-relayer.relayer) c.in_ok-begun.ensures.leads c.in_ok-relayer.ensures.standing
 
 pub returns-clause-clients : goal.returns-clause-clients
 returns-clause-clients g c =
-    ap (λ (k : Config). length k.clients) (c.in_ok-core.ensures.config ∙ c.in_ok-begun.ensures.later.config ∙ c.in_ok-supervisor.ensures.config)
+    ap (λ (k : Config). length k.clients) (c.in_ok-relayer.ensures.config ∙ c.in_ok-begun.ensures.later.config ∙ c.in_ok-supervisor.ensures.config)
 
 pub returns-clause-room : goal.returns-clause-room
 returns-clause-room g c =
-    subst (λ (k : Config). HasLogRoom c.in_ok-core.core (length k.clients)) (sym c.in_ok-core.ensures.config) c.in_ok-core.ensures.room
+    subst (λ (k : Config). HasLogRoom c.in_ok-relayer.relayer (length k.clients)) (sym c.in_ok-relayer.ensures.config) c.in_ok-relayer.ensures.room

@@ -4,9 +4,9 @@ use Rattle.rb_super.proofs.judging.verdict_on.Goals as goal
 
 pub returns-in-Some-clause-judged : goal.returns-in-Some-clause-judged
 returns-in-Some-clause-judged g c =
-    let x = held_there c.args.core.now c.args.client _ c.requires.client c.requires.ready c.in-Some.ensures in
+    let x = held_there c.args.relayer.now c.args.client _ c.requires.client c.requires.ready c.in-Some.ensures in
     record { known = x.0; task = x.1; is = x.2; goal = None; is_planned = x.3; judged = refl }
 
 pub returns-in-Some-clause-accepts : goal.returns-in-Some-clause-accepts
 returns-in-Some-clause-accepts g c = λ known task goal is planned exact shows.
-    absurd (held_alone c.args.core.now c.args.client _ c.requires.client c.requires.ready c.in-Some.ensures known task goal is planned)
+    absurd (held_alone c.args.relayer.now c.args.client _ c.requires.client c.requires.ready c.in-Some.ensures known task goal is planned)

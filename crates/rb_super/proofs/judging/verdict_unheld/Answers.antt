@@ -13,7 +13,7 @@ returns-clause-judged g c =
     let labels = labels_of c.args.answer.now in
     let claim = claim_of c.args.answer.now in
     let verdict = c.verdict_for-verdict.result in
-    judged_there c.args.core.now c.args.client c.in_ok-job.job c.requires.client c.requires.room c.requires.ready c.requires.none_open c.in_ok-job.ensures c.in_ok-goal.goal c.in_ok-goal.ensures
+    judged_there c.args.relayer.now c.args.client c.in_ok-job.job c.requires.client c.requires.room c.requires.ready c.requires.none_open c.in_ok-job.ensures c.in_ok-goal.goal c.in_ok-goal.ensures
     labels claim verdict (subst (λ (v : View). IsVerdictFor v c.in_ok-goal.goal labels claim verdict) c.view-view.ensures c.verdict_for-verdict.ensures.judged)
 
 pub returns-clause-right : goal.returns-clause-right
@@ -21,7 +21,7 @@ returns-clause-right g c =
     let labels = labels_of c.args.answer.now in
     let claim = claim_of c.args.answer.now in
     let verdict = c.verdict_for-verdict.result in
-    right_there c.args.core.now c.args.client c.in_ok-job.job c.requires.client c.requires.room c.requires.ready c.requires.none_open c.in_ok-job.ensures c.in_ok-goal.goal c.in_ok-goal.ensures
+    right_there c.args.relayer.now c.args.client c.in_ok-job.job c.requires.client c.requires.room c.requires.ready c.requires.none_open c.in_ok-job.ensures c.in_ok-goal.goal c.in_ok-goal.ensures
     labels claim verdict
     (subst (λ (v : View). verdict ≡ Some Yes → (g : Goal) × (c.in_ok-goal.goal ≡ Some g) × IsSound (client_of v) labels × Shows (client_of v) g claim) c.view-view.ensures c.verdict_for-verdict.ensures.right)
 
@@ -30,6 +30,6 @@ returns-clause-accepts g c =
     let labels = labels_of c.args.answer.now in
     let claim = claim_of c.args.answer.now in
     let verdict = c.verdict_for-verdict.result in
-    accepts_there c.args.core.now c.args.client c.in_ok-job.job c.requires.client c.requires.room c.requires.ready c.requires.none_open c.in_ok-job.ensures c.in_ok-goal.goal c.in_ok-goal.ensures
+    accepts_there c.args.relayer.now c.args.client c.in_ok-job.job c.requires.client c.requires.room c.requires.ready c.requires.none_open c.in_ok-job.ensures c.in_ok-goal.goal c.in_ok-goal.ensures
     labels claim verdict
     (subst (λ (v : View). (g : Goal) → c.in_ok-goal.goal ≡ Some g → IsExact (client_of v) labels → Shows (client_of v) g claim → verdict ≡ Some Yes) c.view-view.ensures c.verdict_for-verdict.ensures.accepts)

@@ -5,6 +5,6 @@ use Rattle.rb_super.proofs.observing.ask_all.Given as goal
 
 abbrev pub invariant-loop-asked : goal.invariant-loop-asked
 invariant-loop-asked g l = record {
-  standing : standing_in l.core ≡ fold after_question (standing_in l.fn.core) (take l.asked-index l.goals);
-  later : IsLater l.asked-index l.fn.core l.core;
+  standing : standing_in l.relayer ≡ fold after_question (standing_in l.fn.relayer) (take l.asked-index l.goals);
+  later : IsLater l.asked-index l.fn.relayer l.relayer;
 }

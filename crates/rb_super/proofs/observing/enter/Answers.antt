@@ -5,4 +5,4 @@ use Rattle.rb_super.proofs.observing.enter.Goals as goal
 
 pub returns-clause-back : goal.returns-clause-back
 returns-clause-back g c =
-    c.is_some.ensures ∙ ap (λ o. is_some o) c.in_ok-refusal.ensures.judged ∙ goes_back_told (standing_in c.args.core.now) c.args.window
+    c.is_some.ensures ∙ ap (λ o. is_some o) c.in_ok-refusal.ensures.judged ∙ goes_back_told (standing_in c.args.relayer.now) c.args.window

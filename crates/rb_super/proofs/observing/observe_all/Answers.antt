@@ -3,8 +3,8 @@ use Rattle.std.proofs.lemmas.Iterator.Adapters.{YieldsList-from_vec}
 use Rattle.std.proofs.lemmas.Iterator.Consumers.{YieldsList-turn, YieldsList-end}
 use Rattle.std.proofs.lemmas.List.{length-map, length-take-le, length-append, take_all}
 use Rattle.std.proofs.lemmas.List.Elements.{All-get_or}
-use Rattle.rb_core.specs.Seen.{observed}
-use Rattle.rb_core.specs.Standing.{standing_after, judged}
+use Rattle.rb_machine.specs.Seen.{observed}
+use Rattle.rb_machine.specs.Standing.{standing_after, judged}
 use Rattle.rb_events.specs.Config.{Config}
 use Rattle.rb_events.specs.Script.{IsSeen}
 use Rattle.rb_super.specs.Phases.{standing_in, IsLater}
@@ -16,7 +16,7 @@ use Rattle.rb_super.proofs.observing.observe_all.Goals as goal
 
 pub observe-requires-clause-seen : goal.observe-requires-clause-seen
 observe-requires-clause-seen g c =
-    let k0 = c.args.core.now.config in
+    let k0 = c.args.relayer.now.config in
     let items = c.args.observations.items in
     let x = c.in-Some.observation in
     let road = YieldsList-from_vec {s = c.into_iter-observation-iterator.result} items c.into_iter-observation-iterator.ensures.into_iter_gives.0 (c.into_iter-observation-iterator.ensures.into_iter_gives.1 ∙ c.args.observations.ok.0) in
@@ -27,7 +27,7 @@ observe-requires-clause-seen g c =
 
 pub loop-observation-preserved : goal.loop-observation-preserved
 loop-observation-preserved g c =
-    let s = standing_in c.args.core.now in
+    let s = standing_in c.args.relayer.now in
     let items = c.args.observations.items in
     let x = c.in-Some.observation in
     let n = c.loop-observation.event in
@@ -44,7 +44,7 @@ loop-observation-preserved g c =
       refused = c.in_ok-push_refusal.ensures
           ∙ (λ j. inv.refused j ++ refused_as n ((c.in_ok-refusal.ensures.judged ∙ ap (λ t. judged t (observed x)) inv.standing) j))
           ∙ sym (ap (refusals 0 s) (seen_more observed items n x lt at) ∙ refusals_push seen (observed x) 0 n s long);
-      later = later_trans n 1 c.args.core.now c.loop-observation.core c.observe.new.core inv.later c.in_ok-refusal.ensures.later;
+      later = later_trans n 1 c.args.relayer.now c.loop-observation.relayer c.observe.new.relayer inv.later c.in_ok-refusal.ensures.later;
     }
 
 whole : {X : Type 0} (xs : List X) (n : ℕ) → n ≡ length xs → take n xs ≡ xs
@@ -56,7 +56,7 @@ returns-clause-refused g c =
     let road = YieldsList-from_vec {s = c.into_iter-observation-iterator.result} items c.into_iter-observation-iterator.ensures.into_iter_gives.0 (c.into_iter-observation-iterator.ensures.into_iter_gives.1 ∙ c.args.observations.ok.0) in
     let end = YieldsList-end road c.loop-observation.yielded _ c.loop-observation.yielded_by _ c.next.new.self c.in-None.is c.next.ensures.steps in
     c.loop-observation.invariant.refused
-    ∙ ap (λ xs. refusals 0 (standing_in c.args.core.now) (map observed xs)) (whole items c.loop-observation.event (c.loop-observation.invariant.event ∙ end.1))
+    ∙ ap (λ xs. refusals 0 (standing_in c.args.relayer.now) (map observed xs)) (whole items c.loop-observation.event (c.loop-observation.invariant.event ∙ end.1))
 
 pub returns-clause-standing : goal.returns-clause-standing
 returns-clause-standing g c =
@@ -64,11 +64,11 @@ returns-clause-standing g c =
     let road = YieldsList-from_vec {s = c.into_iter-observation-iterator.result} items c.into_iter-observation-iterator.ensures.into_iter_gives.0 (c.into_iter-observation-iterator.ensures.into_iter_gives.1 ∙ c.args.observations.ok.0) in
     let end = YieldsList-end road c.loop-observation.yielded _ c.loop-observation.yielded_by _ c.next.new.self c.in-None.is c.next.ensures.steps in
     c.loop-observation.invariant.standing
-    ∙ ap (λ xs. fold standing_after (standing_in c.args.core.now) (map observed xs)) (whole items c.loop-observation.event (c.loop-observation.invariant.event ∙ end.1))
+    ∙ ap (λ xs. fold standing_after (standing_in c.args.relayer.now) (map observed xs)) (whole items c.loop-observation.event (c.loop-observation.invariant.event ∙ end.1))
 
 pub returns-clause-later : goal.returns-clause-later
 returns-clause-later g c =
     let items = c.args.observations.items in
     let road = YieldsList-from_vec {s = c.into_iter-observation-iterator.result} items c.into_iter-observation-iterator.ensures.into_iter_gives.0 (c.into_iter-observation-iterator.ensures.into_iter_gives.1 ∙ c.args.observations.ok.0) in
     let end = YieldsList-end road c.loop-observation.yielded _ c.loop-observation.yielded_by _ c.next.new.self c.in-None.is c.next.ensures.steps in
-    subst (λ n. IsLater n c.args.core.now c.loop-observation.core) (c.loop-observation.invariant.event ∙ end.1) c.loop-observation.invariant.later
+    subst (λ n. IsLater n c.args.relayer.now c.loop-observation.relayer) (c.loop-observation.invariant.event ∙ end.1) c.loop-observation.invariant.later

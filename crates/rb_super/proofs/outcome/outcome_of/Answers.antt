@@ -1,5 +1,5 @@
 use Rattle.std.proofs.Common.{ap}
-use Rattle.rb_core.specs.Draft.{Job}
+use Rattle.rb_task.specs.Draft.{Job}
 use Rattle.rb_super.proofs.Prices.{answer_right}
 use Rattle.rb_super.proofs.outcome.outcome_of.Goals as goal
 

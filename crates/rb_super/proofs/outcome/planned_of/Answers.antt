@@ -1,6 +1,6 @@
 use Rattle.std.proofs.Common.{Option, ◌<◌, ◌^◌, sym, subst}
 use Rattle.std.specs.Option.{IfSome}
-use Rattle.rb_core.specs.Draft.{Plan}
+use Rattle.rb_task.specs.Draft.{Plan}
 use Rattle.rb_step.specs.LightClient.{total_fee}
 use Rattle.rb_step.specs.View.{client_of}
 use Rattle.rb_super.proofs.Prices.{plan_is_small}

@@ -1,5 +1,5 @@
 use Rattle.std.proofs.Common.{List, map, refl, sym, subst}
-use Rattle.rb_core.specs.Standing.{Standing}
+use Rattle.rb_machine.specs.Standing.{Standing}
 use Rattle.rb_events.specs.Config.{config_view}
 use Rattle.rb_events.specs.Script.{script_view}
 use Rattle.rb_super.specs.Script.{Turn}

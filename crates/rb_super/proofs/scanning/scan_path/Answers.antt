@@ -1,6 +1,6 @@
 use Rattle.std.proofs.Common.{◌<◌, length, sym, subst}
 use Rattle.rb_core.specs.Core.{state_in}
-use Rattle.rb_core.specs.Machine.{is_scanned}
+use Rattle.rb_machine.specs.Machine.{is_scanned}
 use Rattle.std.proofs.Common.{◌≡◌, true}
 use Rattle.rb_events.specs.Config.{Config}
 use Rattle.rb_scan.specs.declared.scan.Part.TheVariants.{Packets}
@@ -12,5 +12,5 @@ scan_part-requires-2-clause-path g c = λ ks _. subst (λ (k : Config). c.args.p
 
 pub returns-clause-scanned : goal.returns-clause-scanned
 returns-clause-scanned g c =
-    for_both (λ part. is_scanned (state_in c.scan_part-2.new.core) c.args.path part ≡ true)
+    for_both (λ part. is_scanned (state_in c.scan_part-2.new.relayer) c.args.path part ≡ true)
     (c.in_ok-scan_part-2.ensures.others c.args.path Packets c.in_ok-scan_part.ensures.scanned) c.in_ok-scan_part-2.ensures.scanned

@@ -1,6 +1,6 @@
 use Rattle.std.proofs.Common.{◌≡◌, ◌<◌, All, is_some, map, length, sym, ap, ◌∙◌, subst, arith}
-use Rattle.rb_core.specs.Seen.{observed}
-use Rattle.rb_core.specs.Standing.{Standing}
+use Rattle.rb_machine.specs.Seen.{observed}
+use Rattle.rb_machine.specs.Standing.{Standing}
 use Rattle.rb_events.specs.Config.{Config}
 use Rattle.rb_events.specs.Script.{IsSeen}
 use Rattle.rb_events.specs.declared.script.Asked.{Asked}
@@ -22,7 +22,7 @@ scan_all-requires-clause-room g c = λ ks _.
     let a = c.in_ok-window_back.ensures.later in
     let b = c.in_ok-ask_all.ensures.later in
     let d = c.in_ok-refused.ensures.later in
-    let paths : length c.observe_all.new.core.config.paths ≡ length c.args.core.now.config.paths = ap (λ (k : Config). length k.paths) (d.config ∙ b.config ∙ a.config) in
+    let paths : length c.observe_all.new.relayer.config.paths ≡ length c.args.relayer.now.config.paths = ap (λ (k : Config). length k.paths) (d.config ∙ b.config ∙ a.config) in
     let one = a.front in
     let two = b.front in
     let three = d.front in
@@ -31,23 +31,23 @@ scan_all-requires-clause-room g c = λ ks _.
 
 pub returns-clause-refused : goal.returns-clause-refused
 returns-clause-refused g c =
-    refused_in (standing_in c.args.core.now) (standing_in c.enter.new.core) (standing_in c.ask_all.new.core) c.args.window c.args.goals.now (map observed c.args.events.items) _
+    refused_in (standing_in c.args.relayer.now) (standing_in c.enter.new.relayer) (standing_in c.ask_all.new.relayer) c.args.window c.args.goals.now (map observed c.args.events.items) _
     c.in_ok-window_back.ensures.standing c.in_ok-ask_all.ensures.standing c.in_ok-refused.ensures.refused
 
 pub returns-clause-standing : goal.returns-clause-standing
 returns-clause-standing g c =
-    prepared (standing_in c.args.core.now) (standing_in c.enter.new.core) (standing_in c.ask_all.new.core) (standing_in c.observe_all.new.core) (standing_in c.scan_all.new.core)
+    prepared (standing_in c.args.relayer.now) (standing_in c.enter.new.relayer) (standing_in c.ask_all.new.relayer) (standing_in c.observe_all.new.relayer) (standing_in c.scan_all.new.relayer)
     c.args.window c.args.goals.now (map observed c.args.events.items)
     c.in_ok-window_back.ensures.standing c.in_ok-ask_all.ensures.standing c.in_ok-refused.ensures.standing c.in_ok-scan_all.ensures.standing
 
 pub returns-clause-ready : goal.returns-clause-ready
 returns-clause-ready g c =
     let events = map observed c.args.events.items in
-    let same = prepared (standing_in c.args.core.now) (standing_in c.enter.new.core) (standing_in c.ask_all.new.core) (standing_in c.observe_all.new.core) (standing_in c.scan_all.new.core)
+    let same = prepared (standing_in c.args.relayer.now) (standing_in c.enter.new.relayer) (standing_in c.ask_all.new.relayer) (standing_in c.observe_all.new.relayer) (standing_in c.scan_all.new.relayer)
     c.args.window c.args.goals.now events
     c.in_ok-window_back.ensures.standing c.in_ok-ask_all.ensures.standing c.in_ok-refused.ensures.standing c.in_ok-scan_all.ensures.standing in
     record {
-      window = ap (λ (s : Standing). is_some s.window) same ∙ entered (standing_in c.args.core.now) c.args.window c.args.goals.now events;
+      window = ap (λ (s : Standing). is_some s.window) same ∙ entered (standing_in c.args.relayer.now) c.args.window c.args.goals.now events;
       scanned = c.in_ok-scan_all.ensures.scanned;
     }
 
@@ -57,7 +57,7 @@ returns-clause-later g c =
     let b = c.in_ok-ask_all.ensures.later in
     let d = c.in_ok-refused.ensures.later in
     let e = c.in_ok-scan_all.ensures.later in
-    let paths : length c.observe_all.new.core.config.paths ≡ length c.args.core.now.config.paths = ap (λ (k : Config). length k.paths) (d.config ∙ b.config ∙ a.config) in
+    let paths : length c.observe_all.new.relayer.config.paths ≡ length c.args.relayer.now.config.paths = ap (λ (k : Config). length k.paths) (d.config ∙ b.config ∙ a.config) in
     let one = a.front in
     let two = b.front in
     let three = d.front in

@@ -1,8 +1,8 @@
 use Rattle.std.proofs.Common.{◌≡◌, ◌<◌, List, length, map, sym, ap, ◌∙◌, subst, arith}
 use Rattle.std.specs.List.{All, fold}
 use Rattle.rb_core.specs.Core.{Core}
-use Rattle.rb_core.specs.Seen.{observed}
-use Rattle.rb_core.specs.Standing.{standing_after}
+use Rattle.rb_machine.specs.Seen.{observed}
+use Rattle.rb_machine.specs.Standing.{standing_after}
 use Rattle.rb_events.specs.Script.{IsSeen}
 use Rattle.rb_events.specs.declared.script.Asked.{Asked}
 use Rattle.rb_super.specs.Phases.{standing_in, HasLogRoom}
@@ -12,7 +12,7 @@ use Rattle.rb_super.proofs.supervisor.Supervisor.plan_phase.Goals as goal
 
 pub prepare-requires-clause-goals : goal.prepare-requires-clause-goals
 prepare-requires-clause-goals g c = λ ks _.
-    subst (λ (gs : List Asked). All (λ (x : Asked). x.client < length c.self.inside.core.config.clients) gs) (sym c.as_slice.ensures.value)
+    subst (λ (gs : List Asked). All (λ (x : Asked). x.client < length c.self.inside.relayer.config.clients) gs) (sym c.as_slice.ensures.value)
     (subst (λ (k : Core). All (λ (x : Asked). x.client < length k.config.clients) c.args.turn.goals.items) (sym c.self.view_is) c.requires.turn.goals)
 
 pub prepare-requires-clause-events : goal.prepare-requires-clause-events
@@ -28,10 +28,10 @@ prepare-requires-clause-room g c = λ ks _.
 pub returns-clause-standing : goal.returns-clause-standing
 returns-clause-standing g c =
     let events = map observed c.args.turn.events.items in
-    let same : standing_in c.prepare.new.core ≡ before_plans (standing_in c.self.inside.core) (told_as c.args.turn) =
+    let same : standing_in c.prepare.new.relayer ≡ before_plans (standing_in c.self.inside.relayer) (told_as c.args.turn) =
     c.in_ok-prepare.ensures.standing
-    ∙ ap (λ (gs : List Asked). fold standing_after (fold after_question (after_window (standing_in c.self.inside.core) c.args.turn.window) gs) events) c.as_slice.ensures.value in
-    subst (λ (k : Core). standing_in c.prepare.new.core ≡ before_plans (standing_in k) (told_as c.args.turn)) c.self.view_is same
+    ∙ ap (λ (gs : List Asked). fold standing_after (fold after_question (after_window (standing_in c.self.inside.relayer) c.args.turn.window) gs) events) c.as_slice.ensures.value in
+    subst (λ (k : Core). standing_in c.prepare.new.relayer ≡ before_plans (standing_in k) (told_as c.args.turn)) c.self.view_is same
 
 pub returns-clause-config : goal.returns-clause-config
 returns-clause-config g c = c.in_ok-prepare.ensures.later.config ∙ ap (λ (k : Core). k.config) c.self.view_is
@@ -41,4 +41,4 @@ returns-clause-room g c =
     let room = subst (λ (k : Core). HasLogRoom k (most_events k.config c.args.turn)) (sym c.self.view_is) c.requires.room in
     let front = c.in_ok-prepare.ensures.later.front in
     let goals = ap length c.as_slice.ensures.value in
-    subst (λ (k : Core). HasLogRoom c.prepare.new.core (length k.config.clients)) c.self.view_is (omega arith)
+    subst (λ (k : Core). HasLogRoom c.prepare.new.relayer (length k.config.clients)) c.self.view_is (omega arith)

@@ -13,8 +13,8 @@ use Rattle.rb_super.proofs.supervisor.Supervisor.turn.Goals as goal
 
 pub returns-clause-report : goal.returns-clause-report
 returns-clause-report g c =
-    rw (sym c.self.view_is) ((turn_done c.self.inside.core c.prepare.new.core c.plan_all.new.core c.settle_all.new.core c.args.turn c.as_slice.result.now c.as_slice-2.result.now
-    (length c.prepare.new.core.config.clients)
+    rw (sym c.self.view_is) ((turn_done c.self.inside.relayer c.prepare.new.relayer c.plan_all.new.relayer c.settle_all.new.relayer c.args.turn c.as_slice.result.now c.as_slice-2.result.now
+    (length c.prepare.new.relayer.config.clients)
     c.in_ok-window_back.window_back (map refused_view c.in_ok-window_back.refused.items) (map client_report_view c.in_ok-clients.clients.items) (map settlement_view c.in_ok-settlements.settlements.items)
     c.as_slice.ensures.value c.as_slice-2.ensures.value (ap (λ (k : Config). length k.clients) c.in_ok-window_back.ensures.later.config)
     c.in_ok-window_back.ensures.back c.in_ok-window_back.ensures.refused c.in_ok-window_back.ensures.standing c.in_ok-clients.ensures.reports
@@ -22,8 +22,8 @@ returns-clause-report g c =
 
 pub returns-clause-standing : goal.returns-clause-standing
 returns-clause-standing g c =
-    rw (sym c.self.view_is) ((turn_done c.self.inside.core c.prepare.new.core c.plan_all.new.core c.settle_all.new.core c.args.turn c.as_slice.result.now c.as_slice-2.result.now
-    (length c.prepare.new.core.config.clients)
+    rw (sym c.self.view_is) ((turn_done c.self.inside.relayer c.prepare.new.relayer c.plan_all.new.relayer c.settle_all.new.relayer c.args.turn c.as_slice.result.now c.as_slice-2.result.now
+    (length c.prepare.new.relayer.config.clients)
     c.in_ok-window_back.window_back (map refused_view c.in_ok-window_back.refused.items) (map client_report_view c.in_ok-clients.clients.items) (map settlement_view c.in_ok-settlements.settlements.items)
     c.as_slice.ensures.value c.as_slice-2.ensures.value (ap (λ (k : Config). length k.clients) c.in_ok-window_back.ensures.later.config)
     c.in_ok-window_back.ensures.back c.in_ok-window_back.ensures.refused c.in_ok-window_back.ensures.standing c.in_ok-clients.ensures.reports
@@ -31,20 +31,17 @@ returns-clause-standing g c =
 
 pub prepare-requires-clause-goals : goal.prepare-requires-clause-goals
 prepare-requires-clause-goals g c = λ ks _.
-    subst (λ (gs : List Asked). All (λ (x : Asked). x.client < length c.self.inside.core.config.clients) gs) (sym c.as_slice.ensures.value)
+    subst (λ (gs : List Asked). All (λ (x : Asked). x.client < length c.self.inside.relayer.config.clients) gs) (sym c.as_slice.ensures.value)
     (subst (λ (k : Core). All (λ (x : Asked). x.client < length k.config.clients) c.args.turn.goals.items) (sym c.self.view_is) c.requires.turn.goals)
 
 pub prepare-requires-clause-events : goal.prepare-requires-clause-events
 prepare-requires-clause-events g c = λ ks _.
     subst (λ (k : Core). All (IsSeen (length k.config.chains) (length k.config.clients) (length k.config.paths)) c.args.turn.events.items) (sym c.self.view_is) c.requires.turn.events
 
-pub plan_all-requires-clause-tables : goal.plan_all-requires-clause-tables
-plan_all-requires-clause-tables g c = λ ks _. c.self.invariant ∙ sym (ap (λ (k : Config). length k.chains) c.in_ok-window_back.ensures.later.config)
-
 pub settle_all-requires-clause-clients : goal.settle_all-requires-clause-clients
 settle_all-requires-clause-clients g c =
-    let same : c.plan_all.new.core.config ≡ c.args.self.config = c.in_ok-clients.ensures.later.config ∙ c.in_ok-window_back.ensures.later.config ∙ ap (λ (k : Core). k.config) c.self.view_is in
-    subst (λ (xs : List Settlement). All (λ (x : Settlement). x.client < length c.plan_all.new.core.config.clients) xs) (sym c.as_slice-2.ensures.value)
+    let same : c.plan_all.new.relayer.config ≡ c.args.self.config = c.in_ok-clients.ensures.later.config ∙ c.in_ok-window_back.ensures.later.config ∙ ap (λ (k : Core). k.config) c.self.view_is in
+    subst (λ (xs : List Settlement). All (λ (x : Settlement). x.client < length c.plan_all.new.relayer.config.clients) xs) (sym c.as_slice-2.ensures.value)
     (subst (λ (k : Config). All (λ (x : Settlement). x.client < length k.clients) c.args.turn.settlements.items) (sym same) c.requires.turn.settlements)
 
 pub settle_all-requires-clause-room : goal.settle_all-requires-clause-room
@@ -57,11 +54,6 @@ settle_all-requires-clause-room g c =
     let settlements = ap length c.as_slice-2.ensures.value in
     omega arith
 
-pub invariant_of-result : goal.invariant_of-result
-invariant_of-result g c =
-    c.in_ok-clients.ensures.tables ∙ c.self.invariant
-    ∙ sym (ap (λ (k : Config). length k.chains) (c.in_ok-settlements.ensures.later.config ∙ c.in_ok-clients.ensures.later.config ∙ c.in_ok-window_back.ensures.later.config))
-
 pub returns-clause-later : goal.returns-clause-later
 returns-clause-later g c =
     let p = c.in_ok-window_back.ensures.later.front in
@@ -70,5 +62,5 @@ returns-clause-later g c =
     let clients = ap (λ (k : Config). length k.clients) c.in_ok-window_back.ensures.later.config in
     let goals = ap length c.as_slice.ensures.value in
     let settlements = ap length c.as_slice-2.ensures.value in
-    subst (λ (k : Core). IsLater (most_events k.config c.args.turn) k c.settle_all.new.core) c.self.view_is
+    subst (λ (k : Core). IsLater (most_events k.config c.args.turn) k c.settle_all.new.relayer) c.self.view_is
     (record { config = c.in_ok-settlements.ensures.later.config ∙ c.in_ok-clients.ensures.later.config ∙ c.in_ok-window_back.ensures.later.config; front = omega arith })
