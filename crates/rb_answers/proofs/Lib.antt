@@ -1,1 +1,4 @@
 pub mod Dashes
+pub mod Steps
+pub mod Values
+pub mod Durations

@@ -1,70 +1,92 @@
 -- The answers of ibc-go's gateway on a client: `client_states/ID` and `consensus_states/ID` (ICS 2, ICS 7).
-use Rattle.std.specs.Prelude.{ℕ, List, [], Bool, Option, Some, is_some, codes, ⊤, ◌==◌, ◌&&◌}
+use Rattle.std.specs.Prelude.{ℕ, ◌*◌, ◌^◌, List, [], Bool, Option, Some, None, is_some, option_and_then, Result, Ok, codes, ⊤, ◌==◌, ◌&&◌, nat_le, nat_lt, if◌then◌else◌}
 use Rattle.std.specs.Str.{bytes_eq}
-use Rattle.serde_json.specs.Data.{Data}
-use Rattle.serde_json.specs.Find.{get, as_null}
+use Rattle.serde_json.specs.Find.{as_null}
 use Rattle.rb_answers.specs.declared.client.ClientState.{ClientState}
 use Rattle.rb_answers.specs.declared.client.ConsensusPage.{ConsensusPage}
 use Rattle.rb_answers.specs.declared.client.ConsensusState.{ConsensusState}
 use Rattle.rb_answers.specs.declared.client.TrustLevel.{TrustLevel}
-use Rattle.rb_answers.specs.Fields.{◌>>=◌, must, text_at, number_at, hex_at, base64_at, time_at, items_at, each}
-
--- how a client judges headers, less the trusting period and the clock drift: the chain that it tracks, that chain's revision number
--- (of its latest height), and its trust level
-pub record Judging : Type 0 where
-  pub chain : List ℕ
-  pub revision : ℕ
-  pub trust : TrustLevel
-
-abbrev pub judging_view : ClientState → Judging
-judging_view s = record { chain = s.chain; revision = s.revision; trust = s.trust }
-
-unfoldable pub trust_in : Data → Option TrustLevel
-trust_in state = do
-  level ← get (codes "trust_level") state
-  numerator ← number_at (codes "numerator") level
-  denominator ← number_at (codes "denominator") level
-  Some (record { numerator = numerator; denominator = denominator })
+use Rattle.rb_answers.specs.declared.flaw.Flaw.{Flaw}
+use Rattle.rb_answers.specs.declared.flaw.FlawName.TheVariants.{ForeignClient, FrozenClient, BadTrust, BadDuration}
+use Rattle.rb_answers.specs.declared.place.Key.{Key}
+use Rattle.rb_answers.specs.declared.place.Part.{Part}
+use Rattle.rb_answers.specs.Flaws.{◌>>=◌, or_flaw, must}
+use Rattle.rb_answers.specs.Fields.{Object, flaw_at, field, inner, object, items, text, number, height, chain, time, hex, base64, each}
+use Rattle.rb_answers.specs.Durations.{nanoseconds_of}
 
 -- only Tendermint's light clients are read
-unfoldable pub is_tendermint_in : Data → Option ⊤
-is_tendermint_in state = text_at (codes "@type") state >>= λ kind. must (bytes_eq kind (codes "/ibc.lightclients.tendermint.v1.ClientState"))
+unfoldable pub tendermint : Object → Result ⊤ Flaw
+tendermint state = do
+  kind ← text Key.TypeUrl state
+  must (flaw_at state Key.TypeUrl ForeignClient) (bytes_eq kind (codes "/ibc.lightclients.tendermint.v1.ClientState"))
 
 -- the height at which a client is frozen is 0-0 where it isn't
-unfoldable pub is_live_in : Data → Option ⊤
-is_live_in state = do
-  frozen ← get (codes "frozen_height") state
-  revision ← number_at (codes "revision_number") frozen
-  height ← number_at (codes "revision_height") frozen
-  must (revision == 0 && height == 0)
+unfoldable pub live : Object → Result ⊤ Flaw
+live state = do
+  frozen ← object Key.FrozenHeight Part.FrozenHeight state
+  revision ← number Key.RevisionNumber frozen
+  at ← number Key.RevisionHeight frozen
+  must (flaw_at state Key.FrozenHeight FrozenClient) (revision == 0 && at == 0)
 
-unfoldable pub judging_in : Data → Option Judging
-judging_in answer = do
-  state ← get (codes "client_state") answer
-  _ ← is_tendermint_in state
-  _ ← is_live_in state
-  chain ← text_at (codes "chain_id") state
-  latest ← get (codes "latest_height") state
-  revision ← number_at (codes "revision_number") latest
-  trust ← trust_in state
-  Some (record { chain = chain; revision = revision; trust = trust })
+-- the revision number of the chain that a client tracks is that of its latest height
+unfoldable pub revision : Object → Result ℕ Flaw
+revision state = do
+  latest ← object Key.LatestHeight Part.LatestHeight state
+  number Key.RevisionNumber latest
 
-unfoldable pub root_in : Data → Option (List ℕ)
-root_in state = do
-  root ← get (codes "root") state
-  base64_at (codes "hash") root
+-- a trust level is from a third to one
+unfoldable pub trust : Object → Result TrustLevel Flaw
+trust state = do
+  level ← object Key.TrustLevel Part.TrustLevel state
+  numerator ← number Key.Numerator level
+  denominator ← number Key.Denominator level
+  _ ← must (flaw_at state Key.TrustLevel BadTrust) (nat_lt 0 denominator && nat_le denominator (3 * numerator) && nat_le numerator denominator)
+  Ok (record { numerator = numerator; denominator = denominator })
+
+unfoldable pub period_of : ℕ → Option ℕ
+period_of n = if nat_le 1 n && nat_lt n (2 ^ 63) then Some n else None
+
+unfoldable pub period : Object → Result ℕ Flaw
+period state = do
+  t ← text Key.TrustingPeriod state
+  or_flaw (flaw_at state Key.TrustingPeriod BadDuration) (option_and_then period_of (nanoseconds_of t))
+
+unfoldable pub drift_of : ℕ → Option ℕ
+drift_of n = if nat_lt n (2 ^ 63) then Some n else None
+
+unfoldable pub drift : Object → Result ℕ Flaw
+drift state = do
+  t ← text Key.MaxClockDrift state
+  or_flaw (flaw_at state Key.MaxClockDrift BadDuration) (option_and_then drift_of (nanoseconds_of t))
+
+unfoldable pub client_state : Object → Result ClientState Flaw
+client_state answer = do
+  state ← object Key.ClientState Part.ClientState answer
+  _ ← tendermint state
+  _ ← live state
+  id ← chain Key.ChainId state
+  n ← revision state
+  level ← trust state
+  long ← period state
+  skew ← drift state
+  Ok (record { chain = id; revision = n; trust = level; period = long; drift = skew })
+
+unfoldable pub root : Object → Result (List ℕ) Flaw
+root state = do
+  r ← inner Key.Root state
+  base64 Key.Hash r
 
 -- an entry of `consensus_states`: the revision number and the height that it is stored at, and what it holds
-unfoldable pub consensus_state_in : Data → Option ConsensusState
-consensus_state_in d = do
-  at ← get (codes "height") d
-  state ← get (codes "consensus_state") d
-  revision ← number_at (codes "revision_number") at
-  height ← number_at (codes "revision_height") at
-  time ← time_at (codes "timestamp") state
-  root ← root_in state
-  next ← hex_at 32 (codes "next_validators_hash") state
-  Some (record { revision = revision; height = height; time = time; root = root; next = next })
+unfoldable pub consensus_state : Object → Result ConsensusState Flaw
+consensus_state o = do
+  at ← inner Key.Height o
+  state ← inner Key.ConsensusState o
+  n ← number Key.RevisionNumber at
+  h ← height Key.RevisionHeight at
+  moment ← time Key.Timestamp state
+  bytes ← root state
+  next ← hex 32 Key.NextValidatorsHash state
+  Ok (record { revision = n; height = h; time = moment; root = bytes; next = next })
 
 -- the states of a page, and whether no page follows: the key of the next one is null
 pub record States : Type 0 where
@@ -74,15 +96,15 @@ pub record States : Type 0 where
 abbrev pub states_view : ConsensusPage → States
 states_view p = record { states = p.states.items; is_last = p.is_last }
 
-unfoldable pub is_last_in : Data → Option Bool
-is_last_in answer = do
-  pagination ← get (codes "pagination") answer
-  next ← get (codes "next_key") pagination
-  Some (is_some (as_null next))
+unfoldable pub is_last : Object → Result Bool Flaw
+is_last answer = do
+  pagination ← object Key.Pagination Part.Pagination answer
+  next ← field Key.NextKey pagination
+  Ok (is_some (as_null next))
 
-unfoldable pub states_in : Data → Option States
-states_in answer = do
-  is_last ← is_last_in answer
-  entries ← items_at (codes "consensus_states") answer
-  states ← each consensus_state_in [] entries
-  Some (record { states = states; is_last = is_last })
+unfoldable pub states : Object → Result States Flaw
+states answer = do
+  last ← is_last answer
+  entries ← items Key.ConsensusStates answer
+  read ← each consensus_state Part.ConsensusStates [] entries
+  Ok (record { states = read; is_last = last })

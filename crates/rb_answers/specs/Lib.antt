@@ -1,9 +1,12 @@
 pub mod Names
+pub mod Flaws
+pub mod Values
 pub mod Fields
 pub mod Votes
 pub mod Headers
 pub mod Validators
+pub mod Durations
 pub mod Clients
-pub mod Answers
 pub mod Revisions
 pub mod Packets
+pub mod Answers

@@ -1,8 +1,11 @@
 -- The names of fields and attributes as CometBFT's RPC and ibc-go's gateway spell them, and of flaws.
-use Rattle.std.specs.Prelude.{ℕ, List, [], codes}
+use Rattle.std.specs.Prelude.{ℕ, List, [], ◌++◌, ◌==◌, length, Option, Some, None, codes, if◌then◌else◌}
+use Rattle.std.specs.Fmt.{decimal}
 use Rattle.rb_answers.specs.declared.place.Key.{Key}
 use Rattle.rb_answers.specs.declared.place.Part.{Part}
+use Rattle.rb_answers.specs.declared.place.Place.{Place}
 use Rattle.rb_answers.specs.declared.flaw.FlawName.{FlawName}
+use Rattle.rb_answers.specs.declared.flaw.Flaw.{Flaw}
 
 -- `Whole` is shown for the whole answer
 abbrev pub key_name : Key → List ℕ
@@ -91,3 +94,16 @@ flaw_name FlawName.BadTrust = codes "BadTrust"
 flaw_name FlawName.ForeignClient = codes "ForeignClient"
 flaw_name FlawName.FrozenClient = codes "FrozenClient"
 flaw_name FlawName.OtherHeight = codes "OtherHeight"
+
+-- an element of an array of objects by its index, and no point where there is no part before the key
+abbrev pub joined : List ℕ → Option ℕ → List ℕ → List ℕ
+joined path (Some index) key = path ++ codes "[" ++ decimal index ++ codes "]." ++ key
+joined path None key = if length path == 0 then key else path ++ codes "." ++ key
+
+-- how a place is told
+abbrev pub place_text : Place → List ℕ
+place_text p = joined (part_path p.part) p.index (key_name p.key)
+
+-- how a flaw is told
+abbrev pub flaw_text : Flaw → List ℕ
+flaw_text f = flaw_name f.name ++ codes " at " ++ place_text f.place

@@ -1,26 +1,33 @@
 -- The answer of CometBFT's `/validators`: a page of the validators at a height.
-use Rattle.std.specs.Prelude.{ℕ, List, [], Option, Some, codes}
+use Rattle.std.specs.Prelude.{ℕ, List, [], Option, Some, None, Result, Ok, ◌&&◌, nat_lt, nat_le, if◌then◌else◌, codes}
 use Rattle.std.specs.Str.{bytes_eq}
-use Rattle.serde_json.specs.Data.{Data}
-use Rattle.serde_json.specs.Find.{get}
-use Rattle.rb_valset.specs.Validator.{Member}
+use Rattle.rb_valset.specs.Validator.{Member, max_power}
 use Rattle.rb_answers.specs.declared.validators.ValidatorsPage.{ValidatorsPage}
-use Rattle.rb_answers.specs.Fields.{◌>>=◌, must, text_at, number_at, base64_at, items_at, each}
+use Rattle.rb_answers.specs.declared.flaw.Flaw.{Flaw}
+use Rattle.rb_answers.specs.declared.flaw.FlawName.TheVariants.{ForeignKey, BadPower}
+use Rattle.rb_answers.specs.declared.place.Key.{Key}
+use Rattle.rb_answers.specs.declared.place.Part.{Part}
+use Rattle.rb_answers.specs.Flaws.{◌>>=◌, or_flaw, must}
+use Rattle.rb_answers.specs.Fields.{Object, flaw_at, inner, items, text, number, height, base64, each}
 
 -- a validator's key, which has to be of ed25519
-unfoldable pub key_in : Data → Option (List ℕ)
-key_in d = do
-  key ← get (codes "pub_key") d
-  kind ← text_at (codes "type") key
-  _ ← must (bytes_eq kind (codes "tendermint/PubKeyEd25519"))
-  base64_at (codes "value") key
+unfoldable pub key : Object → Result (List ℕ) Flaw
+key o = do
+  k ← inner Key.PubKey o
+  kind ← text Key.Type k
+  _ ← must (flaw_at k Key.Type ForeignKey) (bytes_eq kind (codes "tendermint/PubKeyEd25519"))
+  base64 Key.Value k
+
+-- a validator has a power, and not too much
+unfoldable pub member_of : List ℕ → ℕ → Option Member
+member_of key power = if nat_lt 0 power && nat_le power max_power then Some (record { key = key; power = power }) else None
 
 -- an entry of `validators`: the key and the power
-unfoldable pub validator_in : Data → Option Member
-validator_in d = do
-  key ← key_in d
-  power ← number_at (codes "voting_power") d
-  Some (record { key = key; power = power })
+unfoldable pub validator : Object → Result Member Flaw
+validator o = do
+  k ← key o
+  power ← number Key.VotingPower o
+  or_flaw (flaw_at o Key.VotingPower BadPower) (member_of k power)
 
 -- validators of a height, and how many there are on all of its pages
 pub record Page : Type 0 where
@@ -31,10 +38,10 @@ pub record Page : Type 0 where
 abbrev pub page_view : ValidatorsPage → Page
 page_view p = record { height = p.height; total = p.total; validators = p.validators.items }
 
-unfoldable pub page_in : Data → Option Page
-page_in result = do
-  height ← number_at (codes "block_height") result
-  total ← number_at (codes "total") result
-  entries ← items_at (codes "validators") result
-  validators ← each validator_in [] entries
-  Some (record { height = height; total = total; validators = validators })
+unfoldable pub page : Object → Result Page Flaw
+page result = do
+  at ← height Key.BlockHeight result
+  total ← number Key.Total result
+  entries ← items Key.Validators result
+  validators ← each validator Part.Validators [] entries
+  Ok (record { height = at; total = total; validators = validators })

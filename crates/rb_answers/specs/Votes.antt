@@ -1,10 +1,13 @@
 -- What a signature's flag says of its validator's vote (CometBFT, `BlockIDFlag`).
-use Rattle.std.specs.Prelude.{ℕ, Option, Some, None, ◌==◌, if◌then◌else◌, codes}
-use Rattle.serde_json.specs.Data.{Data}
-use Rattle.serde_json.specs.Find.{get, as_number, as_u64}
+use Rattle.std.specs.Prelude.{ℕ, Option, Some, None, option_and_then, Result, ◌==◌, if◌then◌else◌}
+use Rattle.serde_json.specs.Find.{as_number, as_u64}
 use Rattle.rb_answers.specs.declared.commit.BlockIdFlag.{BlockIdFlag}
 use Rattle.rb_answers.specs.declared.commit.BlockIdFlag.TheVariants.{Absent, Commit, Nil}
-use Rattle.rb_answers.specs.Fields.{◌>>=◌}
+use Rattle.rb_answers.specs.declared.flaw.Flaw.{Flaw}
+use Rattle.rb_answers.specs.declared.flaw.FlawName.TheVariants.{WrongType, BadFlag}
+use Rattle.rb_answers.specs.declared.place.Key.{Key}
+use Rattle.rb_answers.specs.Flaws.{◌>>=◌, or_flaw}
+use Rattle.rb_answers.specs.Fields.{Object, flaw_at, field}
 
 -- 1 is absent, 2 a vote for the block, 3 a vote for no block
 abbrev pub flag_of : ℕ → Option BlockIdFlag
@@ -20,6 +23,9 @@ letter_of Absent = 65
 letter_of Commit = 67
 letter_of Nil = 78
 
--- the flag of an entry of a commit's `signatures`, where it holds one
-abbrev pub flag_in : Data → Option BlockIdFlag
-flag_in entry = get (codes "block_id_flag") entry >>= as_number >>= as_u64 >>= flag_of
+-- the flag of an entry of a commit's `signatures`, which is a JSON number
+unfoldable pub flag : Object → Result BlockIdFlag Flaw
+flag o = do
+  d ← field Key.BlockIdFlag o
+  n ← or_flaw (flaw_at o Key.BlockIdFlag WrongType) (option_and_then as_u64 (as_number d))
+  or_flaw (flaw_at o Key.BlockIdFlag BadFlag) (flag_of n)

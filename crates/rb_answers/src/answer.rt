@@ -1,10 +1,9 @@
 //! An answer, known by what is in it.
-ghost use Rattle.std.specs.Prelude.{◌≡◌, Some, IfOk, codes};
-ghost use Rattle.serde_json.specs.Data.{Data};
-ghost use Rattle.serde_json.specs.Find.{get};
-ghost use Rattle.serde_json.specs.Read.{read as read_text};
+ghost use Rattle.std.specs.Prelude.{◌≡◌};
 ghost use Rattle.serde_json.specs.View.{view};
-ghost use Rattle.rb_answers.specs.Answers.{Tells};
+ghost use Rattle.rb_answers.specs.Flaws.{Gives, or_flaw};
+ghost use Rattle.rb_answers.specs.Fields.{object_view};
+ghost use Rattle.rb_answers.specs.Answers.{answer_view, whole, is_error, json, result as result_told, state as state_told, told};
 
 use crate::client::{ClientState, ConsensusPage, read_client_state, read_consensus_states};
 use crate::commit::{SignedHeader, read_commit};
@@ -31,11 +30,11 @@ pub enum Answer {
     Transactions(PacketPage),
 }
 
-/// Reads an answer: JSON, which is known by its members. What is read is what the JSON says, but of
-/// `/tx_search`, and of a client's trusting period and clock drift, no contract says so. `Flaw` is
-/// the first thing that is wrong, `NoMemory` comes where a growth is refused.
+/// Reads an answer: JSON, which is known by its members. What is read is what the JSON says; `Flaw`
+/// is the first thing that is wrong, `NoMemory` comes where a growth is refused.
+#[tactic(auto, using(crate::proofs::Steps::steps), unfolding(crate::specs::Answers::told, crate::specs::Answers::answer))]
 pub fn read_answer(alloc: Global, bytes: &[u8]) -> Result<Answer, AnswerError>
-    ensures told { IfOk result (λ answer. (d : Data) × (read_text bytes.now ≡ Some d) × Tells d answer) }
+    ensures { Gives (λ a. answer_view a) result (told bytes.now) }
 {
     let value = read_json(alloc, bytes)?;
     if is_error(&value) {
@@ -47,8 +46,9 @@ pub fn read_answer(alloc: Global, bytes: &[u8]) -> Result<Answer, AnswerError>
     }
 }
 
+#[tactic(auto, unfolding(crate::specs::Answers::json))]
 fn read_json(alloc: Global, bytes: &[u8]) -> Result<Value, AnswerError>
-    ensures { IfOk result (λ value. read_text bytes.now ≡ Some (view value)) }
+    ensures { Gives (λ v. view v) result (or_flaw (whole FlawName.NotJson) (json bytes.now)) }
 {
     match Value::from_slice(alloc, bytes) {
         Ok(value) => Ok(value),
@@ -59,7 +59,10 @@ fn read_json(alloc: Global, bytes: &[u8]) -> Result<Value, AnswerError>
 
 /// Whether the answer tells an error: a member `error` of CometBFT's, or `code` and `message` of the
 /// REST gateway's.
-fn is_error(value: &Value) -> bool {
+#[tactic(auto, unfolding(crate::specs::Answers::is_error))]
+fn is_error(value: &Value) -> bool
+    ensures { result ≡ is_error (view value.now) }
+{
     match value.get("error") {
         Some(error) => !error.is_null(),
         None => value.get("code").is_some() && value.get("message").is_some(),
@@ -67,8 +70,9 @@ fn is_error(value: &Value) -> bool {
 }
 
 /// Reads the `result` of one of CometBFT's answers.
+#[tactic(auto, using(crate::proofs::Steps::steps), unfolding(crate::specs::Answers::result))]
 fn read_result(alloc: Global, answer: &Object<'_>) -> Result<Answer, AnswerError>
-    ensures { IfOk result (λ read. (d : Data) → get (codes "result") d ≡ Some (view answer.now.value.now) → Tells d read) }
+    ensures { Gives (λ a. answer_view a) result (result_told (object_view answer.now)) }
 {
     if answer.value.get("signed_header").is_some() {
         Ok(Answer::Commit(read_commit(alloc, answer)?))
@@ -82,8 +86,9 @@ fn read_result(alloc: Global, answer: &Object<'_>) -> Result<Answer, AnswerError
 }
 
 /// Reads one of the REST gateway's answers.
+#[tactic(auto, using(crate::proofs::Steps::steps), unfolding(crate::specs::Answers::state))]
 fn read_state(alloc: Global, answer: &Object<'_>) -> Result<Answer, AnswerError>
-    ensures { IfOk result (λ read. Tells (view answer.now.value.now) read) }
+    ensures { Gives (λ a. answer_view a) result (state_told (object_view answer.now)) }
 {
     if answer.value.get("client_state").is_some() {
         Ok(Answer::ClientState(read_client_state(answer)?))
@@ -95,7 +100,9 @@ fn read_state(alloc: Global, answer: &Object<'_>) -> Result<Answer, AnswerError>
 }
 
 /// The flaw of this name at the whole answer.
-fn whole(name: FlawName) -> AnswerError {
+fn whole(name: FlawName) -> AnswerError
+    ensures { result ≡ AnswerError.Flaw (whole name) }
+{
     AnswerError::Flaw(Flaw {
         name,
         place: Place {

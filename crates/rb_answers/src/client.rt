@@ -1,9 +1,10 @@
 //! The answers of ibc-go's REST gateway on a client: its state, and the consensus states that it
 //! has stored.
-ghost use Rattle.std.specs.Prelude.{◌≡◌, [], Some, IfOk, OnOk};
-ghost use Rattle.serde_json.specs.View.{view, items_view};
-ghost use Rattle.rb_answers.specs.Fields.{each};
-ghost use Rattle.rb_answers.specs.Clients.{is_tendermint_in, is_live_in, judging_in, judging_view, trust_in, root_in, consensus_state_in, is_last_in, states_in, states_view};
+ghost use Rattle.std.specs.Prelude.{◌≡◌, []};
+ghost use Rattle.serde_json.specs.View.{items_view};
+ghost use Rattle.rb_answers.specs.Flaws.{Reads, Gives};
+ghost use Rattle.rb_answers.specs.Fields.{object_view, each};
+ghost use Rattle.rb_answers.specs.Clients.{tendermint, live, revision, trust, period_of, period, drift_of, drift, client_state, root, consensus_state, is_last, states, states_view};
 
 use crate::duration::nanoseconds_of;
 use crate::flaw::{AnswerError, Flaw, FlawName};
@@ -52,17 +53,15 @@ pub struct ConsensusPage {
 }
 
 /// Reads an answer of `client_states/ID`.
-#[tactic(auto, unfolding(crate::specs::Clients::judging_in))]
+#[tactic(auto, using(crate::proofs::Steps::steps), unfolding(crate::specs::Clients::client_state))]
 pub(crate) fn read_client_state(answer: &Object<'_>) -> Result<ClientState, Flaw>
-    ensures { IfOk result (λ state. judging_in (view answer.now.value.now) ≡ Some (judging_view state)) }
+    ensures { Reads (λ s. s) result (client_state (object_view answer.now)) }
 {
     let state = answer.object(Key::ClientState, Part::ClientState)?;
     judge_type(&state)?;
     judge_frozen(&state)?;
     let chain = state.chain(Key::ChainId)?;
-    let revision = state
-        .object(Key::LatestHeight, Part::LatestHeight)?
-        .number(Key::RevisionNumber)?;
+    let revision = read_revision(&state)?;
     let trust = read_trust(&state)?;
     let period = read_period(&state)?;
     let drift = read_drift(&state)?;
@@ -76,9 +75,9 @@ pub(crate) fn read_client_state(answer: &Object<'_>) -> Result<ClientState, Flaw
 }
 
 /// Refuses a client that isn't Tendermint's.
-#[tactic(auto, unfolding(crate::specs::Clients::is_tendermint_in))]
+#[tactic(auto, using(crate::proofs::Steps::steps), unfolding(crate::specs::Clients::tendermint))]
 fn judge_type(state: &Object<'_>) -> Result<(), Flaw>
-    ensures { OnOk result (is_tendermint_in (view state.now.value.now) ≡ Some tt) }
+    ensures { Reads (λ u. u) result (tendermint (object_view state.now)) }
 {
     match state.text(Key::TypeUrl)? {
         "/ibc.lightclients.tendermint.v1.ClientState" => Ok(()),
@@ -87,21 +86,32 @@ fn judge_type(state: &Object<'_>) -> Result<(), Flaw>
 }
 
 /// Refuses a client that is frozen, as its frozen height says, which is 0-0 for others.
-#[tactic(auto, unfolding(crate::specs::Clients::is_live_in))]
+#[tactic(auto, using(crate::proofs::Steps::steps), unfolding(crate::specs::Clients::live))]
 fn judge_frozen(state: &Object<'_>) -> Result<(), Flaw>
-    ensures { OnOk result (is_live_in (view state.now.value.now) ≡ Some tt) }
+    ensures { Reads (λ u. u) result (live (object_view state.now)) }
 {
     let frozen = state.object(Key::FrozenHeight, Part::FrozenHeight)?;
-    if frozen.number(Key::RevisionNumber)? == 0 && frozen.number(Key::RevisionHeight)? == 0 {
+    let revision = frozen.number(Key::RevisionNumber)?;
+    let height = frozen.number(Key::RevisionHeight)?;
+    if revision == 0 && height == 0 {
         Ok(())
     } else {
         Err(state.flaw(Key::FrozenHeight, FlawName::FrozenClient))
     }
 }
 
-#[tactic(auto, unfolding(crate::specs::Clients::trust_in))]
+/// The revision number of the chain that it tracks.
+#[tactic(auto, using(crate::proofs::Steps::steps), unfolding(crate::specs::Clients::revision))]
+fn read_revision(state: &Object<'_>) -> Result<u64, Flaw>
+    ensures { Reads (λ n. n) result (revision (object_view state.now)) }
+{
+    let latest = state.object(Key::LatestHeight, Part::LatestHeight)?;
+    latest.number(Key::RevisionNumber)
+}
+
+#[tactic(auto, using(crate::proofs::Steps::steps), unfolding(crate::specs::Clients::trust))]
 fn read_trust(state: &Object<'_>) -> Result<TrustLevel, Flaw>
-    ensures { IfOk result (λ trust. trust_in (view state.now.value.now) ≡ Some trust) }
+    ensures { Reads (λ t. t) result (trust (object_view state.now)) }
 {
     let level = state.object(Key::TrustLevel, Part::TrustLevel)?;
     let numerator = level.number(Key::Numerator)?;
@@ -115,35 +125,62 @@ fn read_trust(state: &Object<'_>) -> Result<TrustLevel, Flaw>
     }
 }
 
-fn read_period(state: &Object<'_>) -> Result<Period, Flaw> {
-    match nanoseconds_of(state.text(Key::TrustingPeriod)?).and_then(Period::new) {
+#[tactic(auto, using(crate::proofs::Steps::steps), unfolding(crate::specs::Clients::period))]
+fn read_period(state: &Object<'_>) -> Result<Period, Flaw>
+    ensures { Reads (λ p. p) result (period (object_view state.now)) }
+{
+    match nanoseconds_of(state.text(Key::TrustingPeriod)?).and_then(period_of) {
         Some(period) => Ok(period),
         None => Err(state.flaw(Key::TrustingPeriod, FlawName::BadDuration)),
     }
 }
 
-fn read_drift(state: &Object<'_>) -> Result<u64, Flaw> {
-    match nanoseconds_of(state.text(Key::MaxClockDrift)?) {
-        Some(drift) if drift <= MAX_DRIFT => Ok(drift),
-        _ => Err(state.flaw(Key::MaxClockDrift, FlawName::BadDuration)),
+/// The period of so many nanoseconds.
+#[tactic(auto, using(crate::proofs::Values::periods), unfolding(crate::specs::Clients::period_of))]
+fn period_of(nanoseconds: u64) -> Option<Period>
+    ensures { result ≡ period_of nanoseconds }
+{
+    Period::new(nanoseconds)
+}
+
+#[tactic(auto, using(crate::proofs::Steps::steps), unfolding(crate::specs::Clients::drift))]
+fn read_drift(state: &Object<'_>) -> Result<u64, Flaw>
+    ensures { Reads (λ d. d) result (drift (object_view state.now)) }
+{
+    match nanoseconds_of(state.text(Key::MaxClockDrift)?).and_then(drift_of) {
+        Some(drift) => Ok(drift),
+        None => Err(state.flaw(Key::MaxClockDrift, FlawName::BadDuration)),
+    }
+}
+
+/// The clock drift of so many nanoseconds.
+#[tactic(auto, unfolding(crate::specs::Clients::drift_of))]
+fn drift_of(nanoseconds: u64) -> Option<u64>
+    ensures { result ≡ drift_of nanoseconds }
+{
+    if nanoseconds <= MAX_DRIFT {
+        Some(nanoseconds)
+    } else {
+        None
     }
 }
 
 /// Reads an answer of `consensus_states/ID`.
-#[tactic(auto, unfolding(crate::specs::Clients::states_in))]
+#[tactic(auto, using(crate::proofs::Steps::steps), unfolding(crate::specs::Clients::states))]
 pub(crate) fn read_consensus_states(
     alloc: Global,
     answer: &Object<'_>,
 ) -> Result<ConsensusPage, AnswerError>
-    ensures { IfOk result (λ page. states_in (view answer.now.value.now) ≡ Some (states_view page)) }
+    ensures { Gives (λ p. states_view p) result (states (object_view answer.now)) }
 {
     let is_last = read_is_last(answer)?;
     let states = read_states(alloc, answer.items(Key::ConsensusStates)?)?;
     Ok(ConsensusPage { states, is_last })
 }
 
+#[tactic(auto, using(crate::proofs::Steps::steps))]
 fn read_states(alloc: Global, items: &[Value]) -> Result<Vec<ConsensusState>, AnswerError>
-    ensures { IfOk result (λ states. each consensus_state_in [] (items_view items.now) ≡ Some states.items) }
+    ensures { Gives (λ v. v.items) result (each consensus_state Part.ConsensusStates [] (items_view items.now)) }
 {
     let mut states = Vec::with_capacity(alloc, items.len())?;
     for value in items {
@@ -154,42 +191,39 @@ fn read_states(alloc: Global, items: &[Value]) -> Result<Vec<ConsensusState>, An
 }
 
 /// Whether no page follows, as the key of the next one says.
-#[tactic(auto, unfolding(crate::specs::Clients::is_last_in))]
+#[tactic(auto, using(crate::proofs::Steps::steps), unfolding(crate::specs::Clients::is_last))]
 fn read_is_last(answer: &Object<'_>) -> Result<bool, Flaw>
-    ensures { IfOk result (λ is_last. is_last_in (view answer.now.value.now) ≡ Some is_last) }
+    ensures { Reads (λ b. b) result (is_last (object_view answer.now)) }
 {
     let pagination = answer.object(Key::Pagination, Part::Pagination)?;
-    Ok(pagination.field(Key::NextKey)?.is_null())
+    let next = pagination.field(Key::NextKey)?;
+    Ok(next.is_null())
 }
 
-#[tactic(auto, unfolding(crate::specs::Clients::consensus_state_in))]
+#[tactic(auto, using(crate::proofs::Steps::steps), unfolding(crate::specs::Clients::consensus_state))]
 fn read_consensus_state(entry: &Object<'_>) -> Result<ConsensusState, Flaw>
-    ensures { IfOk result (λ state. consensus_state_in (view entry.now.value.now) ≡ Some state) }
+    ensures { Reads (λ s. s) result (consensus_state (object_view entry.now)) }
 {
-    let height = Object {
-        value: entry.field(Key::Height)?,
-        ..*entry
-    };
-    let state = Object {
-        value: entry.field(Key::ConsensusState)?,
-        ..*entry
-    };
+    let at = entry.inner(Key::Height)?;
+    let state = entry.inner(Key::ConsensusState)?;
+    let revision = at.number(Key::RevisionNumber)?;
+    let height = at.height(Key::RevisionHeight)?;
+    let time = state.time(Key::Timestamp)?;
+    let root = read_root(&state)?;
+    let next = state.hash(Key::NextValidatorsHash)?;
     Ok(ConsensusState {
-        revision: height.number(Key::RevisionNumber)?,
-        height: height.height(Key::RevisionHeight)?,
-        time: state.time(Key::Timestamp)?,
-        root: read_root(&state)?,
-        next: state.hash(Key::NextValidatorsHash)?,
+        revision,
+        height,
+        time,
+        root,
+        next,
     })
 }
 
-#[tactic(auto, unfolding(crate::specs::Clients::root_in))]
+#[tactic(auto, using(crate::proofs::Steps::steps), unfolding(crate::specs::Clients::root))]
 fn read_root(state: &Object<'_>) -> Result<[u8; 32], Flaw>
-    ensures { IfOk result (λ root. root_in (view state.now.value.now) ≡ Some root) }
+    ensures { Reads (λ r. r) result (root (object_view state.now)) }
 {
-    let root = Object {
-        value: state.field(Key::Root)?,
-        ..*state
-    };
+    let root = state.inner(Key::Root)?;
     root.base64(Key::Hash)
 }

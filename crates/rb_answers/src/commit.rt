@@ -1,10 +1,10 @@
 //! The answer of CometBFT's `/commit`: a header, and each validator's part in its commit.
-ghost use Rattle.std.specs.Prelude.{◌≡◌, [], Some, IfOk, OnOk};
-ghost use Rattle.serde_json.specs.View.{view, items_view};
-ghost use Rattle.rb_answers.specs.Fields.{number_at, each};
-ghost use Rattle.rb_answers.specs.Names.{key_name};
-ghost use Rattle.rb_answers.specs.Votes.{flag_in};
-ghost use Rattle.rb_answers.specs.Headers.{header_in, header_view, signature_in, signed_in, signed_view};
+ghost use Rattle.std.specs.Prelude.{◌≡◌, [], IfOk};
+ghost use Rattle.serde_json.specs.View.{items_view};
+ghost use Rattle.rb_answers.specs.Flaws.{Reads, Gives};
+ghost use Rattle.rb_answers.specs.Fields.{object_view, each};
+ghost use Rattle.rb_answers.specs.Votes.{flag};
+ghost use Rattle.rb_answers.specs.Headers.{header, header_view, signature, of_height, signed, signed_view};
 
 use crate::flaw::{AnswerError, Flaw, FlawName};
 use crate::object::Object;
@@ -72,31 +72,31 @@ pub struct SignedHeader {
 }
 
 /// Reads the `result` of an answer of `/commit`.
-#[tactic(auto, unfolding(crate::specs::Headers::signed_in))]
+#[tactic(auto, using(crate::proofs::Steps::steps), unfolding(crate::specs::Headers::signed))]
 pub(crate) fn read_commit(alloc: Global, answer: &Object<'_>) -> Result<SignedHeader, AnswerError>
-    ensures { IfOk result (λ header. signed_in (view answer.now.value.now) ≡ Some (signed_view header)) }
+    ensures { Gives (λ h. signed_view h) result (signed (object_view answer.now)) }
 {
-    let signed = answer.object(Key::SignedHeader, Part::SignedHeader)?;
-    let header = signed.object(Key::Header, Part::Header)?;
-    let commit = signed.object(Key::Commit, Part::Commit)?;
+    let both = answer.object(Key::SignedHeader, Part::SignedHeader)?;
+    let head = both.object(Key::Header, Part::Header)?;
+    let commit = both.object(Key::Commit, Part::Commit)?;
     let signatures = read_signatures(alloc, commit.items(Key::Signatures)?)?;
-    let signed = read_header(&header, signatures)?;
-    judge_height(&commit, signed.height)?;
-    Ok(signed)
+    let told = read_header(&head, signatures)?;
+    judge_height(&commit, told.height)?;
+    Ok(told)
 }
 
 /// Reads the header that these signatures belong to.
-#[tactic(auto, unfolding(crate::specs::Headers::header_in))]
-fn read_header(header: &Object<'_>, signatures: Vec<Signature>) -> Result<SignedHeader, Flaw>
-    ensures header { IfOk result (λ read. header_in (view header.now.value.now) ≡ Some (header_view read)) }
+#[tactic(auto, using(crate::proofs::Steps::steps), unfolding(crate::specs::Headers::header))]
+fn read_header(head: &Object<'_>, signatures: Vec<Signature>) -> Result<SignedHeader, Flaw>
+    ensures header { Reads (λ h. header_view h) result (header (object_view head.now)) }
     ensures signatures { IfOk result (λ read. read.signatures ≡ signatures) }
 {
-    let chain = header.chain(Key::ChainId)?;
-    let height = header.height(Key::Height)?;
-    let time = header.time(Key::Time)?;
-    let root = header.hash(Key::AppHash)?;
-    let set = header.hash(Key::ValidatorsHash)?;
-    let next = header.hash(Key::NextValidatorsHash)?;
+    let chain = head.chain(Key::ChainId)?;
+    let height = head.height(Key::Height)?;
+    let time = head.time(Key::Time)?;
+    let root = head.hash(Key::AppHash)?;
+    let set = head.hash(Key::ValidatorsHash)?;
+    let next = head.hash(Key::NextValidatorsHash)?;
     Ok(SignedHeader {
         chain,
         height,
@@ -109,8 +109,9 @@ fn read_header(header: &Object<'_>, signatures: Vec<Signature>) -> Result<Signed
 }
 
 /// Refuses a commit of another height than the header's.
+#[tactic(auto, using(crate::proofs::Steps::steps), unfolding(crate::specs::Headers::of_height))]
 fn judge_height(commit: &Object<'_>, height: Height) -> Result<(), Flaw>
-    ensures { OnOk result (number_at (key_name Key.Height) (view commit.now.value.now) ≡ Some height) }
+    ensures { Reads (λ u. u) result (of_height height (object_view commit.now)) }
 {
     if commit.height(Key::Height)? == height {
         Ok(())
@@ -120,8 +121,9 @@ fn judge_height(commit: &Object<'_>, height: Height) -> Result<(), Flaw>
 }
 
 /// Reads the entries of `signatures`, in order.
+#[tactic(auto, using(crate::proofs::Steps::steps))]
 fn read_signatures(alloc: Global, items: &[Value]) -> Result<Vec<Signature>, AnswerError>
-    ensures { IfOk result (λ signatures. each signature_in [] (items_view items.now) ≡ Some signatures.items) }
+    ensures { Gives (λ v. v.items) result (each signature Part.Signatures [] (items_view items.now)) }
 {
     let mut signatures = Vec::with_capacity(alloc, items.len())?;
     for value in items {
@@ -131,26 +133,27 @@ fn read_signatures(alloc: Global, items: &[Value]) -> Result<Vec<Signature>, Ans
     Ok(signatures)
 }
 
-#[tactic(auto, unfolding(crate::specs::Headers::signature_in))]
-fn read_signature(signature: &Object<'_>) -> Result<Signature, Flaw>
-    ensures { IfOk result (λ read. signature_in (view signature.now.value.now) ≡ Some read) }
+#[tactic(auto, using(crate::proofs::Steps::steps), unfolding(crate::specs::Headers::signature))]
+fn read_signature(entry: &Object<'_>) -> Result<Signature, Flaw>
+    ensures { Reads (λ s. s) result (signature (object_view entry.now)) }
 {
-    let flag = read_flag(signature)?;
+    let flag = read_flag(entry)?;
     let address = match flag {
         BlockIdFlag::Absent => None,
-        BlockIdFlag::Commit | BlockIdFlag::Nil => Some(signature.address(Key::ValidatorAddress)?),
+        BlockIdFlag::Commit | BlockIdFlag::Nil => Some(entry.address(Key::ValidatorAddress)?),
     };
     Ok(Signature { flag, address })
 }
 
-fn read_flag(signature: &Object<'_>) -> Result<BlockIdFlag, Flaw>
-    ensures { IfOk result (λ flag. flag_in (view signature.now.value.now) ≡ Some flag) }
+#[tactic(auto, using(crate::proofs::Steps::steps), unfolding(crate::specs::Votes::flag))]
+fn read_flag(entry: &Object<'_>) -> Result<BlockIdFlag, Flaw>
+    ensures { Reads (λ f. f) result (flag (object_view entry.now)) }
 {
-    let Some(number) = signature.field(Key::BlockIdFlag)?.as_u64() else {
-        return Err(signature.flaw(Key::BlockIdFlag, FlawName::WrongType));
+    let Some(number) = entry.field(Key::BlockIdFlag)?.as_u64() else {
+        return Err(entry.flaw(Key::BlockIdFlag, FlawName::WrongType));
     };
     match BlockIdFlag::of_number(number) {
         Some(flag) => Ok(flag),
-        None => Err(signature.flaw(Key::BlockIdFlag, FlawName::BadFlag)),
+        None => Err(entry.flaw(Key::BlockIdFlag, FlawName::BadFlag)),
     }
 }

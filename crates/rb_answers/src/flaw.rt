@@ -111,6 +111,11 @@ pub struct Flaw {
 }
 
 impl fmt::Display for Flaw {
+    ghost use Rattle.std.specs.Prelude.{Some};
+    ghost use Rattle.rb_answers.specs.Names.{flaw_text};
+
+    ghost output = { λ flaw. Some (flaw_text flaw) };
+
     fn fmt<W: fmt::Write>(&self, f: &mut fmt::Formatter<W>) -> fmt::Result {
         let name = self.name.name();
         let place = self.place;

@@ -4,6 +4,7 @@
 #![tactic(auto)]
 
 mod answer;
+mod attributes;
 mod client;
 mod commit;
 mod duration;
@@ -12,6 +13,7 @@ mod object;
 mod packets;
 mod place;
 mod revision;
+mod scalar;
 mod validators;
 
 pub use answer::{Answer, read_answer};

@@ -1,18 +1,11 @@
 //! The fields of an object in an answer.
-ghost use Rattle.std.specs.Prelude.{◌≡◌, Some, None, IfOk, IfErr, IfSome};
-ghost use Rattle.serde_json.specs.Find.{get};
+ghost use Rattle.std.specs.Prelude.{◌≡◌, None, Some};
 ghost use Rattle.serde_json.specs.View.{view, items_view};
-ghost use Rattle.jiff.specs.Words.{parse_timestamp};
-ghost use Rattle.base64.specs.Engines.{standard};
-ghost use Rattle.base64.specs.GeneralPurpose.{decoded_bytes_of};
-ghost use Rattle.rb_answers.specs.Names.{key_name};
-ghost use Rattle.rb_answers.specs.Fields.{text_at, number_at, hex_at, base64_at, moment_of, time_at, items_at};
+ghost use Rattle.rb_answers.specs.Flaws.{Reads};
 
 use crate::flaw::{Flaw, FlawName};
 use crate::place::{Key, Part, Place};
-use base64::engine::general_purpose::STANDARD;
-use hex::FromHex;
-use jiff::Timestamp;
+use crate::scalar::{address_of, chain_of, hash_of, height_of, key_of, moment_of, number_of};
 use rb_base::{ChainId, Height, Moment};
 use serde_json::Value;
 
@@ -25,9 +18,11 @@ pub struct Object<'a> {
 }
 
 impl<'a> Object<'a> {
+    ghost use Rattle.rb_answers.specs.Fields.{object_view, flaw_at, field, inner, object, items, text, number, height, chain, time, hex, base64};
+
     /// The object that is this part.
     pub fn new(value: &'a Value, part: Part) -> Object<'a>
-        ensures { result.value ≡ value.entry }
+        ensures { object_view result ≡ record { value = view value.now; part = part; index = None } }
     {
         Object {
             value,
@@ -38,7 +33,7 @@ impl<'a> Object<'a> {
 
     /// The object that is an element of the array that is this part.
     pub fn element(value: &'a Value, part: Part, index: usize) -> Object<'a>
-        ensures { result.value ≡ value.entry }
+        ensures { object_view result ≡ record { value = view value.now; part = part; index = Some index } }
     {
         Object {
             value,
@@ -49,7 +44,7 @@ impl<'a> Object<'a> {
 
     /// The flaw of this name at a field.
     pub fn flaw(&self, key: Key, name: FlawName) -> Flaw
-        ensures { result.name ≡ name }
+        ensures { result ≡ flaw_at (object_view self.now) key name }
     {
         Flaw {
             name,
@@ -61,10 +56,10 @@ impl<'a> Object<'a> {
         }
     }
 
-    /// What a field holds, which has to be there.
+    /// What a field holds: `MissingField` where it isn't there.
+    #[tactic(auto, using(crate::proofs::Steps::steps), unfolding(crate::specs::Fields::field))]
     pub fn field(&self, key: Key) -> Result<&'a Value, Flaw>
-        ensures there { IfOk result (λ value. get (key_name key) (view self.now.value.now) ≡ Some (view value.now)) }
-        ensures missing { IfErr result (λ flaw. (get (key_name key) (view self.now.value.now) ≡ None) × (flaw.name ≡ FlawName.MissingField)) }
+        ensures { Reads (λ x. view x.now) result (field key (object_view self.now)) }
     {
         match self.value.get(key.name()) {
             Some(value) => Ok(value),
@@ -72,9 +67,23 @@ impl<'a> Object<'a> {
         }
     }
 
-    /// The object that a field holds, which is this part.
+    /// What a field holds, told of at the place of this object.
+    #[tactic(auto, using(crate::proofs::Steps::steps), unfolding(crate::specs::Fields::inner))]
+    pub fn inner(&self, key: Key) -> Result<Object<'a>, Flaw>
+        ensures { Reads (λ x. object_view x) result (inner key (object_view self.now)) }
+    {
+        let value = self.field(key)?;
+        Ok(Object {
+            value,
+            part: self.part,
+            index: self.index,
+        })
+    }
+
+    /// The object that a field holds, which is this part: `WrongType` where it holds none.
+    #[tactic(auto, using(crate::proofs::Steps::steps), unfolding(crate::specs::Fields::object))]
     pub fn object(&self, key: Key, part: Part) -> Result<Object<'a>, Flaw>
-        ensures { IfOk result (λ object. get (key_name key) (view self.now.value.now) ≡ Some (view object.value.now)) }
+        ensures { Reads (λ x. object_view x) result (object key part (object_view self.now)) }
     {
         let value = self.field(key)?;
         if value.is_object() {
@@ -84,9 +93,10 @@ impl<'a> Object<'a> {
         }
     }
 
-    /// The elements of the array that a field holds.
+    /// The elements of the array that a field holds: `WrongType` where it holds none.
+    #[tactic(auto, using(crate::proofs::Steps::steps), unfolding(crate::specs::Fields::items))]
     pub fn items(&self, key: Key) -> Result<&'a [Value], Flaw>
-        ensures { IfOk result (λ items. items_at (key_name key) (view self.now.value.now) ≡ Some (items_view items.now)) }
+        ensures { Reads (λ x. items_view x.now) result (items key (object_view self.now)) }
     {
         match self.field(key)?.as_array() {
             Some(array) => Ok(array.as_slice()),
@@ -94,9 +104,10 @@ impl<'a> Object<'a> {
         }
     }
 
-    /// The text that a field holds.
+    /// The text that a field holds: `WrongType` where it holds none.
+    #[tactic(auto, using(crate::proofs::Steps::steps), unfolding(crate::specs::Fields::text))]
     pub fn text(&self, key: Key) -> Result<&'a str, Flaw>
-        ensures { IfOk result (λ text. text_at (key_name key) (view self.now.value.now) ≡ Some text.now) }
+        ensures { Reads (λ x. x.now) result (text key (object_view self.now)) }
     {
         match self.field(key)?.as_str() {
             Some(text) => Ok(text),
@@ -104,93 +115,80 @@ impl<'a> Object<'a> {
         }
     }
 
-    /// The number below 2^64 that a field holds as a text of decimal digits.
+    /// The number below 2^64 that a field holds as a text of decimal digits, else `BadNumber`.
+    #[tactic(auto, using(crate::proofs::Steps::steps), unfolding(crate::specs::Fields::number))]
     pub fn number(&self, key: Key) -> Result<u64, Flaw>
-        ensures { IfOk result (λ n. number_at (key_name key) (view self.now.value.now) ≡ Some n) }
+        ensures { Reads (λ x. x) result (number key (object_view self.now)) }
     {
-        match self.text(key)?.parse::<u64>() {
-            Ok(number) => Ok(number),
-            Err(_) => Err(self.flaw(key, FlawName::BadNumber)),
-        }
-    }
-
-    /// The height that a field holds as a text of decimal digits.
-    pub fn height(&self, key: Key) -> Result<Height, Flaw>
-        ensures { IfOk result (λ h. number_at (key_name key) (view self.now.value.now) ≡ Some h) }
-    {
-        match Height::new(self.number(key)?) {
-            Some(height) => Ok(height),
+        match number_of(self.text(key)?) {
+            Some(read) => Ok(read),
             None => Err(self.flaw(key, FlawName::BadNumber)),
         }
     }
 
-    /// The identifier of a chain that a field holds.
-    pub fn chain(&self, key: Key) -> Result<ChainId, Flaw>
-        ensures { IfOk result (λ id. text_at (key_name key) (view self.now.value.now) ≡ Some id) }
+    /// The height that a field holds as a text of decimal digits, else `BadNumber`.
+    #[tactic(auto, using(crate::proofs::Steps::steps), unfolding(crate::specs::Fields::height))]
+    pub fn height(&self, key: Key) -> Result<Height, Flaw>
+        ensures { Reads (λ x. x) result (height key (object_view self.now)) }
     {
-        match ChainId::new(self.text(key)?) {
-            Some(chain) => Ok(chain),
+        match height_of(self.number(key)?) {
+            Some(read) => Ok(read),
+            None => Err(self.flaw(key, FlawName::BadNumber)),
+        }
+    }
+
+    /// The identifier of a chain that a field holds, else `BadIdentifier`.
+    #[tactic(auto, using(crate::proofs::Steps::steps), unfolding(crate::specs::Fields::chain))]
+    pub fn chain(&self, key: Key) -> Result<ChainId, Flaw>
+        ensures { Reads (λ x. x) result (chain key (object_view self.now)) }
+    {
+        match chain_of(self.text(key)?) {
+            Some(read) => Ok(read),
             None => Err(self.flaw(key, FlawName::BadIdentifier)),
         }
     }
 
-    /// The moment that a field holds in RFC 3339.
+    /// The moment that a field holds in RFC 3339, else `BadTime`.
+    #[tactic(auto, using(crate::proofs::Steps::steps), unfolding(crate::specs::Fields::time))]
     pub fn time(&self, key: Key) -> Result<Moment, Flaw>
-        ensures { IfOk result (λ t. time_at (key_name key) (view self.now.value.now) ≡ Some t) }
+        ensures { Reads (λ x. x) result (time key (object_view self.now)) }
     {
         match moment_of(self.text(key)?) {
-            Some(moment) => Ok(moment),
+            Some(read) => Ok(read),
             None => Err(self.flaw(key, FlawName::BadTime)),
         }
     }
 
-    /// The 32 bytes that a field holds in hexadecimal digits.
+    /// The 32 bytes that a field holds in hexadecimal digits, else `BadHex`.
+    #[tactic(auto, using(crate::proofs::Steps::steps), unfolding(crate::specs::Fields::hex))]
     pub fn hash(&self, key: Key) -> Result<[u8; 32], Flaw>
-        ensures { IfOk result (λ bytes. hex_at 32 (key_name key) (view self.now.value.now) ≡ Some bytes) }
+        ensures { Reads (λ x. x) result (hex 32 key (object_view self.now)) }
     {
-        match <[u8; 32] as FromHex>::from_hex(self.text(key)?) {
-            Ok(bytes) => Ok(bytes),
-            Err(_) => Err(self.flaw(key, FlawName::BadHex)),
+        match hash_of(self.text(key)?) {
+            Some(read) => Ok(read),
+            None => Err(self.flaw(key, FlawName::BadHex)),
         }
     }
 
-    /// The 20 bytes that a field holds in hexadecimal digits.
+    /// The 20 bytes that a field holds in hexadecimal digits, else `BadHex`.
+    #[tactic(auto, using(crate::proofs::Steps::steps), unfolding(crate::specs::Fields::hex))]
     pub fn address(&self, key: Key) -> Result<[u8; 20], Flaw>
-        ensures { IfOk result (λ bytes. hex_at 20 (key_name key) (view self.now.value.now) ≡ Some bytes) }
+        ensures { Reads (λ x. x) result (hex 20 key (object_view self.now)) }
     {
-        match <[u8; 20] as FromHex>::from_hex(self.text(key)?) {
-            Ok(bytes) => Ok(bytes),
-            Err(_) => Err(self.flaw(key, FlawName::BadHex)),
+        match address_of(self.text(key)?) {
+            Some(read) => Ok(read),
+            None => Err(self.flaw(key, FlawName::BadHex)),
         }
     }
 
-    /// The 32 bytes that a field holds in base64.
+    /// The 32 bytes that a field holds in base64, else `BadBase64`.
+    #[tactic(auto, using(crate::proofs::Steps::steps), unfolding(crate::specs::Fields::base64))]
     pub fn base64(&self, key: Key) -> Result<[u8; 32], Flaw>
-        ensures { IfOk result (λ bytes. base64_at (key_name key) (view self.now.value.now) ≡ Some bytes) }
+        ensures { Reads (λ x. x) result (base64 key (object_view self.now)) }
     {
-        match bytes_of(self.text(key)?) {
-            Some(bytes) => Ok(bytes),
+        match key_of(self.text(key)?) {
+            Some(read) => Ok(read),
             None => Err(self.flaw(key, FlawName::BadBase64)),
         }
-    }
-}
-
-/// The moment of a timestamp.
-fn moment_of(text: &str) -> Option<Moment>
-    ensures { IfSome result (λ moment. moment_of (parse_timestamp text.now) ≡ Some moment) }
-{
-    let timestamp = text.parse::<Timestamp>().ok()?;
-    let nanoseconds = u128::try_from(timestamp.as_nanosecond()).ok()?;
-    Moment::new(nanoseconds)
-}
-
-/// The 32 bytes of a text in base64.
-fn bytes_of(text: &str) -> Option<[u8; 32]>
-    ensures { IfSome result (λ bytes. decoded_bytes_of standard text.now ≡ bytes) }
-{
-    let mut bytes = [0; 32];
-    match STANDARD.decode_slice(text.as_bytes(), &mut bytes) {
-        Ok(32) => Some(bytes),
-        _ => None,
     }
 }

@@ -1,9 +1,14 @@
 //! The answer of CometBFT's `/tx_search`: what transactions did with packets (ICS 4).
+ghost use Rattle.std.specs.Prelude.{◌≡◌, [], map, option_map, string_bytes};
+ghost use Rattle.serde_json.specs.View.{view, items_view};
+ghost use Rattle.rb_answers.specs.Flaws.{Reads, Gives};
+ghost use Rattle.rb_answers.specs.Fields.{object_view};
+ghost use Rattle.rb_answers.specs.Packets.{packet_view, search_view, found, transactions, transaction, code, events, event, packet, timeout, timeout_view};
+
+use crate::attributes::Attributes;
 use crate::flaw::{AnswerError, Flaw, FlawName};
 use crate::object::Object;
 use crate::place::{Key, Part};
-use base64::DecodeAllocError;
-use base64::engine::general_purpose::STANDARD;
 use rb_base::Height;
 use serde_json::Value;
 use std::alloc::Global;
@@ -67,32 +72,17 @@ pub struct PacketPage {
     pub events: Vec<PacketEvent>,
 }
 
-/// The base64 of an attribute's name, as it stood before CometBFT 0.37.
-fn encoded_name(key: Key) -> &'static str {
-    match key {
-        Key::PacketSequence => "cGFja2V0X3NlcXVlbmNl",
-        Key::PacketSrcPort => "cGFja2V0X3NyY19wb3J0",
-        Key::PacketSrcChannel => "cGFja2V0X3NyY19jaGFubmVs",
-        Key::PacketTimeoutHeight => "cGFja2V0X3RpbWVvdXRfaGVpZ2h0",
-        Key::PacketTimeoutTimestamp => "cGFja2V0X3RpbWVvdXRfdGltZXN0YW1w",
-        _ => "",
-    }
-}
-
 /// Reads the `result` of an answer of `/tx_search`. Transactions that failed are passed over.
+#[tactic(auto, using(crate::proofs::Steps::steps, crate::proofs::Steps::counted), unfolding(crate::specs::Packets::found))]
 pub(crate) fn read_transactions(
     alloc: Global,
     answer: &Object<'_>,
-) -> Result<PacketPage, AnswerError> {
+) -> Result<PacketPage, AnswerError>
+    ensures { Gives (λ p. search_view p) result (found (object_view answer.now)) }
+{
     let total = answer.number(Key::TotalCount)?;
     let items = answer.items(Key::Txs)?;
-    let mut events = Vec::new(alloc);
-    for (index, value) in items.iter().enumerate() {
-        read_transaction(
-            &Object::element(value, Part::Transactions, index),
-            &mut events,
-        )?;
-    }
+    let events = read_all(alloc, items)?;
     Ok(PacketPage {
         total,
         count: items.len(),
@@ -100,158 +90,133 @@ pub(crate) fn read_transactions(
     })
 }
 
-fn read_transaction(
-    transaction: &Object<'_>,
-    events: &mut Vec<PacketEvent>,
-) -> Result<(), AnswerError> {
-    let block = transaction.height(Key::Height)?;
-    let done = Object {
-        value: transaction.field(Key::TxResult)?,
-        ..*transaction
-    };
-    let Some(code) = done.field(Key::Code)?.as_u64() else {
-        return Err(AnswerError::Flaw(done.flaw(Key::Code, FlawName::WrongType)));
-    };
-    if code != 0 {
-        return Ok(());
+/// The events of packets of these transactions.
+#[tactic(auto, using(crate::proofs::Steps::steps))]
+fn read_all(alloc: Global, items: &[Value]) -> Result<Vec<PacketEvent>, AnswerError>
+    ensures { Gives (λ v. map packet_view v.items) result (transactions 0 [] (items_view items.now)) }
+{
+    let mut all = Vec::new(alloc);
+    for (index, value) in items.iter().enumerate() {
+        let entry = Object::element(value, Part::Transactions, index);
+        read_transaction(&entry, &mut all)?;
     }
-    for value in done.items(Key::Events)? {
-        let event = Object {
-            value,
-            ..*transaction
-        };
-        read_event(&event, block, events)?;
-    }
-    Ok(())
+    Ok(all)
 }
 
-/// Adds an event, if it is about a packet.
-fn read_event(
-    event: &Object<'_>,
+/// Adds the events of packets of a transaction.
+#[tactic(auto, using(crate::proofs::Steps::steps), unfolding(crate::specs::Packets::transaction))]
+fn read_transaction(entry: &Object<'_>, all: &mut Vec<PacketEvent>) -> Result<(), AnswerError>
+    ensures { Gives (λ _. map packet_view all.new.items) result (transaction (map packet_view all.old.items) (object_view entry.now)) }
+{
+    let block = entry.height(Key::Height)?;
+    let done = entry.inner(Key::TxResult)?;
+    if read_code(&done)? == 0 {
+        add_events(entry, block, done.items(Key::Events)?, all)
+    } else {
+        Ok(())
+    }
+}
+
+/// The number of the failure of a transaction, which is 0 where there was none.
+#[tactic(auto, using(crate::proofs::Steps::steps), unfolding(crate::specs::Packets::code))]
+fn read_code(done: &Object<'_>) -> Result<u64, Flaw>
+    ensures { Reads (λ n. n) result (code (object_view done.now)) }
+{
+    match done.field(Key::Code)?.as_u64() {
+        Some(code) => Ok(code),
+        None => Err(done.flaw(Key::Code, FlawName::WrongType)),
+    }
+}
+
+/// Adds those of the events that are about a packet.
+#[tactic(auto, using(crate::proofs::Steps::steps))]
+fn add_events(
+    entry: &Object<'_>,
     block: Height,
-    events: &mut Vec<PacketEvent>,
-) -> Result<(), AnswerError> {
-    let Some(kind) = PacketKind::of_type(event.text(Key::Type)?) else {
-        return Ok(());
-    };
-    let packet = read_packet(*events.allocator(), event, kind, block)?;
-    events.push(packet)?;
+    items: &[Value],
+    all: &mut Vec<PacketEvent>,
+) -> Result<(), AnswerError>
+    ensures { Gives (λ _. map packet_view all.new.items) result (events block (object_view entry.now) (map packet_view all.old.items) (items_view items.now)) }
+{
+    for value in items {
+        let told = Object {
+            value,
+            part: entry.part,
+            index: entry.index,
+        };
+        if let Some(packet) = read_event(*all.allocator(), &told, block)? {
+            all.push(packet)?;
+        }
+    }
     Ok(())
 }
 
+/// Reads an event, if it is about a packet.
+#[tactic(auto, using(crate::proofs::Steps::steps), unfolding(crate::specs::Packets::event))]
+fn read_event(
+    alloc: Global,
+    told: &Object<'_>,
+    block: Height,
+) -> Result<Option<PacketEvent>, AnswerError>
+    ensures { Gives (λ o. option_map packet_view o) result (event block (object_view told.now)) }
+{
+    match PacketKind::of_type(told.text(Key::Type)?) {
+        Some(kind) => Ok(Some(read_packet(alloc, told, kind, block)?)),
+        None => Ok(None),
+    }
+}
+
+#[tactic(auto, using(crate::proofs::Steps::steps), unfolding(crate::specs::Packets::packet))]
 fn read_packet(
     alloc: Global,
-    event: &Object<'_>,
+    told: &Object<'_>,
     kind: PacketKind,
     block: Height,
-) -> Result<PacketEvent, AnswerError> {
+) -> Result<PacketEvent, AnswerError>
+    ensures { Gives (λ p. packet_view p) result (packet kind block (object_view told.now)) }
+{
     let attributes = Attributes {
         alloc,
-        event: *event,
-        items: event.items(Key::Attributes)?,
+        event: *told,
+        items: told.items(Key::Attributes)?,
     };
     let sequence = attributes.number(Key::PacketSequence)?;
     let source = attributes.source()?;
-    let (timeout_height, timeout_time) = match kind {
-        PacketKind::Sent => (
-            attributes.height(Key::PacketTimeoutHeight)?,
-            attributes.number(Key::PacketTimeoutTimestamp)?,
-        ),
-        _ => (
-            RevisionHeight {
-                revision: 0,
-                height: 0,
-            },
-            0,
-        ),
-    };
+    let timeout = read_timeout(&attributes, kind)?;
     Ok(PacketEvent {
         kind,
         block,
         sequence,
         source,
-        timeout_height,
-        timeout_time,
+        timeout_height: timeout.height,
+        timeout_time: timeout.time,
     })
 }
 
-/// The attributes of an event.
+/// Until when a packet may be received.
 #[derive(Clone, Copy)]
-struct Attributes<'a> {
-    alloc: Global,
-    event: Object<'a>,
-    items: &'a [Value],
+struct Timeout {
+    height: RevisionHeight,
+    time: u64,
 }
 
-impl Attributes<'_> {
-    /// The number that an attribute holds.
-    fn number(&self, name: Key) -> Result<u64, AnswerError> {
-        match self.text(name)?.as_str().parse::<u64>() {
-            Ok(number) => Ok(number),
-            Err(_) => Err(self.flaw(name, FlawName::BadNumber)),
+/// The timeouts of a packet that was sent.
+#[tactic(auto, using(crate::proofs::Steps::steps), unfolding(crate::specs::Packets::timeout))]
+fn read_timeout(attributes: &Attributes<'_>, kind: PacketKind) -> Result<Timeout, AnswerError>
+    ensures { Gives (λ t. timeout_view t) result (timeout kind (object_view attributes.now.event) (items_view attributes.now.items.now)) }
+{
+    match kind {
+        PacketKind::Sent => {
+            let height = attributes.height(Key::PacketTimeoutHeight)?;
+            let time = attributes.number(Key::PacketTimeoutTimestamp)?;
+            Ok(Timeout { height, time })
         }
-    }
-
-    /// The height that an attribute holds, as `REVISION-HEIGHT`.
-    fn height(&self, name: Key) -> Result<RevisionHeight, AnswerError> {
-        match revision_height(self.text(name)?.as_str()) {
-            Some(height) => Ok(height),
-            None => Err(self.flaw(name, FlawName::BadNumber)),
-        }
-    }
-
-    /// The port and the channel of the packet's source.
-    fn source(&self) -> Result<String, AnswerError> {
-        let mut source = self.text(Key::PacketSrcPort)?;
-        let channel = self.text(Key::PacketSrcChannel)?;
-        source.push('/')?;
-        source.push_str(channel.as_str())?;
-        Ok(source)
-    }
-
-    /// The text that an attribute holds, which has to be there.
-    fn text(&self, name: Key) -> Result<String, AnswerError> {
-        for item in self.items {
-            let (Some(key), Some(value)) = (text_at(item, "key"), text_at(item, "value")) else {
-                continue;
-            };
-            if key == name.name() {
-                return Ok(String::from_str(self.alloc, value)?);
-            }
-            if key == encoded_name(name) {
-                return self.decoded(name, value);
-            }
-        }
-        Err(self.flaw(name, FlawName::MissingField))
-    }
-
-    /// The text that a value in base64 stands for.
-    fn decoded(&self, name: Key, value: &str) -> Result<String, AnswerError> {
-        match STANDARD.decode(self.alloc, value.as_bytes()) {
-            Ok(bytes) => match String::from_utf8(bytes) {
-                Ok(text) => Ok(text),
-                Err(_) => Err(self.flaw(name, FlawName::BadBase64)),
+        PacketKind::Received | PacketKind::AckWritten | PacketKind::Cleared => Ok(Timeout {
+            height: RevisionHeight {
+                revision: 0,
+                height: 0,
             },
-            Err(DecodeAllocError::OutOfMemory) => Err(AnswerError::NoMemory),
-            Err(_) => Err(self.flaw(name, FlawName::BadBase64)),
-        }
+            time: 0,
+        }),
     }
-
-    fn flaw(&self, name: Key, flaw: FlawName) -> AnswerError {
-        AnswerError::Flaw(self.event.flaw(name, flaw))
-    }
-}
-
-/// The text of a member of an object, if both are.
-fn text_at<'a>(value: &'a Value, key: &str) -> Option<&'a str> {
-    value.get(key)?.as_str()
-}
-
-/// A height with the number of its revision before a dash.
-fn revision_height(text: &str) -> Option<RevisionHeight> {
-    let (revision, height) = text.split_once('-')?;
-    Some(RevisionHeight {
-        revision: revision.parse::<u64>().ok()?,
-        height: height.parse::<u64>().ok()?,
-    })
 }

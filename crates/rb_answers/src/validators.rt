@@ -1,8 +1,9 @@
 //! The answer of CometBFT's `/validators`: a page of the validators at a height.
-ghost use Rattle.std.specs.Prelude.{◌≡◌, [], Some, IfOk};
-ghost use Rattle.serde_json.specs.View.{view, items_view};
-ghost use Rattle.rb_answers.specs.Fields.{each};
-ghost use Rattle.rb_answers.specs.Validators.{key_in, validator_in, page_in, page_view};
+ghost use Rattle.std.specs.Prelude.{◌≡◌, []};
+ghost use Rattle.serde_json.specs.View.{items_view};
+ghost use Rattle.rb_answers.specs.Flaws.{Reads, Gives};
+ghost use Rattle.rb_answers.specs.Fields.{object_view, each};
+ghost use Rattle.rb_answers.specs.Validators.{key, validator, member_of, page, page_view};
 
 use crate::flaw::{AnswerError, Flaw, FlawName};
 use crate::object::Object;
@@ -21,9 +22,9 @@ pub struct ValidatorsPage {
 }
 
 /// Reads the `result` of an answer of `/validators`.
-#[tactic(auto, unfolding(crate::specs::Validators::page_in))]
+#[tactic(auto, using(crate::proofs::Steps::steps), unfolding(crate::specs::Validators::page))]
 pub(crate) fn read_page(alloc: Global, answer: &Object<'_>) -> Result<ValidatorsPage, AnswerError>
-    ensures { IfOk result (λ page. page_in (view answer.now.value.now) ≡ Some (page_view page)) }
+    ensures { Gives (λ p. page_view p) result (page (object_view answer.now)) }
 {
     let height = answer.height(Key::BlockHeight)?;
     let total = answer.number(Key::Total)?;
@@ -35,8 +36,9 @@ pub(crate) fn read_page(alloc: Global, answer: &Object<'_>) -> Result<Validators
     })
 }
 
+#[tactic(auto, using(crate::proofs::Steps::steps))]
 fn read_validators(alloc: Global, items: &[Value]) -> Result<Vec<Validator>, AnswerError>
-    ensures { IfOk result (λ validators. each validator_in [] (items_view items.now) ≡ Some validators.items) }
+    ensures { Gives (λ v. v.items) result (each validator Part.Validators [] (items_view items.now)) }
 {
     let mut validators = Vec::with_capacity(alloc, items.len())?;
     for value in items {
@@ -46,29 +48,34 @@ fn read_validators(alloc: Global, items: &[Value]) -> Result<Vec<Validator>, Ans
     Ok(validators)
 }
 
-#[tactic(auto, unfolding(crate::specs::Validators::validator_in))]
+#[tactic(auto, using(crate::proofs::Steps::steps), unfolding(crate::specs::Validators::validator))]
 fn read_validator(entry: &Object<'_>) -> Result<Validator, Flaw>
-    ensures { IfOk result (λ validator. validator_in (view entry.now.value.now) ≡ Some validator) }
+    ensures { Reads (λ v. v) result (validator (object_view entry.now)) }
 {
     let key = read_key(entry)?;
     let power = entry.number(Key::VotingPower)?;
-    match Validator::new(key, power) {
-        Ok(validator) => Ok(validator),
-        Err(_) => Err(entry.flaw(Key::VotingPower, FlawName::BadPower)),
+    match validator_of(key, power) {
+        Some(validator) => Ok(validator),
+        None => Err(entry.flaw(Key::VotingPower, FlawName::BadPower)),
     }
 }
 
-/// The key, which has to be of ed25519.
-#[tactic(auto, unfolding(crate::specs::Validators::key_in))]
-fn read_key(entry: &Object<'_>) -> Result<[u8; 32], Flaw>
-    ensures { IfOk result (λ key. key_in (view entry.now.value.now) ≡ Some key) }
+/// The validator of a key and a power.
+#[tactic(auto, using(crate::proofs::Values::members), unfolding(crate::specs::Validators::member_of))]
+fn validator_of(key: [u8; 32], power: u64) -> Option<Validator>
+    ensures { result ≡ member_of key power }
 {
-    let key = Object {
-        value: entry.field(Key::PubKey)?,
-        ..*entry
-    };
-    match key.text(Key::Type)? {
-        "tendermint/PubKeyEd25519" => key.base64(Key::Value),
-        _ => Err(key.flaw(Key::Type, FlawName::ForeignKey)),
+    Validator::new(key, power).ok()
+}
+
+/// The key, which has to be of ed25519.
+#[tactic(auto, using(crate::proofs::Steps::steps), unfolding(crate::specs::Validators::key))]
+fn read_key(entry: &Object<'_>) -> Result<[u8; 32], Flaw>
+    ensures { Reads (λ k. k) result (key (object_view entry.now)) }
+{
+    let public = entry.inner(Key::PubKey)?;
+    match public.text(Key::Type)? {
+        "tendermint/PubKeyEd25519" => public.base64(Key::Value),
+        _ => Err(public.flaw(Key::Type, FlawName::ForeignKey)),
     }
 }

@@ -1,4 +1,6 @@
 pub mod Names
+pub mod Problems
+pub mod Saved
 pub mod Chains
 pub mod Clients
 pub mod Packets

@@ -1,8 +1,9 @@
 //! The sets and headers of a chain: each height once, rising, and each header with its set.
-ghost use Rattle.std.specs.Prelude.{◌≡◌, ◌<◌, length, map, All, Contains, IfOk, OnOk, IfSome, IfNone};
+ghost use Rattle.std.specs.Prelude.{◌≡◌, ◌<◌, length, map, All, Contains, IfOk, IfErr, OnOk, IfSome, IfNone};
 ghost use Rattle.std.specs.List.Sorted.{IsStrictlyIncreasing};
 ghost use Rattle.rb_valset.specs.ValidatorSet.{set_hash};
-ghost use Rattle.rb_import.specs.Chains.{HasSet, IsOfChain};
+ghost use Rattle.rb_import.specs.Problems.{IsToldOf};
+ghost use Rattle.rb_import.specs.Chains.{HaveHeaders, HasSet, IsOfChain, headers_of};
 
 use crate::error::{ImportError, ProblemName};
 use crate::repeat::repeated;
@@ -56,7 +57,7 @@ impl<'a> SeenSets<'a> {
     }
 
     /// Keeps a set, if it is new.
-    fn add(&mut self, seen: SeenSet<'a>) -> Result<(), ImportError<'a>> {
+    fn add(&mut self, seen: SeenSet<'a>) -> Result<(), AllocError> {
         let hash = *seen.set.hash();
         if self.places.contains_key(&hash) {
             return Ok(());
@@ -81,8 +82,11 @@ pub fn seen_chain<'a>(
     id: &'a str,
     answers: &'a [Saved],
 ) -> Result<SeenChain<'a>, ImportError<'a>>
+    ensures headers { IfOk result (λ chain. HaveHeaders (headers_of answers.entry.now) chain.commits.items) }
     ensures rising { IfOk result (λ chain. IsStrictlyIncreasing (map (λ c. c.header.now.height) chain.commits.items)) }
     ensures chain { IfOk result (λ chain. All (IsOfChain id.entry.now) chain.commits.items) }
+    ensures sets { IfOk result (λ chain. All (HasSet chain.sets.sets.items) chain.commits.items) }
+    ensures told { IfErr result (IsToldOf id.entry.now) }
 {
     let commits = commits_of(alloc, id, answers)?;
     judge_chains(id, commits.as_slice())?;
@@ -98,22 +102,30 @@ pub fn seen_chain<'a>(
 }
 
 /// The commits by rising height.
+#[tactic(auto, using(crate::proofs::Sorting::sorting))]
 fn commits_of<'a>(
     alloc: Global,
     id: &'a str,
     answers: &'a [Saved],
-) -> Result<Vec<Commit<'a>>, ImportError<'a>> {
+) -> Result<Vec<Commit<'a>>, ImportError<'a>>
+    ensures headers { IfOk result (λ commits. HaveHeaders (headers_of answers.entry.now) commits.items) }
+    ensures told { IfErr result (IsToldOf id.entry.now) }
+{
     let mut commits = all_commits(alloc, id, answers)?;
     commits.sort_by_key(|commit: &Commit| commit.header.height)?;
     Ok(commits)
 }
 
 /// The commits in the order of the answers.
+#[tactic(auto, using(crate::proofs::Sorting::taking))]
 fn all_commits<'a>(
     alloc: Global,
     id: &'a str,
     answers: &'a [Saved],
-) -> Result<Vec<Commit<'a>>, ImportError<'a>> {
+) -> Result<Vec<Commit<'a>>, ImportError<'a>>
+    ensures headers { IfOk result (λ commits. map (λ c. c.header.now) commits.items ≡ headers_of answers.entry.now) }
+    ensures told { IfErr result (IsToldOf id.entry.now) }
+{
     let mut commits = Vec::new(alloc);
     for saved in answers {
         let file = saved.file.as_str();
@@ -128,7 +140,8 @@ fn all_commits<'a>(
 
 /// Refuses commits of another chain.
 fn judge_chains<'a>(id: &'a str, commits: &[Commit<'a>]) -> Result<(), ImportError<'a>>
-    ensures { OnOk result (All (IsOfChain id.entry.now) commits.now) }
+    ensures chain { OnOk result (All (IsOfChain id.entry.now) commits.now) }
+    ensures told { IfErr result (IsToldOf id.entry.now) }
 {
     for commit in commits {
         judge_chain(id, commit)?;
@@ -138,7 +151,8 @@ fn judge_chains<'a>(id: &'a str, commits: &[Commit<'a>]) -> Result<(), ImportErr
 
 /// Refuses a commit of another chain.
 fn judge_chain<'a>(id: &'a str, commit: &Commit<'a>) -> Result<(), ImportError<'a>>
-    ensures { OnOk result (IsOfChain id.entry.now commit.now) }
+    ensures chain { OnOk result (IsOfChain id.entry.now commit.now) }
+    ensures told { IfErr result (IsToldOf id.entry.now) }
 {
     if commit.header.chain.as_str() == id {
         Ok(())
@@ -154,7 +168,8 @@ fn judge_heights<'a>(
     id: &'a str,
     commits: &[Commit<'a>],
 ) -> Result<(), ImportError<'a>>
-    ensures { OnOk result (IsStrictlyIncreasing (map (λ c. c.header.now.height) commits.now)) }
+    ensures rising { OnOk result (IsStrictlyIncreasing (map (λ c. c.header.now.height) commits.now)) }
+    ensures told { IfErr result (IsToldOf id.entry.now) }
 {
     let heights = heights_of(alloc, commits)?;
     match repeated(heights.as_slice()) {
@@ -172,13 +187,15 @@ fn heights_of(alloc: Global, commits: &[Commit]) -> Result<Vec<Height>, AllocErr
         .collect(alloc)
 }
 
-fn two_commits<'a>(id: &'a str, commit: &Commit<'a>, other: &Commit<'a>) -> ImportError<'a> {
+fn two_commits<'a>(id: &'a str, commit: &Commit<'a>, other: &Commit<'a>) -> ImportError<'a>
+    ensures { IsToldOf id.entry.now result }
+{
     let height = commit.header.height.get();
     ImportError::between(ProblemName::TwoAnswers, id, height, commit.file, other.file)
 }
 
 /// The pages by rising height.
-fn pages_of<'a>(alloc: Global, answers: &'a [Saved]) -> Result<Vec<Page<'a>>, ImportError<'a>> {
+fn pages_of<'a>(alloc: Global, answers: &'a [Saved]) -> Result<Vec<Page<'a>>, AllocError> {
     let mut pages = Vec::new(alloc);
     for saved in answers {
         if let Answer::Validators(page) = &saved.answer {
@@ -229,7 +246,9 @@ fn add_sets<'a>(
     pages: &[Page<'a>],
     commits: &[Commit<'a>],
     sets: &mut SeenSets<'a>,
-) -> Result<(), ImportError<'a>> {
+) -> Result<(), ImportError<'a>>
+    ensures { IfErr result (IsToldOf id.entry.now) }
+{
     for place in 0..pages.len() {
         if is_first(pages, place) {
             add_set(alloc, id, of_height(&pages[place..]), commits, sets)?;
@@ -246,7 +265,9 @@ fn add_set<'a>(
     pages: &[Page<'a>],
     commits: &[Commit<'a>],
     sets: &mut SeenSets<'a>,
-) -> Result<(), ImportError<'a>> {
+) -> Result<(), ImportError<'a>>
+    ensures { IfErr result (IsToldOf id.entry.now) }
+{
     let Some(first) = pages.first() else {
         return Ok(());
     };
@@ -260,7 +281,8 @@ fn add_set<'a>(
     sets.add(SeenSet {
         file: first.file,
         set,
-    })
+    })?;
+    Ok(())
 }
 
 /// Pages are missing, which matters where there is a commit.
@@ -268,7 +290,9 @@ fn missing_page<'a>(
     id: &'a str,
     page: &Page<'a>,
     commit: Option<Commit<'a>>,
-) -> Result<(), ImportError<'a>> {
+) -> Result<(), ImportError<'a>>
+    ensures { IfErr result (IsToldOf id.entry.now) }
+{
     match commit {
         Some(commit) => Err(ImportError::between(
             ProblemName::MissingPage,
@@ -286,7 +310,9 @@ fn members_of<'a>(
     alloc: Global,
     id: &'a str,
     pages: &[Page<'a>],
-) -> Result<Vec<Validator>, ImportError<'a>> {
+) -> Result<Vec<Validator>, ImportError<'a>>
+    ensures { IfErr result (IsToldOf id.entry.now) }
+{
     let mut members = Vec::new(alloc);
     let mut before: Option<Page<'a>> = None;
     for page in pages {
@@ -310,7 +336,9 @@ fn two_pages<'a>(
     id: &'a str,
     page: &Page<'a>,
     other: &Page<'a>,
-) -> ImportError<'a> {
+) -> ImportError<'a>
+    ensures { IsToldOf id.entry.now result }
+{
     ImportError::between(name, id, page.page.height.get(), page.file, other.file)
 }
 
@@ -319,7 +347,9 @@ fn set_of<'a>(
     id: &'a str,
     page: &Page<'a>,
     members: Vec<Validator>,
-) -> Result<ValidatorSet, ImportError<'a>> {
+) -> Result<ValidatorSet, ImportError<'a>>
+    ensures { IfErr result (IsToldOf id.entry.now) }
+{
     match ValidatorSet::new(alloc, members) {
         Ok(set) => Ok(set),
         Err(rb_valset::ValsetError::NoMemory) => Err(ImportError::NoMemory),
@@ -337,7 +367,8 @@ fn judge_set<'a>(
     commit: Option<Commit<'a>>,
     set: &ValidatorSet,
 ) -> Result<(), ImportError<'a>>
-    ensures { OnOk result (IfSome commit.entry (λ c. c.header.now.set ≡ set_hash set.now)) }
+    ensures set { OnOk result (IfSome commit.entry (λ c. c.header.now.set ≡ set_hash set.now)) }
+    ensures told { IfErr result (IsToldOf id.entry.now) }
 {
     match commit {
         Some(commit) if commit.header.set != *set.hash() => Err(ImportError::between(
@@ -356,7 +387,10 @@ fn judge_signatures<'a>(
     id: &'a str,
     commits: &[Commit<'a>],
     sets: &SeenSets<'a>,
-) -> Result<(), ImportError<'a>> {
+) -> Result<(), ImportError<'a>>
+    ensures sets { OnOk result (All (HasSet sets.now.sets.items) commits.now) }
+    ensures told { IfErr result (IsToldOf id.entry.now) }
+{
     for commit in commits {
         judge_commit(id, commit, sets)?;
     }
@@ -364,12 +398,14 @@ fn judge_signatures<'a>(
 }
 
 /// Refuses a header whose set wasn't seen, or which has not one signature for each of its members.
+#[tactic(auto, unfolding(crate::specs::Chains::HasSet))]
 fn judge_commit<'a>(
     id: &'a str,
     commit: &Commit<'a>,
     sets: &SeenSets<'a>,
 ) -> Result<(), ImportError<'a>>
-    ensures { OnOk result (HasSet sets.now.sets.items commit.now) }
+    ensures set { OnOk result (HasSet sets.now.sets.items commit.now) }
+    ensures told { IfErr result (IsToldOf id.entry.now) }
 {
     let height = commit.header.height.get();
     let Some(seen) = sets.with_hash(&commit.header.set) else {

@@ -1,7 +1,8 @@
 //! What a client has stored, and how it judges headers.
-ghost use Rattle.std.specs.Prelude.{◌≡◌, map, All, IfOk, OnOk};
+ghost use Rattle.std.specs.Prelude.{◌≡◌, ◌++◌, true, map, All, IfOk, IfErr, OnOk, option_map, option_to_list};
+ghost use Rattle.rb_import.specs.Problems.{IsToldOf};
 ghost use Rattle.std.specs.List.Sorted.{IsStrictlyIncreasing};
-ghost use Rattle.rb_import.specs.Clients.{IsOfRevision, TakesSetup};
+ghost use Rattle.rb_import.specs.Clients.{IsOfRevision, TakesSetup, JudgesAs, HaveStates, client_states_of, stored_of, is_last_in, has_last};
 
 use crate::error::{ImportError, ProblemName};
 use crate::repeat::repeated;
@@ -38,6 +39,10 @@ pub fn seen_client<'a>(
     ensures rising { IfOk result (λ client. IsStrictlyIncreasing (map (λ s. s.state.now.height) client.stored.items)) }
     ensures revision { IfOk result (λ client. All (IsOfRevision tracked.now) client.stored.items) }
     ensures setup { IfOk result (TakesSetup setup.entry.now) }
+    ensures judging { IfOk result (JudgesAs setup.entry.now (client_states_of answers.entry.now)) }
+    ensures states { IfOk result (λ client. HaveStates (stored_of answers.entry.now) client.stored.items) }
+    ensures last { OnOk result (has_last answers.entry.now ≡ true) }
+    ensures told { IfErr result (IsToldOf setup.entry.now.id) }
 {
     let id = setup.id.as_str();
     let state = state_of(id, tracked, answers)?;
@@ -63,7 +68,10 @@ fn state_of<'a>(
     id: &'a str,
     tracked: &ChainId,
     answers: &'a [Saved],
-) -> Result<Option<&'a ClientState>, ImportError<'a>> {
+) -> Result<Option<&'a ClientState>, ImportError<'a>>
+    ensures state { IfOk result (λ state. option_to_list (option_map (λ s. s.now) state) ≡ client_states_of answers.entry.now) }
+    ensures told { IfErr result (IsToldOf id.entry.now) }
+{
     let mut found: Option<(&'a str, &'a ClientState)> = None;
     for saved in answers {
         if let Answer::ClientState(state) = &saved.answer {
@@ -84,7 +92,9 @@ fn judge_state<'a>(
     tracked: &ChainId,
     file: &'a str,
     state: &ClientState,
-) -> Result<(), ImportError<'a>> {
+) -> Result<(), ImportError<'a>>
+    ensures { IfErr result (IsToldOf id.entry.now) }
+{
     if state.chain != *tracked {
         return Err(ImportError::at(ProblemName::OtherChain, id, 0, file));
     }
@@ -95,28 +105,67 @@ fn judge_state<'a>(
 }
 
 /// The records of a client by rising height; the last page has to be there.
+#[tactic(auto, using(crate::proofs::Sorting::sorting))]
 fn stored_of<'a>(
     alloc: Global,
     id: &'a str,
     answers: &'a [Saved],
-) -> Result<Vec<Stored<'a>>, ImportError<'a>> {
-    let mut stored = Vec::new(alloc);
+) -> Result<Vec<Stored<'a>>, ImportError<'a>>
+    ensures states { IfOk result (λ stored. HaveStates (stored_of answers.entry.now) stored.items) }
+    ensures last { OnOk result (has_last answers.entry.now ≡ true) }
+    ensures told { IfErr result (IsToldOf id.entry.now) }
+{
+    let mut stored = all_stored(alloc, id, answers)?;
+    if !has_last(answers) {
+        return Err(ImportError::of(ProblemName::MissingConsensusStates, id));
+    }
+    stored.sort_by_key(|stored: &Stored| stored.state.height)?;
+    Ok(stored)
+}
+
+/// Whether the last page of records is there.
+#[tactic(auto, using(crate::proofs::Sorting::taking))]
+fn has_last(answers: &[Saved]) -> bool
+    ensures { result ≡ has_last answers.now }
+{
     let mut is_whole = false;
+    for saved in answers {
+        is_whole = is_whole || is_last_in(&saved.answer);
+    }
+    is_whole
+}
+
+/// Whether an answer is the last page of records.
+fn is_last_in(answer: &Answer) -> bool
+    ensures { result ≡ is_last_in answer.now }
+{
+    match answer {
+        Answer::ConsensusStates(page) => page.is_last,
+        _ => false,
+    }
+}
+
+/// The records of a client in the order of the answers.
+#[tactic(auto, using(crate::proofs::Sorting::taking))]
+fn all_stored<'a>(
+    alloc: Global,
+    id: &'a str,
+    answers: &'a [Saved],
+) -> Result<Vec<Stored<'a>>, ImportError<'a>>
+    ensures states { IfOk result (λ stored. map (λ s. s.state.now) stored.items ≡ stored_of answers.entry.now) }
+    ensures told { IfErr result (IsToldOf id.entry.now) }
+{
+    let mut stored = Vec::new(alloc);
     for saved in answers {
         let file = saved.file.as_str();
         match &saved.answer {
             Answer::ConsensusStates(page) => {
-                is_whole = is_whole || page.is_last;
                 add_states(file, page.states.as_slice(), &mut stored)?;
             }
             Answer::ClientState(_) => {}
             _ => return Err(ImportError::at(ProblemName::WrongFolder, id, 0, file)),
         }
     }
-    if !is_whole {
-        return Err(ImportError::of(ProblemName::MissingConsensusStates, id));
-    }
-    stored.sort_by_key(|stored: &Stored| stored.state.height)?;
     Ok(stored)
 }
 
@@ -124,7 +173,9 @@ fn add_states<'a>(
     file: &'a str,
     states: &'a [ConsensusState],
     stored: &mut Vec<Stored<'a>>,
-) -> Result<(), ImportError<'a>> {
+) -> Result<(), AllocError>
+    ensures { OnOk result (map (λ s. s.state.now) stored.new.items ≡ map (λ s. s.state.now) stored.old.items ++ states.entry.now) }
+{
     for state in states {
         stored.push(Stored { file, state })?;
     }
@@ -137,7 +188,8 @@ fn judge_revisions<'a>(
     tracked: &ChainId,
     stored: &[Stored<'a>],
 ) -> Result<(), ImportError<'a>>
-    ensures { OnOk result (All (IsOfRevision tracked.now) stored.now) }
+    ensures revision { OnOk result (All (IsOfRevision tracked.now) stored.now) }
+    ensures told { IfErr result (IsToldOf id.entry.now) }
 {
     let revision = revision_of(tracked.as_str());
     for record in stored {
@@ -155,7 +207,8 @@ fn judge_heights<'a>(
     id: &'a str,
     stored: &[Stored<'a>],
 ) -> Result<(), ImportError<'a>>
-    ensures { OnOk result (IsStrictlyIncreasing (map (λ s. s.state.now.height) stored.now)) }
+    ensures rising { OnOk result (IsStrictlyIncreasing (map (λ s. s.state.now.height) stored.now)) }
+    ensures told { IfErr result (IsToldOf id.entry.now) }
 {
     let heights = heights_of(alloc, stored)?;
     match repeated(heights.as_slice()) {
@@ -173,7 +226,9 @@ fn heights_of(alloc: Global, stored: &[Stored]) -> Result<Vec<Height>, AllocErro
         .collect(alloc)
 }
 
-fn two_records<'a>(id: &'a str, record: &Stored<'a>, other: &Stored<'a>) -> ImportError<'a> {
+fn two_records<'a>(id: &'a str, record: &Stored<'a>, other: &Stored<'a>) -> ImportError<'a>
+    ensures { IsToldOf id.entry.now result }
+{
     let height = record.state.height.get();
     ImportError::between(ProblemName::TwoAnswers, id, height, record.file, other.file)
 }

@@ -1,6 +1,7 @@
 //! The script of a setup and of answers.
-ghost use Rattle.std.specs.Prelude.{◌≡◌, ◌≤◌, ◌++◌, ℕ, List, length, IfOk, string_bytes};
+ghost use Rattle.std.specs.Prelude.{◌≡◌, ◌≤◌, ◌++◌, ℕ, List, length, IfOk, IfErr, string_bytes};
 ghost use Rattle.rb_setup.specs.Limits.{max_bytes};
+ghost use Rattle.rb_import.specs.Problems.{IsToldIn};
 ghost use Rattle.rb_import.specs.Texts.{warning};
 
 use crate::chain::{SeenChain, seen_chain};
@@ -35,6 +36,7 @@ pub fn compose<'a>(
 ) -> Result<String, ImportError<'a>>
     ensures size { IfOk result (λ text. length (string_bytes text) ≤ max_bytes) }
     ensures warning { IfOk result (λ text. (rest : List ℕ) × (string_bytes text ≡ warning ++ rest)) }
+    ensures told { IfErr result (IsToldIn setup.entry.now) }
 {
     let seen = Seen {
         chains: seen_chains(alloc, setup, answers)?,
@@ -59,11 +61,14 @@ fn with_warning(alloc: Global, body: &str) -> Result<String, AllocError>
     Ok(text)
 }
 
+#[tactic(auto, using(crate::proofs::Told::naming))]
 fn seen_chains<'a>(
     alloc: Global,
     setup: &'a Setup,
     answers: &'a SavedAnswers,
-) -> Result<Vec<SeenChain<'a>>, ImportError<'a>> {
+) -> Result<Vec<SeenChain<'a>>, ImportError<'a>>
+    ensures { IfErr result (IsToldIn setup.entry.now) }
+{
     let mut chains = Vec::with_capacity(alloc, setup.chains.len())?;
     for (place, id) in setup.chains.iter().enumerate() {
         let chain = seen_chain(alloc, id.as_str(), answers_at(&answers.chains, place))?;
@@ -72,11 +77,14 @@ fn seen_chains<'a>(
     Ok(chains)
 }
 
+#[tactic(auto, using(crate::proofs::Told::naming))]
 fn seen_clients<'a>(
     alloc: Global,
     setup: &'a Setup,
     answers: &'a SavedAnswers,
-) -> Result<Vec<SeenClient<'a>>, ImportError<'a>> {
+) -> Result<Vec<SeenClient<'a>>, ImportError<'a>>
+    ensures { IfErr result (IsToldIn setup.entry.now) }
+{
     let mut clients = Vec::with_capacity(alloc, setup.clients.len())?;
     for (place, client) in setup.clients.iter().enumerate() {
         if let Some(tracked) = setup.chains.get(client.tracks) {
@@ -88,11 +96,14 @@ fn seen_clients<'a>(
     Ok(clients)
 }
 
+#[tactic(auto, using(crate::proofs::Told::naming))]
 fn seen_paths<'a>(
     alloc: Global,
     setup: &'a Setup,
     answers: &'a SavedAnswers,
-) -> Result<Vec<Vec<SeenPacket<'a>>>, ImportError<'a>> {
+) -> Result<Vec<Vec<SeenPacket<'a>>>, ImportError<'a>>
+    ensures { IfErr result (IsToldIn setup.entry.now) }
+{
     let mut paths = Vec::with_capacity(alloc, setup.paths.len())?;
     for (place, path) in setup.paths.iter().enumerate() {
         if let Some(dest) = setup.chains.get(path.dest) {

@@ -1,6 +1,8 @@
 //! What was seen of a path's packets.
-ghost use Rattle.std.specs.Prelude.{◌≡◌, ◌≤◌, All, IfOk, IfSome, IsTrue, string_bytes};
-ghost use Rattle.rb_import.specs.Packets.{IsOfPath};
+ghost use Rattle.std.specs.Prelude.{◌≡◌, ◌≤◌, [], ◌∷◌, ◌++◌, if◌then◌else◌, All, IfOk, IfErr, OnOk, IfSome, IsTrue, filter, string_bytes};
+ghost use Rattle.std.specs.List.{flat_map};
+ghost use Rattle.rb_import.specs.Problems.{IsToldOf};
+ghost use Rattle.rb_import.specs.Packets.{IsOfPath, HaveEvents, is_source, is_wanted, events_of, seen_events};
 
 use crate::error::{ImportError, ProblemName};
 use crate::saved::Saved;
@@ -33,6 +35,8 @@ pub fn seen_packets<'a>(
     answers: &'a [Saved],
 ) -> Result<Vec<SeenPacket<'a>>, ImportError<'a>>
     ensures path { IfOk result (λ packets. All (IsOfPath setup.entry.now) packets.items) }
+    ensures events { IfOk result (λ packets. HaveEvents setup.entry.now (events_of answers.entry.now) packets.items) }
+    ensures told { IfErr result (IsToldOf setup.entry.now.id) }
 {
     let id = setup.id.as_str();
     let pages = pages_of(alloc, id, answers)?;
@@ -44,11 +48,15 @@ pub fn seen_packets<'a>(
     Ok(packets)
 }
 
+#[tactic(auto, using(crate::proofs::Sorting::taking))]
 fn pages_of<'a>(
     alloc: Global,
     id: &'a str,
     answers: &'a [Saved],
-) -> Result<Vec<Page<'a>>, ImportError<'a>> {
+) -> Result<Vec<Page<'a>>, ImportError<'a>>
+    ensures events { IfOk result (λ pages. flat_map (λ p. p.page.now.events.items) pages.items ≡ events_of answers.entry.now) }
+    ensures told { IfErr result (IsToldOf id.entry.now) }
+{
     let mut pages = Vec::new(alloc);
     for saved in answers {
         let file = saved.file.as_str();
@@ -62,7 +70,9 @@ fn pages_of<'a>(
 
 /// Refuses pages whose transactions aren't all of some searches: those with one total are pages of
 /// searches with that total.
-fn judge_totals<'a>(id: &'a str, pages: &[Page<'a>]) -> Result<(), ImportError<'a>> {
+fn judge_totals<'a>(id: &'a str, pages: &[Page<'a>]) -> Result<(), ImportError<'a>>
+    ensures { IfErr result (IsToldOf id.entry.now) }
+{
     for page in pages {
         let total = page.page.total;
         let count = count_with(total, pages);
@@ -85,12 +95,15 @@ fn count_with(total: u64, pages: &[Page]) -> u64 {
 }
 
 /// The events of the path's packets, from its first sequence on.
+#[tactic(auto, using(crate::proofs::Sorting::filtering))]
 fn packets_of<'a>(
     alloc: Global,
     setup: &'a PathSetup,
     pages: &[Page<'a>],
 ) -> Result<Vec<SeenPacket<'a>>, ImportError<'a>>
-    ensures { IfOk result (λ packets. All (IsOfPath setup.entry.now) packets.items) }
+    ensures path { IfOk result (λ packets. All (IsOfPath setup.entry.now) packets.items) }
+    ensures events { IfOk result (λ packets. seen_events packets.items ≡ filter (is_wanted setup.entry.now) (flat_map (λ p. p.page.now.events.items) pages.now)) }
+    ensures told { IfErr result (IsToldOf setup.entry.now.id) }
 {
     let mut packets = Vec::new(alloc);
     for page in pages {
@@ -99,15 +112,19 @@ fn packets_of<'a>(
     Ok(packets)
 }
 
+#[tactic(auto, using(crate::proofs::Sorting::filtering))]
 fn add_packets<'a>(
     setup: &'a PathSetup,
     page: Page<'a>,
     packets: &mut Vec<SeenPacket<'a>>,
 ) -> Result<(), ImportError<'a>>
-    ensures { All (IsOfPath setup.entry.now) packets.old.items → All (IsOfPath setup.entry.now) packets.new.items }
+    ensures path { All (IsOfPath setup.entry.now) packets.old.items → All (IsOfPath setup.entry.now) packets.new.items }
+    ensures events { OnOk result (seen_events packets.new.items ≡ seen_events packets.old.items ++ filter (is_wanted setup.entry.now) page.entry.page.now.events.items) }
+    ensures told { IfErr result (IsToldOf setup.entry.now.id) }
 {
     let file = page.file;
-    for event in &page.page.events {
+    let events = page.page.events.as_slice();
+    for event in events {
         add_packet(setup, SeenPacket { file, event }, packets)?;
     }
     Ok(())
@@ -119,7 +136,9 @@ fn add_packet<'a>(
     seen: SeenPacket<'a>,
     packets: &mut Vec<SeenPacket<'a>>,
 ) -> Result<(), ImportError<'a>>
-    ensures { All (IsOfPath setup.entry.now) packets.old.items → All (IsOfPath setup.entry.now) packets.new.items }
+    ensures path { All (IsOfPath setup.entry.now) packets.old.items → All (IsOfPath setup.entry.now) packets.new.items }
+    ensures events { OnOk result (seen_events packets.new.items ≡ seen_events packets.old.items ++ (if is_wanted setup.entry.now seen.entry.event.now then seen.entry.event.now ∷ [] else [])) }
+    ensures told { IfErr result (IsToldOf setup.entry.now.id) }
 {
     if !is_of(setup, packets.first(), &seen)? {
         return Ok(());
@@ -138,7 +157,9 @@ fn is_of<'a>(
     first: Option<&SeenPacket<'a>>,
     seen: &SeenPacket<'a>,
 ) -> Result<bool, ImportError<'a>>
-    ensures { IfOk result (λ is. IsTrue is → IfSome setup.entry.now.source_channel (λ source. string_bytes seen.now.event.now.source ≡ string_bytes source)) }
+    ensures source { IfOk result (λ is. IsTrue is → IfSome setup.entry.now.source_channel (λ source. string_bytes seen.now.event.now.source ≡ string_bytes source)) }
+    ensures wanted { IfOk result (λ is. is ≡ is_source setup.entry.now.source_channel (string_bytes seen.now.event.now.source)) }
+    ensures told { IfErr result (IsToldOf setup.entry.now.id) }
 {
     let source = seen.event.source.as_str();
     match (&setup.source_channel, first) {
@@ -159,7 +180,9 @@ fn judge_packets<'a>(
     id: &'a str,
     dest: &ChainId,
     packets: &[SeenPacket<'a>],
-) -> Result<(), ImportError<'a>> {
+) -> Result<(), ImportError<'a>>
+    ensures { IfErr result (IsToldOf id.entry.now) }
+{
     let mut before: Option<SeenPacket<'a>> = None;
     for seen in packets {
         let sequence = seen.event.sequence;

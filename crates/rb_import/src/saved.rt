@@ -1,5 +1,7 @@
 //! The answers that were saved, by what they are of.
-ghost use Rattle.std.specs.Prelude.{◌≡◌, IfOk};
+ghost use Rattle.std.specs.Prelude.{◌≡◌, Ok, IfOk, IfErr};
+ghost use Rattle.rb_answers.specs.Answers.{answer_view, told};
+ghost use Rattle.rb_import.specs.Saved.{IsFlawOf};
 
 use rb_answers::{Answer, AnswerError, Flaw, read_answer};
 use std::alloc::Global;
@@ -28,9 +30,11 @@ pub enum SavedError {
     NoMemory,
 }
 
-/// Reads the answer that a file holds.
+/// Reads the answer that a file holds; its flaw is the first one that its content has.
 pub fn read_saved(alloc: Global, file: String, bytes: &[u8]) -> Result<Saved, SavedError>
     ensures file { IfOk result (λ saved. saved.file ≡ file) }
+    ensures answer { IfOk result (λ saved. told bytes.now ≡ Ok (answer_view saved.answer)) }
+    ensures flaw { IfErr result (IsFlawOf file bytes.now) }
 {
     match read_answer(alloc, bytes) {
         Ok(answer) => Ok(Saved { file, answer }),

@@ -9,7 +9,7 @@ use Rattle.rb_setup.specs.declared.setup.ClientSetup.{ClientSetup}
 use Rattle.rb_setup.specs.declared.setup.Setup.{Setup as CodeSetup}
 use Rattle.rb_setup.specs.declared.reading.Tables.{Tables as CodeTables}
 use Rattle.rb_setup.specs.Limits.{max_chains, max_clients, max_paths, max_turns}
-use Rattle.rb_setup.specs.Documents.{document}
+use Rattle.rb_fields.specs.Documents.{document}
 use Rattle.rb_setup.specs.Clients.{chain, client}
 use Rattle.rb_setup.specs.Paths.{Path, path, path_view}
 use Rattle.rb_setup.specs.Turns.{Turn, turn, turn_view}

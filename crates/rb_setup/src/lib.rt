@@ -4,7 +4,6 @@
 
 mod chain;
 mod client;
-mod document;
 mod limits;
 mod named;
 mod path;
@@ -12,6 +11,6 @@ mod reading;
 mod setup;
 mod turn;
 
-pub use limits::MAX_BYTES;
+pub use rb_fields::MAX_BYTES;
 pub use reading::read_setup;
 pub use setup::{ClientSetup, GoalSetup, PathSetup, Settlement, Setup, TurnSetup};

@@ -1,8 +1,5 @@
 //! How much a setup may have: as much as a script.
 
-/// Bytes of a text.
-pub const MAX_BYTES: usize = 16_777_216;
-
 pub const MAX_CHAINS: usize = 64;
 
 pub const MAX_CLIENTS: usize = 256;

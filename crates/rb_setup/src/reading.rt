@@ -3,17 +3,16 @@ ghost use Rattle.std.specs.Prelude.{◌≡◌, codes};
 ghost use Rattle.toml.specs.View.{items_view, table_view};
 ghost use Rattle.rb_fields.specs.Faults.{Gives};
 ghost use Rattle.rb_fields.specs.Fields.{section_view, only};
-ghost use Rattle.rb_setup.specs.Documents.{whole};
+ghost use Rattle.rb_fields.specs.Documents.{whole};
 ghost use Rattle.rb_setup.specs.Setups.{some_turns, setup, setup_of, setup_view, tables, tables_view, top_keys};
 
 use crate::chain::read_chains;
 use crate::client::read_clients;
-use crate::document::read_table;
 use crate::limits::{MAX_CHAINS, MAX_CLIENTS, MAX_PATHS, MAX_TURNS};
 use crate::path::read_paths;
 use crate::setup::Setup;
 use crate::turn::read_turns;
-use rb_fields::{FaultName, RunError, Section};
+use rb_fields::{FaultName, RunError, Section, read_table};
 use std::alloc::Global;
 use toml::{Table, Value};
 
