@@ -1,14 +1,13 @@
 //! What a file should have in the place of a fault.
 use rb_fields::FaultName;
 
-/// What should stand where a fault is told.
-pub fn advice_for(name: FaultName) -> &'static str {
+/// What should stand at the path of a fault.
+pub fn advice_for(name: FaultName, path: &str) -> &'static str {
     match name {
         FaultName::NotToml => "the file has to be TOML in UTF-8",
         FaultName::MissingKey => "this key is missing",
-        FaultName::UnknownKey => "there is no such key here",
-        FaultName::WrongType =>
-            "a value of another type, or an array of another length, belongs here",
+        FaultName::UnknownKey => keys_at(path),
+        FaultName::WrongType => type_at(path),
         FaultName::BadVersion => "the version of a script is 1 or 2, of a setup or a certificate 1",
         FaultName::OutOfRange => "this number is too small or too big",
         FaultName::BadIdentifier => {
@@ -50,5 +49,89 @@ pub fn advice_for(name: FaultName) -> &'static str {
         FaultName::LabelOrder => "the heights of labels have to rise",
         FaultName::InputTooBig => "a file has at most 16,777,216 bytes",
         FaultName::BadTrust => "a trust level is from a third to one",
+    }
+}
+
+/// The path of the table in which a path's last key stands, and that key.
+fn table_and_key(path: &str) -> (&str, &str) {
+    path.rsplit_once('.').unwrap_or(("", path))
+}
+
+/// The key of a table, or of an array's element, by its path.
+fn key_of(table: &str) -> &str {
+    let (_, key) = table_and_key(table);
+    match key.split_once('[') {
+        Some((array, _)) => array,
+        None => key,
+    }
+}
+
+/// Which keys the table has in which an unknown one stands.
+fn keys_at(path: &str) -> &'static str {
+    let (table, _) = table_and_key(path);
+    match key_of(table) {
+        "" => {
+            "there is no such key here; a script has version, chain, client, path and turn, a certificate version, turn, client, answer, updates and labels"
+        }
+        "chain" => {
+            "a chain has id and, in version 2, defaults; TOML puts a key that stands after [[chain]] into that chain"
+        }
+        "defaults" => "defaults are period_ns, drift_ns, refresh_ns, fee, gas and trust",
+        "client" => {
+            "a client has id, host, of, period_ns, drift_ns, refresh_ns, fee, gas, limits and trust"
+        }
+        "path" => {
+            "a path has id, source, dest, order, first, forward, back and gas, and in a setup port and channel"
+        }
+        "turn" => "a turn has from, until, goal, event (in a setup none) and settle",
+        "goal" => "a goal has client, and at_least or exactly",
+        "event" => {
+            "an event has kind and the keys of its kind: set has chain, name, validators; header chain, height, time, root, set, next, votes; stored client, height, time, root, next; sent path, seq, height, timeout_height, timeout_time; received and ack path, seq, height; cleared path, seq; closed path"
+        }
+        "settle" => "a settlement has client, batch and done",
+        _ => "there is no such key here",
+    }
+}
+
+/// What belongs where a value has another type.
+fn type_at(path: &str) -> &'static str {
+    let (table, key) = table_and_key(path);
+    match key {
+        "from" | "until" | "time" | "timeout_time" => {
+            "a time in quotes belongs here, as '2026-11-22T10:00:00Z'"
+        }
+        "version"
+        | "period_ns"
+        | "drift_ns"
+        | "refresh_ns"
+        | "at_least"
+        | "exactly"
+        | "height"
+        | "seq"
+        | "timeout_height"
+        | "first"
+        | "batch"
+        | "done" => { "a number without quotes belongs here" }
+        "fee" | "gas" | "limits" => "three numbers belong here, as [100, 1, 1]",
+        "trust" => "two numbers belong here, as [1, 3]",
+        "validators" =>
+            "pairs of a key and a power belong here, as [['64 hexadecimal digits', 10]]",
+        "goal" | "event" | "settle" => "an array of tables belongs here",
+        "id"
+        | "host"
+        | "of"
+        | "source"
+        | "dest"
+        | "order"
+        | "forward"
+        | "back"
+        | "kind"
+        | "name"
+        | "set"
+        | "next"
+        | "root"
+        | "votes" => "a text in quotes belongs here",
+        "chain" | "client" | "path" if !table.is_empty() => "a text in quotes belongs here",
+        _ => "a value of another type, or an array of another length, belongs here",
     }
 }

@@ -3,6 +3,7 @@ ghost use Rattle.ibcplan.specs.Status.{IsFailureStatus};
 
 use crate::flaw::{Flaw, flaw_of};
 use crate::input::Input;
+use crate::shown::{Shown, shown_text};
 use crate::status;
 use rb_fields::{Fault, RunError};
 use std::alloc::Global;
@@ -13,31 +14,41 @@ use thiserror::Error;
 #[derive(Debug, Drop, Error)]
 pub enum Failure<'a> {
     /// A file can't be read.
-    #[error("device\n{file}: {error}\nGive the path of a file that can be read, or - for standard input.")]
-    Unreadable { file: &'a str, error: io::Error },
+    #[error("device\n{file}: {error}\n{advice}")]
+    Unreadable {
+        file: Shown<'a>,
+        error: io::Error,
+        advice: &'static str,
+    },
     /// A file or a folder of answers can't be read.
     #[error("device\n{file}: {error}\nThe folder of answers has a folder for each client, each path and each chain that is tracked.")]
-    UnreadableAnswers { file: String, error: io::Error },
+    UnreadableAnswers {
+        file: String,
+        error: io::Error,
+    },
     /// Answers are refused.
     #[error("{0}")]
     RefusedAnswers(String),
     /// The content of a file is refused.
     #[error("{fault}\n{flaw}")]
-    Refused { fault: Fault, flaw: Flaw<'a> },
+    Refused {
+        fault: Fault,
+        flaw: Flaw<'a>,
+    },
     /// Standard output fails.
     #[error("device\nStandard output can't be written; what it took may be only a beginning.")]
     Unwritten,
     /// Memory is wanting.
-    #[error("no memory")]
+    #[error("no memory\nThe system gives no more (as `ulimit -v` bounds it); what standard output took may be only a beginning.")]
     NoMemory,
 }
 
 impl<'a> Failure<'a> {
     /// Why a run over an input gave no result.
-    pub fn of_run(alloc: Global, error: RunError, input: &Input<'a>) -> Failure<'a> {
+    pub fn of_run(error: RunError, input: &Input<'a>) -> Failure<'a> {
         match error {
-            RunError::Fault(fault) => {
-                let flaw = flaw_of(alloc, &fault, input);
+            RunError::Fault(mut fault) => {
+                let flaw = flaw_of(&mut fault, input);
                 Failure::Refused { fault, flaw }
             }
             RunError::Device => Failure::Unwritten,
@@ -46,11 +57,12 @@ impl<'a> Failure<'a> {
     }
 
     /// Why a file or a folder of answers isn't read.
-    pub fn of_file(file: String, error: io::Error) -> Failure<'a> {
-        if error.kind() == io::ErrorKind::OutOfMemory {
-            Failure::NoMemory
-        } else {
-            Failure::UnreadableAnswers { file, error }
+    pub fn of_file(alloc: Global, file: &str, error: io::Error) -> Failure<'a> {
+        match shown_text(alloc, file) {
+            Ok(file) if error.kind() != io::ErrorKind::OutOfMemory => {
+                Failure::UnreadableAnswers { file, error }
+            }
+            _ => Failure::NoMemory,
         }
     }
 

@@ -1,8 +1,8 @@
 //! What is wrong with a file that is refused.
 use crate::advice::advice_for;
 use crate::input::Input;
+use crate::shown::Shown;
 use rb_fields::{Fault, FaultName};
-use std::alloc::Global;
 use std::str;
 use thiserror::Error;
 
@@ -12,49 +12,40 @@ pub enum Flaw<'a> {
     /// It isn't UTF-8.
     #[error("{file}: line {line}: byte {place} (from 0) is no UTF-8\nWrite the file in UTF-8.")]
     Encoding {
-        file: &'a str,
+        file: Shown<'a>,
         line: usize,
         place: usize,
     },
     /// It is UTF-8, and not of TOML's grammar.
-    #[error("{file}: {error}Mend the text there; a value that is a text stands in quotes, and a key stands once.")]
+    #[error("{file}: {reason}Mend the text there; a value that is a text stands in quotes, and a key stands once.")]
     Grammar {
-        file: &'a str,
-        error: toml::de::Error,
+        file: Shown<'a>,
+        reason: String,
     },
     /// It is TOML, and holds no script or certificate.
     #[error("{file}: {advice} (docs/FORMATS.md)")]
     Content {
-        file: &'a str,
+        file: Shown<'a>,
         advice: &'static str,
     },
 }
 
-/// The flaw of a file that is refused for a fault.
-pub fn flaw_of<'a>(alloc: Global, fault: &Fault, input: &Input<'a>) -> Flaw<'a> {
+/// The flaw of a file that is refused for a fault, from which it takes the reason.
+pub fn flaw_of<'a>(fault: &mut Fault, input: &Input<'a>) -> Flaw<'a> {
     let file = input.name();
-    let content = Flaw::Content {
-        file,
-        advice: advice_for(fault.name),
-    };
-    if fault.name != FaultName::NotToml {
-        return content;
+    if fault.name == FaultName::NotToml {
+        if let Err(error) = str::from_utf8(input.bytes()) {
+            let place = error.valid_up_to();
+            let line = line_of(input.bytes(), place);
+            return Flaw::Encoding { file, line, place };
+        }
+        if let Some(reason) = fault.reason.take() {
+            return Flaw::Grammar { file, reason };
+        }
     }
-    first_flaw(alloc, file, input.bytes()).unwrap_or(content)
-}
-
-/// Where bytes are no TOML, if memory suffices to tell.
-fn first_flaw<'a>(alloc: Global, file: &'a str, bytes: &[u8]) -> Option<Flaw<'a>> {
-    match str::from_utf8(bytes) {
-        Ok(text) => match toml::table_from_str(alloc, text) {
-            Err(error) if !error.is_memory() => Some(Flaw::Grammar { file, error }),
-            _ => None,
-        },
-        Err(error) => Some(Flaw::Encoding {
-            file,
-            line: line_of(bytes, error.valid_up_to()),
-            place: error.valid_up_to(),
-        }),
+    Flaw::Content {
+        file,
+        advice: advice_for(fault.name, fault.path.as_str()),
     }
 }
 

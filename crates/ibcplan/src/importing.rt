@@ -2,6 +2,7 @@
 use crate::failure::Failure;
 use crate::host::Host;
 use crate::input::{Input, bytes_of};
+use crate::shown::shown_text;
 use rb_import::{ImportError, Saved, SavedAnswers, SavedError, compose, read_saved};
 use rb_setup::{Setup, read_setup};
 use std::alloc::{AllocError, Global};
@@ -17,7 +18,7 @@ pub fn imported<'a, R: Host>(
     let alloc = rt.alloc();
     let setup = match read_setup(alloc, input.bytes()) {
         Ok(setup) => setup,
-        Err(error) => return Err(Failure::of_run(alloc, error, input)),
+        Err(error) => return Err(Failure::of_run(error, input)),
     };
     let answers = read_answers(rt, &setup, folder)?;
     match compose(alloc, &setup, &answers) {
@@ -99,7 +100,7 @@ fn read_folder<'a, R: Host>(rt: &R, folder: &str, id: &str) -> Result<Vec<Saved>
     };
     let names = match names_in(rt, path.as_str()) {
         Ok(names) => names,
-        Err(error) => return Err(Failure::of_file(path, error)),
+        Err(error) => return Err(Failure::of_file(rt.alloc(), path.as_str(), error)),
     };
     let mut answers = Vec::new(rt.alloc());
     for name in &names {
@@ -132,9 +133,12 @@ fn read_file<'a, R: Host>(rt: &R, folder: &str, name: &str) -> Result<Saved, Fai
     };
     let bytes = match read_bytes(rt, file.as_str()) {
         Ok(bytes) => bytes,
-        Err(error) => return Err(Failure::of_file(file, error)),
+        Err(error) => return Err(Failure::of_file(alloc, file.as_str(), error)),
     };
-    match read_saved(alloc, file, bytes.as_slice()) {
+    let Ok(name) = shown_text(alloc, file.as_str()) else {
+        return Err(Failure::NoMemory);
+    };
+    match read_saved(alloc, name, bytes.as_slice()) {
         Ok(saved) => Ok(saved),
         Err(SavedError::Flaw { file, flaw }) => {
             let advice = flaw.name.advice();

@@ -3,6 +3,7 @@ ghost use Rattle.std.specs.Prelude.{◌≡◌};
 
 use crate::failure::Failure;
 use crate::host::Host;
+use crate::shown::Shown;
 use std::alloc::Global;
 use std::fs::File;
 use std::io;
@@ -31,12 +32,13 @@ impl<'a> Input<'a> {
             Err(error) => Err(Failure::Unreadable {
                 file: name_of(path),
                 error,
+                advice: advice_for(path),
             }),
         }
     }
 
     /// What to call the file.
-    pub fn name(&self) -> &'a str {
+    pub fn name(&self) -> Shown<'a> {
         name_of(self.path)
     }
 
@@ -48,11 +50,21 @@ impl<'a> Input<'a> {
     }
 }
 
-fn name_of<'a>(path: &'a str) -> &'a str {
+fn name_of<'a>(path: &'a str) -> Shown<'a> {
+    let name = match path {
+        STANDARD_INPUT => "standard input",
+        "" => "'' (an empty name)",
+        path => path,
+    };
+    Shown { name }
+}
+
+/// What to do where the file can't be read.
+fn advice_for(path: &str) -> &'static str {
     if path == STANDARD_INPUT {
-        "standard input"
+        "It is closed, or can't be read: redirect a file into it, or give the path of one."
     } else {
-        path
+        "Give the path of a file that can be read, or - for standard input."
     }
 }
 

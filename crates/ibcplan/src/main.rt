@@ -10,6 +10,7 @@ mod host;
 mod importing;
 mod input;
 mod perform;
+mod shown;
 mod status;
 mod tally;
 mod task;

@@ -16,7 +16,7 @@ use rb_fields::RunError;
 use rb_gang::OpenGate;
 use rb_output::{commands_of, json_of};
 use rb_super::run_script;
-use rb_text::{certify_over, read_script, run_over};
+use rb_text::{Source, certify_texts, read_script, run_over};
 use std::alloc::Global;
 use std::io;
 use std::io::{Printer, Write};
@@ -111,7 +111,7 @@ fn plan<'a, R: Threads + Sync, W: Sink>(
     let workers = workers.count();
     match run_over(rt, alloc, script.bytes(), output, workers, &OpenGate) {
         Ok(()) => Ok(status::DONE),
-        Err(error) => Err(Failure::of_run(alloc, error, script)),
+        Err(error) => Err(Failure::of_run(error, script)),
     }
 }
 
@@ -131,7 +131,7 @@ fn planned_text<'a, R: Threads + Sync>(
 ) -> Result<String, Failure<'a>> {
     match form_of(rt, alloc, input.bytes(), form) {
         Ok(text) => Ok(text),
-        Err(error) => Err(Failure::of_run(alloc, error, input)),
+        Err(error) => Err(Failure::of_run(error, input)),
     }
 }
 
@@ -174,25 +174,16 @@ fn certify<'a, R: Threads + Sync, W: Sink>(
         IsConfirmed script.now.bytes.items certificate.now.bytes.items (W.taken output.old) (W.taken output.new) status
         ⊎ IsDenied script.now.bytes.items certificate.now.bytes.items (W.taken output.old) (W.taken output.new) status) }
 {
-    match certify_over(rt, alloc, script.bytes(), certificate.bytes(), output) {
+    match certify_texts(rt, alloc, script.bytes(), certificate.bytes(), output) {
         Ok(true) => Ok(status::DONE),
         Ok(false) => Ok(status::DENIED),
-        Err(error) => {
-            let input = refused_input(alloc, script, certificate);
-            Err(Failure::of_run(alloc, error, input))
+        Err(refusal) => {
+            let input = match refusal.source {
+                Source::Script => script,
+                Source::Certificate => certificate,
+            };
+            Err(Failure::of_run(refusal.error, input))
         }
-    }
-}
-
-/// The file that a fault of certifying is in: the certificate, unless the script has a fault itself.
-fn refused_input<'a, 'b>(
-    alloc: Global,
-    script: &'b Input<'a>,
-    certificate: &'b Input<'a>,
-) -> &'b Input<'a> {
-    match read_script(alloc, script.bytes()) {
-        Err(RunError::Fault(_)) => script,
-        _ => certificate,
     }
 }
 

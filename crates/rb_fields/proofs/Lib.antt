@@ -1,2 +1,3 @@
 pub mod Steps
 pub mod IdentifierLemmas
+pub mod Documents

@@ -1,5 +1,5 @@
 -- Paths: keys joined by points, an element of an array as its number from 0 in brackets.
-use Rattle.std.specs.Prelude.{ℕ, false, List, [], ◌∷◌, ◌++◌, if◌then◌else◌, encode_utf8, flat_map}
+use Rattle.std.specs.Prelude.{ℕ, false, List, [], ◌∷◌, ◌++◌, if◌then◌else◌, encode_utf8, flat_map, length, nat_lt, codes}
 use Rattle.std.specs.Char.{is_control}
 use Rattle.std.specs.Str.{chars}
 use Rattle.std.specs.Fmt.{decimal, digits}
@@ -26,5 +26,8 @@ place_path p = child p.table.now p.key.now
 abbrev pub shown : ℕ → List ℕ
 shown c = if is_control c then 92 ∷ 117 ∷ 123 ∷ digits 16 false c ++ 125 ∷ [] else encode_utf8 c
 
+-- of a key of more than 64 bytes its length stands there
 abbrev pub shown_key : List ℕ → List ℕ
-shown_key key = flat_map shown (chars key)
+shown_key key =
+    if nat_lt 64 (length key) then codes "<" ++ decimal (length key) ++ codes " bytes>"
+    else flat_map shown (chars key)

@@ -127,6 +127,24 @@ impl FaultName {
 pub struct Fault {
     pub name: FaultName,
     pub path: String,
+    /// Of a text that isn't TOML: where and why, in lines for a person, if memory sufficed for them.
+    pub reason: Option<String>,
+}
+
+impl Fault {
+    ghost use Rattle.std.specs.Prelude.{◌≡◌, string_bytes};
+    ghost use Rattle.rb_fields.specs.Faults.{fault_view};
+
+    /// The fault of this name at a path.
+    pub fn new(name: FaultName, path: String) -> Fault
+        ensures { fault_view result ≡ record { name = name; path = string_bytes path } }
+    {
+        Fault {
+            name,
+            path,
+            reason: None,
+        }
+    }
 }
 
 impl fmt::Display for Fault {

@@ -1,12 +1,14 @@
 //! Reading tables of TOML: what a key holds, by its type and its range, and the fault and the
-//! place where it doesn't.
+//! place where it doesn't; and the table that a text holds.
 #![tactic(auto)]
 
+mod document;
 mod fault;
 mod field;
 mod place;
 mod section;
 
+pub use document::{MAX_BYTES, read_table};
 pub use fault::{Fault, FaultName, RunError};
 pub use field::{Field, MAX_NUMBER, is_identifier};
 pub use place::{Place, child_path, element_path};

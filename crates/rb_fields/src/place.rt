@@ -1,10 +1,14 @@
 //! Where a value stands in a text.
-ghost use Rattle.std.specs.Prelude.{◌≡◌, ◌++◌, IfOk, OnOk, string_bytes};
+ghost use Rattle.std.specs.Prelude.{◌≡◌, ◌++◌, IfOk, OnOk, flat_map, string_bytes};
+ghost use Rattle.std.specs.Str.{chars};
 ghost use Rattle.rb_fields.specs.Faults.{IsFault};
 ghost use Rattle.rb_fields.specs.Places.{child, element, below, place_path, shown, shown_key};
 
 use crate::fault::{Fault, FaultName, RunError};
 use std::alloc::{AllocError, Global};
+
+/// The most bytes of a key that a path shows.
+const MAX_SHOWN: usize = 64;
 
 /// A key of a table, by the table's path, which is empty for the whole text.
 #[derive(Clone, Copy)]
@@ -26,7 +30,7 @@ impl Place<'_> {
         ensures { IsFault result name (below (place_path self.now) indices.now) }
     {
         match self.path(alloc, indices) {
-            Ok(path) => RunError::Fault(Fault { name, path }),
+            Ok(path) => RunError::Fault(Fault::new(name, path)),
             Err(_) => RunError::NoMemory,
         }
     }
@@ -60,9 +64,21 @@ pub fn element_path(alloc: Global, array: &str, index: usize) -> Result<String, 
     format!(in alloc; "{array}[{index}]")
 }
 
-/// A key as a path shows it: control characters are written `\u{..}`, so that a path is one line.
+/// A key as a path shows it, so that a path is one line of no great length: control characters are
+/// written `\u{..}`, and of a key of more than 64 bytes its length stands there, as `<70 bytes>`.
 pub fn shown_key(alloc: Global, key: &str) -> Result<String, AllocError>
     ensures { IfOk result (λ text. string_bytes text ≡ shown_key key.now) }
+{
+    let length = key.len();
+    if length > MAX_SHOWN {
+        return format!(in alloc; "<{length} bytes>");
+    }
+    shown(alloc, key)
+}
+
+/// A text whose control characters are written `\u{..}`.
+fn shown(alloc: Global, key: &str) -> Result<String, AllocError>
+    ensures { IfOk result (λ text. string_bytes text ≡ flat_map shown (chars key.now)) }
 {
     let mut text = String::new(alloc);
     for character in key.chars() {

@@ -195,7 +195,7 @@ pub fn fault_at(alloc: Global, path: &str, name: FaultName) -> RunError
     ensures { IsFault result name path.now }
 {
     match String::from_str(alloc, path) {
-        Ok(path) => RunError::Fault(Fault { name, path }),
+        Ok(path) => RunError::Fault(Fault::new(name, path)),
         Err(_) => RunError::NoMemory,
     }
 }

@@ -28,7 +28,6 @@ use Rattle.rb_fields.specs.Places.{child, element}
 use Rattle.rb_script.specs.Named.{known, reference, new_identifier}
 use Rattle.rb_script.specs.declared.version.Version.{Version}
 use Rattle.rb_script.specs.declared.version.Version.TheVariants as versions
-use Rattle.rb_script.specs.declared.defaults.Defaults.{Defaults}
 use Rattle.rb_script.specs.declared.chain.Chain.{Chain}
 use Rattle.rb_script.specs.Versions.{version, max_records}
 use Rattle.rb_script.specs.Chains.{chain, chain_keys, chain_ids, shared, no_defaults}

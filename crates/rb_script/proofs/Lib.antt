@@ -1,5 +1,4 @@
 pub mod Positions
-pub mod Documents
 pub mod DirectoriesLemmas
 pub mod NamesLemmas
 pub mod SetsLemmas

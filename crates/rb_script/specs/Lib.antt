@@ -1,8 +1,6 @@
 pub use Rattle.rb_events.specs.Config
 pub use Rattle.rb_events.specs.Script
 pub use Rattle.rb_fields.specs.Faults
-pub mod Limits
-pub mod Documents
 pub mod Versions
 pub mod Named
 pub mod Directories

@@ -10,7 +10,7 @@ use Rattle.rb_fields.specs.Faults.{Fault, ◌>>=◌}
 use Rattle.rb_fields.specs.Fields.{Section, only, needs, optional, or_default, array, elements, in_sequence}
 use Rattle.rb_script.specs.declared.script.Tables.{Tables as CodeTables}
 use Rattle.rb_script.specs.declared.version.Version.{Version}
-use Rattle.rb_script.specs.Documents.{document}
+use Rattle.rb_fields.specs.Documents.{document}
 use Rattle.rb_script.specs.Versions.{version, max_records}
 use Rattle.rb_script.specs.Names.{no_names}
 use Rattle.rb_script.specs.Chains.{chain, chain_ids}

@@ -6,11 +6,9 @@ mod chain;
 mod client;
 mod defaults;
 mod directory;
-mod document;
 mod drift;
 mod event;
 pub mod laws;
-mod limits;
 mod named;
 mod names;
 mod packet;
@@ -21,6 +19,5 @@ mod setup;
 mod turn;
 mod version;
 
-pub use document::read_table;
 pub use named::{Named, place_of};
 pub use script::read_script;

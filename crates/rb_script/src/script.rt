@@ -4,21 +4,20 @@ ghost use Rattle.toml.specs.View.{items_view, table_view};
 ghost use Rattle.rb_events.specs.Script.{IsScript, script_view, turn_view};
 ghost use Rattle.rb_fields.specs.Faults.{Gives};
 ghost use Rattle.rb_fields.specs.Fields.{section_view, only, in_sequence};
-ghost use Rattle.rb_script.specs.Documents.{whole};
+ghost use Rattle.rb_fields.specs.Documents.{whole};
 ghost use Rattle.rb_script.specs.Turns.{turn, reading_view};
 ghost use Rattle.rb_script.specs.Setups.{setup_view};
 ghost use Rattle.rb_script.specs.Scripts.{script, script_of, config, tables, tables_view, top_keys, opening};
 
 use crate::chain::{ids_of, read_chains};
 use crate::client::read_clients;
-use crate::document::read_table;
 use crate::names::SetNames;
 use crate::path::read_paths;
 use crate::setup::Setup;
 use crate::turn::{Reading, read_turn_at};
 use crate::version::{Version, needed_version};
 use rb_events::{MAX_CHAINS, MAX_CLIENTS, MAX_ENTRIES, MAX_PATHS, MAX_TURNS, Script, Turn};
-use rb_fields::{RunError, Section};
+use rb_fields::{RunError, Section, read_table};
 use std::alloc::Global;
 use toml::{Table, Value};
 

@@ -12,7 +12,7 @@ use Rattle.rb_fields.specs.declared.fault.FaultName.TheVariants.{BadVersion, Out
 use Rattle.rb_text.specs.declared.certificate.AnswerKind.{AnswerKind}
 use Rattle.rb_text.specs.declared.certificate.AnswerKind.TheVariants.{Plan, Unreachable}
 use Rattle.rb_text.specs.declared.certificate.Certificate.{Certificate as CodeCertificate}
-use Rattle.rb_script.specs.Documents.{document}
+use Rattle.rb_fields.specs.Documents.{document}
 
 -- the turn by its number from 1, the client, the list of updates that is claimed to be the least or that there is none, and the labels
 pub record Certificate : Type 0 where
@@ -48,6 +48,11 @@ abbrev pub each : {A : Type 0} → (Field → Result A Fault) → List ℕ → L
 each read path before no_items = Ok before
 each read path before (item d ds) = read (field_at (element path (length before)) d) >>= λ x. each read path (before ++ x ∷ []) ds
 
+-- the types of the elements of an array from this place on: the first fault of one that can't be read so
+abbrev pub typed_from : {A : Type 0} → (Field → Result A Fault) → List ℕ → ℕ → Items → Result (Unit {0}) Fault
+typed_from read path place no_items = Ok tt
+typed_from read path place (item d ds) = read (field_at (element path place) d) >>= λ _. typed_from read path (suc place) ds
+
 -- a height and a trusted height
 unfoldable pub update : Field → Result Update Fault
 update f = do
@@ -56,9 +61,11 @@ update f = do
   trusted ← within 1 max_number OutOfRange (element f.path 1) n.1
   Ok (record { height = height; trusted = trusted })
 
+-- all types before all ranges
 unfoldable pub updates : Field → Result (List Update) Fault
 updates f = do
   ds ← items f
+  _ ← typed_from two_integers (codes "updates") 0 ds
   each update (codes "updates") [] ds
 
 -- a height, a fee and a count
@@ -79,10 +86,11 @@ rising_after place below (l ∷ ls) = check (nat_lt below l.height) LabelOrder (
 unfoldable pub rising : List Label → Result (Unit {0}) Fault
 rising ls = rising_after 0 0 ls
 
--- each label by itself before their order
+-- all types before all ranges, and each label by itself before their order
 unfoldable pub labels : Field → Result (List Label) Fault
 labels f = do
   ds ← items f
+  _ ← typed_from three_integers (codes "labels") 0 ds
   ls ← each label (codes "labels") [] ds
   _ ← rising ls
   Ok ls

@@ -11,7 +11,7 @@ use Rattle.rb_plan.specs.declared.labelling.Label.{Label}
 use Rattle.rb_events.specs.declared.refusal.Refusal.{Refusal}
 use Rattle.rb_scan.specs.declared.message.Kind.{Kind}
 use Rattle.rb_scan.specs.declared.message.Kind.TheVariants.{Receive, Acknowledge, Timeout}
-use Rattle.rb_core.specs.Task.{Message}
+use Rattle.rb_task.specs.Task.{Message}
 use Rattle.rb_super.specs.Report.{RefusedEvent, PricedUpdate, Sending, nothing, too_big, batched, Plan, Outcome, held, idle, planned, ClientReport, SettlementReport, TurnReport, Report}
 
 -- ---- lines

@@ -19,7 +19,9 @@ use Rattle.rb_super.specs.Judging.{IsVerdictOn, IsRightIn, IsReported}
 use Rattle.rb_super.specs.Report.{Report}
 use Rattle.rb_super.specs.Told.{told}
 use Rattle.rb_events.specs.Script.{Script, script_view}
+use Rattle.rb_fields.specs.declared.fault.RunError.{RunError}
 use Rattle.rb_text.specs.declared.case.Case.{Case as CodeCase}
+use Rattle.rb_text.specs.declared.refusal.CertifyError.{CertifyError}
 use Rattle.rb_text.specs.Certificates.{Certificate, certificate_of, certificate_view}
 use Rattle.rb_script.specs.Named.{known}
 use Rattle.rb_script.specs.Scripts.{script_of}
@@ -85,6 +87,11 @@ abbrev pub no_goal : Fault
 no_goal = record { name = NoGoal; path = codes "client" }
 
 -- ---- what is promised
+
+-- the answer without the text that an error is of
+abbrev pub plain : {A : Type 0} → Result A CertifyError → Result A RunError
+plain (Ok x) = Ok x
+plain (Err e) = Err e.error
 
 -- the texts hold a case, and this is the verdict on it
 pub record IsVerdictFor (script certificate : List ℕ) (verdict : Option Verdict2) : Type 0 where

@@ -7,9 +7,10 @@ ghost use Rattle.rb_events.specs.Script.{IsScript, script_view};
 ghost use Rattle.rb_super.specs.Told.{told};
 ghost use Rattle.rb_super.specs.Turns.{IsReportOf};
 ghost use Rattle.rb_text.specs.Certificates.{certificate_view};
-ghost use Rattle.rb_text.specs.Verdicts.{case_view, case_in, case_of, IsVerdictOf, IsRightCase, IsReportedCase, no_goal};
+ghost use Rattle.rb_text.specs.Verdicts.{case_view, case_in, case_of, plain, IsVerdictOf, IsRightCase, IsReportedCase, no_goal};
 
 use crate::certificate::{Certificate, read_certificate};
+use crate::refusal::{CertifyError, Source};
 use rb_cert::Verdict2;
 use rb_events::Script;
 use rb_fields::{FaultName, RunError, fault_at};
@@ -56,15 +57,37 @@ fn case_in(alloc: Global, script: Script, certificate: Certificate) -> Result<Ca
 /// Reads both texts, the script first, and looks up what the certificate names; or answers the
 /// first fault.
 #[tactic(auto, using(rb_fields::proofs::Steps::steps), unfolding(crate::specs::Verdicts::case_of))]
-pub(crate) fn read_case(alloc: Global, script: &[u8], certificate: &[u8]) -> Result<Case, RunError>
-    ensures read { Gives case_view result (case_of script.now certificate.now) }
+pub(crate) fn read_case(
+    alloc: Global,
+    script: &[u8],
+    certificate: &[u8],
+) -> Result<Case, CertifyError>
+    ensures read { Gives case_view (plain result) (case_of script.now certificate.now) }
     ensures script { IfOk result (λ c. IsScript (script_view c.script)) }
     ensures turn { IfOk result (λ c. c.turn < length c.script.turns.items) }
     ensures client { IfOk result (λ c. c.client < length c.script.config.clients.items) }
 {
-    let script = read_script(alloc, script)?;
-    let certificate = read_certificate(alloc, certificate)?;
-    case_in(alloc, script, certificate)
+    let script = match read_script(alloc, script) {
+        Ok(script) => script,
+        Err(error) => return Err(CertifyError {
+            source: Source::Script,
+            error,
+        }),
+    };
+    let certificate = match read_certificate(alloc, certificate) {
+        Ok(certificate) => certificate,
+        Err(error) => return Err(CertifyError {
+            source: Source::Certificate,
+            error,
+        }),
+    };
+    match case_in(alloc, script, certificate) {
+        Ok(case) => Ok(case),
+        Err(error) => Err(CertifyError {
+            source: Source::Certificate,
+            error,
+        }),
+    }
 }
 
 /// The verdict on the certificate's answer; a fault where its client is held or idle in its turn.

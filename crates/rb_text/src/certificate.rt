@@ -4,13 +4,12 @@ ghost use Rattle.std.specs.List.Sorted.{IsStrictlyIncreasing};
 ghost use Rattle.toml.specs.View.{view, items_view};
 ghost use Rattle.rb_fields.specs.Faults.{Gives};
 ghost use Rattle.rb_fields.specs.Places.{element};
-ghost use Rattle.rb_fields.specs.Fields.{field_view, section_view, field_at, only, needs, optional, or_default, identifier};
-ghost use Rattle.rb_text.specs.Certificates.{answer, update, updates, label, labels, each, rising, certificate_keys, certificate, certificate_of, certificate_view};
+ghost use Rattle.rb_fields.specs.Fields.{field_view, section_view, field_at, only, needs, optional, or_default, identifier, two_integers, three_integers};
+ghost use Rattle.rb_text.specs.Certificates.{answer, update, updates, label, labels, each, typed_from, rising, certificate_keys, certificate, certificate_of, certificate_view};
 
 use rb_base::{ClientId, Height};
-use rb_fields::{FaultName, Field, MAX_NUMBER, Place, RunError, Section, element_path};
+use rb_fields::{FaultName, Field, MAX_NUMBER, Place, RunError, Section, element_path, read_table};
 use rb_plan::{Answer, Cost, Label, Labelling, Update};
-use rb_script::read_table;
 use std::alloc::Global;
 use toml::Value;
 
@@ -48,6 +47,33 @@ fn needed_answer(section: &Section<'_>) -> Result<AnswerKind, RunError>
     read_answer(&section.required("answer")?)
 }
 
+#[tactic(auto, using(rb_fields::proofs::Steps::steps))]
+fn pair_at(alloc: Global, index: usize, value: &Value) -> Result<(i64, i64), RunError>
+    ensures { Gives (λ n. n) result (two_integers (field_at (element (codes "updates") index) (view value.now))) }
+{
+    let path = element_path(alloc, "updates", index)?;
+    let place = Place {
+        table: "",
+        key: path.as_str(),
+    };
+    Field {
+        alloc,
+        place,
+        value,
+    }
+    .two_integers()
+}
+
+/// Refuses the first element that isn't two integers.
+fn judge_pairs(alloc: Global, items: &[Value]) -> Result<(), RunError>
+    ensures { Gives (λ u. u) result (typed_from two_integers (codes "updates") 0 (items_view items.now)) }
+{
+    for (index, value) in items.iter().enumerate() {
+        let _pair = pair_at(alloc, index, value)?;
+    }
+    Ok(())
+}
+
 #[tactic(auto, using(rb_fields::proofs::Steps::steps), unfolding(crate::specs::Certificates::update))]
 fn read_update(field: &Field<'_>) -> Result<Update, RunError>
     ensures { Gives (λ u. u) result (update (field_view field.now)) }
@@ -74,7 +100,7 @@ fn read_update_at(alloc: Global, index: usize, value: &Value) -> Result<Update, 
     })
 }
 
-/// Reads the updates, each by itself.
+/// Reads the updates, whose types were judged, each by itself.
 fn read_updates(alloc: Global, items: &[Value]) -> Result<Vec<Update>, RunError>
     ensures { Gives (λ v. v.items) result (each update (codes "updates") [] (items_view items.now)) }
 {
@@ -90,7 +116,9 @@ fn read_updates(alloc: Global, items: &[Value]) -> Result<Vec<Update>, RunError>
 fn updates(field: &Field<'_>) -> Result<Vec<Update>, RunError>
     ensures { Gives (λ v. v.items) result (updates (field_view field.now)) }
 {
-    read_updates(field.alloc, field.items()?)
+    let items = field.items()?;
+    judge_pairs(field.alloc, items)?;
+    read_updates(field.alloc, items)
 }
 
 #[tactic(auto, using(rb_fields::proofs::Steps::steps))]
@@ -101,6 +129,33 @@ fn updates_or_none(section: &Section<'_>) -> Result<Vec<Update>, RunError>
         Some(field) => updates(&field),
         None => Ok(Vec::new(section.alloc)),
     }
+}
+
+#[tactic(auto, using(rb_fields::proofs::Steps::steps))]
+fn triple_at(alloc: Global, index: usize, value: &Value) -> Result<(i64, i64, i64), RunError>
+    ensures { Gives (λ n. n) result (three_integers (field_at (element (codes "labels") index) (view value.now))) }
+{
+    let path = element_path(alloc, "labels", index)?;
+    let place = Place {
+        table: "",
+        key: path.as_str(),
+    };
+    Field {
+        alloc,
+        place,
+        value,
+    }
+    .three_integers()
+}
+
+/// Refuses the first element that isn't three integers.
+fn judge_triples(alloc: Global, items: &[Value]) -> Result<(), RunError>
+    ensures { Gives (λ u. u) result (typed_from three_integers (codes "labels") 0 (items_view items.now)) }
+{
+    for (index, value) in items.iter().enumerate() {
+        let _triple = triple_at(alloc, index, value)?;
+    }
+    Ok(())
 }
 
 #[tactic(auto, using(rb_fields::proofs::Steps::steps), unfolding(crate::specs::Certificates::label))]
@@ -135,7 +190,7 @@ fn read_label_at(alloc: Global, index: usize, value: &Value) -> Result<Label, Ru
     })
 }
 
-/// Reads the labels, each by itself.
+/// Reads the labels, whose types were judged, each by itself.
 fn read_labels(alloc: Global, items: &[Value]) -> Result<Vec<Label>, RunError>
     ensures read { Gives (λ v. v.items) result (each label (codes "labels") [] (items_view items.now)) }
     ensures small { IfOk result (λ v. All (λ l. (l.cost.fee < 2 ^ 63) × (l.cost.count < 2 ^ 63)) v.items) }
@@ -172,7 +227,9 @@ fn judge_order(alloc: Global, labels: &[Label]) -> Result<(), RunError>
 fn labels(field: &Field<'_>) -> Result<Labelling, RunError>
     ensures { Gives (λ l. l) result (labels (field_view field.now)) }
 {
-    let labels = read_labels(field.alloc, field.items()?)?;
+    let items = field.items()?;
+    judge_triples(field.alloc, items)?;
+    let labels = read_labels(field.alloc, items)?;
     judge_order(field.alloc, labels.as_slice())?;
     Ok(Labelling::new(labels))
 }

@@ -7,10 +7,11 @@ ghost use Rattle.rb_fields.specs.Faults.{fault_view};
 ghost use Rattle.rb_super.specs.Report.{Report};
 ghost use Rattle.rb_super.specs.Told.{told};
 ghost use Rattle.rb_super.specs.Turns.{IsReportOf};
-ghost use Rattle.rb_text.specs.Verdicts.{Case, case_of, verdict_line, IsReportedCase, IsFaultFor, WritesVerdict, BeginsVerdict, IsCertified};
+ghost use Rattle.rb_text.specs.Verdicts.{Case, case_of, plain, verdict_line, IsReportedCase, IsFaultFor, WritesVerdict, BeginsVerdict, IsCertified};
 ghost use Rattle.rb_text.specs.Written.{IsWriteError};
 
 use crate::case::{judge_case, read_case};
+use crate::refusal::{CertifyError, Source};
 use crate::verdict::{is_yes, push_verdict};
 use crate::write::put;
 use rb_base::Sink;
@@ -60,8 +61,43 @@ pub fn certify_over<R: Threads + Sync, W: Sink>(
     ensures device { IsErrOf result RunError.Device ↔ (W.is_broken writer.new ≡ true) }
     ensures begun { OnErr result ((writer.new ≡ writer.old) ⊎ BeginsVerdict script.now certificate.now (W.taken writer.old) (W.taken writer.new)) }
 {
+    match certify_texts(rt, alloc, script, certificate, writer) {
+        Ok(yes) => Ok(yes),
+        Err(refusal) => Err(refusal.error),
+    }
+}
+
+/// Does what `certify_over` does, and tells of a fault which of the two texts has it.
+pub fn certify_texts<R: Threads + Sync, W: Sink>(
+    rt: &R,
+    alloc: Global,
+    script: &[u8],
+    certificate: &[u8],
+    writer: &mut W,
+) -> Result<bool, CertifyError>
+    requires { W.is_broken writer.old ≡ false }
+    ensures verdict { IfOk result (λ yes. WritesVerdict script.now certificate.now yes (W.taken writer.old) (W.taken writer.new)) }
+    ensures right { plain result ≡ Ok true → IsCertified script.now certificate.now }
+    ensures accepts { (case : Case) (report : Report) → case_of script.now certificate.now ≡ Ok case → IsReportOf (told case.script) report
+        → IsReportedCase report case → IfOk result (λ yes. yes ≡ true) }
+    ensures fault { (f : CodeFault) → IsErrOf (plain result) (RunError.Fault f) → IsFaultFor script.now certificate.now (fault_view f) }
+    ensures nothing_written { (f : CodeFault) → IsErrOf (plain result) (RunError.Fault f) → writer.new ≡ writer.old }
+    ensures device { IsErrOf (plain result) RunError.Device ↔ (W.is_broken writer.new ≡ true) }
+    ensures begun { OnErr result ((writer.new ≡ writer.old) ⊎ BeginsVerdict script.now certificate.now (W.taken writer.old) (W.taken writer.new)) }
+{
     let case = read_case(alloc, script, certificate)?;
-    let verdict = judge_case(rt, alloc, case)?;
-    put_verdict(alloc, &verdict, writer)?;
-    Ok(is_yes(&verdict))
+    let verdict = match judge_case(rt, alloc, case) {
+        Ok(verdict) => verdict,
+        Err(error) => return Err(CertifyError {
+            source: Source::Certificate,
+            error,
+        }),
+    };
+    match put_verdict(alloc, &verdict, writer) {
+        Ok(()) => Ok(is_yes(&verdict)),
+        Err(error) => Err(CertifyError {
+            source: Source::Certificate,
+            error,
+        }),
+    }
 }

@@ -1,19 +1,21 @@
 //! The texts of a relayer's run: the certificate that is read, the report that is written,
 //! `run_over`, which goes from a script to its report, and `certify_over`, which judges a
-//! certificate for a script.
+//! certificate for a script (`certify_texts` also tells which of the two is refused).
 #![tactic(auto)]
 
 mod case;
 mod certificate;
 mod certifying;
+mod refusal;
 mod report;
 mod running;
 mod verdict;
 mod write;
 
 pub use certificate::{Certificate, read_certificate};
-pub use certifying::certify_over;
+pub use certifying::{certify_over, certify_texts};
 pub use rb_fields::{Fault, FaultName, RunError};
 pub use rb_script::read_script;
+pub use refusal::{CertifyError, Source};
 pub use running::run_over;
 pub use write::write_report;

@@ -1,5 +1,5 @@
 use Rattle.toml.specs.View.{table_view}
-use Rattle.rb_script.specs.Documents.{whole}
+use Rattle.rb_fields.specs.Documents.{whole}
 use Rattle.rb_script.specs.Scripts.{script}
 use Rattle.rb_events.specs.Script.{IsScript}
 use Rattle.rb_script.proofs.Forms.{script-form, form-of}

@@ -3,7 +3,7 @@ use Rattle.std.proofs.lemmas.List.{map-id}
 use Rattle.std.proofs.lemmas.Iterator.{YieldsList-from_chars}
 use Rattle.std.proofs.lemmas.Iterator.Consumers.{YieldsList-end}
 use Rattle.rb_fields.specs.Places.{shown}
-use Rattle.rb_fields.proofs.place.shown_key.Goals as goal
+use Rattle.rb_fields.proofs.place.shown.Goals as goal
 
 pub returns : goal.returns
 returns c =

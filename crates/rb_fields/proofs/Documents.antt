@@ -7,8 +7,7 @@ use Rattle.toml.specs.Data.{Members}
 use Rattle.toml.specs.Parse.{parse_document}
 use Rattle.rb_fields.specs.Faults.{fault}
 use Rattle.rb_fields.specs.declared.fault.FaultName.TheVariants.{NotToml}
-use Rattle.rb_script.specs.Limits.{max_bytes}
-use Rattle.rb_script.specs.Documents.{document, whole, of_document}
+use Rattle.rb_fields.specs.Documents.{max_bytes, document, whole, of_document}
 
 not_big : (bytes : List ℕ) → length bytes ≤ max_bytes → nat_lt max_bytes (length bytes) ≡ false
 not_big bytes h = false_from_ne_true _ (λ e. let big = ltb-true max_bytes (length bytes) e in omega arith)

@@ -6,7 +6,10 @@ use Rattle.toml.specs.Parse.{parse_document}
 use Rattle.rb_fields.specs.Faults.{Fault, fault}
 use Rattle.rb_fields.specs.Fields.{Section}
 use Rattle.rb_fields.specs.declared.fault.FaultName.TheVariants.{NotToml, InputTooBig}
-use Rattle.rb_script.specs.Limits.{max_bytes}
+
+-- how much a text may have (own choice)
+abbrev pub max_bytes : ℕ
+max_bytes = 16777216
 
 abbrev pub whole : Members → Section
 whole members = record { path = []; members = members }

@@ -1,8 +1,8 @@
 use Rattle.std.proofs.Common.{codes, rules}
 use Rattle.rb_fields.specs.declared.fault.FaultName.TheVariants.{NotToml}
 use Rattle.rb_fields.proofs.Steps.{fails-at}
-use Rattle.rb_script.proofs.Documents.{document-parsed, document-refused}
-use Rattle.rb_script.proofs.document.read_table.Goals as goal
+use Rattle.rb_fields.proofs.Documents.{document-parsed, document-refused}
+use Rattle.rb_fields.proofs.document.read_table.Goals as goal
 
 pub returns-in-Ok : goal.returns-in-Ok
 returns-in-Ok c = record { read = document-parsed _ _ c.if-bytes-gt-MAX_BYTES.false c.in-Ok.ensures.ok.0 c.in-Ok.ensures.ok.1 }
@@ -11,5 +11,5 @@ pub returns-else-is_memory : goal.returns-else-is_memory
 returns-else-is_memory c =
     let none = c.in-Err.ensures.refused (λ m. search rules) in
     record {
-      read = rw (document-refused _ c.if-bytes-gt-MAX_BYTES.false none) (fails-at _ c.fault_at-in-Err.result NotToml (codes "-") c.fault_at-in-Err.ensures);
+      read = rw (document-refused _ c.if-bytes-gt-MAX_BYTES.false none) (fails-at _ c.not_toml.result NotToml (codes "-") c.not_toml.ensures);
     }

@@ -1,6 +1,6 @@
 use Rattle.std.proofs.Common.{◌≡◌, string_bytes, flat_map}
 use Rattle.rb_fields.specs.Places.{shown}
-use Rattle.rb_fields.proofs.place.shown_key.Given as goal
+use Rattle.rb_fields.proofs.place.shown.Given as goal
 
 -- what is written is what the characters so far show
 abbrev pub invariant-loop-character : goal.invariant-loop-character

@@ -1,0 +1,30 @@
+//! Names of files as messages show them.
+use std::alloc::{AllocError, Global};
+use std::fmt;
+
+/// A name of which control characters are written `\u{..}` with their number in hexadecimal digits, so
+/// that it is one line and does nothing to a terminal.
+#[derive(Clone, Copy, Debug)]
+pub struct Shown<'a> {
+    pub name: &'a str,
+}
+
+impl fmt::Display for Shown<'_> {
+    fn fmt<W: fmt::Write>(&self, f: &mut fmt::Formatter<W>) -> fmt::Result {
+        for character in self.name.chars() {
+            if character.is_control() {
+                let code = u32::from(character);
+                write!(f, "\\u{{{code:x}}}")?;
+            } else {
+                f.write_char(character)?;
+            }
+        }
+        Ok(())
+    }
+}
+
+/// A name as messages show it, as a text of its own.
+pub fn shown_text(alloc: Global, name: &str) -> Result<String, AllocError> {
+    let name = Shown { name };
+    format!(in alloc; "{name}")
+}

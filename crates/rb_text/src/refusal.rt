@@ -1,0 +1,17 @@
+//! Which of two texts an error is of.
+use rb_fields::RunError;
+
+/// The two texts of a certification.
+#[derive(Clone, Copy, Debug, PartialEq, Eq)]
+pub enum Source {
+    Script,
+    Certificate,
+}
+
+/// Why a certificate wasn't judged. A fault is one of the source, where what concerns both texts is of
+/// the certificate; another error is of neither.
+#[derive(Debug, Drop)]
+pub struct CertifyError {
+    pub source: Source,
+    pub error: RunError,
+}
