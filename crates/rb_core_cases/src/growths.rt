@@ -1,6 +1,7 @@
 use crate::make::assert_same;
 use crate::rows::THREE;
 use crate::run::{Deed, Row, Run, start};
+use crate::same::are_same;
 use rb_base::refusing::Refusing;
 use rb_core::Core;
 use rb_scan::Part;
@@ -9,27 +10,6 @@ use std::process::Abort;
 use std::test::Fail;
 
 type Heap<'a> = &'a Refusing<Global>;
-
-fn same_clients<A: Allocator + Copy>(core: &Core<A>, other: &Core<A>, client: usize) -> bool {
-    match (core.client_view(client), other.client_view(client)) {
-        (Ok(job), Ok(same)) => job == same,
-        (Err(error), Err(same)) => error == same,
-        _ => false,
-    }
-}
-
-fn same_paths<A: Allocator + Copy>(core: &Core<A>, other: &Core<A>, path: usize) -> bool {
-    match (core.path_view(path), other.path_view(path)) {
-        (Ok(view), Ok(same)) => view == same,
-        (Err(error), Err(same)) => error == same,
-        _ => false,
-    }
-}
-
-fn same_scans<A: Allocator + Copy>(core: &Core<A>, other: &Core<A>, path: usize) -> bool {
-    core.is_scanned(path, Part::Packets) == other.is_scanned(path, Part::Packets)
-        && core.is_scanned(path, Part::Channel) == other.is_scanned(path, Part::Channel)
-}
 
 /// Each call that takes memory, and each kind of event; the second header comes while a view holds the
 /// book, the second set while a copy does.
@@ -65,18 +45,6 @@ const ROWS: &[Row] = &[
 
 const PLAN: &str =
     "at least 10 | 10<1 | Receive 0 1 60 | Receive 1 3 50 | batch 10: 0+1 111, 1+2 110";
-
-/// Whether nothing that is seen of two machines tells them apart.
-fn are_same<A: Allocator + Copy>(core: &Core<A>, other: &Core<A>) -> bool {
-    core.front() == other.front()
-        && core.log().len() == other.log().len()
-        && same_clients(core, other, 0)
-        && same_clients(core, other, 1)
-        && same_paths(core, other, 0)
-        && same_paths(core, other, 1)
-        && same_scans(core, other, 0)
-        && same_scans(core, other, 1)
-}
 
 /// A run on a heap that refuses a growth, and one beside it on a heap that refuses none.
 #[derive(Drop)]

@@ -14,4 +14,6 @@ mod rows;
 #[cfg(test)]
 mod run;
 #[cfg(test)]
+mod same;
+#[cfg(test)]
 mod tell;

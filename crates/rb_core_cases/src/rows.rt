@@ -1,5 +1,6 @@
 use crate::make::assert_same;
-use crate::run::{Deed, Row, Run, start};
+use crate::run::{Deed, Row, Run, start, start_supervisor};
+use crate::same::are_same;
 use rb_book::Vote;
 use rb_scan::Part;
 use std::test::Fail;
@@ -18,8 +19,7 @@ const FOREIGN: &[Row] = &[(Deed::Window(50, 60), "Noted"), (Deed::Draft(2), "idl
 /// Each event but a plan, and each reason to refuse it, in its order: where one is told, later ones apply
 /// too, if they can. Books have at most three records.
 ///
-/// 407 needs two sets with one hash, and 808 a million events, which take too long for a test; 406 for
-/// sets and for packets stands by itself.
+/// 407 needs two sets with one hash; 406 for sets and for packets, and 808, stand by themselves.
 const ORDER: &[Row] = &[
     // a client isn't there, or no window yet
     (Deed::Draft(2), "801 UnknownObject"),
@@ -113,6 +113,7 @@ fn refuses_in_order(rt: HostRuntime) -> Result<(), Fail> {
     let mut run = Run::new(alloc, start(alloc, 3, &["third"]).ok_or("start")?);
     run.go(&rt, alloc, FOREIGN)?;
     run.core = start(alloc, 3, &[]).ok_or("start")?;
+    run.supervisor = Some(start_supervisor(alloc, 3).ok_or("supervisor")?);
     run.go(&rt, alloc, ORDER)
 }
 
@@ -288,10 +289,14 @@ const OUTCOMES: &[Row] = &[
     (Deed::Closed(0), "Noted"),
 ];
 
+/// A supervisor that is given each of these events answers as the machine, and is then as the machine
+/// is; plans and scans that are refused are among them: of an older view, made again, before the scans,
+/// with a number that is above or below, and while a batch is open.
 #[test]
 fn keeps_what_was_settled(rt: HostRuntime) -> Result<(), Fail> {
     let alloc = rt.alloc();
     let mut run = Run::new(alloc, start(alloc, 12, &[]).ok_or("start")?);
+    run.supervisor = Some(start_supervisor(alloc, 12).ok_or("supervisor")?);
     run.go(&rt, alloc, CHAINS)?;
     run.go(&rt, alloc, RECEIVES)?;
     run.go(&rt, alloc, OUTCOMES)
@@ -334,4 +339,72 @@ fn refuses_more_packets(rt: HostRuntime) -> Result<(), Fail> {
         assert_same(&rt, &sequence, &told.as_str(), &"Noted");
     }
     run.go(&rt, alloc, FULL)
+}
+
+/// What is known before a log is full: what would be taken in, and what would be refused.
+const NEARLY_FULL: &[Row] = &[
+    (Deed::Window(50, 60), "Noted"),
+    (Deed::Set(0, 0xa1), "Noted"),
+    (Deed::Header(0, 5, 50, 0xa1, THREE), "Noted"),
+    (Deed::Sent(0, 1, 5, 0), "Noted"),
+    (Deed::Scan(0, Part::Packets), "owes | Receive 1 6"),
+    (Deed::Draft(0), "idle"),
+    (Deed::Sent(0, 2, 5, 0), "Noted"),
+    (
+        Deed::Scan(0, Part::Packets),
+        "owes | Receive 1 6 | Receive 2 6",
+    ),
+];
+
+/// Of each event one that would be taken in or one for which a later reason applies, or both, and one
+/// of what isn't there.
+const LOG_FULL: &[Row] = &[
+    (Deed::Window(50, 60), "808 LogFull"),
+    (Deed::Window(49, 70), "808 LogFull"),
+    (Deed::Asked(0, 5), "808 LogFull"),
+    (Deed::Asked(2, 5), "801 UnknownObject"),
+    (Deed::Set(0, 0xb1), "808 LogFull"),
+    (Deed::Set(2, 0xb1), "801 UnknownObject"),
+    (Deed::Header(0, 8, 80, 0xa1, THREE), "808 LogFull"),
+    (Deed::Header(0, 5, 90, 0xb1, SHORT), "808 LogFull"),
+    (Deed::Header(2, 5, 90, 0xb1, SHORT), "801 UnknownObject"),
+    (Deed::Stored(0, 2, 20), "808 LogFull"),
+    (Deed::Stored(0, 5, 90), "808 LogFull"),
+    (Deed::Stored(2, 5, 90), "801 UnknownObject"),
+    (Deed::Sent(0, 3, 5, 0), "808 LogFull"),
+    (Deed::Sent(0, 1, 5, 0), "808 LogFull"),
+    (Deed::Sent(2, 1, 5, 0), "801 UnknownObject"),
+    (Deed::Received(0, 1, 6), "808 LogFull"),
+    (Deed::Received(0, 5, 6), "808 LogFull"),
+    (Deed::Received(2, 5, 6), "801 UnknownObject"),
+    (Deed::Written(0, 1, 6), "808 LogFull"),
+    (Deed::Written(2, 1, 6), "801 UnknownObject"),
+    (Deed::Cleared(0, 1), "808 LogFull"),
+    (Deed::Cleared(0, 5), "808 LogFull"),
+    (Deed::Cleared(2, 5), "801 UnknownObject"),
+    (Deed::Closed(0), "808 LogFull"),
+    (Deed::Closed(2), "801 UnknownObject"),
+    (Deed::Last, "808 LogFull"),
+    (Deed::LastOn(1), "808 LogFull"),
+    (Deed::LastOn(2), "801 UnknownObject"),
+    (Deed::Kept(1), "808 LogFull"),
+    (Deed::Kept(2), "808 LogFull"),
+    (Deed::Kept(0), "801 UnknownObject"),
+    (Deed::Settled(0, 1, 0), "808 LogFull"),
+    (Deed::Settled(2, 1, 0), "801 UnknownObject"),
+];
+
+/// A log of a million events takes no more, and none that is refused changes anything.
+#[test]
+fn refuses_more_events(rt: HostRuntime) -> Result<(), Fail> {
+    let alloc = rt.alloc();
+    let mut run = Run::new(alloc, start(alloc, 3, &["third"]).ok_or("start")?);
+    run.go(&rt, alloc, FOREIGN)?;
+    run.core = start(alloc, 3, &[]).ok_or("start")?;
+    run.go(&rt, alloc, NEARLY_FULL)?;
+    run.fill(Deed::Window(50, 60), 1_000_000).ok_or("window")?;
+    let full = run.core.copy()?;
+    run.go(&rt, alloc, LOG_FULL)?;
+    assert!(rt; run.core.front() == 1_000_000 && are_same(&run.core, &full));
+    Ok(())
 }

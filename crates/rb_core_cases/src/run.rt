@@ -4,6 +4,7 @@ ghost use Rattle.std.specs.Prelude.{◌≡◌, IfOk};
 use crate::make::{
     assert_same, make_config, make_header, make_lone_set, make_record, make_set, second,
 };
+use crate::same::are_same;
 use crate::tell::{answer_text, reply_text, scan_text};
 use rb_base::{Height, Window};
 use rb_book::{ChainBook, Vote};
@@ -11,6 +12,7 @@ use rb_core::{Core, CoreError, Draft, Event, JobView, Reply, draft, scan};
 use rb_events::{Asked, BlockHeight, Goal, Observation, Refusal, Settlement, is_config};
 use rb_graph::Graph;
 use rb_scan::{Part, Sequence};
+use rb_super::Supervisor;
 use std::alloc::{AllocError, Allocator, Global};
 use std::mem;
 use std::process::Abort;
@@ -53,13 +55,16 @@ pub enum Deed {
 /// What is done, and what comes out.
 pub type Row = (Deed, &'static str);
 
-/// A machine, what was made out by it, and another machine.
+/// A machine, what was made out by it, and another machine. And a supervisor that is given what the
+/// first machine is given.
 #[derive(Drop)]
 pub struct Run<A: Allocator> {
     alloc: A,
     pub core: Core<A>,
     kept: Vec<Event<A>, A>,
     aside: Option<Core<A>>,
+    is_aside: bool,
+    pub supervisor: Option<Supervisor<A>>,
 }
 
 /// A machine that knows nothing, whose books have so many records at most, and which has so many more
@@ -74,6 +79,15 @@ pub fn start<A: Allocator + Copy>(
         return None;
     }
     Core::new(alloc, config).ok()
+}
+
+/// A supervisor that has taken in nothing, of the same clients and paths.
+pub fn start_supervisor<A: Allocator + Copy>(alloc: A, limit: usize) -> Option<Supervisor<A>> {
+    let config = make_config(alloc, limit, &[])?;
+    if !is_config(&config) {
+        return None;
+    }
+    Supervisor::new(alloc, config).ok()
 }
 
 /// What was seen of a chain or a client.
@@ -205,6 +219,8 @@ impl<A: Allocator + Copy> Run<A> {
             core,
             kept: Vec::new(alloc),
             aside: None,
+            is_aside: false,
+            supervisor: None,
         }
     }
 
@@ -256,7 +272,37 @@ impl<A: Allocator + Copy> Run<A> {
     fn enter(&mut self, rt: &impl Abort, texts: Global, deed: Deed) -> Option<String> {
         let event = self.event(deed)?;
         let answer = offer(rt, &mut self.core, event)?;
+        if self.supervisor.is_some() && !self.is_aside {
+            self.follow(rt, deed, &answer)?;
+        }
         reply_text(texts, answer).ok()
+    }
+
+    /// Gives the supervisor what the machine was given: it answers the same, and has then taken in the
+    /// same.
+    fn follow(
+        &mut self,
+        rt: &impl Abort,
+        deed: Deed,
+        wanted: &Result<Reply, Refusal>,
+    ) -> Option<()> {
+        let event = self.event(deed)?;
+        let supervisor = self.supervisor.as_mut()?;
+        let answer = answered(supervisor.take_in(event))?;
+        assert!(rt;
+            answer == *wanted && are_same(supervisor.core(), &self.core),
+            "{deed:?}"
+        );
+        Some(())
+    }
+
+    /// Enters an event again and again, until so many were taken in.
+    pub fn fill(&mut self, deed: Deed, events: usize) -> Option<()> {
+        for _ in self.core.front()..events {
+            let event = self.event(deed)?;
+            enter(&mut self.core, event).ok()?;
+        }
+        Some(())
     }
 
     fn put_copy_aside(&mut self) -> Option<()> {
@@ -267,6 +313,7 @@ impl<A: Allocator + Copy> Run<A> {
     fn swap(&mut self) -> Option<()> {
         let other = self.aside.as_mut()?;
         mem::swap(&mut self.core, other);
+        self.is_aside = !self.is_aside;
         Some(())
     }
 

@@ -28,7 +28,7 @@ fn edited(alloc: Global, old: &str, new: &str) -> Result<String, Fail> {
 }
 
 /// Words of the certificate, what stands in their place, and the fault.
-const FAULTS: [(&str, &str, &str); 18] = [
+const FAULTS: [(&str, &str, &str); 22] = [
     ("version = 1", "version = 2", "1005 BadVersion at version"),
     ("turn = 2", "", "1002 MissingKey at turn"),
     ("turn = 2", "turn = 0", "1006 OutOfRange at turn"),
@@ -56,6 +56,27 @@ const FAULTS: [(&str, &str, &str); 18] = [
     ("[7, 3]", "[7]", "1004 WrongType at updates[1]"),
     ("[7, 3]", "[0, '3']", "1004 WrongType at updates[1][1]"),
     ("[7, 3]", "[0, 0]", "1006 OutOfRange at updates[1][0]"),
+    // the types of all rows before any range, and those of the updates and their ranges before the labels
+    (
+        "[[3, 1], [7, 3]]",
+        "[[0, 1], ['x', 2]]",
+        "1004 WrongType at updates[1][0]",
+    ),
+    (
+        "[[3, 1], [7, 3]]",
+        "[[3, 0], [7, 3, 1]]",
+        "1004 WrongType at updates[1]",
+    ),
+    (
+        "[3, 112, 1], [7, 224, 2]",
+        "[3, -1, 1], [0, 224, true]",
+        "1004 WrongType at labels[2][2]",
+    ),
+    (
+        "[[3, 1], [7, 3]]\nlabels = [[1, 0, 0]",
+        "[[3, 1], [7, 0]]\nlabels = [[1, 0]",
+        "1006 OutOfRange at updates[1][1]",
+    ),
     ("labels = ", "label = ", "1003 UnknownKey at label"),
     ("[3, 112, 1]", "[3, 112]", "1004 WrongType at labels[1]"),
     (

@@ -4,6 +4,7 @@ use rb_fields::RunError;
 use rb_gang::OpenGate;
 use rb_text::run_over;
 use std::alloc::{AllocError, Global};
+use std::io::ErrorKind;
 use std::process::Abort;
 use std::test::Fail;
 use std::thread::Threads;
@@ -533,15 +534,16 @@ fn plans(rt: HostRuntime) -> Result<(), Fail> {
     Ok(())
 }
 
-/// Runs a script over a writer that takes a byte a call and fails at this one, counted from 1: it has taken a byte
-/// of the report at each call before. Whether the report is written whole.
-pub fn is_written<R: Threads + Sync + Abort>(
+/// Runs a script over a writer that takes a byte a call and fails so at this one, counted from 1, and at no other: it has
+/// taken a byte of the report at each call before, and nothing is tried again. Whether the report is written whole.
+fn is_written<R: Threads + Sync + Abort>(
     rt: &R,
     alloc: Global,
     (script, report): (&str, &str),
     failing: u64,
+    fault: Fault,
 ) -> Result<bool, Fail> {
-    let mut writer = Counted::new(Faulty::new(alloc, 1, failing, Fault::Zero));
+    let mut writer = Counted::new(Faulty::new(alloc, 1, failing, fault));
     let ran = run_over(rt, alloc, script.as_bytes(), &mut writer, 1, &OpenGate);
     let faulty = writer.into_inner();
     let taken = (failing.saturating_sub(1) as usize).min(report.len());
@@ -553,19 +555,30 @@ pub fn is_written<R: Threads + Sync + Abort>(
     }
 }
 
-/// A writer that fails at each of its calls in turn, until the report is written before that call.
+/// A writer that fails so at each of its calls in turn, until the report is written before that call.
+pub fn check_each_call<R: Threads + Sync + Abort>(
+    rt: &R,
+    alloc: Global,
+    texts: (&str, &str),
+    fault: Fault,
+) -> Result<(), Fail> {
+    let length = texts.1.len() as u64;
+    for before in 0..=length {
+        let is_whole = is_written(rt, alloc, texts, before.saturating_add(1), fault)?;
+        assert_eq!(rt; is_whole, before == length, "{before} of {length}");
+    }
+    Ok(())
+}
+
+/// A call that takes nothing, and one that is interrupted, are failures.
 #[test]
 fn tells_that_the_writer_failed(rt: HostRuntime) -> Result<(), Fail> {
     let alloc = rt.alloc();
     let script = joined(alloc, ONE_STEP)?;
     let report = report_of(alloc, &[ASKED, LABELS, PLAN])?;
-    let length = report.len() as u64;
-    for before in 0..=length {
-        let failing = before.saturating_add(1);
-        let is_whole = is_written(&rt, alloc, (script.as_str(), report.as_str()), failing)?;
-        assert_eq!(rt; is_whole, before == length, "{before} of {length}");
-    }
-    Ok(())
+    let texts = (script.as_str(), report.as_str());
+    check_each_call(&rt, alloc, texts, Fault::Zero)?;
+    check_each_call(&rt, alloc, texts, Fault::Failure(ErrorKind::Interrupted))
 }
 
 /// Whether a beginning of a script is run: then its report is whole; else a fault is told, and
@@ -588,13 +601,23 @@ fn is_run<R: Threads + Sync + Abort>(rt: &R, alloc: Global, beginning: &[u8]) ->
     }
 }
 
-#[test]
-fn plans_or_tells_a_fault_of_each_beginning(rt: HostRuntime) -> Result<(), Fail> {
-    let script = edited(rt.alloc(), Base::Three, &[])?;
+/// Runs each beginning of a script, up to the whole.
+fn run_beginnings<R: Threads + Sync + Abort>(
+    rt: &R,
+    alloc: Global,
+    base: Base,
+) -> Result<(), Fail> {
+    let script = edited(alloc, base, &[])?;
     let mut is_whole = false;
     for length in 0..=script.len() {
-        is_whole = is_run(&rt, rt.alloc(), &script.as_bytes()[..length]);
+        is_whole = is_run(rt, alloc, &script.as_bytes()[..length]);
     }
     assert!(rt; is_whole);
     Ok(())
+}
+
+#[test]
+fn plans_or_tells_a_fault_of_each_beginning(rt: HostRuntime) -> Result<(), Fail> {
+    run_beginnings(&rt, rt.alloc(), Base::Three)?;
+    run_beginnings(&rt, rt.alloc(), Base::Packets)
 }

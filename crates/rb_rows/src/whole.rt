@@ -1,6 +1,7 @@
 //! Scripts with packets and settlements, of several turns, and what is written for them.
-use crate::planning::{ASKED, LABELS, answer_to, is_written, report_of};
+use crate::planning::{ASKED, LABELS, answer_to, check_each_call, report_of};
 use crate::scripts::{Base, edited};
+use rb_base::Fault;
 use std::alloc::Global;
 use std::process::Abort;
 use std::test::Fail;
@@ -301,11 +302,6 @@ fn tells_that_the_writer_failed_in_a_turn(rt: HostRuntime) -> Result<(), Fail> {
     let (_, base, edits, lines) = SETTLEMENTS[0];
     let script = edited(alloc, base, edits)?;
     let report = report_of(alloc, lines)?;
-    let length = report.len() as u64;
-    for before in 0..=length {
-        let failing = before.saturating_add(1);
-        let is_whole = is_written(&rt, alloc, (script.as_str(), report.as_str()), failing)?;
-        assert_eq!(rt; is_whole, before == length, "{before} of {length}");
-    }
-    Ok(())
+    let texts = (script.as_str(), report.as_str());
+    check_each_call(&rt, alloc, texts, Fault::Zero)
 }

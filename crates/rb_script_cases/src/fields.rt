@@ -66,6 +66,22 @@ const ROWS: &[(&str, &str, &str)] = &[
         "x = 1\n\"\\n\\u007f\" = 1",
         "fault 1003 UnknownKey at t.\\u{a}\\u{7f}",
     ),
+    // of a key of more than 64 bytes its length is told
+    (
+        "number",
+        "x = 1\nkkkkkkkkkkkkkkkkkkkkkkkkkkkkkkkkkkkkkkkkkkkkkkkkkkkkkkkkkkkkkkkk = 1",
+        "fault 1003 UnknownKey at t.kkkkkkkkkkkkkkkkkkkkkkkkkkkkkkkkkkkkkkkkkkkkkkkkkkkkkkkkkkkkkkkk",
+    ),
+    (
+        "number",
+        "x = 1\nkkkkkkkkkkkkkkkkkkkkkkkkkkkkkkkkkkkkkkkkkkkkkkkkkkkkkkkkkkkkkkkkl = 1",
+        "fault 1003 UnknownKey at t.<65 bytes>",
+    ),
+    (
+        "number",
+        "x = 1\n'ééééééééééééééééééééééééééééééééé' = 1",
+        "fault 1003 UnknownKey at t.<66 bytes>",
+    ),
     ("number", "x = 1.0", "fault 1004 WrongType at t.x"),
     ("number", "x = 0", "fault 1024 BadLimit at t.x"),
     ("number", "x = 10", "fault 1024 BadLimit at t.x"),

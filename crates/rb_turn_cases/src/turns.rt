@@ -4,12 +4,14 @@
 //! A step is accepted where its trusted height is live (1,000 s), and costs the base, 3 for the commit
 //! votes and 4 + 4 for the two sets: 111 or, at a base of 200, 211.
 use crate::made::{CLIENT, ClientRow, QUIET, ScriptRow, Seen, TurnRow, Wanted, make_script};
-use rb_base::Counted;
+use rb_base::{Counted, Fault, Faulty};
 use rb_events::{Script, is_script};
+use rb_fields::RunError;
 use rb_gang::OpenGate;
 use rb_super::{Report, run_script};
 use rb_text::write_report;
 use std::alloc::Global;
+use std::io::ErrorKind;
 use std::process::Abort;
 use std::test::Fail;
 use std::thread::Threads;
@@ -214,10 +216,15 @@ fn text_of(alloc: Global, report: &Report) -> Result<String, Fail> {
     Ok(String::from_utf8_lossy(alloc, writer.into_inner().as_slice())?)
 }
 
-fn run<R: Threads + Sync + Abort>(rt: &R, alloc: Global, row: &Row) -> Result<(), Fail> {
+/// The report of a row's script, by two workers.
+fn report_of<R: Threads + Sync + Abort>(rt: &R, alloc: Global, row: &Row) -> Result<Report, Fail> {
     let script = make_row(alloc, row)?;
     assert!(rt; is_script(&script), "{}", row.name);
-    let text = text_of(alloc, &run_script(rt, alloc, script, 2, &OpenGate)?)?;
+    Ok(run_script(rt, alloc, script, 2, &OpenGate)?)
+}
+
+fn run<R: Threads + Sync + Abort>(rt: &R, alloc: Global, row: &Row) -> Result<(), Fail> {
+    let text = text_of(alloc, &report_of(rt, alloc, row)?)?;
     assert_eq!(rt; text.as_str(), row.report, "{}", row.name);
     Ok(())
 }
@@ -226,4 +233,34 @@ fn run<R: Threads + Sync + Abort>(rt: &R, alloc: Global, row: &Row) -> Result<()
 fn runs_turns(rt: HostRuntime) -> Result<(), Fail> {
     run(&rt, rt.alloc(), &TWO_CHAINS)?;
     run(&rt, rt.alloc(), &ONE_CHAIN)
+}
+
+/// Writes a report with this text to a writer that takes a byte a call and is interrupted at this one, counted from 1.
+fn write_until(
+    rt: &impl Abort,
+    alloc: Global,
+    (report, text): (&Report, &str),
+    failing: u64,
+) -> Result<(), Fail> {
+    let fault = Fault::Failure(ErrorKind::Interrupted);
+    let mut writer = Counted::new(Faulty::new(alloc, 1, failing, fault));
+    let written = write_report(alloc, report, &mut writer);
+    let taken = (failing.saturating_sub(1) as usize).min(text.len());
+    let faulty = writer.into_inner();
+    assert_eq!(rt; faulty.bytes(), &text.as_bytes()[..taken], "{failing}");
+    let is_device = matches!(written, Err(RunError::Device));
+    assert_eq!(rt; is_device, taken < text.len(), "{failing}");
+    assert_eq!(rt; written.is_ok(), taken == text.len(), "{failing}");
+    Ok(())
+}
+
+#[test]
+fn tells_that_the_writer_failed(rt: HostRuntime) -> Result<(), Fail> {
+    let alloc = rt.alloc();
+    let report = report_of(&rt, alloc, &TWO_CHAINS)?;
+    for before in 0..=TWO_CHAINS.report.len() {
+        let failing = (before as u64).saturating_add(1);
+        write_until(&rt, alloc, (&report, TWO_CHAINS.report), failing)?;
+    }
+    Ok(())
 }
