@@ -107,6 +107,19 @@ def print_reading(folder):
     measure.print_group("plan: a fault at the beginning, after the TOML was read", parsed, statuses=(1,))
 
 
+def print_workers(folder):
+    """The same report by `plan` and by workers, where planning takes the time and where reading does."""
+    kinds = [
+        ("clients of two chains of 512 headers: 256", dict(pairs=128, headers=512, packets=1)),
+        ("64 chains, 252 clients, 126 paths, 10 turns", dict(zones=63, pairs=2, turns=10, headers=100, packets=540)),
+    ]
+    for name, sizes in kinds:
+        script = folder.file(name.replace(" ", "-"), Relay(**sizes).text())
+        lines = [("plan", [PROGRAM, "plan", script])]
+        lines += [(f"run --workers {number}", [PROGRAM, "run", "--workers", number, script]) for number in (1, 2, 4)]
+        measure.print_group(f"plan and run: {name}", lines)
+
+
 def print_tables():
     """Builds the program where it isn't, by ./ibcplan, and prints its tables."""
     subprocess.run([TOP / "ibcplan", "--version"], check=True, stdout=subprocess.DEVNULL)
@@ -114,5 +127,6 @@ def print_tables():
         folder = Folder(path)
         print_plans(folder)
         print_relays(folder)
+        print_workers(folder)
         print_reading(folder)
         print_certificates(folder)

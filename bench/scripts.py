@@ -39,6 +39,10 @@ def child(path, key):
 
 
 def shown(key):
+    """A key as a path shows it: control characters by their numbers, and of a long key its length alone."""
+    length = len(key.encode())
+    if length > 64:
+        return f"<{length} bytes>"
     return "".join(f"\\u{{{ord(c):x}}}" if ord(c) < 32 or 127 <= ord(c) < 160 else c for c in key)
 
 
@@ -86,13 +90,22 @@ height = sequence = number(1, MAX_NUMBER)
 block = number(1, MAX_NUMBER - 1)
 
 
-def numbers(count, *ranges):
-    """An array of so many numbers: all types first, then the ranges, each of which is (low, high, fault)."""
+def integers(count):
+    """An array of so many integers."""
 
     def read(value, path):
         need(isinstance(value, list) and len(value) == count, 1004, path)
         for i, entry in enumerate(value):
             typed(entry, int, f"{path}[{i}]")
+
+    return read
+
+
+def numbers(count, *ranges):
+    """An array of so many numbers: all types first, then the ranges, each of which is (low, high, fault)."""
+
+    def read(value, path):
+        integers(count)(value, path)
         for i, entry in enumerate(value):
             low, high, fault = ranges[i if i < len(ranges) else -1]
             need(low <= entry <= high, fault, f"{path}[{i}]")
@@ -456,8 +469,12 @@ def read_certificate(source):
         return value
 
     def rows(count, *ranges):
+        """An array of arrays of so many numbers: all types first."""
+
         def read(value, path):
-            return [numbers(count, *ranges)(row, f"{path}[{i}]") for i, row in enumerate(typed(value, list, path))]
+            for i, row in enumerate(typed(value, list, path)):
+                integers(count)(row, f"{path}[{i}]")
+            return [numbers(count, *ranges)(row, f"{path}[{i}]") for i, row in enumerate(value)]
 
         return read
 

@@ -105,15 +105,29 @@ pub fn new_core(alloc: Global, task: &Task) -> Result<Core> {
     Ok(Core::new(alloc, config)?)
 }
 
-/// Judges an event and takes it in.
-pub fn take(core: &mut Core, event: Event) -> Result<()> {
-    let ready = core.judge(event)?;
-    core.settle(ready);
-    Ok(())
+/// What takes events in: a core, or a board.
+pub trait Intake {
+    /// Takes an event in.
+    fn take(&mut self, event: Event) -> Result<()>;
+
+    /// The core after all events that were taken in.
+    fn core(&self) -> &Core;
 }
 
-fn observe(core: &mut Core, observation: Observation) -> Result<()> {
-    take(core, Event::Observed(observation))
+impl Intake for Core {
+    fn take(&mut self, event: Event) -> Result<()> {
+        let ready = self.judge(event)?;
+        self.settle(ready);
+        Ok(())
+    }
+
+    fn core(&self) -> &Core {
+        self
+    }
+}
+
+fn observe<T: Intake>(intake: &mut T, observation: Observation) -> Result<()> {
+    intake.take(Event::Observed(observation))
 }
 
 /// What is seen of a packet.
@@ -142,54 +156,64 @@ fn packet_seen(step: Step, path: usize, sequence: Sequence) -> Result<Observatio
 }
 
 /// The same happens to each packet of each path, by rising sequences.
-fn step_packets(core: &mut Core, task: &Task, step: Step) -> Result<()> {
+fn step_packets<T: Intake>(intake: &mut T, task: &Task, step: Step) -> Result<()> {
     for place in 0..task.packets {
         let sequence = Sequence::new(u64::from(place) + 1).context("a sequence")?;
         for path in 0..task.paths {
-            observe(core, packet_seen(step, path as usize, sequence)?)?;
+            observe(intake, packet_seen(step, path as usize, sequence)?)?;
         }
     }
     Ok(())
 }
 
 /// Every packet is sent.
-pub fn send_packets(core: &mut Core, task: &Task) -> Result<()> {
-    step_packets(core, task, Step::Sent)
+pub fn send_packets<T: Intake>(intake: &mut T, task: &Task) -> Result<()> {
+    step_packets(intake, task, Step::Sent)
+}
+
+/// Every packet is sent, received, acknowledged and cleared.
+pub fn step_all<T: Intake>(intake: &mut T, task: &Task) -> Result<()> {
+    step_packets(intake, task, Step::Sent)?;
+    step_packets(intake, task, Step::Received)?;
+    step_packets(intake, task, Step::AckWritten)?;
+    step_packets(intake, task, Step::Cleared)
 }
 
 /// Four events for each packet, and how long they took.
 pub fn take_packets<R: Clock + AllocGlobal>(rt: &R, task: &Task) -> Result<String> {
     let mut core = new_core(rt.alloc(), task)?;
     let start = Instant::now(rt)?;
-    step_packets(&mut core, task, Step::Sent)?;
-    step_packets(&mut core, task, Step::Received)?;
-    step_packets(&mut core, task, Step::AckWritten)?;
-    step_packets(&mut core, task, Step::Cleared)?;
+    step_all(&mut core, task)?;
     let taken = start.elapsed(rt)?.as_micros();
     let events = core.front();
     Ok(format!(in rt.alloc(); "{events} events, taken in {taken} us")?)
 }
 
 /// The headers of a chain are seen, all signed by one set.
-pub fn see_headers(core: &mut Core, alloc: Global, chain: usize, headers: u32) -> Result<()> {
+pub fn see_headers<T: Intake>(
+    intake: &mut T,
+    alloc: Global,
+    chain: usize,
+    headers: u32,
+) -> Result<()> {
     let set = set_of(alloc, 0, VALIDATORS)?;
     let hash = *set.hash();
-    observe(core, Observation::SetSeen { chain, set })?;
+    observe(intake, Observation::SetSeen { chain, set })?;
     for place in 0..headers {
         let header = header_at(alloc, &[hash], place, headers, VALIDATORS)?;
-        observe(core, Observation::HeaderSeen { chain, header })?;
+        observe(intake, Observation::HeaderSeen { chain, header })?;
     }
     Ok(())
 }
 
 /// The window begins and ends at a time.
-pub fn enter(core: &mut Core, time: u32) -> Result<()> {
+pub fn enter<T: Intake>(intake: &mut T, time: u32) -> Result<()> {
     let moment = Moment::new(u128::from(time)).context("a time")?;
-    take(core, Event::Window(Window::at(moment)))
+    intake.take(Event::Window(Window::at(moment)))
 }
 
 /// Every client has stored the first header's record.
-pub fn store_first(core: &mut Core, alloc: Global, task: &Task) -> Result<()> {
+pub fn store_first<T: Intake>(intake: &mut T, alloc: Global, task: &Task) -> Result<()> {
     let set = set_of(alloc, 0, VALIDATORS)?;
     let header = header_at(alloc, &[*set.hash()], 0, task.headers, VALIDATORS)?;
     for client in 0..task.clients {
@@ -198,7 +222,7 @@ pub fn store_first(core: &mut Core, alloc: Global, task: &Task) -> Result<()> {
             height: Height::new(1).context("a height")?,
             record: *header.record(),
         };
-        observe(core, observation)?;
+        observe(intake, observation)?;
     }
     Ok(())
 }

@@ -2,10 +2,12 @@
 #![tactic(auto)]
 
 mod batch;
+mod board;
 mod book;
 mod certificate;
 mod gang;
 mod graph;
+mod kept;
 mod machine;
 mod plan;
 mod scan;
@@ -14,6 +16,7 @@ mod turn;
 
 use anyhow::{Context, Result, bail};
 use std::rt::{Clock, Env};
+use std::sync::Wait;
 use std::thread::Threads;
 use std::time::Instant;
 use std::{env, thread};
@@ -21,6 +24,7 @@ use std::{env, thread};
 /// The subcommands and their numbers.
 const USAGE: &str = "bench book HEADERS SETS VALIDATORS
 bench graph HEADERS SETS VALIDATORS
+bench keep HEADERS SETS VALIDATORS
 bench build HEADERS SETS VALIDATORS [WORKERS]
 bench plan HEADERS SETS VALIDATORS
 bench certify HEADERS VALIDATORS
@@ -33,6 +37,8 @@ bench batch MESSAGES PER_TRANSACTION
 bench events PACKETS PATHS
 bench views CLIENTS VIEWS HEADERS
 bench turn CLIENTS PATHS PACKETS HEADERS
+bench board PACKETS PATHS PUBLISHES
+bench desk PATHS PACKETS HEADERS VIEWS
 ";
 
 /// A subcommand and its numbers.
@@ -114,6 +120,23 @@ fn perform_machine<R: Clock + AllocGlobal>(rt: &R, task: &Task) -> Result<Option
     Ok(Some(told))
 }
 
+/// The work of boards; nothing where no such work is known.
+fn perform_board<R: Clock + Wait + AllocGlobal>(rt: &R, task: &Task) -> Result<Option<String>> {
+    let told = match task.name.as_str() {
+        "board" => {
+            let known = machine_task(2, number(task, 1)?, number(task, 0)?, 0);
+            board::publish_packets(rt, &known, number(task, 2)?)?
+        }
+        "desk" => {
+            let (paths, packets) = (number(task, 0)?, number(task, 1)?);
+            let known = machine_task(2, paths, packets, number(task, 2)?);
+            board::hold_views(rt, &known, number(task, 3)?)?
+        }
+        _ => return perform_machine(rt, task),
+    };
+    Ok(Some(told))
+}
+
 /// Plans over a book filled with headers, and tells how long that took when the table stood.
 fn plan_timed<R: Clock + AllocGlobal>(rt: &R, task: &Task) -> Result<String> {
     let alloc = rt.alloc();
@@ -146,7 +169,10 @@ fn certify_timed<R: Clock + Threads + Sync + AllocGlobal>(rt: &R, task: &Task) -
 }
 
 /// Does the work, and tells what was done; nothing where no such work is known.
-fn perform<R: Clock + Threads + AllocGlobal + Sync>(rt: &R, task: &Task) -> Result<Option<String>> {
+fn perform<R: Clock + Threads + Wait + AllocGlobal + Sync>(
+    rt: &R,
+    task: &Task,
+) -> Result<Option<String>> {
     let alloc = rt.alloc();
     let told = match task.name.as_str() {
         "book" => {
@@ -158,6 +184,10 @@ fn perform<R: Clock + Threads + AllocGlobal + Sync>(rt: &R, task: &Task) -> Resu
             let (headers, sets, validators) = book_numbers(task)?;
             let rows = graph::make_table(alloc, headers, sets, validators)?;
             format!(in alloc; "{rows} rows")?
+        }
+        "keep" => {
+            let (headers, sets, validators) = book_numbers(task)?;
+            kept::keep_timed(rt, headers, sets, validators)?
         }
         "build" => build_timed(rt, task)?,
         "plan" => plan_timed(rt, task)?,
@@ -180,12 +210,12 @@ fn perform<R: Clock + Threads + AllocGlobal + Sync>(rt: &R, task: &Task) -> Resu
             let transactions = batch::cut_messages(alloc, number(task, 0)?, number(task, 1)?)?;
             format!(in alloc; "{transactions} transactions")?
         }
-        _ => return perform_machine(rt, task),
+        _ => return perform_board(rt, task),
     };
     Ok(Some(told))
 }
 
-fn run<R: Env + Print + Clock + Threads + AllocGlobal + Sync>(rt: &R) -> Result<()> {
+fn run<R: Env + Print + Clock + Threads + Wait + AllocGlobal + Sync>(rt: &R) -> Result<()> {
     let task = read_task(rt)?;
     match perform(rt, &task)? {
         Some(told) => println!(rt; "{told}")?,

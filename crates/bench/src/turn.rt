@@ -1,5 +1,5 @@
 //! A turn of the relayer machine: every path scanned, every client seen, and a plan for each.
-use crate::machine::{Task, enter, new_core, see_headers, send_packets, store_first, take};
+use crate::machine::{Intake, Task, enter, new_core, see_headers, send_packets, store_first};
 use anyhow::{Result, bail};
 use rb_core::{Core, Draft, Event, JobView, draft, scan};
 use rb_graph::Graph;
@@ -9,17 +9,17 @@ use std::rt::Clock;
 use std::time::Instant;
 
 /// Scans a part of a path as it is seen, and takes the scan in.
-fn scan_part(core: &mut Core, path: usize, view: &PathView, part: Part) -> Result<()> {
+fn scan_part<T: Intake>(intake: &mut T, path: usize, view: &PathView, part: Part) -> Result<()> {
     let found = scan(view, part)?;
-    take(core, Event::Scanned { path, scan: found })
+    intake.take(Event::Scanned { path, scan: found })
 }
 
 /// Scans both parts of each path.
-fn scan_paths(core: &mut Core, task: &Task) -> Result<()> {
+pub fn scan_paths<T: Intake>(intake: &mut T, task: &Task) -> Result<()> {
     for path in 0..task.paths as usize {
-        let view = core.path_view(path)?;
-        scan_part(core, path, &view, Part::Packets)?;
-        scan_part(core, path, &view, Part::Channel)?;
+        let view = intake.core().path_view(path)?;
+        scan_part(intake, path, &view, Part::Packets)?;
+        scan_part(intake, path, &view, Part::Channel)?;
     }
     Ok(())
 }
@@ -73,25 +73,24 @@ fn plan_all(alloc: Global, tables: &[Graph], views: &[JobView]) -> Result<Vec<Dr
 fn take_plans(core: &mut Core, plans: Vec<Draft>) -> Result<usize> {
     let count = plans.len();
     for plan in plans {
-        take(core, Event::Planned(plan))?;
+        core.take(Event::Planned(plan))?;
     }
     Ok(count)
 }
 
-/// A core that knows the headers of the first chain, and of each path the packets that were sent.
-fn filled_core(alloc: Global, task: &Task) -> Result<Core> {
-    let mut core = new_core(alloc, task)?;
-    see_headers(&mut core, alloc, 0, task.headers)?;
-    send_packets(&mut core, task)?;
-    store_first(&mut core, alloc, task)?;
-    enter(&mut core, task.headers)?;
-    Ok(core)
+/// The headers of the first chain are seen, and the packets of each path are sent.
+pub fn fill<T: Intake>(intake: &mut T, alloc: Global, task: &Task) -> Result<()> {
+    see_headers(intake, alloc, 0, task.headers)?;
+    send_packets(intake, task)?;
+    store_first(intake, alloc, task)?;
+    enter(intake, task.headers)
 }
 
 /// A turn, and how long each part of it took.
 pub fn take_turn<R: Clock + AllocGlobal>(rt: &R, task: &Task) -> Result<String> {
     let alloc = rt.alloc();
-    let mut core = filled_core(alloc, task)?;
+    let mut core = new_core(alloc, task)?;
+    fill(&mut core, alloc, task)?;
     let start = Instant::now(rt)?;
     scan_paths(&mut core, task)?;
     let scanned = start.elapsed(rt)?.as_micros();
