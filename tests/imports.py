@@ -226,6 +226,8 @@ CHANGES = [
     (written("hub-4/status.json", "{}"), "refused UnknownShape at -", 1, ["hub-4/status.json"]),
     (written("hub-on-zone/gateway.json", '{"code": 5, "message": "client not found", "details": []}'), "refused NodeError at -", 1, ["gateway.json"]),
     (moved(COMMIT_FILE, "hub-4/again.json", copy=True), "refused TwoAnswers at hub-4 80", 1, [COMMIT_FILE, "hub-4/again.json"]),
+    (written("hub-4/\x1b[1m.json", "{"), "refused NotJson at -", 1, [r"hub-4/\u{1b}[1m.json: "]),
+    (moved(COMMIT_FILE, "hub-4/again\n.json", copy=True), "refused TwoAnswers at hub-4 80", 1, [COMMIT_FILE, r"hub-4/again\u{a}.json"]),
     (moved(PAGE_FILE, "hub-4/again.json", copy=True), "refused TooManyValidators at hub-4 80", 1, ["hub-4/again.json"]),
     (removed("hub-4/validators-80-2.json"), "refused MissingPage at hub-4 80", 1, [COMMIT_FILE, PAGE_FILE]),
     (edited(PAGE_FILE, put("result.block_height", "79")), "refused MissingPage at hub-4 80", 1, [COMMIT_FILE, "hub-4/validators-80-2.json"]),
