@@ -70,7 +70,10 @@ def run_watched(words, given, output):
     done = subprocess.run(words, input=given, stdout=output, stderr=theirs, timeout=120)
     os.write(theirs, b".")  # so that there is something to read
     os.close(theirs)
-    error = os.read(ours, 65_536).removesuffix(b".")
+    error = b""
+    while not error.endswith(b"."):
+        error += os.read(ours, 65_536)
+    error = error.removesuffix(b".")
     os.close(ours)
     return done, error.replace(b"\r\n", b"\n")
 

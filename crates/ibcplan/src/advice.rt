@@ -130,7 +130,13 @@ fn type_at(path: &str) -> &'static str {
         | "set"
         | "next"
         | "root"
-        | "votes" => "a text in quotes belongs here",
+        | "votes"
+        | "port"
+        | "channel"
+        | "answer" => "a text in quotes belongs here",
+        "defaults" => "a table belongs here, as [chain.defaults]",
+        "updates" => "pairs of a height and a trusted height belong here, as [[3, 1]]",
+        "labels" => "a height, a fee and a count belong here, as [[3, 112, 1]]",
         "chain" | "client" | "path" if !table.is_empty() => "a text in quotes belongs here",
         _ => "a value of another type, or an array of another length, belongs here",
     }

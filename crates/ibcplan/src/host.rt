@@ -1,8 +1,9 @@
 //! What the program asks of the system.
 use std::rt::Runtime;
+use std::sync::Wait;
 use std::thread::Threads;
 
-/// Files, streams, memory and threads.
-pub trait Host: Runtime + AllocGlobal + Threads + Sync {}
+/// Files, streams, memory, and threads, which it may wait for and which may use it.
+pub trait Host: Runtime + AllocGlobal + Threads + Wait + Copy + Send + Sync + 'static {}
 
-impl<R: Runtime + AllocGlobal + Threads + Sync> Host for R {}
+impl<R: Runtime + AllocGlobal + Threads + Wait + Copy + Send + Sync + 'static> Host for R {}

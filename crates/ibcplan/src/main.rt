@@ -10,6 +10,7 @@ mod host;
 mod importing;
 mod input;
 mod perform;
+mod progress;
 mod shown;
 mod status;
 mod tally;
@@ -27,7 +28,7 @@ Rename the file, or give it as standard input: ibcplan plan - < FILE
 For more information, try '--help'.";
 
 /// Does what the command line asks for, and answers the status to end with. Where somebody watches
-/// what goes to standard error, it says there how many events were refused.
+/// what goes to standard error, it says there how far a long run is, and how many events were refused.
 fn run<R: Host>(rt: &R, is_watched: bool) -> io::Result<u8> {
     let words: Vec<String> = env::args(rt)?.collect(rt.alloc())?;
     Ok(match task::read_task(rt.alloc(), words.as_slice()) {

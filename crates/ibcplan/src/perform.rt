@@ -6,6 +6,7 @@ use crate::failure::Failure;
 use crate::host::Host;
 use crate::importing::imported;
 use crate::input::Input;
+use crate::progress::Progress;
 use crate::status;
 use crate::tally::Tally;
 use crate::task::Task;
@@ -13,19 +14,20 @@ use crate::workers::Workers;
 use clap::error::ErrorKind;
 use rb_base::{Counted, Sink, write_whole};
 use rb_fields::RunError;
-use rb_gang::OpenGate;
+use rb_gang::{Gate, OpenGate};
 use rb_output::{commands_of, json_of};
 use rb_super::run_script;
 use rb_text::{Source, certify_texts, read_script, run_over};
 use std::alloc::Global;
 use std::io;
 use std::io::{Printer, Write};
+use std::sync::{Arc, Wait};
 use std::thread::Threads;
 
-/// Does a task, and answers the status to end with; says how many events were refused, if that is to
-/// be told.
-pub fn perform<R: Host>(rt: &R, task: Task<'_>, tells_refused: bool) -> u8 {
-    match outcome_of(rt, task, tells_refused) {
+/// Does a task, and answers the status to end with. Where standard error is watched it says there how
+/// far a long run is, and how many events were refused.
+pub fn perform<R: Host>(rt: &R, task: Task<'_>, is_watched: bool) -> u8 {
+    match outcome_of(rt, task, is_watched) {
         Ok(status) => status,
         Err(failure) => {
             let _ = eprintln!(rt; "{failure}");
@@ -56,12 +58,13 @@ pub fn no_memory<R: Eprint>(rt: &R) -> u8 {
 }
 
 /// Reads the files of a task, does it, and sends on what the writer may still hold.
-fn outcome_of<'a, R: Host>(rt: &R, task: Task<'a>, tells_refused: bool) -> Result<u8, Failure<'a>> {
+fn outcome_of<'a, R: Host>(rt: &R, task: Task<'a>, is_watched: bool) -> Result<u8, Failure<'a>> {
     let mut output = Tally::new(Counted::new(io::writer(rt)));
     let status = match task {
         Task::Plan { script, workers } => {
             let script = Input::read(rt, script)?;
-            plan(rt, rt.alloc(), &script, workers, &mut output)?
+            let progress = Progress::new(*rt, is_watched);
+            plan(rt, rt.alloc(), &script, workers, progress, &mut output)?
         }
         Task::PlanJson { script } => {
             let script = Input::read(rt, script)?;
@@ -89,7 +92,7 @@ fn outcome_of<'a, R: Host>(rt: &R, task: Task<'a>, tells_refused: bool) -> Resul
     };
     let refused = output.refused();
     flush(output.into_inner())?;
-    if tells_refused && refused > 0 {
+    if is_watched && refused > 0 {
         let _ = eprintln!(rt;
             "refused events: {refused}; their lines in the report begin with 'refused event'"
         );
@@ -97,19 +100,28 @@ fn outcome_of<'a, R: Host>(rt: &R, task: Task<'a>, tells_refused: bool) -> Resul
     Ok(status)
 }
 
-/// Writes the report of the script that a file holds, by so many threads.
-fn plan<'a, R: Threads + Sync, W: Sink>(
+/// Writes the report of the script that a file holds, by so many workers, through a gate.
+fn plan<
+    'a,
+    R: Threads + Wait + Copy + Send + Sync + 'static,
+    G: Gate + Send + Sync + Drop + 'static,
+    W: Sink,
+>(
     rt: &R,
     alloc: Global,
     script: &Input<'a>,
     workers: Workers,
+    gate: G,
     output: &mut W,
 ) -> Result<u8, Failure<'a>>
     requires { W.is_broken output.old ≡ false }
     ensures done { IfOk result (IsPlanned script.now.bytes.items (W.taken output.old) (W.taken output.new)) }
 {
+    let Ok(gate) = Arc::new(alloc, gate) else {
+        return Err(Failure::NoMemory);
+    };
     let workers = workers.count();
-    match run_over(rt, alloc, script.bytes(), output, workers, &OpenGate) {
+    match run_over(rt, alloc, script.bytes(), output, workers, &gate) {
         Ok(()) => Ok(status::DONE),
         Err(error) => Err(Failure::of_run(error, script)),
     }
@@ -144,7 +156,7 @@ fn form_of<R: Threads + Sync>(
 ) -> Result<String, RunError> {
     let script = read_script(alloc, bytes)?;
     let config = script.config.copy()?;
-    let report = run_script(rt, alloc, script, 1, &OpenGate)?;
+    let report = run_script(rt, alloc, script, 0, &OpenGate)?;
     match form {
         Form::Json => Ok(json_of(alloc, &report)?),
         Form::Commands => Ok(commands_of(alloc, &config, &report)?),

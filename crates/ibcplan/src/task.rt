@@ -8,7 +8,7 @@ use std::alloc::{AllocError, Global};
 /// What the program is asked to do, with the paths of its files.
 #[derive(Clone, Copy, Debug)]
 pub enum Task<'a> {
-    /// Write a script's report, by so many threads.
+    /// Write a script's report, by so many workers.
     Plan {
         script: &'a str,
         workers: Workers,
@@ -78,8 +78,8 @@ const AFTER_RUN: &str = "Examples:
   ibcplan run examples/packets.toml
   ibcplan run --workers 4 examples/hundred_headers.toml
 
-It writes what plan writes, whatever the number of threads; several are faster
-where a script has many headers over many sets of validators.";
+It writes what plan writes, whatever the number of threads. Measure before you
+use it: where a plan takes less than a second or two, plan is faster.";
 
 const AFTER_COMMANDS: &str = "Examples:
   ibcplan commands examples/smallest.toml
@@ -127,7 +127,9 @@ fn run_command<'a>(alloc: Global) -> Result<Command<'a>, AllocError> {
         .value_name("K")
         .value_parser(value_parser!(usize).range(1..=64))
         .default_value("1")
-        .help("How many threads make the step tables, 1 to 64");
+        .help(
+            "How many threads make step tables, scan the paths and plan for the clients, 1 to 64",
+        );
     Command::new(alloc, RUN)
         .about("Writes the report of a script as plan does, by several threads")
         .after_help(AFTER_RUN)
@@ -216,7 +218,7 @@ fn task_of<'a>(matches: &ArgMatches<'a>) -> Option<Task<'a>> {
     } else if given.get_flag(JSON) {
         Some(Task::PlanJson { script })
     } else {
-        let workers = Workers::one();
+        let workers = Workers::none();
         Some(Task::Plan { script, workers })
     }
 }

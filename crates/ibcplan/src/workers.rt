@@ -1,7 +1,7 @@
-//! How many threads work on a script.
+//! How many workers a script has.
 ghost use Rattle.std.specs.Prelude.{◌≤◌};
 
-/// A number of threads, from 1 to 64.
+/// A number of workers in threads of their own, up to 64.
 #[derive(Clone, Copy, Debug)]
 pub struct Workers {
     count: usize,
@@ -9,12 +9,12 @@ pub struct Workers {
 }
 
 impl Workers {
-    /// The calling thread alone.
-    pub fn one() -> Workers {
-        Workers { count: 1 }
+    /// None: the calling thread does all.
+    pub fn none() -> Workers {
+        Workers { count: 0 }
     }
 
-    /// So many threads, if they are from 1 to 64.
+    /// So many workers, if they are from 1 to 64.
     pub fn new(count: usize) -> Option<Workers> {
         if (1..=64).contains(&count) {
             Some(Workers { count })

@@ -1,4 +1,4 @@
 pub mod Dashes
-pub mod Steps
+pub mod Counts
 pub mod Values
 pub mod Durations

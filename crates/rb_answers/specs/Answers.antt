@@ -7,13 +7,13 @@ use Rattle.serde_json.specs.Read.{read as read_text}
 use Rattle.rb_answers.specs.declared.answer.Answer.{Answer}
 use Rattle.rb_answers.specs.declared.answer.Answer.TheVariants as answers
 use Rattle.rb_answers.specs.declared.client.ClientState.{ClientState}
-use Rattle.rb_answers.specs.declared.flaw.Flaw.{Flaw}
-use Rattle.rb_answers.specs.declared.flaw.FlawName.{FlawName}
-use Rattle.rb_answers.specs.declared.flaw.FlawName.TheVariants.{NotJson, UnknownShape, NodeError}
-use Rattle.rb_answers.specs.declared.place.Key.{Key}
-use Rattle.rb_answers.specs.declared.place.Part.{Part}
-use Rattle.rb_answers.specs.Flaws.{◌>>=◌, or_flaw}
-use Rattle.rb_answers.specs.Fields.{Object}
+use Rattle.rb_json.specs.declared.flaw.Flaw.{Flaw}
+use Rattle.rb_json.specs.declared.flaw.FlawName.{FlawName}
+use Rattle.rb_json.specs.declared.flaw.FlawName.TheVariants.{NotJson, UnknownShape, NodeError}
+use Rattle.rb_json.specs.declared.place.Key.{Key}
+use Rattle.rb_json.specs.declared.place.Part.{Part}
+use Rattle.rb_json.specs.Flaws.{◌>>=◌, or_flaw}
+use Rattle.rb_json.specs.Fields.{Object}
 use Rattle.rb_answers.specs.Headers.{Signed, signed, signed_view}
 use Rattle.rb_answers.specs.Validators.{Page, page, page_view}
 use Rattle.rb_answers.specs.Clients.{client_state, States, states, states_view}

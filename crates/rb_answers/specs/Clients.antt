@@ -6,12 +6,12 @@ use Rattle.rb_answers.specs.declared.client.ClientState.{ClientState}
 use Rattle.rb_answers.specs.declared.client.ConsensusPage.{ConsensusPage}
 use Rattle.rb_answers.specs.declared.client.ConsensusState.{ConsensusState}
 use Rattle.rb_answers.specs.declared.client.TrustLevel.{TrustLevel}
-use Rattle.rb_answers.specs.declared.flaw.Flaw.{Flaw}
-use Rattle.rb_answers.specs.declared.flaw.FlawName.TheVariants.{ForeignClient, FrozenClient, BadTrust, BadDuration}
-use Rattle.rb_answers.specs.declared.place.Key.{Key}
-use Rattle.rb_answers.specs.declared.place.Part.{Part}
-use Rattle.rb_answers.specs.Flaws.{◌>>=◌, or_flaw, must}
-use Rattle.rb_answers.specs.Fields.{Object, flaw_at, field, inner, object, items, text, number, height, chain, time, hex, base64, each}
+use Rattle.rb_json.specs.declared.flaw.Flaw.{Flaw}
+use Rattle.rb_json.specs.declared.flaw.FlawName.TheVariants.{ForeignClient, FrozenClient, BadTrust, BadDuration}
+use Rattle.rb_json.specs.declared.place.Key.{Key}
+use Rattle.rb_json.specs.declared.place.Part.{Part}
+use Rattle.rb_json.specs.Flaws.{◌>>=◌, or_flaw, must}
+use Rattle.rb_json.specs.Fields.{Object, flaw_at, field, inner, object, items, text, number, height, chain, time, hex, base64, each}
 use Rattle.rb_answers.specs.Durations.{nanoseconds_of}
 
 -- only Tendermint's light clients are read

@@ -1,7 +1,7 @@
 -- Durations, as protocol buffers stand in JSON: decimal seconds with up to nine digits of a fraction, and an s.
 use Rattle.std.specs.Prelude.{ℕ, ◌+◌, ◌-◌, ◌*◌, ◌^◌, ◌&&◌, ◌==◌, nat_le, nat_lt, if◌then◌else◌, Bool, List, [], ◌∷◌, length, Option, Some, None, option_map, option_and_then}
 use Rattle.std.specs.List.{list_all, position_or_len, before_first, after_first}
-use Rattle.rb_answers.specs.Values.{number_of}
+use Rattle.rb_json.specs.Values.{number_of}
 
 abbrev pub is_point : ℕ → Bool
 is_point b = b == 46

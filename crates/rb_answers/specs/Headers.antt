@@ -4,12 +4,12 @@ use Rattle.rb_answers.specs.declared.commit.BlockIdFlag.TheVariants.{Absent, Com
 use Rattle.rb_answers.specs.declared.commit.BlockIdFlag.{BlockIdFlag}
 use Rattle.rb_answers.specs.declared.commit.Signature.{Signature}
 use Rattle.rb_answers.specs.declared.commit.SignedHeader.{SignedHeader}
-use Rattle.rb_answers.specs.declared.flaw.Flaw.{Flaw}
-use Rattle.rb_answers.specs.declared.flaw.FlawName.TheVariants.{OtherHeight}
-use Rattle.rb_answers.specs.declared.place.Key.{Key}
-use Rattle.rb_answers.specs.declared.place.Part.{Part}
-use Rattle.rb_answers.specs.Flaws.{◌>>=◌, must}
-use Rattle.rb_answers.specs.Fields.{Object, flaw_at, object, items, height, chain, time, hex, each}
+use Rattle.rb_json.specs.declared.flaw.Flaw.{Flaw}
+use Rattle.rb_json.specs.declared.flaw.FlawName.TheVariants.{OtherHeight}
+use Rattle.rb_json.specs.declared.place.Key.{Key}
+use Rattle.rb_json.specs.declared.place.Part.{Part}
+use Rattle.rb_json.specs.Flaws.{◌>>=◌, must}
+use Rattle.rb_json.specs.Fields.{Object, flaw_at, object, items, height, chain, time, hex, each}
 use Rattle.rb_answers.specs.Votes.{flag}
 
 -- a header (CometBFT, `Header`): its chain, height and time, the root of its state (`app_hash`), and the hashes of its own set and the next

@@ -1,7 +1,3 @@
-pub mod Names
-pub mod Flaws
-pub mod Values
-pub mod Fields
 pub mod Votes
 pub mod Headers
 pub mod Validators

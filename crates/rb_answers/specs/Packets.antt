@@ -13,14 +13,14 @@ use Rattle.rb_answers.specs.declared.packets.PacketEvent.{PacketEvent}
 use Rattle.rb_answers.specs.declared.packets.PacketPage.{PacketPage}
 use Rattle.rb_answers.specs.declared.packets.RevisionHeight.{RevisionHeight}
 use Rattle.rb_answers.specs.declared.packets.Timeout.{Timeout as CodeTimeout}
-use Rattle.rb_answers.specs.declared.flaw.Flaw.{Flaw}
-use Rattle.rb_answers.specs.declared.flaw.FlawName.TheVariants.{MissingField, WrongType, BadNumber, BadBase64}
-use Rattle.rb_answers.specs.declared.place.Key.{Key}
-use Rattle.rb_answers.specs.declared.place.Part.{Part}
-use Rattle.rb_answers.specs.Flaws.{◌>>=◌, or_flaw}
-use Rattle.rb_answers.specs.Fields.{Object, flaw_at, field, inner, items, text, number, height}
-use Rattle.rb_answers.specs.Names.{key_name}
-use Rattle.rb_answers.specs.Values.{number_of}
+use Rattle.rb_json.specs.declared.flaw.Flaw.{Flaw}
+use Rattle.rb_json.specs.declared.flaw.FlawName.TheVariants.{MissingField, WrongType, BadNumber, BadBase64}
+use Rattle.rb_json.specs.declared.place.Key.{Key}
+use Rattle.rb_json.specs.declared.place.Part.{Part}
+use Rattle.rb_json.specs.Flaws.{◌>>=◌, or_flaw}
+use Rattle.rb_json.specs.Fields.{Object, flaw_at, field, inner, items, text, number, height}
+use Rattle.rb_json.specs.Names.{key_name}
+use Rattle.rb_json.specs.Values.{number_of}
 
 -- what was done with a packet, by an event's type
 abbrev pub kind_of : List ℕ → Option PacketKind

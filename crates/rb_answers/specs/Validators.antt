@@ -3,12 +3,12 @@ use Rattle.std.specs.Prelude.{ℕ, List, [], Option, Some, None, Result, Ok, ◌
 use Rattle.std.specs.Str.{bytes_eq}
 use Rattle.rb_valset.specs.Validator.{Member, max_power}
 use Rattle.rb_answers.specs.declared.validators.ValidatorsPage.{ValidatorsPage}
-use Rattle.rb_answers.specs.declared.flaw.Flaw.{Flaw}
-use Rattle.rb_answers.specs.declared.flaw.FlawName.TheVariants.{ForeignKey, BadPower}
-use Rattle.rb_answers.specs.declared.place.Key.{Key}
-use Rattle.rb_answers.specs.declared.place.Part.{Part}
-use Rattle.rb_answers.specs.Flaws.{◌>>=◌, or_flaw, must}
-use Rattle.rb_answers.specs.Fields.{Object, flaw_at, inner, items, text, number, height, base64, each}
+use Rattle.rb_json.specs.declared.flaw.Flaw.{Flaw}
+use Rattle.rb_json.specs.declared.flaw.FlawName.TheVariants.{ForeignKey, BadPower}
+use Rattle.rb_json.specs.declared.place.Key.{Key}
+use Rattle.rb_json.specs.declared.place.Part.{Part}
+use Rattle.rb_json.specs.Flaws.{◌>>=◌, or_flaw, must}
+use Rattle.rb_json.specs.Fields.{Object, flaw_at, inner, items, text, number, height, base64, each}
 
 -- a validator's key, which has to be of ed25519
 unfoldable pub key : Object → Result (List ℕ) Flaw

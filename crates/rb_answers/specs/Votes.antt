@@ -3,11 +3,11 @@ use Rattle.std.specs.Prelude.{ℕ, Option, Some, None, option_and_then, Result, 
 use Rattle.serde_json.specs.Find.{as_number, as_u64}
 use Rattle.rb_answers.specs.declared.commit.BlockIdFlag.{BlockIdFlag}
 use Rattle.rb_answers.specs.declared.commit.BlockIdFlag.TheVariants.{Absent, Commit, Nil}
-use Rattle.rb_answers.specs.declared.flaw.Flaw.{Flaw}
-use Rattle.rb_answers.specs.declared.flaw.FlawName.TheVariants.{WrongType, BadFlag}
-use Rattle.rb_answers.specs.declared.place.Key.{Key}
-use Rattle.rb_answers.specs.Flaws.{◌>>=◌, or_flaw}
-use Rattle.rb_answers.specs.Fields.{Object, flaw_at, field}
+use Rattle.rb_json.specs.declared.flaw.Flaw.{Flaw}
+use Rattle.rb_json.specs.declared.flaw.FlawName.TheVariants.{WrongType, BadFlag}
+use Rattle.rb_json.specs.declared.place.Key.{Key}
+use Rattle.rb_json.specs.Flaws.{◌>>=◌, or_flaw}
+use Rattle.rb_json.specs.Fields.{Object, flaw_at, field}
 
 -- 1 is absent, 2 a vote for the block, 3 a vote for no block
 abbrev pub flag_of : ℕ → Option BlockIdFlag

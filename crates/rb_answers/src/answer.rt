@@ -1,17 +1,15 @@
 //! An answer, known by what is in it.
 ghost use Rattle.std.specs.Prelude.{◌≡◌};
 ghost use Rattle.serde_json.specs.View.{view};
-ghost use Rattle.rb_answers.specs.Flaws.{Gives, or_flaw};
-ghost use Rattle.rb_answers.specs.Fields.{object_view};
+ghost use Rattle.rb_json.specs.Flaws.{Gives, or_flaw};
+ghost use Rattle.rb_json.specs.Fields.{object_view};
 ghost use Rattle.rb_answers.specs.Answers.{answer_view, whole, is_error, json, result as result_told, state as state_told, told};
 
 use crate::client::{ClientState, ConsensusPage, read_client_state, read_consensus_states};
 use crate::commit::{SignedHeader, read_commit};
-use crate::flaw::{AnswerError, Flaw, FlawName};
-use crate::object::Object;
 use crate::packets::{PacketPage, read_transactions};
-use crate::place::{Key, Part, Place};
 use crate::validators::{ValidatorsPage, read_page};
+use rb_json::{AnswerError, Flaw, FlawName, Key, Object, Part, Place};
 use serde_json::Value;
 use std::alloc::Global;
 
@@ -32,7 +30,7 @@ pub enum Answer {
 
 /// Reads an answer: JSON, which is known by its members. What is read is what the JSON says; `Flaw`
 /// is the first thing that is wrong, `NoMemory` comes where a growth is refused.
-#[tactic(auto, using(crate::proofs::Steps::steps), unfolding(crate::specs::Answers::told, crate::specs::Answers::answer))]
+#[tactic(auto, using(rb_json::proofs::Steps::steps), unfolding(crate::specs::Answers::told, crate::specs::Answers::answer))]
 pub fn read_answer(alloc: Global, bytes: &[u8]) -> Result<Answer, AnswerError>
     ensures { Gives (λ a. answer_view a) result (told bytes.now) }
 {
@@ -70,7 +68,7 @@ fn is_error(value: &Value) -> bool
 }
 
 /// Reads the `result` of one of CometBFT's answers.
-#[tactic(auto, using(crate::proofs::Steps::steps), unfolding(crate::specs::Answers::result))]
+#[tactic(auto, using(rb_json::proofs::Steps::steps), unfolding(crate::specs::Answers::result))]
 fn read_result(alloc: Global, answer: &Object<'_>) -> Result<Answer, AnswerError>
     ensures { Gives (λ a. answer_view a) result (result_told (object_view answer.now)) }
 {
@@ -86,7 +84,7 @@ fn read_result(alloc: Global, answer: &Object<'_>) -> Result<Answer, AnswerError
 }
 
 /// Reads one of the REST gateway's answers.
-#[tactic(auto, using(crate::proofs::Steps::steps), unfolding(crate::specs::Answers::state))]
+#[tactic(auto, using(rb_json::proofs::Steps::steps), unfolding(crate::specs::Answers::state))]
 fn read_state(alloc: Global, answer: &Object<'_>) -> Result<Answer, AnswerError>
     ensures { Gives (λ a. answer_view a) result (state_told (object_view answer.now)) }
 {

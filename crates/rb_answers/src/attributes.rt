@@ -1,17 +1,14 @@
 //! The attributes of an event.
 ghost use Rattle.std.specs.Prelude.{◌≡◌, option_map, string_bytes};
 ghost use Rattle.serde_json.specs.View.{view, items_view};
-ghost use Rattle.rb_answers.specs.Flaws.{Gives};
-ghost use Rattle.rb_answers.specs.Fields.{object_view, flaw_at};
+ghost use Rattle.rb_json.specs.Flaws.{Gives};
+ghost use Rattle.rb_json.specs.Fields.{object_view, flaw_at};
 ghost use Rattle.rb_answers.specs.Packets.{encoded_name, member_text, decoded, if_utf8, entry_text, attribute, attribute_number, attribute_height, source, revision_height_of};
 
-use crate::flaw::{AnswerError, FlawName};
-use crate::object::Object;
 use crate::packets::RevisionHeight;
-use crate::place::Key;
-use crate::scalar::number_of;
 use base64::DecodeAllocError;
 use base64::engine::general_purpose::STANDARD;
+use rb_json::{AnswerError, FlawName, Key, Object, number_of};
 use serde_json::Value;
 use std::alloc::Global;
 
@@ -39,7 +36,7 @@ pub struct Attributes<'a> {
 
 impl Attributes<'_> {
     /// The number that an attribute holds.
-    #[tactic(auto, using(crate::proofs::Steps::steps), unfolding(crate::specs::Packets::attribute_number))]
+    #[tactic(auto, using(rb_json::proofs::Steps::steps), unfolding(crate::specs::Packets::attribute_number))]
     pub fn number(&self, name: Key) -> Result<u64, AnswerError>
         ensures { Gives (λ n. n) result (attribute_number name (object_view self.now.event) (items_view self.now.items.now)) }
     {
@@ -50,7 +47,7 @@ impl Attributes<'_> {
     }
 
     /// The height that an attribute holds, as `REVISION-HEIGHT`.
-    #[tactic(auto, using(crate::proofs::Steps::steps), unfolding(crate::specs::Packets::attribute_height))]
+    #[tactic(auto, using(rb_json::proofs::Steps::steps), unfolding(crate::specs::Packets::attribute_height))]
     pub fn height(&self, name: Key) -> Result<RevisionHeight, AnswerError>
         ensures { Gives (λ h. h) result (attribute_height name (object_view self.now.event) (items_view self.now.items.now)) }
     {
@@ -61,7 +58,7 @@ impl Attributes<'_> {
     }
 
     /// The port and the channel of the packet's source.
-    #[tactic(auto, using(crate::proofs::Steps::steps), unfolding(crate::specs::Packets::source))]
+    #[tactic(auto, using(rb_json::proofs::Steps::steps), unfolding(crate::specs::Packets::source))]
     pub fn source(&self) -> Result<String, AnswerError>
         ensures { Gives (λ t. string_bytes t) result (source (object_view self.now.event) (items_view self.now.items.now)) }
     {
@@ -73,7 +70,7 @@ impl Attributes<'_> {
     }
 
     /// The text that an attribute holds, which has to be there.
-    #[tactic(auto, using(crate::proofs::Steps::steps))]
+    #[tactic(auto, using(rb_json::proofs::Steps::steps))]
     fn text(&self, name: Key) -> Result<String, AnswerError>
         ensures { Gives (λ t. string_bytes t) result (attribute name (object_view self.now.event) (items_view self.now.items.now)) }
     {
@@ -86,7 +83,7 @@ impl Attributes<'_> {
     }
 
     /// The text that an entry holds, if it is of this name.
-    #[tactic(auto, using(crate::proofs::Steps::steps), unfolding(crate::specs::Packets::entry_text))]
+    #[tactic(auto, using(rb_json::proofs::Steps::steps), unfolding(crate::specs::Packets::entry_text))]
     fn text_in(&self, name: Key, item: &Value) -> Result<Option<String>, AnswerError>
         ensures { Gives (λ o. option_map string_bytes o) result (entry_text name (object_view self.now.event) (view item.now)) }
     {
@@ -103,7 +100,7 @@ impl Attributes<'_> {
     }
 
     /// The text that a value in base64 stands for.
-    #[tactic(auto, using(crate::proofs::Steps::steps), unfolding(crate::specs::Packets::decoded))]
+    #[tactic(auto, using(rb_json::proofs::Steps::steps), unfolding(crate::specs::Packets::decoded))]
     fn decoded(&self, name: Key, value: &str) -> Result<String, AnswerError>
         ensures { Gives (λ t. string_bytes t) result (decoded name (object_view self.now.event) value.now) }
     {

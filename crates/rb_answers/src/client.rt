@@ -2,15 +2,13 @@
 //! has stored.
 ghost use Rattle.std.specs.Prelude.{◌≡◌, []};
 ghost use Rattle.serde_json.specs.View.{items_view};
-ghost use Rattle.rb_answers.specs.Flaws.{Reads, Gives};
-ghost use Rattle.rb_answers.specs.Fields.{object_view, each};
+ghost use Rattle.rb_json.specs.Flaws.{Reads, Gives};
+ghost use Rattle.rb_json.specs.Fields.{object_view, each};
 ghost use Rattle.rb_answers.specs.Clients.{tendermint, live, revision, trust, period_of, period, drift_of, drift, client_state, root, consensus_state, is_last, states, states_view};
 
 use crate::duration::nanoseconds_of;
-use crate::flaw::{AnswerError, Flaw, FlawName};
-use crate::object::Object;
-use crate::place::{Key, Part};
 use rb_base::{ChainId, Fraction, Height, Moment, Period};
+use rb_json::{AnswerError, Flaw, FlawName, Key, Object, Part};
 use serde_json::Value;
 use std::alloc::Global;
 
@@ -53,7 +51,7 @@ pub struct ConsensusPage {
 }
 
 /// Reads an answer of `client_states/ID`.
-#[tactic(auto, using(crate::proofs::Steps::steps), unfolding(crate::specs::Clients::client_state))]
+#[tactic(auto, using(rb_json::proofs::Steps::steps), unfolding(crate::specs::Clients::client_state))]
 pub(crate) fn read_client_state(answer: &Object<'_>) -> Result<ClientState, Flaw>
     ensures { Reads (λ s. s) result (client_state (object_view answer.now)) }
 {
@@ -75,7 +73,7 @@ pub(crate) fn read_client_state(answer: &Object<'_>) -> Result<ClientState, Flaw
 }
 
 /// Refuses a client that isn't Tendermint's.
-#[tactic(auto, using(crate::proofs::Steps::steps), unfolding(crate::specs::Clients::tendermint))]
+#[tactic(auto, using(rb_json::proofs::Steps::steps), unfolding(crate::specs::Clients::tendermint))]
 fn judge_type(state: &Object<'_>) -> Result<(), Flaw>
     ensures { Reads (λ u. u) result (tendermint (object_view state.now)) }
 {
@@ -86,7 +84,7 @@ fn judge_type(state: &Object<'_>) -> Result<(), Flaw>
 }
 
 /// Refuses a client that is frozen, as its frozen height says, which is 0-0 for others.
-#[tactic(auto, using(crate::proofs::Steps::steps), unfolding(crate::specs::Clients::live))]
+#[tactic(auto, using(rb_json::proofs::Steps::steps), unfolding(crate::specs::Clients::live))]
 fn judge_frozen(state: &Object<'_>) -> Result<(), Flaw>
     ensures { Reads (λ u. u) result (live (object_view state.now)) }
 {
@@ -101,7 +99,7 @@ fn judge_frozen(state: &Object<'_>) -> Result<(), Flaw>
 }
 
 /// The revision number of the chain that it tracks.
-#[tactic(auto, using(crate::proofs::Steps::steps), unfolding(crate::specs::Clients::revision))]
+#[tactic(auto, using(rb_json::proofs::Steps::steps), unfolding(crate::specs::Clients::revision))]
 fn read_revision(state: &Object<'_>) -> Result<u64, Flaw>
     ensures { Reads (λ n. n) result (revision (object_view state.now)) }
 {
@@ -109,7 +107,7 @@ fn read_revision(state: &Object<'_>) -> Result<u64, Flaw>
     latest.number(Key::RevisionNumber)
 }
 
-#[tactic(auto, using(crate::proofs::Steps::steps), unfolding(crate::specs::Clients::trust))]
+#[tactic(auto, using(rb_json::proofs::Steps::steps), unfolding(crate::specs::Clients::trust))]
 fn read_trust(state: &Object<'_>) -> Result<TrustLevel, Flaw>
     ensures { Reads (λ t. t) result (trust (object_view state.now)) }
 {
@@ -125,7 +123,7 @@ fn read_trust(state: &Object<'_>) -> Result<TrustLevel, Flaw>
     }
 }
 
-#[tactic(auto, using(crate::proofs::Steps::steps), unfolding(crate::specs::Clients::period))]
+#[tactic(auto, using(rb_json::proofs::Steps::steps), unfolding(crate::specs::Clients::period))]
 fn read_period(state: &Object<'_>) -> Result<Period, Flaw>
     ensures { Reads (λ p. p) result (period (object_view state.now)) }
 {
@@ -143,7 +141,7 @@ fn period_of(nanoseconds: u64) -> Option<Period>
     Period::new(nanoseconds)
 }
 
-#[tactic(auto, using(crate::proofs::Steps::steps), unfolding(crate::specs::Clients::drift))]
+#[tactic(auto, using(rb_json::proofs::Steps::steps), unfolding(crate::specs::Clients::drift))]
 fn read_drift(state: &Object<'_>) -> Result<u64, Flaw>
     ensures { Reads (λ d. d) result (drift (object_view state.now)) }
 {
@@ -166,7 +164,7 @@ fn drift_of(nanoseconds: u64) -> Option<u64>
 }
 
 /// Reads an answer of `consensus_states/ID`.
-#[tactic(auto, using(crate::proofs::Steps::steps), unfolding(crate::specs::Clients::states))]
+#[tactic(auto, using(rb_json::proofs::Steps::steps), unfolding(crate::specs::Clients::states))]
 pub(crate) fn read_consensus_states(
     alloc: Global,
     answer: &Object<'_>,
@@ -178,7 +176,7 @@ pub(crate) fn read_consensus_states(
     Ok(ConsensusPage { states, is_last })
 }
 
-#[tactic(auto, using(crate::proofs::Steps::steps))]
+#[tactic(auto, using(rb_json::proofs::Steps::steps))]
 fn read_states(alloc: Global, items: &[Value]) -> Result<Vec<ConsensusState>, AnswerError>
     ensures { Gives (λ v. v.items) result (each consensus_state Part.ConsensusStates [] (items_view items.now)) }
 {
@@ -191,7 +189,7 @@ fn read_states(alloc: Global, items: &[Value]) -> Result<Vec<ConsensusState>, An
 }
 
 /// Whether no page follows, as the key of the next one says.
-#[tactic(auto, using(crate::proofs::Steps::steps), unfolding(crate::specs::Clients::is_last))]
+#[tactic(auto, using(rb_json::proofs::Steps::steps), unfolding(crate::specs::Clients::is_last))]
 fn read_is_last(answer: &Object<'_>) -> Result<bool, Flaw>
     ensures { Reads (λ b. b) result (is_last (object_view answer.now)) }
 {
@@ -200,7 +198,7 @@ fn read_is_last(answer: &Object<'_>) -> Result<bool, Flaw>
     Ok(next.is_null())
 }
 
-#[tactic(auto, using(crate::proofs::Steps::steps), unfolding(crate::specs::Clients::consensus_state))]
+#[tactic(auto, using(rb_json::proofs::Steps::steps), unfolding(crate::specs::Clients::consensus_state))]
 fn read_consensus_state(entry: &Object<'_>) -> Result<ConsensusState, Flaw>
     ensures { Reads (λ s. s) result (consensus_state (object_view entry.now)) }
 {
@@ -220,7 +218,7 @@ fn read_consensus_state(entry: &Object<'_>) -> Result<ConsensusState, Flaw>
     })
 }
 
-#[tactic(auto, using(crate::proofs::Steps::steps), unfolding(crate::specs::Clients::root))]
+#[tactic(auto, using(rb_json::proofs::Steps::steps), unfolding(crate::specs::Clients::root))]
 fn read_root(state: &Object<'_>) -> Result<[u8; 32], Flaw>
     ensures { Reads (λ r. r) result (root (object_view state.now)) }
 {

@@ -1,15 +1,13 @@
 //! The answer of CometBFT's `/commit`: a header, and each validator's part in its commit.
 ghost use Rattle.std.specs.Prelude.{◌≡◌, [], IfOk};
 ghost use Rattle.serde_json.specs.View.{items_view};
-ghost use Rattle.rb_answers.specs.Flaws.{Reads, Gives};
-ghost use Rattle.rb_answers.specs.Fields.{object_view, each};
+ghost use Rattle.rb_json.specs.Flaws.{Reads, Gives};
+ghost use Rattle.rb_json.specs.Fields.{object_view, each};
 ghost use Rattle.rb_answers.specs.Votes.{flag};
 ghost use Rattle.rb_answers.specs.Headers.{header, header_view, signature, of_height, signed, signed_view};
 
-use crate::flaw::{AnswerError, Flaw, FlawName};
-use crate::object::Object;
-use crate::place::{Key, Part};
 use rb_base::{ChainId, Height, Moment};
+use rb_json::{AnswerError, Flaw, FlawName, Key, Object, Part};
 use serde_json::Value;
 use std::alloc::Global;
 
@@ -72,7 +70,7 @@ pub struct SignedHeader {
 }
 
 /// Reads the `result` of an answer of `/commit`.
-#[tactic(auto, using(crate::proofs::Steps::steps), unfolding(crate::specs::Headers::signed))]
+#[tactic(auto, using(rb_json::proofs::Steps::steps), unfolding(crate::specs::Headers::signed))]
 pub(crate) fn read_commit(alloc: Global, answer: &Object<'_>) -> Result<SignedHeader, AnswerError>
     ensures { Gives (λ h. signed_view h) result (signed (object_view answer.now)) }
 {
@@ -86,7 +84,7 @@ pub(crate) fn read_commit(alloc: Global, answer: &Object<'_>) -> Result<SignedHe
 }
 
 /// Reads the header that these signatures belong to.
-#[tactic(auto, using(crate::proofs::Steps::steps), unfolding(crate::specs::Headers::header))]
+#[tactic(auto, using(rb_json::proofs::Steps::steps), unfolding(crate::specs::Headers::header))]
 fn read_header(head: &Object<'_>, signatures: Vec<Signature>) -> Result<SignedHeader, Flaw>
     ensures header { Reads (λ h. header_view h) result (header (object_view head.now)) }
     ensures signatures { IfOk result (λ read. read.signatures ≡ signatures) }
@@ -109,7 +107,7 @@ fn read_header(head: &Object<'_>, signatures: Vec<Signature>) -> Result<SignedHe
 }
 
 /// Refuses a commit of another height than the header's.
-#[tactic(auto, using(crate::proofs::Steps::steps), unfolding(crate::specs::Headers::of_height))]
+#[tactic(auto, using(rb_json::proofs::Steps::steps), unfolding(crate::specs::Headers::of_height))]
 fn judge_height(commit: &Object<'_>, height: Height) -> Result<(), Flaw>
     ensures { Reads (λ u. u) result (of_height height (object_view commit.now)) }
 {
@@ -121,7 +119,7 @@ fn judge_height(commit: &Object<'_>, height: Height) -> Result<(), Flaw>
 }
 
 /// Reads the entries of `signatures`, in order.
-#[tactic(auto, using(crate::proofs::Steps::steps))]
+#[tactic(auto, using(rb_json::proofs::Steps::steps))]
 fn read_signatures(alloc: Global, items: &[Value]) -> Result<Vec<Signature>, AnswerError>
     ensures { Gives (λ v. v.items) result (each signature Part.Signatures [] (items_view items.now)) }
 {
@@ -133,7 +131,7 @@ fn read_signatures(alloc: Global, items: &[Value]) -> Result<Vec<Signature>, Ans
     Ok(signatures)
 }
 
-#[tactic(auto, using(crate::proofs::Steps::steps), unfolding(crate::specs::Headers::signature))]
+#[tactic(auto, using(rb_json::proofs::Steps::steps), unfolding(crate::specs::Headers::signature))]
 fn read_signature(entry: &Object<'_>) -> Result<Signature, Flaw>
     ensures { Reads (λ s. s) result (signature (object_view entry.now)) }
 {
@@ -145,7 +143,7 @@ fn read_signature(entry: &Object<'_>) -> Result<Signature, Flaw>
     Ok(Signature { flag, address })
 }
 
-#[tactic(auto, using(crate::proofs::Steps::steps), unfolding(crate::specs::Votes::flag))]
+#[tactic(auto, using(rb_json::proofs::Steps::steps), unfolding(crate::specs::Votes::flag))]
 fn read_flag(entry: &Object<'_>) -> Result<BlockIdFlag, Flaw>
     ensures { Reads (λ f. f) result (flag (object_view entry.now)) }
 {

@@ -3,7 +3,7 @@ ghost use Rattle.std.specs.Prelude.{◌≡◌, option_map};
 ghost use Rattle.std.specs.List.{list_all};
 ghost use Rattle.rb_answers.specs.Durations.{nanoseconds_of, before_s, seconds_of, whole, part, is_decimal, unit_of};
 
-use crate::scalar::number_of;
+use rb_json::number_of;
 
 /// Nanoseconds of a second.
 const SECOND: u64 = 1_000_000_000;

@@ -1,15 +1,13 @@
 //! The answer of CometBFT's `/tx_search`: what transactions did with packets (ICS 4).
 ghost use Rattle.std.specs.Prelude.{◌≡◌, [], map, option_map, string_bytes};
 ghost use Rattle.serde_json.specs.View.{view, items_view};
-ghost use Rattle.rb_answers.specs.Flaws.{Reads, Gives};
-ghost use Rattle.rb_answers.specs.Fields.{object_view};
+ghost use Rattle.rb_json.specs.Flaws.{Reads, Gives};
+ghost use Rattle.rb_json.specs.Fields.{object_view};
 ghost use Rattle.rb_answers.specs.Packets.{packet_view, search_view, found, transactions, transaction, code, events, event, packet, timeout, timeout_view};
 
 use crate::attributes::Attributes;
-use crate::flaw::{AnswerError, Flaw, FlawName};
-use crate::object::Object;
-use crate::place::{Key, Part};
 use rb_base::Height;
+use rb_json::{AnswerError, Flaw, FlawName, Key, Object, Part};
 use serde_json::Value;
 use std::alloc::Global;
 
@@ -73,7 +71,7 @@ pub struct PacketPage {
 }
 
 /// Reads the `result` of an answer of `/tx_search`. Transactions that failed are passed over.
-#[tactic(auto, using(crate::proofs::Steps::steps, crate::proofs::Steps::counted), unfolding(crate::specs::Packets::found))]
+#[tactic(auto, using(rb_json::proofs::Steps::steps, crate::proofs::Counts::counted), unfolding(crate::specs::Packets::found))]
 pub(crate) fn read_transactions(
     alloc: Global,
     answer: &Object<'_>,
@@ -91,7 +89,7 @@ pub(crate) fn read_transactions(
 }
 
 /// The events of packets of these transactions.
-#[tactic(auto, using(crate::proofs::Steps::steps))]
+#[tactic(auto, using(rb_json::proofs::Steps::steps))]
 fn read_all(alloc: Global, items: &[Value]) -> Result<Vec<PacketEvent>, AnswerError>
     ensures { Gives (λ v. map packet_view v.items) result (transactions 0 [] (items_view items.now)) }
 {
@@ -104,7 +102,7 @@ fn read_all(alloc: Global, items: &[Value]) -> Result<Vec<PacketEvent>, AnswerEr
 }
 
 /// Adds the events of packets of a transaction.
-#[tactic(auto, using(crate::proofs::Steps::steps), unfolding(crate::specs::Packets::transaction))]
+#[tactic(auto, using(rb_json::proofs::Steps::steps), unfolding(crate::specs::Packets::transaction))]
 fn read_transaction(entry: &Object<'_>, all: &mut Vec<PacketEvent>) -> Result<(), AnswerError>
     ensures { Gives (λ _. map packet_view all.new.items) result (transaction (map packet_view all.old.items) (object_view entry.now)) }
 {
@@ -118,7 +116,7 @@ fn read_transaction(entry: &Object<'_>, all: &mut Vec<PacketEvent>) -> Result<()
 }
 
 /// The number of the failure of a transaction, which is 0 where there was none.
-#[tactic(auto, using(crate::proofs::Steps::steps), unfolding(crate::specs::Packets::code))]
+#[tactic(auto, using(rb_json::proofs::Steps::steps), unfolding(crate::specs::Packets::code))]
 fn read_code(done: &Object<'_>) -> Result<u64, Flaw>
     ensures { Reads (λ n. n) result (code (object_view done.now)) }
 {
@@ -129,7 +127,7 @@ fn read_code(done: &Object<'_>) -> Result<u64, Flaw>
 }
 
 /// Adds those of the events that are about a packet.
-#[tactic(auto, using(crate::proofs::Steps::steps))]
+#[tactic(auto, using(rb_json::proofs::Steps::steps))]
 fn add_events(
     entry: &Object<'_>,
     block: Height,
@@ -152,7 +150,7 @@ fn add_events(
 }
 
 /// Reads an event, if it is about a packet.
-#[tactic(auto, using(crate::proofs::Steps::steps), unfolding(crate::specs::Packets::event))]
+#[tactic(auto, using(rb_json::proofs::Steps::steps), unfolding(crate::specs::Packets::event))]
 fn read_event(
     alloc: Global,
     told: &Object<'_>,
@@ -166,7 +164,7 @@ fn read_event(
     }
 }
 
-#[tactic(auto, using(crate::proofs::Steps::steps), unfolding(crate::specs::Packets::packet))]
+#[tactic(auto, using(rb_json::proofs::Steps::steps), unfolding(crate::specs::Packets::packet))]
 fn read_packet(
     alloc: Global,
     told: &Object<'_>,
@@ -201,7 +199,7 @@ struct Timeout {
 }
 
 /// The timeouts of a packet that was sent.
-#[tactic(auto, using(crate::proofs::Steps::steps), unfolding(crate::specs::Packets::timeout))]
+#[tactic(auto, using(rb_json::proofs::Steps::steps), unfolding(crate::specs::Packets::timeout))]
 fn read_timeout(attributes: &Attributes<'_>, kind: PacketKind) -> Result<Timeout, AnswerError>
     ensures { Gives (λ t. timeout_view t) result (timeout kind (object_view attributes.now.event) (items_view attributes.now.items.now)) }
 {

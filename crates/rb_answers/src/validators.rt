@@ -1,14 +1,12 @@
 //! The answer of CometBFT's `/validators`: a page of the validators at a height.
 ghost use Rattle.std.specs.Prelude.{◌≡◌, []};
 ghost use Rattle.serde_json.specs.View.{items_view};
-ghost use Rattle.rb_answers.specs.Flaws.{Reads, Gives};
-ghost use Rattle.rb_answers.specs.Fields.{object_view, each};
+ghost use Rattle.rb_json.specs.Flaws.{Reads, Gives};
+ghost use Rattle.rb_json.specs.Fields.{object_view, each};
 ghost use Rattle.rb_answers.specs.Validators.{key, validator, member_of, page, page_view};
 
-use crate::flaw::{AnswerError, Flaw, FlawName};
-use crate::object::Object;
-use crate::place::{Key, Part};
 use rb_base::Height;
+use rb_json::{AnswerError, Flaw, FlawName, Key, Object, Part};
 use rb_valset::Validator;
 use serde_json::Value;
 use std::alloc::Global;
@@ -22,7 +20,7 @@ pub struct ValidatorsPage {
 }
 
 /// Reads the `result` of an answer of `/validators`.
-#[tactic(auto, using(crate::proofs::Steps::steps), unfolding(crate::specs::Validators::page))]
+#[tactic(auto, using(rb_json::proofs::Steps::steps), unfolding(crate::specs::Validators::page))]
 pub(crate) fn read_page(alloc: Global, answer: &Object<'_>) -> Result<ValidatorsPage, AnswerError>
     ensures { Gives (λ p. page_view p) result (page (object_view answer.now)) }
 {
@@ -36,7 +34,7 @@ pub(crate) fn read_page(alloc: Global, answer: &Object<'_>) -> Result<Validators
     })
 }
 
-#[tactic(auto, using(crate::proofs::Steps::steps))]
+#[tactic(auto, using(rb_json::proofs::Steps::steps))]
 fn read_validators(alloc: Global, items: &[Value]) -> Result<Vec<Validator>, AnswerError>
     ensures { Gives (λ v. v.items) result (each validator Part.Validators [] (items_view items.now)) }
 {
@@ -48,7 +46,7 @@ fn read_validators(alloc: Global, items: &[Value]) -> Result<Vec<Validator>, Ans
     Ok(validators)
 }
 
-#[tactic(auto, using(crate::proofs::Steps::steps), unfolding(crate::specs::Validators::validator))]
+#[tactic(auto, using(rb_json::proofs::Steps::steps), unfolding(crate::specs::Validators::validator))]
 fn read_validator(entry: &Object<'_>) -> Result<Validator, Flaw>
     ensures { Reads (λ v. v) result (validator (object_view entry.now)) }
 {
@@ -69,7 +67,7 @@ fn validator_of(key: [u8; 32], power: u64) -> Option<Validator>
 }
 
 /// The key, which has to be of ed25519.
-#[tactic(auto, using(crate::proofs::Steps::steps), unfolding(crate::specs::Validators::key))]
+#[tactic(auto, using(rb_json::proofs::Steps::steps), unfolding(crate::specs::Validators::key))]
 fn read_key(entry: &Object<'_>) -> Result<[u8; 32], Flaw>
     ensures { Reads (λ k. k) result (key (object_view entry.now)) }
 {

@@ -7,6 +7,4 @@ mod board;
 #[cfg(test)]
 mod make;
 #[cfg(test)]
-mod team;
-#[cfg(test)]
 mod worker;

@@ -59,7 +59,7 @@ fn enter<A: Allocator + Copy>(core: &mut Core<A>, event: Event<A>) -> Result<Rep
 }
 
 /// The core that knows all these.
-pub fn know<A: Allocator + Copy>(alloc: A) -> Option<Core<A>> {
+fn know<A: Allocator + Copy>(alloc: A) -> Option<Core<A>> {
     let mut core = start(alloc)?;
     for place in 0..5 {
         enter(&mut core, event_at(alloc, place)?).ok()?;
@@ -68,7 +68,7 @@ pub fn know<A: Allocator + Copy>(alloc: A) -> Option<Core<A>> {
 }
 
 /// A table of an empty book, which is of no chain that is known.
-pub fn no_table<A: Allocator + Copy>(alloc: A) -> Option<SharedGraph<A>> {
+fn no_table<A: Allocator + Copy>(alloc: A) -> Option<SharedGraph<A>> {
     let book = ChainBook::new(alloc).ok()?;
     let graph = Graph::from_book(alloc, book).ok()?;
     SharedGraph::new(alloc, graph).ok()

@@ -1,5 +1,5 @@
 use crate::make::assert_same;
-use crate::run::{Deed, Row, Run, start, start_supervisor};
+use crate::run::{Deed, Row, Run, start, start_relayer};
 use crate::same::are_same;
 use rb_book::Vote;
 use rb_scan::Part;
@@ -113,7 +113,7 @@ fn refuses_in_order(rt: HostRuntime) -> Result<(), Fail> {
     let mut run = Run::new(alloc, start(alloc, 3, &["third"]).ok_or("start")?);
     run.go(&rt, alloc, FOREIGN)?;
     run.core = start(alloc, 3, &[]).ok_or("start")?;
-    run.supervisor = Some(start_supervisor(alloc, 3).ok_or("supervisor")?);
+    run.relayer = Some(start_relayer(alloc, 3).ok_or("relayer")?);
     run.go(&rt, alloc, ORDER)
 }
 
@@ -289,14 +289,14 @@ const OUTCOMES: &[Row] = &[
     (Deed::Closed(0), "Noted"),
 ];
 
-/// A supervisor that is given each of these events answers as the machine, and is then as the machine
+/// A relayer with its tables that is given each of these events answers as the machine, and is then as the machine
 /// is; plans and scans that are refused are among them: of an older view, made again, before the scans,
 /// with a number that is above or below, and while a batch is open.
 #[test]
 fn keeps_what_was_settled(rt: HostRuntime) -> Result<(), Fail> {
     let alloc = rt.alloc();
     let mut run = Run::new(alloc, start(alloc, 12, &[]).ok_or("start")?);
-    run.supervisor = Some(start_supervisor(alloc, 12).ok_or("supervisor")?);
+    run.relayer = Some(start_relayer(alloc, 12).ok_or("relayer")?);
     run.go(&rt, alloc, CHAINS)?;
     run.go(&rt, alloc, RECEIVES)?;
     run.go(&rt, alloc, OUTCOMES)

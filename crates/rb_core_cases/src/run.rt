@@ -11,8 +11,8 @@ use rb_book::{ChainBook, Vote};
 use rb_core::{Core, CoreError, Draft, Event, JobView, Reply, draft, scan};
 use rb_events::{Asked, BlockHeight, Goal, Observation, Refusal, Settlement, is_config};
 use rb_graph::Graph;
+use rb_phases::Relayer;
 use rb_scan::{Part, Sequence};
-use rb_super::Supervisor;
 use std::alloc::{AllocError, Allocator, Global};
 use std::mem;
 use std::process::Abort;
@@ -55,16 +55,16 @@ pub enum Deed {
 /// What is done, and what comes out.
 pub type Row = (Deed, &'static str);
 
-/// A machine, what was made out by it, and another machine. And a supervisor that is given what the
+/// A machine, what was made out by it, and another machine. And a relayer with its tables, which is given what the
 /// first machine is given.
 #[derive(Drop)]
-pub struct Run<A: Allocator> {
+pub struct Run<A: Allocator + Copy> {
     alloc: A,
     pub core: Core<A>,
     kept: Vec<Event<A>, A>,
     aside: Option<Core<A>>,
     is_aside: bool,
-    pub supervisor: Option<Supervisor<A>>,
+    pub relayer: Option<Relayer<A>>,
 }
 
 /// A machine that knows nothing, whose books have so many records at most, and which has so many more
@@ -81,13 +81,13 @@ pub fn start<A: Allocator + Copy>(
     Core::new(alloc, config).ok()
 }
 
-/// A supervisor that has taken in nothing, of the same clients and paths.
-pub fn start_supervisor<A: Allocator + Copy>(alloc: A, limit: usize) -> Option<Supervisor<A>> {
+/// A relayer with its tables that has taken in nothing, of the same clients and paths.
+pub fn start_relayer<A: Allocator + Copy>(alloc: A, limit: usize) -> Option<Relayer<A>> {
     let config = make_config(alloc, limit, &[])?;
     if !is_config(&config) {
         return None;
     }
-    Supervisor::new(alloc, config).ok()
+    Relayer::new(alloc, config).ok()
 }
 
 /// What was seen of a chain or a client.
@@ -220,7 +220,7 @@ impl<A: Allocator + Copy> Run<A> {
             kept: Vec::new(alloc),
             aside: None,
             is_aside: false,
-            supervisor: None,
+            relayer: None,
         }
     }
 
@@ -272,13 +272,13 @@ impl<A: Allocator + Copy> Run<A> {
     fn enter(&mut self, rt: &impl Abort, texts: Global, deed: Deed) -> Option<String> {
         let event = self.event(deed)?;
         let answer = offer(rt, &mut self.core, event)?;
-        if self.supervisor.is_some() && !self.is_aside {
+        if self.relayer.is_some() && !self.is_aside {
             self.follow(rt, deed, &answer)?;
         }
         reply_text(texts, answer).ok()
     }
 
-    /// Gives the supervisor what the machine was given: it answers the same, and has then taken in the
+    /// Gives the relayer with tables what the machine was given: it answers the same, and has then taken in the
     /// same.
     fn follow(
         &mut self,
@@ -287,10 +287,10 @@ impl<A: Allocator + Copy> Run<A> {
         wanted: &Result<Reply, Refusal>,
     ) -> Option<()> {
         let event = self.event(deed)?;
-        let supervisor = self.supervisor.as_mut()?;
-        let answer = answered(supervisor.take_in(event))?;
+        let relayer = self.relayer.as_mut()?;
+        let answer = answered(relayer.take_in(event))?;
         assert!(rt;
-            answer == *wanted && are_same(supervisor.core(), &self.core),
+            answer == *wanted && are_same(relayer.core(), &self.core),
             "{deed:?}"
         );
         Some(())

@@ -9,7 +9,7 @@ pub enum Place {
     Scan(usize, usize),
     /// A client is planned.
     Plan(usize),
-    /// A client's finding was taken.
+    /// A worker's plan for a client was handed over, or the calling thread's own was taken in.
     Taken(usize),
 }
 

@@ -1,12 +1,12 @@
 -- An error that is told of an object of a setup.
-use Rattle.std.proofs.Common.{◌≡◌, ◌⊎◌, ℕ, ◌<◌, List, length, get_or, inl, inr, refl, subst, sym}
-use Rattle.std.specs.Prelude.{Contains}
+use Rattle.std.proofs.Common.{◌≡◌, ℕ, ◌<◌, List, length, get_or, inl, inr, refl, subst, sym}
 use Rattle.rb_setup.specs.declared.setup.ClientSetup.{ClientSetup}
 use Rattle.rb_setup.specs.declared.setup.PathSetup.{PathSetup}
 use Rattle.rb_setup.specs.declared.setup.Setup.{Setup}
-use Rattle.rb_import.specs.declared.error.ImportError.{ImportError}
-use Rattle.rb_import.specs.declared.error.ImportError.TheVariants as errors
-use Rattle.rb_import.specs.Problems.{IsToldOf, IsToldIn, IsNamedIn}
+use Rattle.rb_seen.specs.declared.error.ImportError.{ImportError}
+use Rattle.rb_seen.specs.declared.error.ImportError.TheVariants as errors
+use Rattle.rb_seen.specs.Problems.{IsToldOf}
+use Rattle.rb_import.specs.Problems.{IsToldIn, IsNamedIn}
 
 told_in : (setup : Setup) (id : List ℕ) (e : ImportError) → IsNamedIn setup id → IsToldOf id e → IsToldIn setup e
 told_in setup id (errors.Problem p) named told = subst (IsNamedIn setup) (sym told) named

@@ -1,7 +1,2 @@
-pub mod Names
 pub mod Problems
-pub mod Saved
-pub mod Chains
-pub mod Clients
-pub mod Packets
 pub mod Texts

@@ -3,13 +3,8 @@ use Rattle.std.specs.Prelude.{◌≡◌, ◌⊎◌, ℕ, ⊤, List, Contains, co
 use Rattle.rb_setup.specs.declared.setup.ClientSetup.{ClientSetup}
 use Rattle.rb_setup.specs.declared.setup.PathSetup.{PathSetup}
 use Rattle.rb_setup.specs.declared.setup.Setup.{Setup}
-use Rattle.rb_import.specs.declared.error.ImportError.{ImportError}
-use Rattle.rb_import.specs.declared.error.ImportError.TheVariants as errors
-
--- the problem is told of this chain, client or path
-abbrev pub IsToldOf : List ℕ → ImportError → Type 0
-IsToldOf id (errors.Problem p) = p.object.now ≡ id
-IsToldOf id errors.NoMemory = ⊤
+use Rattle.rb_seen.specs.declared.error.ImportError.{ImportError}
+use Rattle.rb_seen.specs.declared.error.ImportError.TheVariants as errors
 
 -- the identifier of a chain, a client or a path of the setup, or `-`, which stands for the script
 abbrev pub IsNamedIn : Setup → List ℕ → Type 0

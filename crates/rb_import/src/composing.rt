@@ -4,12 +4,11 @@ ghost use Rattle.rb_setup.specs.Limits.{max_bytes};
 ghost use Rattle.rb_import.specs.Problems.{IsToldIn};
 ghost use Rattle.rb_import.specs.Texts.{warning};
 
-use crate::chain::{SeenChain, seen_chain};
-use crate::client::{SeenClient, seen_client};
-use crate::error::{ImportError, ProblemName};
-use crate::packets::{SeenPacket, seen_packets};
-use crate::saved::{Saved, SavedAnswers};
 use crate::text::push_script;
+use rb_seen::{
+    ImportError, ProblemName, Saved, SavedAnswers, SeenChain, SeenClient, SeenPacket, seen_chain,
+    seen_client, seen_packets,
+};
 use rb_setup::{MAX_BYTES, Setup};
 use std::alloc::{AllocError, Global};
 

@@ -2,12 +2,10 @@
 ghost use Rattle.std.specs.Prelude.{◌≡◌, ◌++◌, map, OnOk, string_bytes};
 ghost use Rattle.rb_answers.specs.Votes.{letter_of};
 
-use crate::chain::Commit;
-use crate::client::Stored;
-use crate::packets::SeenPacket;
 use crate::text::push_time;
 use jiff::Timestamp;
 use rb_answers::{PacketKind, Signature};
+use rb_seen::{Commit, SeenPacket, Stored};
 use rb_valset::{Validator, ValidatorSet};
 use std::alloc::AllocError;
 

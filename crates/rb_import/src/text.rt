@@ -1,10 +1,9 @@
 //! The text of a script.
-use crate::chain::SeenChain;
-use crate::client::SeenClient;
 use crate::composing::Seen;
 use crate::event_text::{push_header, push_packet, push_set, push_stored};
 use jiff::Timestamp;
 use rb_base::Moment;
+use rb_seen::{SeenChain, SeenClient};
 use rb_setup::{ClientSetup, GoalSetup, PathSetup, Settlement, Setup, TurnSetup};
 use std::alloc::AllocError;
 

@@ -28,7 +28,7 @@ use Rattle.rb_events.specs.Config.{Config, IsClient}
 use Rattle.rb_events.specs.declared.config.ClientConfig.{ClientConfig}
 use Rattle.rb_events.specs.declared.config.PathConfig.{PathConfig}
 use Rattle.rb_machine.specs.Config.{IsSetUp}
-use Rattle.rb_task.specs.Draft.{IsPlan, IsPlanned, IsAnswer, Draft, IsDraft, Job}
+use Rattle.rb_task.specs.Draft.{Planned as Answer, IsPlan, IsPlanned, IsAnswer, Draft, IsDraft, Job}
 use Rattle.rb_machine.specs.Event.{Event, IsEvent, Window, Asked, SetSeen, HeaderSeen, StoredSeen, Sent, Received, AckWritten, Cleared, Closed, Scanned, Planned, Settled}
 use Rattle.rb_machine.specs.Machine.{State, opening, job_of, refusal_of, accepted, after, state_of}
 use Rattle.rb_events.specs.declared.refusal.Refusal.{Refusal}
@@ -49,26 +49,29 @@ use Rattle.rb_machine.proofs.Rising.{height_rises, new_rises, all_insert, all_he
 
 -- ---- what is true
 
-abbrev IsRecorded : Book → ℕ → Type 0
+abbrev pub IsRecorded : Book → ℕ → Type 0
 IsRecorded book height = IsSome (record_at book height)
 
-record IsSoundClient (books : List Book) (c : KnownClient) : Type 0 where
-  tracks : c.config.tracks < length books
-  fees : IsFeeTable c.config.fees
-  rising : IsStrictlyIncreasing c.stored
-  recorded : AllByRecursion (IsRecorded (book_at books c.config.tracks)) c.stored
-  updates : (b : OpenBatch) → c.batch ≡ Some b → AllByRecursion (λ (u : Update). IsRecorded (book_at books c.config.tracks) u.height) b.updates
-  apart : (b : OpenBatch) → c.batch ≡ Some b → Up AreApart b.messages
+-- what is known of a client fits the books
+pub record IsSoundClient (books : List Book) (c : KnownClient) : Type 0 where
+  pub tracks : c.config.tracks < length books
+  pub fees : IsFeeTable c.config.fees
+  pub rising : IsStrictlyIncreasing c.stored
+  pub recorded : AllByRecursion (IsRecorded (book_at books c.config.tracks)) c.stored
+  pub updates : (b : OpenBatch) → c.batch ≡ Some b → AllByRecursion (λ (u : Update). IsRecorded (book_at books c.config.tracks) u.height) b.updates
+  pub apart : (b : OpenBatch) → c.batch ≡ Some b → Up AreApart b.messages
 
-record IsSoundPath (p : KnownPath) : Type 0 where
-  rising : IsStrictlyIncreasing (sequences_of p.packets)
-  from_first : AllByRecursion (λ (q : Packet). p.config.first ≤ q.sequence) p.packets
+-- a path's packets rise, from its first one on
+pub record IsSoundPath (p : KnownPath) : Type 0 where
+  pub rising : IsStrictlyIncreasing (sequences_of p.packets)
+  pub from_first : AllByRecursion (λ (q : Packet). p.config.first ≤ q.sequence) p.packets
 
-record IsSound (s : Standing) : Type 0 where
-  window : (w : Span) → s.window ≡ Some w → w.from ≤ w.until
-  books : AllByRecursion IsBook s.books
-  clients : AllByRecursion (IsSoundClient s.books) s.clients
-  paths : AllByRecursion IsSoundPath s.paths
+-- how things stand is sound
+pub record IsSound (s : Standing) : Type 0 where
+  pub window : (w : Span) → s.window ≡ Some w → w.from ≤ w.until
+  pub books : AllByRecursion IsBook s.books
+  pub clients : AllByRecursion (IsSoundClient s.books) s.clients
+  pub paths : AllByRecursion IsSoundPath s.paths
 
 -- ---- lists
 
@@ -234,7 +237,7 @@ messages_sound (m ∷ ms) ps all = messages_sound ms (changed_at (after_message 
 
 -- ---- views
 
-client_view_sound : (s : Standing) (window : Span) (c : KnownClient) → IsSound s → s.window ≡ Some window → IsSoundClient s.books c → IsView (view_of window (book_at s.books c.config.tracks) c)
+pub client_view_sound : (s : Standing) (window : Span) (c : KnownClient) → IsSound s → s.window ≡ Some window → IsSoundClient s.books c → IsView (view_of window (book_at s.books c.config.tracks) c)
 client_view_sound s window c sound is_window is = record {
   stored = record { rising = is.rising; recorded = All-from_recursion (IsRecorded (book_at s.books c.config.tracks)) c.stored is.recorded };
   window = sound.window window is_window;
@@ -255,41 +258,45 @@ runs_recorded v orderly (u ∷ us) stored runs = (live (record_at v.book u.heigh
 -- ---- every event
 
 module _ (finds : FindsWhatWasAdded) (stays : StaysABook) (orderly : ViewsAreOrderly) where
-  plan_sound : (s : State) (d : Draft) → IsSound s.standing → IsDraft d → refusal_of s (Planned d) ≡ None → IsSound (changed s.standing (Planned d))
-  plan_sound s d sound is ok =
-      let x = drafted s d ok in
-      with_client_sound s.standing d.job.client (after_answer d.answer) sound (λ c at sound_c. go x c at sound_c (batch_opened c d.answer) refl)
+  -- a right answer for a client as things stand leaves it sound
+  pub answer_sound : (s : Standing) (window : Span) (client : ℕ) (c : KnownClient) (answer : Option Answer) → IsSound s → s.window ≡ Some window → IsSoundClient s.books c
+      → IsAnswer (task_in s window client c) answer → IsSoundClient s.books (with_batch c (batch_opened c answer))
+  answer_sound s window client c answer sound is_window sound_c right = go (batch_opened c answer) refl
     where
-      go : IsDrafted s d → (c : KnownClient) → slice_get s.standing.clients d.job.client ≡ Some c → IsSoundClient s.standing.books c → (o : Option OpenBatch) → batch_opened c d.answer ≡ o → IsSoundClient s.standing.books (with_batch c o)
-      go x c at sound_c None e = record { tracks = sound_c.tracks; fees = sound_c.fees; rising = sound_c.rising; recorded = sound_c.recorded; updates = λ b f. absurd (none-some b f); apart = λ b f. absurd (none-some b f) }
-      go x c at sound_c (Some b) e = record {
+      go : (o : Option OpenBatch) → batch_opened c answer ≡ o → IsSoundClient s.books (with_batch c o)
+      go None e = record { tracks = sound_c.tracks; fees = sound_c.fees; rising = sound_c.rising; recorded = sound_c.recorded; updates = λ b f. absurd (none-some b f); apart = λ b f. absurd (none-some b f) }
+      go (Some b) e = record {
         tracks = sound_c.tracks;
         fees = sound_c.fees;
         rising = sound_c.rising;
         recorded = sound_c.recorded;
         updates = λ b' f.
             let same : b ≡ b' = same_Some b b' f in
-            let known : x.known ≡ c = same_Some x.known c (sym x.is_known ∙ at) in
-            let v : View = view_of x.window (book_at s.standing.books c.config.tracks) c in
-            let view : IsView v = client_view_sound s.standing x.window c sound x.is_window sound_c in
-            let o = opens (c.batches + 1) d.answer b e in
-            let right = subst (λ t. IsAnswer t d.answer) (x.task ∙ ap (λ k. task_in s.standing x.window d.job.client k) known) is in
-            let t = task_in s.standing x.window d.job.client c in
+            let v : View = view_of window (book_at s.books c.config.tracks) c in
+            let view : IsView v = client_view_sound s window c sound is_window sound_c in
+            let o = opens (c.batches + 1) answer b e in
+            let t = task_in s window client c in
             let planned : IsPlanned t o.planned = subst (IsAnswer t) o.is_planned right in
             let plan : IsPlan t o.planned.goal (messages_of t planned.reach) o.plan = subst (λ p. MatchOption p (IsUnreachable (client_of v) o.planned.goal) (IsPlan t o.planned.goal (messages_of t planned.reach))) o.is_plan planned.plan in
             let recorded = runs_recorded v (orderly v view) o.plan.updates (client_of v).stored plan.least.acceptable in
-            subst (AllByRecursion (λ (u : Update). IsRecorded (book_at s.standing.books c.config.tracks) u.height)) (sym (ap (λ (y : OpenBatch). y.updates) (sym same ∙ o.is))) recorded;
+            subst (AllByRecursion (λ (u : Update). IsRecorded (book_at s.books c.config.tracks) u.height)) (sym (ap (λ (y : OpenBatch). y.updates) (sym same ∙ o.is))) recorded;
         apart = λ b' f.
             let same : b ≡ b' = same_Some b b' f in
-            let known : x.known ≡ c = same_Some x.known c (sym x.is_known ∙ at) in
-            let o = opens (c.batches + 1) d.answer b e in
-            let t = task_in s.standing x.window d.job.client c in
-            let right = subst (λ t. IsAnswer t d.answer) (x.task ∙ ap (λ k. task_in s.standing x.window d.job.client k) known) is in
+            let o = opens (c.batches + 1) answer b e in
+            let t = task_in s window client c in
             let planned : IsPlanned t o.planned = subst (IsAnswer t) o.is_planned right in
             let plan : IsPlan t o.planned.goal (messages_of t planned.reach) o.plan = subst (λ p. MatchOption p (IsUnreachable (client_of t.view) o.planned.goal) (IsPlan t o.planned.goal (messages_of t planned.reach))) o.is_plan planned.plan in
             subst (Up AreApart) (sym plan.messages ∙ sym (ap (λ (y : OpenBatch). y.messages) (sym same ∙ o.is)))
-            (messages_apart s.standing (λ n p at_n. Up-from_increasing (λ (q : Packet). q.sequence) p.packets (all_at IsSoundPath s.standing.paths n p sound.paths at_n).rising) d.job.client planned.reach c.asked);
+            (messages_apart s (λ n p at_n. Up-from_increasing (λ (q : Packet). q.sequence) p.packets (all_at IsSoundPath s.paths n p sound.paths at_n).rising) client planned.reach c.asked);
       }
+
+  plan_sound : (s : State) (d : Draft) → IsSound s.standing → IsDraft d → refusal_of s (Planned d) ≡ None → IsSound (changed s.standing (Planned d))
+  plan_sound s d sound is ok =
+      let x = drafted s d ok in
+      with_client_sound s.standing d.job.client (after_answer d.answer) sound (λ c at sound_c.
+      let known : x.known ≡ c = same_Some x.known c (sym x.is_known ∙ at) in
+      answer_sound s.standing x.window d.job.client c d.answer sound x.is_window sound_c
+      (subst (λ t. IsAnswer t d.answer) (x.task ∙ ap (λ k. task_in s.standing x.window d.job.client k) known) is))
 
   settle_sound : (s : State) (client number done : ℕ) → IsSound s.standing → refusal_of s (Settled client number done) ≡ None → IsSound (changed s.standing (Settled client number done))
   settle_sound s client number done sound ok =
@@ -334,7 +341,7 @@ module _ (finds : FindsWhatWasAdded) (stays : StaysABook) (orderly : ViewsAreOrd
   mark_event : (s : Standing) (path sequence : ℕ) (f : Packet → Packet) → ((q : Packet) → (f q).sequence ≡ q.sequence) → IsSound s → IsSound (with_path s path (with_mark f sequence))
   mark_event s path sequence f same sound = with_path_sound s path (with_mark f sequence) sound (λ p at is. mark_sound f same sequence p is)
 
-  step_sound : (s : State) (e : Event) → IsSound s.standing → IsEvent e → refusal_of s e ≡ None → IsSound (changed s.standing e)
+  pub step_sound : (s : State) (e : Event) → IsSound s.standing → IsEvent e → refusal_of s e ≡ None → IsSound (changed s.standing e)
   step_sound s (Window window) sound is ok =
       record { window = λ w e. subst (λ (x : Span). x.from ≤ x.until) (same_Some window w e) is; books = sound.books; clients = sound.clients; paths = sound.paths }
   step_sound s (Asked client goal) sound is ok = with_client_sound s.standing client _ sound (λ c at x. record { tracks = x.tracks; fees = x.fees; rising = x.rising; recorded = x.recorded; updates = x.updates; apart = x.apart })
@@ -386,7 +393,7 @@ module _ (finds : FindsWhatWasAdded) (stays : StaysABook) (orderly : ViewsAreOrd
   new_books zero limit within = tt
   new_books (suc n) limit within = (empty_is_book limit within, new_books n limit within)
 
-  opening_sound : (config : Config) → IsSetUp config → IsSound (opening config).standing
+  pub opening_sound : (config : Config) → IsSetUp config → IsSound (opening config).standing
   opening_sound config is = record {
     window = λ w e. absurd (none-some w e);
     books = new_books (length config.chains) config.limit is.rules.limit;

@@ -1,6 +1,6 @@
 //! The commands that a relayer (Hermes) runs for a report.
 use rb_events::{ClientConfig, Config};
-use rb_super::{ClientReport, Outcome, Plan, PricedUpdate, Report, TurnReport};
+use rb_phases::{ClientReport, Outcome, Plan, PricedUpdate, Report, TurnReport};
 use std::alloc::{AllocError, Global};
 
 /// The commands for a report of a script with this configuration: for each turn and client a comment

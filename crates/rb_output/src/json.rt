@@ -3,12 +3,12 @@ use rb_base::PathId;
 use rb_batch::Transaction;
 use rb_core::Message;
 use rb_events::{Goal, Refusal};
-use rb_plan::Label;
-use rb_scan::Kind;
-use rb_super::{
+use rb_phases::{
     ClientReport, Outcome, Plan, Planned, PricedUpdate, RefusedEvent, Report, Sending,
     SettlementReport, TurnReport,
 };
+use rb_plan::Label;
+use rb_scan::Kind;
 use std::alloc::{AllocError, Global};
 
 /// The report as one object of JSON, and a line feed.

@@ -1,3 +1,5 @@
+ghost use Rattle.std.specs.Prelude.{◌≤◌};
+
 use crate::scripts::{Base, GOAL, ONE_STEP, edited, joined};
 use rb_base::{Counted, Fault, Faulty};
 use rb_fields::RunError;
@@ -6,18 +8,36 @@ use rb_text::run_over;
 use std::alloc::{AllocError, Global};
 use std::io::ErrorKind;
 use std::process::Abort;
+use std::sync::{Arc, Wait};
 use std::test::Fail;
 use std::thread::Threads;
 
-/// What is written for a script, and after it the error, if there is one.
-pub fn answer_to<R: Threads + Sync>(rt: &R, alloc: Global, script: &[u8]) -> Result<String, Fail> {
+/// What is written for a script by so many workers, and after it the error, if there is one.
+pub fn answer_by<R: Threads + Wait + Copy + Send + Sync + 'static>(
+    rt: &R,
+    alloc: Global,
+    script: &[u8],
+    workers: usize,
+) -> Result<String, Fail>
+    requires { workers ≤ 64 }
+{
+    let gate = Arc::new(alloc, OpenGate)?;
     let mut writer = Counted::new(Vec::new(alloc));
-    let ran = run_over(rt, alloc, script, &mut writer, 2, &OpenGate);
+    let ran = run_over(rt, alloc, script, &mut writer, workers, &gate);
     let mut answer = String::from_utf8_lossy(alloc, writer.into_inner().as_slice())?;
     if let Err(error) = ran {
         write!(answer, "{error}")?;
     }
     Ok(answer)
+}
+
+/// What is written for a script, and after it the error, if there is one.
+pub fn answer_to<R: Threads + Wait + Copy + Send + Sync + 'static>(
+    rt: &R,
+    alloc: Global,
+    script: &[u8],
+) -> Result<String, Fail> {
+    answer_by(rt, alloc, script, 0)
 }
 
 pub const ASKED: &str = "client c0 goal at_least 10\n";
@@ -536,15 +556,16 @@ fn plans(rt: HostRuntime) -> Result<(), Fail> {
 
 /// Runs a script over a writer that takes a byte a call and fails so at this one, counted from 1, and at no other: it has
 /// taken a byte of the report at each call before, and nothing is tried again. Whether the report is written whole.
-fn is_written<R: Threads + Sync + Abort>(
+fn is_written<R: Threads + Wait + Copy + Send + Sync + Abort + 'static>(
     rt: &R,
     alloc: Global,
     (script, report): (&str, &str),
     failing: u64,
     fault: Fault,
 ) -> Result<bool, Fail> {
+    let gate = Arc::new(alloc, OpenGate)?;
     let mut writer = Counted::new(Faulty::new(alloc, 1, failing, fault));
-    let ran = run_over(rt, alloc, script.as_bytes(), &mut writer, 1, &OpenGate);
+    let ran = run_over(rt, alloc, script.as_bytes(), &mut writer, 0, &gate);
     let faulty = writer.into_inner();
     let taken = (failing.saturating_sub(1) as usize).min(report.len());
     assert_eq!(rt; faulty.bytes(), &report.as_bytes()[..taken], "{failing}");
@@ -556,7 +577,7 @@ fn is_written<R: Threads + Sync + Abort>(
 }
 
 /// A writer that fails so at each of its calls in turn, until the report is written before that call.
-pub fn check_each_call<R: Threads + Sync + Abort>(
+pub fn check_each_call<R: Threads + Wait + Copy + Send + Sync + Abort + 'static>(
     rt: &R,
     alloc: Global,
     texts: (&str, &str),
@@ -583,26 +604,31 @@ fn tells_that_the_writer_failed(rt: HostRuntime) -> Result<(), Fail> {
 
 /// Whether a beginning of a script is run: then its report is whole; else a fault is told, and
 /// nothing is written.
-fn is_run<R: Threads + Sync + Abort>(rt: &R, alloc: Global, beginning: &[u8]) -> bool {
+fn is_run<R: Threads + Wait + Copy + Send + Sync + Abort + 'static>(
+    rt: &R,
+    alloc: Global,
+    beginning: &[u8],
+) -> Result<bool, Fail> {
+    let gate = Arc::new(alloc, OpenGate)?;
     let mut writer = Counted::new(Vec::new(alloc));
-    let ran = run_over(rt, alloc, beginning, &mut writer, 1, &OpenGate);
+    let ran = run_over(rt, alloc, beginning, &mut writer, 0, &gate);
     let written = writer.into_inner();
     let length = beginning.len();
     match ran {
         Ok(()) => {
             assert!(rt; written.ends_with(b"end\n"), "{length}");
-            true
+            Ok(true)
         }
         Err(error) => {
             assert!(rt; written.is_empty(), "{length}");
             assert!(rt; matches!(error, RunError::Fault(_)), "{length}");
-            false
+            Ok(false)
         }
     }
 }
 
 /// Runs each beginning of a script, up to the whole.
-fn run_beginnings<R: Threads + Sync + Abort>(
+fn run_beginnings<R: Threads + Wait + Copy + Send + Sync + Abort + 'static>(
     rt: &R,
     alloc: Global,
     base: Base,
@@ -610,7 +636,7 @@ fn run_beginnings<R: Threads + Sync + Abort>(
     let script = edited(alloc, base, &[])?;
     let mut is_whole = false;
     for length in 0..=script.len() {
-        is_whole = is_run(rt, alloc, &script.as_bytes()[..length]);
+        is_whole = is_run(rt, alloc, &script.as_bytes()[..length])?;
     }
     assert!(rt; is_whole);
     Ok(())

@@ -1,9 +1,12 @@
 //! Scripts with packets and settlements, of several turns, and what is written for them.
-use crate::planning::{ASKED, LABELS, answer_to, check_each_call, report_of};
+ghost use Rattle.std.specs.Prelude.{◌≤◌};
+
+use crate::planning::{ASKED, LABELS, answer_by, check_each_call, report_of};
 use crate::scripts::{Base, edited};
 use rb_base::Fault;
 use std::alloc::Global;
 use std::process::Abort;
+use std::sync::Wait;
 use std::test::Fail;
 use std::thread::Threads;
 
@@ -275,12 +278,42 @@ tx 1 first 0 count 2 gas 116
     ),
 ];
 
-fn check_rows<R: Threads + Sync + Abort>(rt: &R, alloc: Global, rows: &[Row]) -> Result<(), Fail> {
+/// So many workers write this report for the script.
+fn check_by<R: Threads + Wait + Copy + Send + Sync + Abort + 'static>(
+    rt: &R,
+    alloc: Global,
+    row: (&str, &str, &str),
+    workers: usize,
+) -> Result<(), Fail>
+    requires { workers ≤ 64 }
+{
+    let (name, script, report) = row;
+    let answer = answer_by(rt, alloc, script.as_bytes(), workers)?;
+    assert_eq!(rt; answer.as_str(), report, "{name} {workers}");
+    Ok(())
+}
+
+/// Whatever the number of workers, this report is written for the script.
+fn check_row<R: Threads + Wait + Copy + Send + Sync + Abort + 'static>(
+    rt: &R,
+    alloc: Global,
+    row: (&str, &str, &str),
+) -> Result<(), Fail> {
+    check_by(rt, alloc, row, 0)?;
+    check_by(rt, alloc, row, 1)?;
+    check_by(rt, alloc, row, 2)?;
+    check_by(rt, alloc, row, 8)
+}
+
+fn check_rows<R: Threads + Wait + Copy + Send + Sync + Abort + 'static>(
+    rt: &R,
+    alloc: Global,
+    rows: &[Row],
+) -> Result<(), Fail> {
     for (name, base, edits, lines) in rows {
         let script = edited(alloc, *base, edits)?;
         let report = report_of(alloc, lines)?;
-        let answer = answer_to(rt, alloc, script.as_bytes())?;
-        assert_eq!(rt; answer.as_str(), report.as_str(), "{name}");
+        check_row(rt, alloc, (name, script.as_str(), report.as_str()))?;
     }
     Ok(())
 }

@@ -1,5 +1,3 @@
-pub mod Positions
-pub mod DirectoriesLemmas
 pub mod NamesLemmas
 pub mod SetsLemmas
 pub mod EventsLemmas

@@ -14,9 +14,9 @@ use Rattle.rb_fields.specs.Fields.{Field, Section, text, only, needs, optional, 
 use Rattle.rb_fields.specs.declared.fault.FaultName.TheVariants.{BadKind, BadVotes}
 use Rattle.rb_script.specs.declared.event.Kind.{Kind}
 use Rattle.rb_script.specs.declared.event.Kind.TheVariants as kinds
-use Rattle.rb_script.specs.Named.{reference}
+use Rattle.rb_config.specs.Named.{reference}
 use Rattle.rb_script.specs.Names.{Names, with_name, new_set_name, set_reference}
-use Rattle.rb_script.specs.Clients.{client_ids}
+use Rattle.rb_config.specs.Clients.{client_ids}
 use Rattle.rb_script.specs.Sets.{validators}
 use Rattle.rb_script.specs.Packets.{sent, received, ack_written, cleared, closed}
 

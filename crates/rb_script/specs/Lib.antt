@@ -1,17 +1,9 @@
 pub use Rattle.rb_events.specs.Config
 pub use Rattle.rb_events.specs.Script
 pub use Rattle.rb_fields.specs.Faults
-pub mod Versions
-pub mod Named
-pub mod Directories
 pub mod Names
-pub mod Chains
-pub mod Clients
-pub mod Paths
-pub mod Setups
 pub mod Sets
 pub mod Packets
 pub mod Events
 pub mod Turns
 pub mod Scripts
-pub mod Laws

@@ -7,8 +7,8 @@ use Rattle.rb_events.specs.declared.observation.Observation.TheVariants.{Sent, R
 use Rattle.rb_fields.specs.Faults.{Fault, ◌>>=◌}
 use Rattle.rb_fields.specs.Fields.{Field, Section, only, needs, optional, or_default, number, time, max_number}
 use Rattle.rb_fields.specs.declared.fault.FaultName.TheVariants.{OutOfRange}
-use Rattle.rb_script.specs.Named.{reference}
-use Rattle.rb_script.specs.Paths.{path_ids, sequence}
+use Rattle.rb_config.specs.Named.{reference}
+use Rattle.rb_config.specs.Paths.{path_ids, sequence}
 
 -- 2 ^ 63 - 2: the next height, which proves what the block wrote, is a height too
 abbrev pub max_block : ℕ

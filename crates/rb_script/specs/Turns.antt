@@ -18,9 +18,9 @@ use Rattle.rb_fields.specs.Fields.{Field, Section, items, items_count, only, nee
 use Rattle.rb_fields.specs.declared.fault.FaultName.TheVariants.{OutOfRange, TwoGoals, TooManyEvents, BadWindow}
 use Rattle.rb_script.specs.declared.turn.Reading.{Reading as CodeReading}
 use Rattle.rb_script.specs.declared.turn.Frame.{Frame as CodeFrame}
-use Rattle.rb_script.specs.Named.{reference}
+use Rattle.rb_config.specs.Named.{reference}
 use Rattle.rb_script.specs.Names.{Names, names_of}
-use Rattle.rb_script.specs.Clients.{client_ids}
+use Rattle.rb_config.specs.Clients.{client_ids}
 use Rattle.rb_script.specs.Events.{event}
 
 -- ---- goals

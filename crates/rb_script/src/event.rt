@@ -5,16 +5,14 @@ ghost use Rattle.rb_fields.specs.Faults.{Gives};
 ghost use Rattle.rb_fields.specs.Fields.{field_view, section_view, only, needs, next_in_sequence, in_sequence};
 ghost use Rattle.rb_script.specs.Names.{names_of};
 ghost use Rattle.rb_script.specs.Events.{kind, vote_of, votes, votes_after, set_seen, set_keys, header_seen, header_keys, stored_seen, stored_keys, tracked_by, event};
-ghost use Rattle.rb_script.specs.Setups.{setup_view};
+ghost use Rattle.rb_config.specs.Setups.{setup_view};
 
-use crate::directory::Directory;
-use crate::named::reference;
 use crate::names::{SetNames, needed_set_hash, needed_set_name};
 use crate::packet::{read_ack, read_cleared, read_closed, read_received, read_sent};
 use crate::set::needed_validators;
-use crate::setup::Setup;
 use rb_base::ChainId;
 use rb_book::{Header, Record, Vote};
+use rb_config::{Directory, Setup, reference};
 use rb_events::{ClientConfig, Observation};
 use rb_fields::{FaultName, Field, RunError, Section, element_path, section_at};
 use toml::Value;

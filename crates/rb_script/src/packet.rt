@@ -4,10 +4,8 @@ ghost use Rattle.rb_fields.specs.Faults.{Gives};
 ghost use Rattle.rb_fields.specs.Fields.{field_view, section_view, only, needs, optional, or_default};
 ghost use Rattle.rb_script.specs.Packets.{block, height_or_none, time_or_none, unless_zero, sent, sent_keys, received, ack_written, packet_keys, cleared, cleared_keys, closed, closed_keys};
 
-use crate::directory::Directory;
-use crate::named::reference;
-use crate::path::needed_sequence;
 use rb_base::{Height, Moment};
+use rb_config::{Directory, needed_sequence, reference};
 use rb_events::{BlockHeight, Observation, PathConfig};
 use rb_fields::{FaultName, Field, MAX_NUMBER, RunError, Section};
 

@@ -3,74 +3,19 @@ ghost use Rattle.std.specs.Prelude.{◌≡◌, [], IfOk, codes, map};
 ghost use Rattle.toml.specs.View.{items_view, table_view};
 ghost use Rattle.rb_events.specs.Script.{IsScript, script_view, turn_view};
 ghost use Rattle.rb_fields.specs.Faults.{Gives};
-ghost use Rattle.rb_fields.specs.Fields.{section_view, only, in_sequence};
+ghost use Rattle.rb_fields.specs.Fields.{in_sequence};
 ghost use Rattle.rb_fields.specs.Documents.{whole};
 ghost use Rattle.rb_script.specs.Turns.{turn, reading_view};
-ghost use Rattle.rb_script.specs.Setups.{setup_view};
-ghost use Rattle.rb_script.specs.Scripts.{script, script_of, config, tables, tables_view, top_keys, opening};
+ghost use Rattle.rb_config.specs.Setups.{setup_view};
+ghost use Rattle.rb_script.specs.Scripts.{script, script_of, opening};
 
-use crate::chain::{ids_of, read_chains};
-use crate::client::read_clients;
 use crate::names::SetNames;
-use crate::path::read_paths;
-use crate::setup::Setup;
 use crate::turn::{Reading, read_turn_at};
-use crate::version::{Version, needed_version};
-use rb_events::{MAX_CHAINS, MAX_CLIENTS, MAX_ENTRIES, MAX_PATHS, MAX_TURNS, Script, Turn};
+use rb_config::{Setup, read_setup, read_tables};
+use rb_events::{MAX_ENTRIES, Script, Turn};
 use rb_fields::{RunError, Section, read_table};
 use std::alloc::Global;
 use toml::{Table, Value};
-
-/// What the keys of the whole text hold.
-#[derive(Clone, Copy)]
-pub struct Tables<'a> {
-    pub version: Version,
-    pub chains: &'a [Value],
-    pub clients: &'a [Value],
-    pub paths: &'a [Value],
-    pub turns: &'a [Value],
-}
-
-fn only_top_keys(section: &Section<'_>) -> Result<(), RunError>
-    ensures { Gives (λ u. u) result (only top_keys (section_view section.now)) }
-{
-    section.only(&["version", "chain", "client", "path", "turn"])
-}
-
-#[tactic(auto, using(rb_fields::proofs::Steps::steps), unfolding(crate::specs::Scripts::tables))]
-fn read_tables<'a>(section: Section<'a>) -> Result<Tables<'a>, RunError>
-    ensures { Gives tables_view result (tables (section_view section.entry)) }
-{
-    only_top_keys(&section)?;
-    let version = needed_version(&section)?;
-    let chains = section.array("chain", MAX_CHAINS)?;
-    let clients = section.array("client", MAX_CLIENTS)?;
-    let paths = section.array("path", MAX_PATHS)?;
-    let turns = section.array("turn", MAX_TURNS)?;
-    Ok(Tables {
-        version,
-        chains,
-        clients,
-        paths,
-        turns,
-    })
-}
-
-#[tactic(auto, using(rb_fields::proofs::Steps::steps), unfolding(crate::specs::Scripts::config))]
-fn read_setup(alloc: Global, tables: Tables<'_>) -> Result<Setup, RunError>
-    ensures { Gives setup_view result (config (tables_view tables.entry)) }
-{
-    let chains = read_chains(alloc, tables.version, tables.chains)?;
-    let clients = read_clients(alloc, tables.clients, &chains)?;
-    let chains = ids_of(alloc, &chains)?;
-    let paths = read_paths(alloc, tables.paths, &chains, &clients)?;
-    Ok(Setup {
-        limit: tables.version.max_records(),
-        chains,
-        clients,
-        paths,
-    })
-}
 
 fn opening(alloc: Global) -> Reading
     ensures { reading_view result ≡ opening }

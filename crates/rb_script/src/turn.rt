@@ -5,14 +5,12 @@ ghost use Rattle.rb_events.specs.Script.{turn_view};
 ghost use Rattle.rb_fields.specs.Faults.{Gives};
 ghost use Rattle.rb_fields.specs.Fields.{section_view, only, optional, at_element, elements, next_in_sequence};
 ghost use Rattle.rb_script.specs.Turns.{asked, goal_keys, is_asked, maybe_height, settlement, settlement_keys, turn, turn_keys, frame, frame_view, reading_view};
-ghost use Rattle.rb_script.specs.Setups.{setup_view};
+ghost use Rattle.rb_config.specs.Setups.{setup_view};
 
-use crate::directory::Directory;
 use crate::event::read_events;
-use crate::named::reference;
 use crate::names::SetNames;
-use crate::setup::Setup;
 use rb_base::{Height, Window};
+use rb_config::{Directory, Setup, reference};
 use rb_events::{Asked, ClientConfig, Goal, Settlement, Turn};
 use rb_fields::{FaultName, MAX_NUMBER, RunError, Section, child_path, element_path, section_at};
 use std::alloc::Global;

@@ -12,10 +12,10 @@ use Rattle.rb_events.specs.Config.{Config}
 use Rattle.rb_events.specs.Script.{Script, turn_view, IsScript}
 use Rattle.rb_events.specs.declared.script.Turn.{Turn as CodeTurn}
 use Rattle.rb_super.specs.Judging.{Leads, IsPlanPhase}
-use Rattle.rb_super.specs.Phases.{standing_in, HasLogRoom, IsLater}
-use Rattle.rb_super.specs.Script.{Turn}
+use Rattle.rb_phases.specs.Phases.{standing_in, HasLogRoom, IsLater}
+use Rattle.rb_phases.specs.Script.{Turn}
 use Rattle.rb_super.specs.Told.{told_turn, told, told_as, IsTurnFor, most_events}
-use Rattle.rb_super.specs.Turns.{before_plans}
+use Rattle.rb_phases.specs.Turns.{before_plans}
 use Rattle.rb_super.proofs.Runs.{opened_standing, turns_fit, turns_for, told_turns}
 
 -- what stands at a place

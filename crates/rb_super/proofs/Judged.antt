@@ -21,9 +21,9 @@ use Rattle.rb_plan.specs.Labelling.{Labels, IsSound, IsExact}
 use Rattle.rb_step.specs.LightClient.{Update}
 use Rattle.rb_step.specs.View.{client_of}
 use Rattle.rb_super.specs.Judging.{IsClientIn, IsWanted, IsPlannedGoal, IsVerdictFor, IsVerdictIn, IsRightAs}
-use Rattle.rb_super.specs.Phases.{standing_in, HasLogRoom, IsPlannable}
+use Rattle.rb_phases.specs.Phases.{standing_in, HasLogRoom, IsPlannable}
 use Rattle.rb_super.proofs.OneReport.{one_reach}
-use Rattle.rb_super.proofs.Plans.{known_at, client_of_view, draft_accepted}
+use Rattle.rb_phases.proofs.Plans.{known_at, client_of_view, draft_accepted}
 
 -- ---- the client is one, and so is its goal
 

@@ -1,4 +1,4 @@
--- A script has at most one report.
+-- A turn has at most one report.
 use Rattle.std.proofs.Common.{◌≡◌, ℕ, ◌+◌, ◌-◌, ◌<◌, ◌≤◌, List, [], ◌∷◌, Option, Some, None, All, MatchOption, length, map, drop, get_or, refl, sym, ap, ◌∙◌, subst, inl, inr, arith}
 use Rattle.std.specs.List.{AllZip, enumerate_from}
 use Rattle.std.specs.Option.{option_map}
@@ -20,12 +20,11 @@ use Rattle.rb_step.specs.LightClient.{Update, Client}
 use Rattle.rb_step.specs.View.{client_of}
 use Rattle.rb_task.specs.Draft.{Batch, Sending, nothing, too_big, batched, Plan, Planned as Answer, IsBatch, IsSending, IsPlan, IsPlanned, IsIdle}
 use Rattle.rb_task.specs.Reach.{IsReach}
-use Rattle.rb_machine.specs.Standing.{OpenBatch, KnownClient, Standing, opening_standing, task_in}
+use Rattle.rb_machine.specs.Standing.{OpenBatch, KnownClient, Standing, task_in}
 use Rattle.rb_task.specs.Task.{Task, Message, goal_of, messages_of, gas_of, gases}
-use Rattle.rb_super.specs.Laws.{ReportIsOne}
-use Rattle.rb_super.specs.Report.{Outcome, held, idle, planned, ClientReport, TurnReport, Report}
-use Rattle.rb_super.specs.Script.{Turn}
-use Rattle.rb_super.specs.Turns.{reported, IsOutcome, IsClientReport, before_plans, after_plans, settlement_reports, IsTurnReport, AreTurnReports, after_turn}
+use Rattle.rb_phases.specs.Report.{Outcome, held, idle, planned, ClientReport, TurnReport}
+use Rattle.rb_phases.specs.Script.{Turn}
+use Rattle.rb_phases.specs.Turns.{reported, IsOutcome, IsClientReport, before_plans, after_plans, settlement_reports, IsTurnReport}
 use Rattle.rb_super.proofs.OneLabelling.{one_labelling}
 
 -- ---- no message of a division is too big alone
@@ -175,17 +174,3 @@ module _ (one : AnswersAreOne) (cuts : LeastCutIsOne) where
       ∙ ap (λ (rs : List ClientReport). settlement_reports (after_plans s t (record { window_back = r.window_back; refused = r.refused; clients = rs; settlements = r.settlements })) t.settlements) clients
       ∙ sym b.settlements in
       λ i. record { window_back = window i; refused = refused i; clients = clients i; settlements = settlements i }
-
-  one_run : (s : Standing) (ts : List Turn) (r q : Report) → AreTurnReports s ts r → AreTurnReports s ts q → r ≡ q
-  one_run s [] [] [] a b = refl
-  one_run s [] [] (q ∷ qs) a b = absurd b
-  one_run s [] (r ∷ rs) qs a b = absurd a
-  one_run s (t ∷ ts) [] qs a b = absurd a
-  one_run s (t ∷ ts) (r ∷ rs) [] a b = absurd b
-  one_run s (t ∷ ts) (r ∷ rs) (q ∷ qs) a b =
-      let here = one_turn s t r q a.0 b.0 in
-      let rest = one_run (after_turn s t q) ts rs qs (subst (λ (x : TurnReport). AreTurnReports (after_turn s t x) ts rs) here a.1) b.1 in
-      λ i. here i ∷ rest i
-
-  pub one_report : ReportIsOne
-  one_report = λ script r q a b. one_run (opening_standing script.config) script.turns r q a b

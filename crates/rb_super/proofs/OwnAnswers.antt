@@ -15,11 +15,11 @@ use Rattle.rb_plan.specs.Least.{IsUnreachable}
 use Rattle.rb_step.specs.LightClient.{Update}
 use Rattle.rb_step.specs.View.{client_of}
 use Rattle.rb_super.specs.Judging.{Leads, IsPlanPhase, IsClientIn, IsWanted, IsPlannedGoal, claim_in, IsReported}
-use Rattle.rb_super.specs.Report.{Plan, Planned, planned, TurnReport, Report}
-use Rattle.rb_super.specs.Script.{Turn, Script}
-use Rattle.rb_super.specs.Turns.{update_of, reported, reported_plan, IsOutcome, IsClientReport, IsTurnReport, AreTurnReports, IsReportOf, after_turn}
+use Rattle.rb_phases.specs.Report.{Plan, Planned, planned, TurnReport, Report}
+use Rattle.rb_phases.specs.Script.{Turn, Script}
+use Rattle.rb_phases.specs.Turns.{update_of, reported, reported_plan, IsOutcome, IsClientReport, IsTurnReport, AreTurnReports, IsReportOf, after_turn}
 use Rattle.rb_super.proofs.OneReport.{one_turn}
-use Rattle.rb_super.proofs.Reported.{updates_back}
+use Rattle.rb_phases.proofs.Reported.{updates_back}
 
 -- what stands beside an element of the second list
 zipped_in : {X Y : Type 0} (R : ℕ × X → Y → Type 0) (m : ℕ) (xs : List X) (ys : List Y) (i n : ℕ) (y : Y) → n ≡ m + i → AllZip R (enumerate_from m xs) ys → slice_get ys i ≡ Some y

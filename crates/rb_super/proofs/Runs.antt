@@ -10,10 +10,10 @@ use Rattle.rb_events.specs.Config.{Config}
 use Rattle.rb_events.specs.Script.{Script, turn_view, entry_count, IsTurn, IsScript}
 use Rattle.rb_events.specs.declared.script.Turn.{Turn as CodeTurn}
 use Rattle.rb_super.specs.Judging.{Leads}
-use Rattle.rb_super.specs.Report.{TurnReport, Report}
-use Rattle.rb_super.specs.Script.{Turn}
-use Rattle.rb_super.specs.Turns.{IsTurnReport, AreTurnReports, after_turn}
-use Rattle.rb_super.specs.Phases.{standing_in, HasLogRoom}
+use Rattle.rb_phases.specs.Report.{TurnReport, Report}
+use Rattle.rb_phases.specs.Script.{Turn}
+use Rattle.rb_phases.specs.Turns.{IsTurnReport, AreTurnReports, after_turn}
+use Rattle.rb_phases.specs.Phases.{standing_in, HasLogRoom}
 use Rattle.rb_super.specs.Told.{told_turn, told_as, IsTurnFor, most_events}
 
 -- the turns, reported so, lead from the one standing to the other

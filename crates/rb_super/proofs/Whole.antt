@@ -7,12 +7,12 @@ use Rattle.rb_machine.specs.Standing.{goes_back, standing_after}
 use Rattle.rb_events.specs.declared.script.Asked.{Asked}
 use Rattle.rb_events.specs.declared.script.Settlement.{Settlement}
 use Rattle.rb_events.specs.declared.script.Turn.{Turn as CodeTurn}
-use Rattle.rb_super.specs.Phases.{standing_in, AreReported}
-use Rattle.rb_super.specs.Report.{RefusedEvent, ClientReport, SettlementReport, TurnReport}
+use Rattle.rb_phases.specs.Phases.{standing_in, AreReported}
+use Rattle.rb_phases.specs.Report.{RefusedEvent, ClientReport, SettlementReport, TurnReport}
 use Rattle.rb_super.specs.Told.{told_as}
-use Rattle.rb_super.specs.Turns.{after_window, after_question, refusals, after_settlement, settlement_reports, IsTurnReport, after_turn}
-use Rattle.rb_super.proofs.Phases.{turn_reported}
-use Rattle.rb_super.proofs.Steps.{sizes_in}
+use Rattle.rb_phases.specs.Turns.{after_window, after_question, refusals, after_settlement, settlement_reports, IsTurnReport, after_turn}
+use Rattle.rb_phases.proofs.Phases.{turn_reported}
+use Rattle.rb_phases.proofs.Steps.{sizes_in}
 
 pub turn_done : {A : Type 0} (self b d e : Core) (t : CodeTurn A) (goals : List Asked) (xs : List Settlement) (n : ℕ) (back : Bool) (refused : List RefusedEvent) (clients : List ClientReport) (settlements : List SettlementReport)
     → goals ≡ t.goals.items → xs ≡ t.settlements.items → n ≡ length self.config.clients

@@ -12,9 +12,9 @@ use Rattle.rb_plan.specs.Answer.{Shows}
 use Rattle.rb_plan.specs.Labelling.{Labels, IsSound, label_of}
 use Rattle.rb_step.specs.LightClient.{Update}
 use Rattle.rb_step.specs.View.{View, client_of}
-use Rattle.rb_super.specs.Report.{Plan, Planned, planned, ClientReport, TurnReport, Report}
-use Rattle.rb_super.specs.Script.{Turn, Script}
-use Rattle.rb_super.specs.Turns.{before_plans, update_of, IsTurnReport, after_turn}
+use Rattle.rb_phases.specs.Report.{Plan, Planned, planned, ClientReport, TurnReport, Report}
+use Rattle.rb_phases.specs.Script.{Turn, Script}
+use Rattle.rb_phases.specs.Turns.{before_plans, update_of, IsTurnReport, after_turn}
 
 -- ---- where a client stands
 

@@ -1,13 +1,2 @@
-pub mod Script
-pub mod Report
-pub mod Turns
-pub mod Laws
-pub mod Agenda
-pub mod Schedule
-pub mod Examples
-pub mod Views
 pub mod Told
-pub mod Phases
-pub mod Tables
-pub mod Drafts
 pub mod Judging

@@ -4,7 +4,7 @@ use Rattle.rb_events.specs.Config.{Config}
 use Rattle.rb_events.specs.Script.{Turn as SeenTurn, Script as SeenScript, turn_view, entry_count, IsTurn}
 use Rattle.rb_events.specs.declared.script.Turn.{Turn as CodeTurn}
 use Rattle.rb_machine.specs.Seen.{observed}
-use Rattle.rb_super.specs.Script.{Turn, Script}
+use Rattle.rb_phases.specs.Script.{Turn, Script}
 
 abbrev pub told_turn : {A : Type 0} → SeenTurn A → Turn
 told_turn t = record { window = t.window; goals = t.goals; events = map observed t.events; settlements = t.settlements }

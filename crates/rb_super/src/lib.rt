@@ -1,28 +1,13 @@
-//! Turns: what a script's turns report, the supervisor that leads a relayer through them, what is
-//! said of answers that others made for its clients (`judge`), and the law of all schedules.
+//! Turns of a script: supervisors that lead a relayer through them, alone or with workers, runs of whole
+//! scripts, and what is said of answers that others made (`judge`).
 #![tactic(auto)]
 
-mod clients;
-mod crew;
 mod judging;
-pub mod laws;
-mod observing;
-mod outcome;
-mod planning;
-mod relayer;
-mod report;
 mod run;
-mod scanning;
-mod settling;
 mod supervisor;
-mod tables;
-mod taking;
+mod workers;
 
-pub use crew::Crew;
 pub use judging::judge;
-pub use report::{
-    Batch, ClientReport, Outcome, Plan, Planned, PricedUpdate, RefusedEvent, Report, Sending,
-    SettlementReport, TurnReport,
-};
-pub use run::run_script;
+pub use run::{run_by_workers, run_script};
 pub use supervisor::Supervisor;
+pub use workers::Workers;

@@ -1,21 +1,22 @@
 //! The run of a script.
-ghost use Rattle.std.specs.Prelude.{◌≡◌, ◌≤◌, map, sum_by, All, IfOk};
+ghost use Rattle.std.specs.Prelude.{◌≡◌, ◌≤◌, ◌++◌, ◌∷◌, [], Ok, map, sum_by, All, IfOk, OnOk};
 ghost use denote.Param.Send.{Frees};
 ghost use Rattle.rb_events.specs.declared.config.PathConfig.{PathConfig};
 ghost use Rattle.rb_events.specs.Script.{script_view, IsScript};
 ghost use Rattle.rb_super.specs.Judging.{Leads};
-ghost use Rattle.rb_super.specs.Turns.{AreTurnReports, IsReportOf};
-ghost use Rattle.rb_super.specs.Phases.{standing_in, HasLogRoom, IsLater};
-ghost use Rattle.rb_super.specs.Views.{turn_report_view, report_view};
+ghost use Rattle.rb_phases.specs.Turns.{AreTurnReports, IsReportOf};
+ghost use Rattle.rb_phases.specs.Phases.{standing_in, HasLogRoom, IsLater};
+ghost use Rattle.rb_phases.specs.Views.{turn_report_view, report_view};
 ghost use Rattle.rb_super.specs.Told.{told_as, told, IsTurnFor, most_events};
 
-use crate::crew::Crew;
-use crate::report::{Report, TurnReport};
 use crate::supervisor::Supervisor;
+use crate::workers::Workers;
 use rb_base::PathId;
 use rb_events::{PathConfig, Script, Turn};
 use rb_gang::Gate;
-use std::alloc::{AllocError, Allocator};
+use rb_phases::{Crew, Report, TurnReport};
+use std::alloc::{AllocError, Allocator, Global};
+use std::sync::{Arc, Wait};
 use std::thread::Threads;
 
 /// The identifiers of paths.
@@ -79,5 +80,82 @@ pub fn run_script<R: Threads + Sync, G: Gate + Sync, A: Allocator + Copy + Send 
     let paths = path_ids(alloc, config.paths.as_slice())?;
     let supervisor = Supervisor::new(alloc, config)?;
     let (turns, _) = run_turns(&crew, alloc, supervisor, turns)?;
+    Ok(Report { paths, turns })
+}
+
+/// Puts a report to the end of a list.
+fn keep(reports: &mut Vec<TurnReport>, report: TurnReport) -> Result<(), AllocError>
+    ensures { OnOk result (reports.new.items ≡ reports.old.items ++ report ∷ []) }
+{
+    reports.push(report)?;
+    Ok(())
+}
+
+/// Goes on where a report was kept, or ends the workers.
+fn or_stop<R: Threads + Wait, G: Gate + Send + Sync + Drop + 'static>(
+    rt: &R,
+    workers: Workers<G>,
+    kept: Result<(), AllocError>,
+) -> Result<Workers<G>, AllocError>
+    ensures same { IfOk result (λ w. w ≡ workers) }
+    ensures kept { IfOk result (λ _. kept ≡ Ok tt) }
+{
+    match kept {
+        Ok(()) => Ok(workers),
+        Err(AllocError) => {
+            workers.stop(rt);
+            Err(AllocError)
+        }
+    }
+}
+
+/// Leads a supervisor with workers through turns, and ends it; tells what they report.
+fn turns_by_workers<R: Threads + Sync + Wait, G: Gate + Send + Sync + Drop + 'static>(
+    crew: &Crew<R, G>,
+    reports: Vec<TurnReport>,
+    workers: Workers<G>,
+    turns: Vec<Turn>,
+) -> Result<Vec<TurnReport>, AllocError>
+    requires empty { reports.items ≡ [] }
+    requires turns { All (IsTurnFor workers.config) turns.items }
+    requires room { HasLogRoom workers (sum_by (most_events workers.config) turns.items) }
+    ensures { IfOk result (λ r. AreTurnReports (standing_in workers) (map told_as turns.items) (map turn_report_view r.items)) }
+{
+    let mut reports = reports;
+    let mut workers = workers;
+    for turn in turns {
+        let (next, report) = workers.turn(crew, turn)?;
+        let kept = keep(&mut reports, report);
+        workers = or_stop(crew.rt(), next, kept)?;
+    }
+    workers.stop(crew.rt());
+    Ok(reports)
+}
+
+/// Runs a script as `run_script` does, its scans and plans by so many workers in threads of their own;
+/// by fewer where no thread can be made, and by the calling thread alone where none can. The gate is
+/// called as each row, scan and plan begins and ends, and when a client's plan was handed over or taken
+/// in. An error comes only where a growth is refused, to whichever thread; all threads have then ended.
+pub fn run_by_workers<
+    R: Threads + Wait + Copy + Send + Sync + 'static,
+    G: Gate + Send + Sync + Drop + 'static,
+>(
+    rt: &R,
+    alloc: Global,
+    script: Script,
+    workers: usize,
+    gate: &Arc<G, Global>,
+) -> Result<Report, AllocError>
+    requires script { IsScript (script_view script) }
+    requires workers { workers ≤ 64 }
+    ensures paths { IfOk result (λ report. report.paths.items ≡ map (λ (p : PathConfig). p.id) script.config.paths.items) }
+    ensures turns { IfOk result (λ report. IsReportOf (told (script_view script)) (report_view report)) }
+{
+    let crew = Crew::new(rt, workers, &**gate);
+    let Script { config, turns } = script;
+    let paths = path_ids(alloc, config.paths.as_slice())?;
+    let reports = Vec::with_capacity(alloc, turns.len())?;
+    let team = Workers::new(rt, alloc, config, workers, gate)?;
+    let turns = turns_by_workers(&crew, reports, team, turns)?;
     Ok(Report { paths, turns })
 }

@@ -1,5 +1,5 @@
 //! The supervisor: a relayer that is led through turns.
-ghost use Rattle.std.specs.Prelude.{◌≡◌, ◌<◌, ◌+◌, ◌*◌, ◌++◌, ◌∷◌, [], length, None, IfOk, IfErr, OnOk, OnErr, All, map, fold};
+ghost use Rattle.std.specs.Prelude.{◌≡◌, ◌<◌, ◌+◌, ◌*◌, ◌++◌, ◌∷◌, [], true, length, None, is_some, IfOk, IfErr, OnOk, OnErr, All, map, fold};
 ghost use denote.Param.Send.{Frees};
 ghost use Rattle.rb_events.specs.Config.{config_view, IsConfig};
 ghost use Rattle.rb_events.specs.Script.{IsSeen};
@@ -9,23 +9,19 @@ ghost use Rattle.rb_machine.specs.Refused.{IsRefusal};
 ghost use Rattle.rb_machine.specs.Replied.{reply_view};
 ghost use Rattle.rb_machine.specs.Seen.{event_view, observed};
 ghost use Rattle.rb_machine.specs.Standing.{goes_back, standing_after};
-ghost use Rattle.rb_super.specs.Drafts.{AreDrafts};
-ghost use Rattle.rb_super.specs.Turns.{after_window, after_question, refusals, before_plans, IsTurnReport, after_turn};
-ghost use Rattle.rb_super.specs.Phases.{standing_in, HasLogRoom, IsLater, IsPlannable};
-ghost use Rattle.rb_super.specs.Views.{refused_view, turn_report_view};
+ghost use Rattle.rb_phases.specs.Drafts.{AreDrafts};
+ghost use Rattle.rb_phases.specs.Turns.{after_window, after_question, refusals, before_plans, IsTurnReport, after_turn};
+ghost use Rattle.rb_phases.specs.Phases.{standing_in, HasLogRoom, IsLater, IsPlannable};
+ghost use Rattle.rb_phases.specs.Views.{refused_view, turn_report_view};
 ghost use Rattle.rb_super.specs.Told.{told_as, IsTurnFor, most_events};
 
-use crate::crew::Crew;
-use crate::observing::{ask_all, enter, observe_all};
-use crate::planning::{drafts_of, plan_all};
-use crate::relayer::Relayer;
-use crate::report::{RefusedEvent, TurnReport};
-use crate::scanning::scan_all;
-use crate::settling::settle_all;
 use rb_base::Window;
 use rb_core::{Core, CoreError, Draft, Event, Reply};
 use rb_events::{Asked, Config, Observation, Turn};
 use rb_gang::Gate;
+use rb_phases::{
+    Crew, RefusedEvent, Relayer, TurnReport, drafts_of, hear_all, plan_all, scan_all, settle_all,
+};
 use std::alloc::{AllocError, Allocator, Global};
 use std::marker::Model;
 use std::thread::Threads;
@@ -33,12 +29,12 @@ use std::thread::Threads;
 /// A relayer that is led through turns. It keeps the step tables of its chains from turn to turn. A
 /// contract sees what it has taken in.
 #[derive(Drop)]
-pub struct Supervisor<A: Allocator = Global> {
+pub struct Supervisor<A: Allocator + Copy = Global> {
     alloc: A,
     relayer: Relayer<A>,
 }
 
-impl<A: Allocator> Model for Supervisor<A> {
+impl<A: Allocator + Copy> Model for Supervisor<A> {
     ghost use Rattle.rb_core.specs.Core as cores;
 
     ghost Value = { cores.Core };
@@ -67,10 +63,8 @@ pub(crate) fn prepare<R: Threads + Sync, G: Gate + Sync, A: Allocator + Copy>(
     ensures ready { OnOk result (IsPlannable relayer.new) }
     ensures later { OnOk result (IsLater (1 + length goals.now + length events.items + 2 * length relayer.old.config.paths) relayer.old relayer.new) }
 {
-    let window_back = enter(relayer, window)?;
-    ask_all(relayer, goals)?;
-    let refused = observe_all(alloc, relayer, events)?;
-    scan_all(crew, relayer)?;
+    let (window_back, refused) = hear_all(alloc, relayer, window, goals, events)?;
+    scan_all(crew, relayer, &mut None)?;
     Ok((window_back, refused))
 }
 
@@ -174,7 +168,7 @@ impl<A: Allocator + Copy + Send + Sync> Supervisor<A> {
             goals.as_slice(),
             events,
         )?;
-        let clients = plan_all(crew, alloc, &mut relayer)?;
+        let clients = plan_all(crew, alloc, &mut relayer, &mut None)?;
         let settlements = settle_all(alloc, &mut relayer, settlements.as_slice())?;
         let report = TurnReport {
             window_back,

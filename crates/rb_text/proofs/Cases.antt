@@ -14,7 +14,7 @@ use Rattle.rb_fields.specs.declared.fault.RunError.{RunError}
 use Rattle.rb_events.specs.declared.config.ClientConfig.{ClientConfig}
 use Rattle.rb_events.specs.Script.{Script}
 use Rattle.rb_text.specs.Certificates.{Certificate}
-use Rattle.rb_script.specs.Named.{known}
+use Rattle.rb_config.specs.Named.{known}
 use Rattle.rb_text.specs.Verdicts.{Case, case_in, case_of, is_yes, IsRightCase, IsCertified}
 
 abbrev made : Script Global → Certificate → ℕ → ℕ → Case

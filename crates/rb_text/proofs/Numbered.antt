@@ -3,14 +3,14 @@ use Rattle.std.proofs.Common.{◌≡◌, ℕ, ◌+◌, ◌<◌, List, [], ◌∷
 use Rattle.std.specs.List.{flat_map}
 use Rattle.std.proofs.lemmas.List.{drop_more, take_more, append-nil, map-append}
 use Rattle.std.proofs.lemmas.Grind.{flat_map-append}
-use Rattle.rb_text.specs.Report.{numbered}
+use Rattle.rb_text.specs.Report.{numbered_lines}
 
 -- what is left from a place on, by the number and the element that a loop has
 pub numbered_more : {X Y : Type 0} (lines : ℕ → Y → List ℕ) (view : X → Y) (xs : List X) (i n : ℕ) (x : X) → i < length xs → n ≡ i + 1 → x ≡ get_or xs i x
-    → numbered lines (i + 1) (map view (drop i xs)) ≡ lines n (view x) ++ numbered lines (i + 1 + 1) (map view (drop (i + 1) xs))
+    → numbered_lines lines (i + 1) (map view (drop i xs)) ≡ lines n (view x) ++ numbered_lines lines (i + 1 + 1) (map view (drop (i + 1) xs))
 numbered_more lines view xs i n x lt number at =
     rw number (
-    rw (drop_more xs i x lt) (ap (λ y. lines (i + 1) (view y) ++ numbered lines (i + 1 + 1) (map view (drop (i + 1) xs))) (sym at)))
+    rw (drop_more xs i x lt) (ap (λ y. lines (i + 1) (view y) ++ numbered_lines lines (i + 1 + 1) (map view (drop (i + 1) xs))) (sym at)))
 
 -- the texts of the elements so far, and the next one's
 pub flat_map_more : {X Y : Type 0} (lines : Y → List ℕ) (view : X → Y) (xs : List X) (i : ℕ) (x : X) → i < length xs → x ≡ get_or xs i x

@@ -6,9 +6,9 @@ use Rattle.rb_base.specs.Sink.{AppendsBeginning}
 use Rattle.rb_events.specs.Script.{Script}
 use Rattle.rb_events.specs.declared.config.PathConfig.{PathConfig}
 use Rattle.rb_script.specs.Scripts.{script_of}
-use Rattle.rb_super.specs.Report.{Report}
+use Rattle.rb_phases.specs.Report.{Report}
 use Rattle.rb_super.specs.Told.{told}
-use Rattle.rb_super.specs.Turns.{IsReportOf}
+use Rattle.rb_phases.specs.Turns.{IsReportOf}
 use Rattle.rb_text.specs.Report.{text}
 
 -- the identifiers of a script's paths, by their places

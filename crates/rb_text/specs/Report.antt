@@ -12,7 +12,7 @@ use Rattle.rb_events.specs.declared.refusal.Refusal.{Refusal}
 use Rattle.rb_scan.specs.declared.message.Kind.{Kind}
 use Rattle.rb_scan.specs.declared.message.Kind.TheVariants.{Receive, Acknowledge, Timeout}
 use Rattle.rb_task.specs.Task.{Message}
-use Rattle.rb_super.specs.Report.{RefusedEvent, PricedUpdate, Sending, nothing, too_big, batched, Plan, Outcome, held, idle, planned, ClientReport, SettlementReport, TurnReport, Report}
+use Rattle.rb_phases.specs.Report.{RefusedEvent, PricedUpdate, Sending, nothing, too_big, batched, Plan, Outcome, held, idle, planned, ClientReport, SettlementReport, TurnReport, Report}
 
 -- ---- lines
 
@@ -80,14 +80,14 @@ refused_settle_line number refusal = codes "refused settle " ++ decimal number +
 -- ---- parts
 
 -- a line, or several, for each element, with its number from here on
-abbrev pub numbered : {X : Type 0} → (ℕ → X → List ℕ) → ℕ → List X → List ℕ
-numbered lines number [] = []
-numbered lines number (x ∷ xs) = lines number x ++ numbered lines (number + 1) xs
+abbrev pub numbered_lines : {X : Type 0} → (ℕ → X → List ℕ) → ℕ → List X → List ℕ
+numbered_lines lines number [] = []
+numbered_lines lines number (x ∷ xs) = lines number x ++ numbered_lines lines (number + 1) xs
 
 abbrev pub sending_text : Sending → List ℕ
 sending_text nothing = []
 sending_text (too_big index) = too_big_line index
-sending_text (batched b) = batch_line b.number b.proof ++ numbered transaction_line 1 b.transactions
+sending_text (batched b) = batch_line b.number b.proof ++ numbered_lines transaction_line 1 b.transactions
 
 -- with the identifiers of the paths by their places
 abbrev pub plan_text : List (List ℕ) → Option Plan → List ℕ
@@ -118,8 +118,8 @@ head_text number window_back = codes "turn " ++ decimal number ++ codes "\n" ++ 
 abbrev pub turn_text : List (List ℕ) → ℕ → TurnReport → List ℕ
 turn_text paths number t =
     head_text number t.window_back ++ flat_map refused_line t.refused ++ flat_map (client_text paths) t.clients
-    ++ numbered settlement_text 0 t.settlements
+    ++ numbered_lines settlement_text 0 t.settlements
 
 -- the text of a report, its turns numbered from 1
 abbrev pub text : List (List ℕ) → Report → List ℕ
-text paths turns = codes "ibcplan 1\n" ++ numbered (turn_text paths) 1 turns ++ codes "end\n"
+text paths turns = codes "ibcplan 1\n" ++ numbered_lines (turn_text paths) 1 turns ++ codes "end\n"

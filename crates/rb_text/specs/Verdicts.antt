@@ -16,14 +16,14 @@ use Rattle.rb_fields.specs.declared.fault.FaultName.TheVariants.{NoSuchTurn, NoG
 use Rattle.rb_plan.specs.Labelling.{label_of}
 use Rattle.rb_events.specs.declared.config.ClientConfig.{ClientConfig}
 use Rattle.rb_super.specs.Judging.{IsVerdictOn, IsRightIn, IsReported}
-use Rattle.rb_super.specs.Report.{Report}
+use Rattle.rb_phases.specs.Report.{Report}
 use Rattle.rb_super.specs.Told.{told}
 use Rattle.rb_events.specs.Script.{Script, script_view}
 use Rattle.rb_fields.specs.declared.fault.RunError.{RunError}
 use Rattle.rb_text.specs.declared.case.Case.{Case as CodeCase}
 use Rattle.rb_text.specs.declared.refusal.CertifyError.{CertifyError}
 use Rattle.rb_text.specs.Certificates.{Certificate, certificate_of, certificate_view}
-use Rattle.rb_script.specs.Named.{known}
+use Rattle.rb_config.specs.Named.{known}
 use Rattle.rb_script.specs.Scripts.{script_of}
 
 -- ---- the line of a verdict

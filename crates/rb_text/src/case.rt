@@ -2,10 +2,10 @@
 ghost use Rattle.std.specs.Prelude.{◌≡◌, ◌<◌, Ok, Some, None, length, IfOk, IsErrOf};
 ghost use Rattle.rb_fields.specs.declared.fault.Fault.{Fault as CodeFault};
 ghost use Rattle.rb_fields.specs.Faults.{Gives, fault_view};
-ghost use Rattle.rb_super.specs.Report.{Report};
+ghost use Rattle.rb_phases.specs.Report.{Report};
 ghost use Rattle.rb_events.specs.Script.{IsScript, script_view};
 ghost use Rattle.rb_super.specs.Told.{told};
-ghost use Rattle.rb_super.specs.Turns.{IsReportOf};
+ghost use Rattle.rb_phases.specs.Turns.{IsReportOf};
 ghost use Rattle.rb_text.specs.Certificates.{certificate_view};
 ghost use Rattle.rb_text.specs.Verdicts.{case_view, case_in, case_of, plain, IsVerdictOf, IsRightCase, IsReportedCase, no_goal};
 

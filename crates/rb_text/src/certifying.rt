@@ -4,9 +4,9 @@ ghost use Rattle.std.specs.Io.KnownBytes.{Appends};
 ghost use Rattle.rb_base.specs.Sink.{AppendsBeginning};
 ghost use Rattle.rb_fields.specs.declared.fault.Fault.{Fault as CodeFault};
 ghost use Rattle.rb_fields.specs.Faults.{fault_view};
-ghost use Rattle.rb_super.specs.Report.{Report};
+ghost use Rattle.rb_phases.specs.Report.{Report};
 ghost use Rattle.rb_super.specs.Told.{told};
-ghost use Rattle.rb_super.specs.Turns.{IsReportOf};
+ghost use Rattle.rb_phases.specs.Turns.{IsReportOf};
 ghost use Rattle.rb_text.specs.Verdicts.{Case, case_of, plain, verdict_line, IsReportedCase, IsFaultFor, WritesVerdict, BeginsVerdict, IsCertified};
 ghost use Rattle.rb_text.specs.Written.{IsWriteError};
 

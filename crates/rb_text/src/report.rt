@@ -2,20 +2,20 @@
 ghost use Rattle.std.specs.Prelude.{◌≡◌, ◌++◌, [], map, slice_index_or, OnOk, string_bytes};
 ghost use Rattle.std.specs.List.{flat_map};
 ghost use Rattle.std.specs.Option.{option_map};
-ghost use Rattle.rb_super.specs.Views.{refused_view, priced_view, sending_view, plan_view, planned_view, client_report_view, settlement_view, turn_report_view};
-ghost use Rattle.rb_super.specs.Report.{planned as outcome_planned};
-ghost use Rattle.rb_text.specs.Report.{refused_line, goal_line, label_line, update_line, total_line, kind_name, message_line, batch_line, transaction_line, numbered, sending_text, plan_text, outcome_text, client_text, settled_line, refusal_text, refused_settle_line, settlement_text, head_text, turn_text};
+ghost use Rattle.rb_phases.specs.Views.{refused_view, priced_view, sending_view, plan_view, planned_view, client_report_view, settlement_view, turn_report_view};
+ghost use Rattle.rb_phases.specs.Report.{planned as outcome_planned};
+ghost use Rattle.rb_text.specs.Report.{refused_line, goal_line, label_line, update_line, total_line, kind_name, message_line, batch_line, transaction_line, numbered_lines, sending_text, plan_text, outcome_text, client_text, settled_line, refusal_text, refused_settle_line, settlement_text, head_text, turn_text};
 
 use rb_base::{Height, PathId};
 use rb_batch::Transaction;
 use rb_core::Message;
 use rb_events::Refusal;
-use rb_plan::{Cost, Goal, Label};
-use rb_scan::Kind;
-use rb_super::{
+use rb_phases::{
     ClientReport, Outcome, Plan, Planned, PricedUpdate, RefusedEvent, Sending, SettlementReport,
     TurnReport,
 };
+use rb_plan::{Cost, Goal, Label};
+use rb_scan::Kind;
 use std::alloc::AllocError;
 
 fn push_refused(text: &mut String, refused: &RefusedEvent) -> Result<(), AllocError>
@@ -99,7 +99,7 @@ fn push_transaction(
 }
 
 fn push_transactions(text: &mut String, transactions: &[Transaction]) -> Result<(), AllocError>
-    ensures { OnOk result (string_bytes text.new ≡ string_bytes text.old ++ numbered transaction_line 1 transactions.now) }
+    ensures { OnOk result (string_bytes text.new ≡ string_bytes text.old ++ numbered_lines transaction_line 1 transactions.now) }
 {
     let mut number = 0;
     for transaction in transactions {
@@ -270,7 +270,7 @@ fn push_settlement(
 
 fn push_settlements(text: &mut String, settlements: &[SettlementReport]) -> Result<(), AllocError>
     ensures { OnOk result (string_bytes text.new
-        ≡ string_bytes text.old ++ numbered settlement_text 0 (map settlement_view settlements.now)) }
+        ≡ string_bytes text.old ++ numbered_lines settlement_text 0 (map settlement_view settlements.now)) }
 {
     for (number, settlement) in settlements.iter().enumerate() {
         push_settlement(text, number, settlement)?;

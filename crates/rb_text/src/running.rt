@@ -1,32 +1,65 @@
 //! The run over a text: read it, run it, write its report.
-ghost use Rattle.std.specs.Prelude.{◌≡◌, ◌≤◌, ◌↔◌, ◌⊎◌, Err, true, false, OnOk, OnErr, IsErrOf};
+ghost use Rattle.std.specs.Prelude.{◌≡◌, ◌≤◌, ◌↔◌, ◌⊎◌, Err, true, false, map, IfOk, OnOk, OnErr, IsErrOf};
+ghost use Rattle.rb_events.specs.Script.{script_view, IsScript};
+ghost use Rattle.rb_events.specs.declared.config.PathConfig.{PathConfig};
 ghost use Rattle.rb_fields.specs.declared.fault.Fault.{Fault as CodeFault};
 ghost use Rattle.rb_fields.specs.Faults.{fault_view};
 ghost use Rattle.rb_script.specs.Scripts.{script_of};
+ghost use Rattle.rb_super.specs.Told.{told};
+ghost use Rattle.rb_phases.specs.Turns.{IsReportOf};
+ghost use Rattle.rb_phases.specs.Views.{report_view};
 ghost use Rattle.rb_text.specs.Headline.{WritesReport, BeginsReport};
 
 use crate::write::write_report;
 use rb_base::Sink;
+use rb_events::Script;
 use rb_fields::RunError;
 use rb_gang::Gate;
+use rb_phases::Report;
 use rb_script::read_script;
-use rb_super::run_script;
-use std::alloc::Global;
+use rb_super::{run_by_workers, run_script};
+use std::alloc::{AllocError, Global};
+use std::sync::{Arc, Wait};
 use std::thread::Threads;
 
+/// Runs a script by so many workers in threads of their own, or by none.
+fn run_by<R: Threads + Wait + Copy + Send + Sync + 'static, G: Gate + Send + Sync + Drop + 'static>(
+    rt: &R,
+    alloc: Global,
+    script: Script,
+    workers: usize,
+    gate: &Arc<G, Global>,
+) -> Result<Report, AllocError>
+    requires script { IsScript (script_view script) }
+    requires workers { workers ≤ 64 }
+    ensures paths { IfOk result (λ report. report.paths.items ≡ map (λ (p : PathConfig). p.id) script.config.paths.items) }
+    ensures turns { IfOk result (λ report. IsReportOf (told (script_view script)) (report_view report)) }
+{
+    if workers == 0 {
+        run_script(rt, alloc, script, 0, &**gate)
+    } else {
+        run_by_workers(rt, alloc, script, workers, gate)
+    }
+}
+
 /// Reads the script that the bytes hold, runs it, and writes its report, which doesn't go by how many
-/// workers there are, at most 64 (`rb_super::run_script`), nor by the gate. `Fault` is the first fault
-/// of bytes that hold no script, and nothing is then written; `Device` is answered where the writer
-/// fails, `NoMemory` where a growth is refused, and a beginning of the report, or nothing, was then
-/// taken. The writer must not have failed before. What it took is said where a contract can name its
-/// bytes, as those of a list in memory.
-pub fn run_over<R: Threads + Sync, W: Sink, G: Gate + Sync>(
+/// workers there are, at most 64 (`rb_super::run_by_workers`; with 0 the calling thread does all), nor by
+/// the gate. `Fault` is the first fault of bytes that hold no script, and nothing is then written;
+/// `Device` is answered where the writer fails, `NoMemory` where a growth is refused, and a beginning of
+/// the report, or nothing, was then taken. It may wait for workers and for the gate; what is said holds
+/// if it returns. The writer must not have failed before. What it took is said where a contract can name
+/// its bytes, as those of a list in memory.
+pub fn run_over<
+    R: Threads + Wait + Copy + Send + Sync + 'static,
+    W: Sink,
+    G: Gate + Send + Sync + Drop + 'static,
+>(
     rt: &R,
     alloc: Global,
     bytes: &[u8],
     writer: &mut W,
     workers: usize,
-    gate: &G,
+    gate: &Arc<G, Global>,
 ) -> Result<(), RunError>
     requires works { W.is_broken writer.old ≡ false }
     requires workers { workers ≤ 64 }
@@ -37,6 +70,6 @@ pub fn run_over<R: Threads + Sync, W: Sink, G: Gate + Sync>(
     ensures begun { OnErr result ((writer.new ≡ writer.old) ⊎ BeginsReport bytes.now (W.taken writer.old) (W.taken writer.new)) }
 {
     let script = read_script(alloc, bytes)?;
-    let report = run_script(rt, alloc, script, workers, gate)?;
+    let report = run_by(rt, alloc, script, workers, gate)?;
     write_report(alloc, &report, writer)
 }

@@ -2,14 +2,14 @@
 ghost use Rattle.std.specs.Prelude.{◌≡◌, false, map, OnOk, OnErr, IfErr};
 ghost use Rattle.std.specs.Io.KnownBytes.{Appends};
 ghost use Rattle.rb_base.specs.Sink.{AppendsBeginning};
-ghost use Rattle.rb_super.specs.Views.{turn_report_view, report_view};
-ghost use Rattle.rb_text.specs.Report.{text, turn_text, numbered};
+ghost use Rattle.rb_phases.specs.Views.{turn_report_view, report_view};
+ghost use Rattle.rb_text.specs.Report.{text, turn_text, numbered_lines};
 ghost use Rattle.rb_text.specs.Written.{IsWriteError};
 
 use crate::report::push_turn;
 use rb_base::{Device, PathId, Sink, write_whole};
 use rb_fields::RunError;
-use rb_super::{Report, TurnReport};
+use rb_phases::{Report, TurnReport};
 use std::alloc::Global;
 
 /// Writes all of the bytes, or fails with the writer.
@@ -56,9 +56,9 @@ fn put_turns<W: Sink>(
     writer: &mut W,
 ) -> Result<(), RunError>
     requires { W.is_broken writer.old ≡ false }
-    ensures written { OnOk result (Appends (W.taken writer.old) (W.taken writer.new) (numbered (turn_text paths.now) 1 (map turn_report_view turns.now))) }
+    ensures written { OnOk result (Appends (W.taken writer.old) (W.taken writer.new) (numbered_lines (turn_text paths.now) 1 (map turn_report_view turns.now))) }
     ensures works { OnOk result (W.is_broken writer.new ≡ false) }
-    ensures begun { OnErr result (AppendsBeginning (W.taken writer.old) (W.taken writer.new) (numbered (turn_text paths.now) 1 (map turn_report_view turns.now))) }
+    ensures begun { OnErr result (AppendsBeginning (W.taken writer.old) (W.taken writer.new) (numbered_lines (turn_text paths.now) 1 (map turn_report_view turns.now))) }
     ensures failed { IfErr result (λ e. IsWriteError e (W.is_broken writer.new)) }
 {
     let mut number = 0;

@@ -1,7 +1,7 @@
 use Rattle.std.proofs.Common.{◌≡◌, [], drop}
 use Rattle.serde_json.specs.View.{items_view}
-use Rattle.rb_answers.specs.declared.place.Part.{Part}
-use Rattle.rb_answers.specs.Fields.{each}
+use Rattle.rb_json.specs.declared.place.Part.{Part}
+use Rattle.rb_json.specs.Fields.{each}
 use Rattle.rb_answers.specs.Headers.{signature}
 use Rattle.rb_answers.proofs.commit.read_signatures.Given as goal
 

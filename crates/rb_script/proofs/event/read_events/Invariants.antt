@@ -1,7 +1,7 @@
 use Rattle.std.proofs.Common.{◌≡◌, [], drop}
 use Rattle.toml.specs.View.{items_view}
 use Rattle.rb_fields.specs.Fields.{in_sequence}
-use Rattle.rb_script.specs.Setups.{setup_view}
+use Rattle.rb_config.specs.Setups.{setup_view}
 use Rattle.rb_script.specs.Names.{names_of}
 use Rattle.rb_script.specs.Events.{event}
 use Rattle.rb_script.proofs.event.read_events.Given as goal

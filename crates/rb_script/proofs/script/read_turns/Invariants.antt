@@ -2,7 +2,7 @@ use Rattle.std.proofs.Common.{◌≡◌, [], codes, drop, map}
 use Rattle.toml.specs.View.{items_view}
 use Rattle.rb_events.specs.Script.{turn_view}
 use Rattle.rb_fields.specs.Fields.{in_sequence}
-use Rattle.rb_script.specs.Setups.{setup_view}
+use Rattle.rb_config.specs.Setups.{setup_view}
 use Rattle.rb_script.specs.Turns.{turn, reading_view}
 use Rattle.rb_script.proofs.script.read_turns.Given as goal
 

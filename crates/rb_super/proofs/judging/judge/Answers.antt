@@ -2,7 +2,7 @@ use Rattle.std.proofs.Common.{◌<◌, sym, subst, arith}
 use Rattle.std.proofs.lemmas.Result.{IfOk-weaker}
 use Rattle.rb_events.specs.Script.{script_view}
 use Rattle.rb_plan.specs.Answer.{labels_of, claim_of}
-use Rattle.rb_super.specs.Phases.{standing_in}
+use Rattle.rb_phases.specs.Phases.{standing_in}
 use Rattle.rb_super.specs.Told.{told}
 use Rattle.rb_super.proofs.OwnAnswers.{own_answer}
 use Rattle.rb_super.proofs.judging.judge.Goals as goal

@@ -2,9 +2,9 @@ use Rattle.std.proofs.Common.{List, map, refl, sym, subst}
 use Rattle.rb_machine.specs.Standing.{Standing}
 use Rattle.rb_events.specs.Config.{config_view}
 use Rattle.rb_events.specs.Script.{script_view}
-use Rattle.rb_super.specs.Script.{Turn}
-use Rattle.rb_super.specs.Turns.{AreTurnReports}
-use Rattle.rb_super.specs.Views.{turn_report_view}
+use Rattle.rb_phases.specs.Script.{Turn}
+use Rattle.rb_phases.specs.Turns.{AreTurnReports}
+use Rattle.rb_phases.specs.Views.{turn_report_view}
 use Rattle.rb_super.proofs.Runs.{opened_standing, turns_fit, turns_for, told_turns}
 use Rattle.rb_super.proofs.run.run_script.Goals as goal
 

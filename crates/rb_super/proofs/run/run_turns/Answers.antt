@@ -8,13 +8,13 @@ use Rattle.std.specs.List.{sum_by}
 use Rattle.rb_core.specs.Core.{state_in}
 use Rattle.rb_events.specs.Config.{Config}
 use Rattle.rb_super.specs.Judging.{Leads}
-use Rattle.rb_super.specs.Phases.{standing_in}
-use Rattle.rb_super.specs.Report.{Report}
-use Rattle.rb_super.specs.Script.{Turn}
-use Rattle.rb_super.specs.Turns.{AreTurnReports}
+use Rattle.rb_phases.specs.Phases.{standing_in}
+use Rattle.rb_phases.specs.Report.{Report}
+use Rattle.rb_phases.specs.Script.{Turn}
+use Rattle.rb_phases.specs.Turns.{AreTurnReports}
 use Rattle.rb_super.specs.Told.{told_as, IsTurnFor, most_events}
-use Rattle.rb_super.specs.Views.{turn_report_view}
-use Rattle.rb_super.proofs.Loops.{seen_more}
+use Rattle.rb_phases.specs.Views.{turn_report_view}
+use Rattle.rb_phases.proofs.Loops.{seen_more}
 use Rattle.rb_super.proofs.Runs.{Reach, reach_more, reach_reports, reach_leads}
 use Rattle.rb_super.proofs.run.run_turns.Goals as goal
 

@@ -1,6 +1,6 @@
 use Rattle.std.proofs.Common.{◌≡◌, drop}
 use Rattle.serde_json.specs.View.{items_view}
-use Rattle.rb_answers.specs.Fields.{object_view}
+use Rattle.rb_json.specs.Fields.{object_view}
 use Rattle.rb_answers.specs.Packets.{attribute}
 use Rattle.rb_answers.proofs.attributes.Attributes.text.Given as goal
 

@@ -5,9 +5,9 @@ use Rattle.rb_machine.specs.Seen.{observed}
 use Rattle.rb_machine.specs.Standing.{standing_after}
 use Rattle.rb_events.specs.Script.{IsSeen}
 use Rattle.rb_events.specs.declared.script.Asked.{Asked}
-use Rattle.rb_super.specs.Phases.{standing_in, HasLogRoom}
+use Rattle.rb_phases.specs.Phases.{standing_in, HasLogRoom}
 use Rattle.rb_super.specs.Told.{told_as, most_events}
-use Rattle.rb_super.specs.Turns.{after_window, after_question, before_plans}
+use Rattle.rb_phases.specs.Turns.{after_window, after_question, before_plans}
 use Rattle.rb_super.proofs.supervisor.Supervisor.plan_phase.Goals as goal
 
 pub prepare-requires-clause-goals : goal.prepare-requires-clause-goals

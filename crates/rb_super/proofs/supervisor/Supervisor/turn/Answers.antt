@@ -3,11 +3,11 @@ use Rattle.std.specs.List.{All}
 use Rattle.rb_events.specs.Script.{IsSeen}
 use Rattle.rb_events.specs.declared.script.Asked.{Asked}
 use Rattle.rb_events.specs.declared.script.Settlement.{Settlement}
-use Rattle.rb_super.specs.Phases.{HasLogRoom, IsLater}
+use Rattle.rb_phases.specs.Phases.{HasLogRoom, IsLater}
 use Rattle.rb_super.specs.Told.{most_events}
 use Rattle.rb_core.specs.Core.{Core}
 use Rattle.rb_events.specs.Config.{Config}
-use Rattle.rb_super.specs.Views.{refused_view, client_report_view, settlement_view}
+use Rattle.rb_phases.specs.Views.{refused_view, client_report_view, settlement_view}
 use Rattle.rb_super.proofs.Whole.{turn_done}
 use Rattle.rb_super.proofs.supervisor.Supervisor.turn.Goals as goal
 

@@ -1,0 +1,60 @@
+#!/usr/bin/env python3
+"""What a plan saves: for each client that is planned in the first turn of a script the fee of the least list, of a list
+with the fewest updates, and of the list that a light client's bisection finds, by the reference planner's steps and fees.
+
+    savings.py SCRIPT..      one line for each client; `-` where there is no such list
+
+Bisection is CometBFT's skipping verification (light client specification, Schedule): from the highest height that is
+trusted to the goal at once; where that step isn't accepted, to the middle of the two, and so on; after each step that is
+accepted again to the goal. Of a middle the highest height below it, or at it, that has a header is taken."""
+import pathlib
+import sys
+
+import reference
+
+
+def fewest(view, goal):
+    """The fee of the cheapest list among those with the fewest updates."""
+    labels = {h: (0, 0) for h in view.live}
+    for h, trusted in view.steps.items():
+        sums = [(labels[t][0] + 1, labels[t][1] + view.fee(t, h)) for t in trusted if t in labels]
+        if sums and h not in labels:
+            labels[h] = min(sums)
+    return min((labels[h] for h in labels if reference.wants(goal, h)), default=(None, None))
+
+
+def bisected(view, target):
+    """The number of updates and the fee of the list that bisection finds, or none."""
+    if not view.live:
+        return None, None
+    trusted, aim, count, fee = max(view.live), target, 0, 0
+    while trusted < target:
+        if trusted in view.steps.get(aim, ()):
+            fee += view.fee(trusted, aim)
+            trusted, aim, count = aim, target, count + 1
+            continue
+        between = [h for h in view.steps if trusted < h <= (trusted + aim) // 2]
+        if not between:
+            return None, None
+        aim = max(between)
+    return count, fee
+
+
+def shown(count, fee):
+    return f"{fee:>8,} in {count:<3}" if count is not None else f"{'-':>8}       "
+
+
+def main():
+    print(f"{'script, client':40}{'plan':>15}{'fewest':>15}{'bisection':>16}")
+    for name in sys.argv[1:]:
+        script = reference.read_script(reference.read_file(name))
+        for client, (goal, view) in reference.planned(script, 0).items():
+            _, updates = reference.by_labels(view, goal)
+            if not updates:
+                continue
+            plan = len(updates), sum(view.fee(t, h) for t, h in updates)
+            print(f"{pathlib.Path(name).stem + ', ' + client:40}", shown(*plan), shown(*fewest(view, goal)), shown(*bisected(view, updates[-1][1])))
+
+
+if __name__ == "__main__":
+    main()

@@ -1,0 +1,11 @@
+pub use Rattle.rb_events.specs.Config
+pub use Rattle.rb_fields.specs.Faults
+pub mod Versions
+pub mod Named
+pub mod Directories
+pub mod Chains
+pub mod Clients
+pub mod Paths
+pub mod Setups
+pub mod Tables
+pub mod Laws

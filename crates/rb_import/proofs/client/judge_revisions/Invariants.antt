@@ -1,7 +1,0 @@
-use Rattle.std.proofs.Common.{All, take}
-use Rattle.rb_import.specs.Clients.{IsOfRevision}
-use Rattle.rb_import.proofs.client.judge_revisions.Given as goal
-
--- the records so far are of the chain's revision
-abbrev pub invariant-loop-record : goal.invariant-loop-record
-invariant-loop-record l = All (IsOfRevision l.tracked) (take l.record-index l.stored)

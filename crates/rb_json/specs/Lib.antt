@@ -1,0 +1,4 @@
+pub mod Names
+pub mod Flaws
+pub mod Values
+pub mod Fields

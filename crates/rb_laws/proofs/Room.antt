@@ -1,0 +1,51 @@
+-- The log of a script within the limits is never full.
+use Rattle.std.proofs.Common.{◌≡◌, ℕ, suc, ◌+◌, ◌*◌, ◌≤◌, List, [], ◌∷◌, ◌++◌, length, map, refl, ap, arith}
+use Rattle.std.specs.List.{flat_map, range_with_len, sum_by}
+use Rattle.std.proofs.lemmas.List.{length-append, length-map}
+use Rattle.std.proofs.lemmas.List.FromFn.{length-range_with_len}
+use Rattle.std.proofs.lemmas.List.Sums.{sum_by-cons}
+use Rattle.rb_events.specs.Config.{Config}
+use Rattle.rb_machine.specs.Event.{Event}
+use Rattle.rb_phases.specs.Agenda.{Item, ask, plan, settle, observations, both_parts, agenda}
+use Rattle.rb_laws.specs.Schedule.{appends_in, inputs_of, LimitsFitLog}
+use Rattle.rb_phases.specs.Script.{Turn}
+
+length-observations : (events : List Event) (number : ℕ) → length (observations number events) ≡ length events
+length-observations [] number = refl
+length-observations (e ∷ events) number = ap (λ n. suc n) (length-observations events (number + 1))
+
+length-parts : (paths : List ℕ) → length (flat_map both_parts paths) ≡ 2 * length paths
+length-parts [] = refl
+length-parts (p ∷ paths) = let rest = length-parts paths in omega arith
+
+-- how much a turn has to do
+length-agenda : (c : Config) (t : Turn) → length (agenda c t) ≡ inputs_of t + (1 + (2 * length c.paths + length c.clients))
+length-agenda c t =
+    let paths = range_with_len 0 (length c.paths) in
+    let clients = range_with_len 0 (length c.clients) in
+    let plans : List Item = map plan clients ++ map settle t.settlements in
+    let scans : List Item = flat_map both_parts paths ++ plans in
+    let seen : List Item = observations 0 t.events ++ scans in
+    omega (
+      arith,
+      length-append (map ask t.goals) seen,
+      length-append (observations 0 t.events) scans,
+      length-append (flat_map both_parts paths) plans,
+      length-append (map plan clients) (map settle t.settlements),
+      length-map t.goals ask,
+      length-observations t.events 0,
+      length-parts paths,
+      length-map clients plan,
+      length-map t.settlements settle,
+      length-range_with_len 0 (length c.paths),
+      length-range_with_len 0 (length c.clients),
+    )
+
+turns_fit : (c : Config) → length c.clients ≤ 256 → length c.paths ≤ 256 → (ts : List Turn) → appends_in c ts ≤ sum_by inputs_of ts + 769 * length ts
+turns_fit c clients paths [] = omega arith
+turns_fit c clients paths (t ∷ ts) =
+    let rest = turns_fit c clients paths ts in
+    omega (arith, rest, length-agenda c t, sum_by-cons (λ (x : Turn). length (agenda c x)) t ts, sum_by-cons inputs_of t ts, clients, paths)
+
+pub limits_fit : LimitsFitLog
+limits_fit s is = let all = turns_fit s.config is.clients is.paths s.turns in omega (arith, all, is.turns, is.inputs)

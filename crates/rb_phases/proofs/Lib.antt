@@ -1,0 +1,11 @@
+pub mod Order
+pub mod Sizes
+pub mod Reported
+pub mod Configs
+pub mod Steps
+pub mod Loops
+pub mod Phases
+pub mod Plans
+pub mod Prices
+pub mod Kept
+pub mod Drafts

@@ -1,0 +1,79 @@
+-- A turn, phase by phase, gives its report.
+use Rattle.std.proofs.Common.{◌≡◌, ℕ, ◌+◌, Bool, List, [], ◌∷◌, ◌++◌, length, map, sym, ap, ◌∙◌, subst, append_assoc, append-nil, arith}
+use Rattle.std.specs.List.{flat_map, fold, range_with_len}
+use Rattle.std.proofs.lemmas.List.FromFn.{map-range_with_len_more}
+use Rattle.rb_machine.specs.Event.{Event}
+use Rattle.rb_machine.specs.Standing.{Standing, goes_back, standing_after}
+use Rattle.rb_events.specs.Config.{Config}
+use Rattle.rb_events.specs.declared.script.Asked.{Asked}
+use Rattle.rb_events.specs.declared.script.Settlement.{Settlement}
+use Rattle.rb_phases.specs.Agenda.{Item, ask, plan, settle, observations, both_parts, Finishes}
+use Rattle.rb_phases.specs.Report.{RefusedEvent, ClientReport, SettlementReport, TurnReport}
+use Rattle.rb_phases.specs.Script.{Turn}
+use Rattle.rb_phases.specs.Turns.{after_window, after_question, refusal_at, refusals, before_events, before_plans, after_settlement, settlement_report, settlement_reports, IsTurnReport, after_turn}
+use Rattle.rb_phases.proofs.Order.{order}
+use Rattle.rb_phases.specs.Phases.{IsReportedOf, AreReported}
+
+module _ (start : Standing) (turn : Turn) where
+  asked_all : (goals : List Asked) (s : Standing) (r : TurnReport) (items : List Item) → Finishes start turn s r (map ask goals ++ items) → Finishes start turn (fold after_question s goals) r items
+  asked_all [] s r items h = h
+  asked_all (q ∷ goals) s r items h = asked_all goals (after_question s q) r items h
+
+  observed_all : (events : List Event) (number : ℕ) (s : Standing) (r : TurnReport) (items : List Item) → Finishes start turn s r (observations number events ++ items)
+      → Finishes start turn (fold standing_after s events) (record r { refused = r.refused ++ refusals number s events }) items
+  observed_all [] number s r items h = subst (λ xs. Finishes start turn s (record r { refused = xs }) items) (sym (append-nil r.refused)) h
+  observed_all (event ∷ events) number s r items h =
+      subst (λ xs. Finishes start turn (fold standing_after (standing_after s event) events) (record r { refused = xs }) items)
+      (append_assoc r.refused (refusal_at number s event) (refusals (number + 1) (standing_after s event) events))
+      (observed_all events (number + 1) (standing_after s event) (record r { refused = r.refused ++ refusal_at number s event }) items h)
+
+  scanned_all : (paths : List ℕ) (s : Standing) (r : TurnReport) (items : List Item) → Finishes start turn s r (flat_map both_parts paths ++ items) → Finishes start turn s r items
+  scanned_all [] s r items h = h
+  scanned_all (p ∷ paths) s r items h = scanned_all paths s r items h
+
+  settled_all : (xs : List Settlement) (s : Standing) (r : TurnReport) → Finishes start turn s r (map settle xs)
+      → Finishes start turn (fold after_settlement s xs) (record r { settlements = r.settlements ++ settlement_reports s xs }) []
+  settled_all [] s r h = subst (λ ys. Finishes start turn s (record r { settlements = ys }) []) (sym (append-nil r.settlements)) h
+  settled_all (x ∷ xs) s r h =
+      subst (λ ys. Finishes start turn (fold after_settlement (after_settlement s x) xs) (record r { settlements = ys }) [])
+      (append_assoc r.settlements (settlement_report s x ∷ []) (settlement_reports (after_settlement s x) xs))
+      (settled_all xs (after_settlement s x) (record r { settlements = r.settlements ++ settlement_report s x ∷ [] }) h)
+
+-- ---- the clients, one after another
+
+pub reported_none : (s : Standing) → AreReported s s 0 0 []
+reported_none s = λ start turn r rest h. subst (λ cs. Finishes start turn s (record r { clients = cs }) rest) (sym (append-nil r.clients)) h
+
+pub reported_more : (s t u : Standing) (n : ℕ) (reports : List ClientReport) (report : ClientReport) → AreReported s t 0 n reports → IsReportedOf t u n report
+    → AreReported s u 0 (n + 1) (reports ++ report ∷ [])
+reported_more s t u n reports report so_far is = λ start turn r rest h.
+    let items : map plan (range_with_len 0 (n + 1)) ++ rest ≡ map plan (range_with_len 0 n) ++ plan n ∷ rest =
+    ap (λ xs. xs ++ rest) (map-range_with_len_more plan 0 n n (omega arith)) ∙ append_assoc (map plan (range_with_len 0 n)) (plan n ∷ []) rest in
+    let here = so_far start turn r (plan n ∷ rest) (subst (λ xs. Finishes start turn s r xs) items h) in
+    let next = here is.known report is.is_known is.right in
+    subst (λ (p : Standing × List ClientReport). Finishes start turn p.0 (record r { clients = p.1 }) rest)
+    (λ i. (sym is.after i, append_assoc r.clients reports (report ∷ []) i)) next
+
+-- ---- the whole
+
+pub turn_reported : (c : Config) (turn : Turn) (s t u v : Standing) (back : Bool) (refused : List RefusedEvent) (clients : List ClientReport) (settlements : List SettlementReport)
+    → length s.clients ≡ length c.clients
+    → back ≡ goes_back s.window turn.window
+    → refused ≡ refusals 0 (before_events s turn) turn.events
+    → t ≡ before_plans s turn
+    → AreReported t u 0 (length c.clients) clients
+    → settlements ≡ settlement_reports u turn.settlements
+    → v ≡ fold after_settlement u turn.settlements
+    → let r : TurnReport = record { window_back = back; refused = refused; clients = clients; settlements = settlements }
+    in IsTurnReport s turn r × (v ≡ after_turn s turn r)
+turn_reported c turn s t u v back refused clients settlements long back_is refused_is t_is are settlements_is v_is =
+    let first : TurnReport = record { window_back = goes_back s.window turn.window; refused = refusals 0 (before_events s turn) turn.events; clients = []; settlements = [] } in
+    let asked = asked_all s turn turn.goals (after_window s turn.window) (record first { refused = [] }) _ (order c turn s long) in
+    let seen = observed_all s turn turn.events 0 (before_events s turn) (record first { refused = [] }) _ asked in
+    let scanned = scanned_all s turn (range_with_len 0 (length c.paths)) (before_plans s turn) first _ seen in
+    let planned = are s turn first (map settle turn.settlements)
+    (subst (λ x. Finishes s turn x first (map plan (range_with_len 0 (length c.clients)) ++ map settle turn.settlements)) (sym t_is) scanned) in
+    let whole = settled_all s turn turn.settlements u (record first { clients = clients }) planned in
+    subst (λ (p : Standing × Bool × List RefusedEvent × List SettlementReport).
+    let r : TurnReport = record { window_back = p.1; refused = p.2; clients = clients; settlements = p.3 } in IsTurnReport s turn r × (p.0 ≡ after_turn s turn r))
+    (λ i. (sym v_is i, sym back_is i, sym refused_is i, sym settlements_is i)) whole

@@ -1,0 +1,10 @@
+pub mod Script
+pub mod Report
+pub mod Turns
+pub mod Accepted
+pub mod Agenda
+pub mod Views
+pub mod Phases
+pub mod Tables
+pub mod Heads
+pub mod Drafts

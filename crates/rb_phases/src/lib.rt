@@ -1,0 +1,32 @@
+//! The phases of a turn, for a relayer over any machine that takes events in: what is heard, scanned,
+//! planned and settled, by the calling thread or by what workers found, and what is reported of it.
+#![tactic(auto)]
+
+mod clients;
+mod crew;
+mod found;
+mod machine;
+mod observing;
+mod orders;
+mod outcome;
+mod planning;
+mod relayer;
+mod report;
+mod scanning;
+mod settling;
+mod tables;
+mod taking;
+
+pub use crew::Crew;
+pub use machine::Machine;
+pub use observing::hear_all;
+pub use orders::{plan_orders, scan_orders};
+pub use planning::{draft_of, drafts_of, plan_all, view_of};
+pub use relayer::Relayer;
+pub use report::{
+    Batch, ClientReport, Outcome, Plan, Planned, PricedUpdate, RefusedEvent, Report, Sending,
+    SettlementReport, TurnReport,
+};
+pub use scanning::scan_all;
+pub use settling::settle_all;
+pub use tables::no_tables;

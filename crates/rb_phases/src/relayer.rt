@@ -1,0 +1,189 @@
+//! A relayer with the step tables of its chains.
+ghost use Rattle.std.specs.Prelude.{◌≡◌, ◌<◌, ◌++◌, ◌∷◌, [], Some, None, length, replicate, IfOk, IfErr, OnOk, OnErr};
+ghost use Rattle.std.specs.Option.{option_copied};
+ghost use denote.Param.Send.{Frees};
+ghost use Rattle.rb_events.specs.Config.{config_view, IsConfig};
+ghost use Rattle.rb_machine.specs.Batches.{batch_open};
+ghost use Rattle.rb_machine.specs.Config.{IsSetUp};
+ghost use Rattle.rb_core.specs.Core.{state_in, refusal_in};
+ghost use Rattle.rb_machine.specs.Machine.{client_view, client_view_refusal, is_scanned, path_view_refusal, reply_of};
+ghost use Rattle.rb_machine.specs.Refused.{IsRefusal};
+ghost use Rattle.rb_machine.specs.Replied.{reply_view};
+ghost use Rattle.rb_machine.specs.Seen.{event_view};
+ghost use Rattle.rb_machine.specs.Standing.{book_at, path_view};
+ghost use Rattle.rb_phases.specs.Heads.{head_of};
+ghost use Rattle.rb_phases.specs.Phases.{standing_in};
+
+use crate::crew::Crew;
+use crate::machine::Machine;
+use crate::tables::{no_tables, table_in, take_in};
+use rb_board::Pen;
+use rb_book::ChainBook;
+use rb_core::{Core, CoreError, Event, JobView, OpenBatch, Reply};
+use rb_events::Config;
+use rb_gang::Gate;
+use rb_graph::SharedGraph;
+use rb_scan::{Part, PathView};
+use std::alloc::{AllocError, Allocator, Global};
+use std::marker::Model;
+use std::sync::Wait;
+use std::thread::Threads;
+
+/// A relayer: what it has taken in, and a step table of each chain that was planned for. A table is
+/// kept from turn to turn: what is taken in of its chain is added to it. A contract sees what was
+/// taken in.
+#[derive(Drop)]
+pub struct Relayer<A: Allocator + Copy = Global, M: Machine<A> = Core<A>> {
+    machine: M,
+    tables: Vec<Option<SharedGraph<A>>, A>,
+}
+
+impl<A: Allocator + Copy, M: Machine<A>> Model for Relayer<A, M> {
+    ghost use Rattle.rb_core.specs.Core as cores;
+    ghost use Rattle.rb_phases.specs.Tables.{AreTables};
+
+    ghost Value = { cores.Core };
+
+    ghost view = { λ r. M.seen_as r.machine };
+
+    ghost invariant = { λ r. AreTables (M.seen_as r.machine) r.tables.items };
+}
+
+impl<A: Allocator + Copy> Relayer<A> {
+    /// A relayer that has taken in nothing. The configuration is given up where a growth is refused.
+    pub fn new(alloc: A, config: Config<A>) -> Result<Relayer<A>, AllocError>
+        requires { IsConfig (config_view config) }
+        ensures config { IfOk result (λ relayer. relayer.config ≡ config_view config) }
+        ensures log { IfOk result (λ relayer. relayer.log ≡ []) }
+    {
+        let tables = no_tables(alloc, config.chains.len())?;
+        let machine = Core::new(alloc, config)?;
+        Ok(Relayer { machine, tables })
+    }
+
+    /// What it has taken in.
+    pub fn core(&self) -> &Core<A>
+        ensures { result.now ≡ self.now }
+    {
+        &self.machine
+    }
+
+    /// What it has taken in, for which the tables are given up.
+    pub fn into_core(self) -> Core<A>
+        ensures { result ≡ self }
+    {
+        let Relayer { machine, .. } = self;
+        machine
+    }
+}
+
+impl Relayer<Global, Pen> {
+    /// A relayer over the pen of a board, with a place for a table of each chain.
+    pub fn over(pen: Pen, tables: Vec<Option<SharedGraph>>) -> Relayer<Global, Pen>
+        requires { tables.items ≡ replicate (length pen.config.chains) None }
+        ensures { result ≡ head_of pen }
+    {
+        Relayer {
+            machine: pen,
+            tables,
+        }
+    }
+
+    /// How many events it has taken in.
+    pub(crate) fn front(&self) -> usize {
+        self.machine.head().front()
+    }
+
+    /// Shows the workers all that it has taken in. Where a growth is refused, they are shown nothing
+    /// more.
+    pub fn publish<R: Wait>(self, rt: &R) -> (Relayer<Global, Pen>, Result<(), AllocError>)
+        ensures { result.0 ≡ self }
+    {
+        let Relayer { machine, tables } = self;
+        let (machine, published) = machine.publish(rt);
+        (Relayer { machine, tables }, published)
+    }
+
+    /// Ends the board.
+    pub fn close<R: Wait>(self, rt: &R) {
+        let Relayer { machine, tables: _ } = self;
+        machine.close(rt);
+    }
+}
+
+impl<A: Allocator + Copy, M: Machine<A>> Relayer<A, M> {
+    /// Takes in an event, and answers as the machine does. What is observed of a chain that has a
+    /// table is added to the table; one that can't grow is let go, and made anew when it is asked
+    /// for. After an error nothing has changed.
+    pub fn take_in(&mut self, event: Event<A>) -> Result<Reply, CoreError>
+        ensures config { self.new.config ≡ self.old.config }
+        ensures appended { OnOk result (self.new.log ≡ self.old.log ++ event_view event ∷ []) }
+        ensures unchanged { OnErr result (self.new.log ≡ self.old.log) }
+        ensures accepted { OnOk result (refusal_in self.old (event_view event) ≡ None) }
+        ensures refused { IfErr result (λ e. IsRefusal e (refusal_in self.old (event_view event))) }
+        ensures reply { IfOk result (λ reply. reply_view reply ≡ reply_of (state_in self.old) (event_view event)) }
+    {
+        take_in(&mut self.machine, &mut self.tables, event)
+    }
+}
+
+impl<A: Allocator + Copy + Send + Sync, M: Machine<A>> Relayer<A, M> {
+    /// The table of a chain, whose book this is: one more owner of the one that is kept. It is made
+    /// where there is none yet.
+    pub(crate) fn table<R: Threads + Sync, G: Gate + Sync>(
+        &mut self,
+        crew: &Crew<R, G>,
+        alloc: A,
+        chain: usize,
+        book: &ChainBook<A>,
+    ) -> Result<SharedGraph<A>, AllocError>
+        requires chain { chain < length self.old.config.chains }
+        requires book { book.now ≡ book_at (standing_in self.old).books chain }
+        requires alloc { Frees A.Allocator A.dealloc_token }
+        ensures table { IfOk result (λ table. table ≡ book.now) }
+        ensures same { self.new ≡ self.old }
+    {
+        table_in(crew, alloc, &mut self.tables, chain, book)
+    }
+}
+
+/// What is read of a relayer, as of its core.
+impl<A: Allocator + Copy, M: Machine<A>> Relayer<A, M> {
+    /// What it was set up with.
+    pub fn config(&self) -> &Config<A>
+        ensures value { config_view result.now ≡ self.now.config }
+        ensures set_up { IsSetUp self.now.config }
+    {
+        self.machine.core().config()
+    }
+
+    /// A client as a worker gets it.
+    pub(crate) fn client_view(&self, client: usize) -> Result<JobView<A>, CoreError>
+        ensures view { IfOk result (λ view. client_view (state_in self.now) client ≡ Some view) }
+        ensures refused { IfErr result (λ e. IsRefusal e (client_view_refusal (state_in self.now) client)) }
+    {
+        self.machine.core().client_view(client)
+    }
+
+    /// A path as it is scanned.
+    pub(crate) fn path_view(&self, path: usize) -> Result<PathView<A>, CoreError>
+        ensures view { IfOk result (λ view. path_view (state_in self.now).standing path ≡ Some view) }
+        ensures refused { IfErr result (λ e. IsRefusal e (path_view_refusal (state_in self.now) path)) }
+    {
+        self.machine.core().path_view(path)
+    }
+
+    /// Whether a part of a path was scanned as the path still is.
+    pub(crate) fn is_scanned(&self, path: usize, part: Part) -> bool
+        ensures { result ≡ is_scanned (state_in self.now) path part }
+    {
+        self.machine.core().is_scanned(path, part)
+    }
+
+    /// The batch of a client that is open.
+    pub fn open_batch(&self, client: usize) -> Option<&OpenBatch<A>>
+        ensures { option_copied result ≡ batch_open (state_in self.now).standing client }
+    {
+        self.machine.core().open_batch(client)
+    }
+}

@@ -1,0 +1,7 @@
+pub mod Names
+pub mod Problems
+pub mod Saved
+pub mod Sets
+pub mod Chains
+pub mod Clients
+pub mod Packets

@@ -1,0 +1,241 @@
+//! The supervisor with workers.
+ghost use Rattle.std.specs.Prelude.{◌≡◌, ◌<◌, ◌≤◌, ◌+◌, ◌*◌, [], true, Ok, length, is_some, IfOk, All, map, fold};
+ghost use Rattle.rb_events.specs.Config.{config_view, IsConfig};
+ghost use Rattle.rb_events.specs.Script.{IsSeen};
+ghost use Rattle.rb_machine.specs.Seen.{observed};
+ghost use Rattle.rb_machine.specs.Standing.{goes_back, standing_after};
+ghost use Rattle.rb_phases.specs.Turns.{after_window, after_question, refusals, IsTurnReport, after_turn};
+ghost use Rattle.rb_phases.specs.Phases.{standing_in, HasLogRoom, IsLater, IsPlannable, AreReported};
+ghost use Rattle.rb_phases.specs.Views.{refused_view, client_report_view, turn_report_view};
+ghost use Rattle.rb_super.specs.Told.{told_as, IsTurnFor, most_events};
+
+use rb_base::Window;
+use rb_board::{Pen, open};
+use rb_core::Core;
+use rb_events::{Asked, Config, Observation, Turn};
+use rb_gang::Gate;
+use rb_phases::{
+    ClientReport, Crew, RefusedEvent, Relayer, TurnReport, hear_all, no_tables, plan_all,
+    plan_orders, scan_all, scan_orders, settle_all,
+};
+use rb_worker::{Held, Order, Team};
+use std::alloc::{AllocError, Global};
+use std::marker::Model;
+use std::sync::{Arc, Wait};
+use std::thread::Threads;
+
+/// A relayer that is led through turns, with workers that scan its paths and plan for its clients in
+/// threads of their own. What they find is taken in where it is of the relayer as it is then, and
+/// dropped otherwise. It keeps the step tables of its chains from turn to turn. A contract sees what it
+/// has taken in. It is not `Drop`: end it by `stop`.
+pub struct Workers<G: Gate> {
+    alloc: Global,
+    relayer: Relayer<Global, Pen>,
+    team: Team<G>,
+}
+
+impl<G: Gate> Model for Workers<G> {
+    ghost use Rattle.rb_core.specs.Core as cores;
+
+    ghost Value = { cores.Core };
+
+    ghost view = { λ w. w.relayer };
+}
+
+/// Ends the workers, and then the board.
+fn end<R: Threads + Wait, G: Gate + Send + Sync + Drop + 'static>(
+    rt: &R,
+    relayer: Relayer<Global, Pen>,
+    team: Team<G>,
+) {
+    team.stop(rt);
+    relayer.close(rt);
+}
+
+/// Goes on with what was given, or ends the workers and the board.
+fn or_end<R: Threads + Wait, G: Gate + Send + Sync + Drop + 'static, T>(
+    rt: &R,
+    relayer: Relayer<Global, Pen>,
+    team: Team<G>,
+    given: Result<T, AllocError>,
+) -> Result<(Relayer<Global, Pen>, Team<G>, T), AllocError>
+    ensures same { IfOk result (λ r. r.0 ≡ relayer) }
+    ensures given { IfOk result (λ r. given ≡ Ok r.2) }
+{
+    match given {
+        Ok(value) => Ok((relayer, team, value)),
+        Err(AllocError) => {
+            end(rt, relayer, team);
+            Err(AllocError)
+        }
+    }
+}
+
+/// What workers find for orders, on all that the relayer has taken in; none where there is no order.
+fn find<R: Threads + Sync + Wait, G: Gate + Send + Sync + Drop + 'static>(
+    rt: &R,
+    relayer: Relayer<Global, Pen>,
+    team: Team<G>,
+    orders: Result<Vec<Order>, AllocError>,
+) -> Result<(Relayer<Global, Pen>, Team<G>, Option<Held>), AllocError>
+    ensures { IfOk result (λ r. r.0 ≡ relayer) }
+{
+    let (relayer, team, orders) = or_end(rt, relayer, team, orders)?;
+    if orders.is_empty() {
+        return Ok((relayer, team, None));
+    }
+    let (relayer, published) = relayer.publish(rt);
+    let (relayer, mut team, ()) = or_end(rt, relayer, team, published)?;
+    let held = team.find(rt, orders);
+    let (relayer, team, held) = or_end(rt, relayer, team, held)?;
+    Ok((relayer, team, Some(held)))
+}
+
+/// Leads a relayer through a turn up to where its clients are planned; tells whether the window goes
+/// back, and which events are refused.
+fn prepare<R: Threads + Sync + Wait, G: Gate + Send + Sync + Drop + 'static>(
+    crew: &Crew<R, G>,
+    alloc: Global,
+    relayer: Relayer<Global, Pen>,
+    team: Team<G>,
+    window: Window,
+    goals: &[Asked],
+    events: Vec<Observation>,
+) -> Result<(Relayer<Global, Pen>, Team<G>, (bool, Vec<RefusedEvent>)), AllocError>
+    requires goals { All (λ (g : Asked). g.client < length relayer.config.clients) goals.now }
+    requires events { All (IsSeen (length relayer.config.chains) (length relayer.config.clients) (length relayer.config.paths)) events.items }
+    requires room { HasLogRoom relayer (1 + length goals.now + length events.items + 2 * length relayer.config.paths) }
+    ensures back { IfOk result (λ r. r.2.0 ≡ goes_back (standing_in relayer).window window) }
+    ensures refused { IfOk result (λ r. map refused_view r.2.1.items
+        ≡ refusals 0 (fold after_question (after_window (standing_in relayer) window) goals.now) (map observed events.items)) }
+    ensures standing { IfOk result (λ r. standing_in r.0
+        ≡ fold standing_after (fold after_question (after_window (standing_in relayer) window) goals.now) (map observed events.items)) }
+    ensures ready { IfOk result (λ r. IsPlannable r.0) }
+    ensures later { IfOk result (λ r. IsLater (1 + length goals.now + length events.items + 2 * length relayer.config.paths) relayer r.0) }
+{
+    let mut relayer = relayer;
+    let heard = hear_all(alloc, &mut relayer, window, goals, events);
+    let (relayer, team, heard) = or_end(crew.rt(), relayer, team, heard)?;
+    let orders = scan_orders(alloc, &relayer);
+    let (mut relayer, team, mut held) = find(crew.rt(), relayer, team, orders)?;
+    let scanned = scan_all(crew, &mut relayer, &mut held);
+    let (relayer, team, ()) = or_end(crew.rt(), relayer, team, scanned)?;
+    Ok((relayer, team, heard))
+}
+
+/// Plans for the clients, in their order.
+fn plan<R: Threads + Sync + Wait, G: Gate + Send + Sync + Drop + 'static>(
+    crew: &Crew<R, G>,
+    alloc: Global,
+    relayer: Relayer<Global, Pen>,
+    team: Team<G>,
+) -> Result<(Relayer<Global, Pen>, Team<G>, Vec<ClientReport>), AllocError>
+    requires ready { IsPlannable relayer }
+    requires room { HasLogRoom relayer (length relayer.config.clients) }
+    ensures reports { IfOk result (λ r. AreReported (standing_in relayer) (standing_in r.0) 0 (length relayer.config.clients)
+        (map client_report_view r.2.items)) }
+    ensures later { IfOk result (λ r. IsLater (length relayer.config.clients) relayer r.0) }
+{
+    let mut relayer = relayer;
+    let orders = plan_orders(crew, alloc, &mut relayer);
+    let (mut relayer, team, mut held) = find(crew.rt(), relayer, team, orders)?;
+    let clients = plan_all(crew, alloc, &mut relayer, &mut held);
+    or_end(crew.rt(), relayer, team, clients)
+}
+
+impl<G: Gate + Send + Sync + Drop + 'static> Workers<G> {
+    /// A supervisor whose relayer has taken in nothing, with so many workers; fewer where no thread can
+    /// be made, or a growth is refused for one. The gate is called round each of their jobs. The
+    /// configuration is given up where another growth is refused.
+    pub fn new<R: Threads + Wait + Copy + Send + 'static>(
+        rt: &R,
+        alloc: Global,
+        config: Config,
+        workers: usize,
+        gate: &Arc<G, Global>,
+    ) -> Result<Workers<G>, AllocError>
+        requires config { IsConfig (config_view config) }
+        requires workers { workers ≤ 64 }
+        ensures config { IfOk result (λ w. w.config ≡ config_view config) }
+        ensures log { IfOk result (λ w. w.log ≡ []) }
+    {
+        let tables = no_tables(alloc, config.chains.len())?;
+        let core = Core::new(alloc, config)?;
+        let (pen, desks) = open(rt, alloc, core, workers)?;
+        let relayer = Relayer::over(pen, tables);
+        match Team::start(rt, alloc, desks, gate) {
+            Ok(team) => Ok(Workers {
+                alloc,
+                relayer,
+                team,
+            }),
+            Err(AllocError) => {
+                relayer.close(rt);
+                Err(AllocError)
+            }
+        }
+    }
+
+    /// Leads the relayer through a turn: the window, the asked goals, what was observed, the scans of
+    /// both parts of each path that has no valid one, the plans of the clients that have no open
+    /// batch, and the settlements. Workers scan and plan; what they don't find, and what is refused of
+    /// it, is done here. What is refused of the turn is reported and changes nothing. An error comes
+    /// only where a growth is refused, also to a worker; all workers have then ended.
+    pub fn turn<R: Threads + Sync + Wait>(
+        self,
+        crew: &Crew<R, G>,
+        turn: Turn,
+    ) -> Result<(Workers<G>, TurnReport), AllocError>
+        requires turn { IsTurnFor self.config turn }
+        requires room { HasLogRoom self (most_events self.config turn) }
+        ensures report { IfOk result (λ r. IsTurnReport (standing_in self) (told_as turn) (turn_report_view r.1)) }
+        ensures standing { IfOk result (λ r. standing_in r.0 ≡ after_turn (standing_in self) (told_as turn) (turn_report_view r.1)) }
+        ensures later { IfOk result (λ r. IsLater (most_events self.config turn) self r.0) }
+    {
+        let Turn {
+            window,
+            goals,
+            events,
+            settlements,
+        } = turn;
+        let Workers {
+            alloc,
+            relayer,
+            team,
+        } = self;
+        let (relayer, team, (window_back, refused)) = prepare(
+            crew,
+            alloc,
+            relayer,
+            team,
+            window,
+            goals.as_slice(),
+            events,
+        )?;
+        let (mut relayer, team, clients) = plan(crew, alloc, relayer, team)?;
+        let settled = settle_all(alloc, &mut relayer, settlements.as_slice());
+        let (relayer, team, settlements) = or_end(crew.rt(), relayer, team, settled)?;
+        let report = TurnReport {
+            window_back,
+            refused,
+            clients,
+            settlements,
+        };
+        let next = Workers {
+            alloc,
+            relayer,
+            team,
+        };
+        Ok((next, report))
+    }
+
+    /// Ends the workers, and then the supervisor.
+    pub fn stop<R: Threads + Wait>(self, rt: &R) {
+        let Workers {
+            alloc: _,
+            relayer,
+            team,
+        } = self;
+        end(rt, relayer, team);
+    }
+}
