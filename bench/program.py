@@ -111,6 +111,7 @@ def print_workers(folder):
     """The same report by `plan` and by workers, where planning takes the time and where reading does."""
     kinds = [
         ("clients of two chains of 512 headers: 256", dict(pairs=128, headers=512, packets=1)),
+        ("64 chains of 1,000 headers, 252 clients, 60 turns", dict(zones=63, pairs=2, turns=60, headers=1000, packets=60)),
         ("64 chains, 252 clients, 126 paths, 10 turns", dict(zones=63, pairs=2, turns=10, headers=100, packets=540)),
     ]
     for name, sizes in kinds:

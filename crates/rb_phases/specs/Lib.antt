@@ -6,5 +6,5 @@ pub mod Agenda
 pub mod Views
 pub mod Phases
 pub mod Tables
-pub mod Heads
+pub mod Slots
 pub mod Drafts

@@ -1,5 +1,5 @@
 //! The phases of a turn, for a relayer over any machine that takes events in: what is heard, scanned,
-//! planned and settled, by the calling thread or by what workers found, and what is reported of it.
+//! planned and settled, by the calling thread or by what was found before, and what is reported of it.
 #![tactic(auto)]
 
 mod clients;
@@ -7,7 +7,6 @@ mod crew;
 mod found;
 mod machine;
 mod observing;
-mod orders;
 mod outcome;
 mod planning;
 mod relayer;
@@ -18,10 +17,10 @@ mod tables;
 mod taking;
 
 pub use crew::Crew;
+pub use found::{Found, Nothing};
 pub use machine::Machine;
 pub use observing::hear_all;
-pub use orders::{plan_orders, scan_orders};
-pub use planning::{draft_of, drafts_of, plan_all, view_of};
+pub use planning::{draft_of, drafts_of, plan_all, table_for, view_of};
 pub use relayer::Relayer;
 pub use report::{
     Batch, ClientReport, Outcome, Plan, Planned, PricedUpdate, RefusedEvent, Report, Sending,

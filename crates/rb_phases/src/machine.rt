@@ -1,16 +1,15 @@
-//! What takes events in: a core alone, or the pen of a board.
+//! What takes events in: a core alone, or what has one.
 ghost use Rattle.std.specs.Prelude.{◌≡◌, ◌++◌, ◌∷◌, [], None, IfOk, IfErr, OnOk, OnErr};
 ghost use Rattle.rb_core.specs.Core as cores;
 ghost use Rattle.rb_core.specs.Core.{refusal_in, state_in};
-ghost use Rattle.rb_machine.specs.Machine.{refusal_of, reply_of, state_of};
+ghost use Rattle.rb_machine.specs.Machine.{reply_of};
 ghost use Rattle.rb_machine.specs.Refused.{IsRefusal};
 ghost use Rattle.rb_machine.specs.Replied.{reply_view};
 ghost use Rattle.rb_machine.specs.Seen.{event_view};
-ghost use Rattle.rb_phases.specs.Heads.{event_in, head_of};
+ghost use Rattle.rb_phases.specs.Slots.{event_in};
 
-use rb_board::Pen;
 use rb_core::{Core, CoreError, Event, Reply};
-use std::alloc::{Allocator, Global};
+use std::alloc::Allocator;
 
 /// What takes events in, and shows the core after all of them.
 pub trait Machine<A: Allocator + Copy> {
@@ -66,31 +65,6 @@ impl<A: Allocator + Copy> Machine<A> for Core<A> {
     {
         match slot.take() {
             Some(event) => append(self, event),
-            None => Err(CoreError::NoMemory),
-        }
-    }
-}
-
-impl Machine<Global> for Pen {
-    ghost seen_as = { head_of };
-
-    fn core(&self) -> &Core
-        ensures config { result.now.config ≡ self.now.config }
-        ensures log { result.now.log ≡ self.now.log }
-    {
-        self.head()
-    }
-
-    fn take_from(&mut self, slot: &mut Option<Event>) -> Result<Reply, CoreError>
-        ensures config { self.new.config ≡ self.old.config }
-        ensures appended { OnOk result (self.new.log ≡ self.old.log ++ event_in slot.old ∷ []) }
-        ensures unchanged { OnErr result (self.new.log ≡ self.old.log) }
-        ensures accepted { OnOk result (refusal_of (state_of self.old.config self.old.log) (event_in slot.old) ≡ None) }
-        ensures refused { IfErr result (λ e. IsRefusal e (refusal_of (state_of self.old.config self.old.log) (event_in slot.old))) }
-        ensures reply { IfOk result (λ reply. reply_view reply ≡ reply_of (state_of self.old.config self.old.log) (event_in slot.old)) }
-    {
-        match slot.take() {
-            Some(event) => self.append(event),
             None => Err(CoreError::NoMemory),
         }
     }

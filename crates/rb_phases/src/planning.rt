@@ -13,7 +13,7 @@ ghost use Rattle.rb_phases.specs.declared.report.Outcome as outcomes;
 
 use crate::clients::config_of;
 use crate::crew::Crew;
-use crate::found::found_draft;
+use crate::found::Found;
 use crate::machine::Machine;
 use crate::outcome::outcome_of;
 use crate::relayer::Relayer;
@@ -22,7 +22,6 @@ use crate::taking::{note, offer};
 use rb_core::{CoreError, Draft, Event, JobView, draft};
 use rb_gang::{Gate, Place};
 use rb_graph::SharedGraph;
-use rb_worker::Held;
 use std::alloc::{AllocError, Allocator};
 use std::thread::Threads;
 
@@ -45,7 +44,7 @@ pub fn view_of<A: Allocator + Copy, M: Machine<A>>(
 }
 
 /// The table of the chain that a client tracks, where it is seen so: one more owner of it.
-pub(crate) fn table_for<
+pub fn table_for<
     R: Threads + Sync,
     G: Gate + Sync,
     A: Allocator + Copy + Send + Sync,
@@ -117,12 +116,12 @@ fn planned_for<R: Threads + Sync, G: Gate + Sync, A: Allocator + Copy + Send + S
     Ok(draft)
 }
 
-/// Takes in what a worker has planned for a client, if one did, and the client is still so as it was
+/// Takes in what was found to be planned for a client, if it was, and the client is still so as it was
 /// planned for; tells what is reported of it then.
-fn plan_found<A: Allocator + Copy, M: Machine<A>>(
+fn plan_found<A: Allocator + Copy, M: Machine<A>, F: Found<A>>(
     alloc: A,
     relayer: &mut Relayer<A, M>,
-    held: &mut Option<Held<A>>,
+    found: &mut F,
     client: usize,
 ) -> Result<Option<Outcome<A>>, AllocError>
     requires ready { IsPlannable relayer.old }
@@ -133,7 +132,7 @@ fn plan_found<A: Allocator + Copy, M: Machine<A>>(
     ensures ready { OnOk result (IsPlannable relayer.new) }
     ensures later { OnOk result (IsLater 1 relayer.old relayer.new) }
 {
-    let Some(draft) = found_draft(held, client) else {
+    let Some(draft) = found.take_draft(client) else {
         return Ok(None);
     };
     let copy = draft.copy()?;
@@ -168,12 +167,18 @@ fn plan_here<R: Threads + Sync, G: Gate + Sync, A: Allocator + Copy + Send + Syn
     Ok(outcome)
 }
 
-/// Plans for a client that has no open batch: by what a worker found, or here.
-fn plan_open<R: Threads + Sync, G: Gate + Sync, A: Allocator + Copy + Send + Sync, M: Machine<A>>(
+/// Plans for a client that has no open batch: by what was found, or here.
+fn plan_open<
+    R: Threads + Sync,
+    G: Gate + Sync,
+    A: Allocator + Copy + Send + Sync,
+    M: Machine<A>,
+    F: Found<A>,
+>(
     crew: &Crew<R, G>,
     alloc: A,
     relayer: &mut Relayer<A, M>,
-    held: &mut Option<Held<A>>,
+    found: &mut F,
     client: usize,
 ) -> Result<Outcome<A>, AllocError>
     requires client { client < length relayer.old.config.clients }
@@ -186,18 +191,24 @@ fn plan_open<R: Threads + Sync, G: Gate + Sync, A: Allocator + Copy + Send + Syn
     ensures ready { OnOk result (IsPlannable relayer.new) }
     ensures later { OnOk result (IsLater 1 relayer.old relayer.new) }
 {
-    match plan_found(alloc, relayer, held, client)? {
+    match plan_found(alloc, relayer, found, client)? {
         Some(outcome) => Ok(outcome),
         None => plan_here(crew, alloc, relayer, client),
     }
 }
 
 /// Plans for a client, unless a batch of it is open.
-fn plan_client<R: Threads + Sync, G: Gate + Sync, A: Allocator + Copy + Send + Sync, M: Machine<A>>(
+fn plan_client<
+    R: Threads + Sync,
+    G: Gate + Sync,
+    A: Allocator + Copy + Send + Sync,
+    M: Machine<A>,
+    F: Found<A>,
+>(
     crew: &Crew<R, G>,
     alloc: A,
     relayer: &mut Relayer<A, M>,
-    held: &mut Option<Held<A>>,
+    found: &mut F,
     client: usize,
 ) -> Result<ClientReport<A>, AllocError>
     requires client { client < length relayer.old.config.clients }
@@ -216,27 +227,27 @@ fn plan_client<R: Threads + Sync, G: Gate + Sync, A: Allocator + Copy + Send + S
             outcome,
         });
     }
-    let outcome = plan_open(crew, alloc, relayer, held, client)?;
+    let outcome = plan_open(crew, alloc, relayer, found, client)?;
     Ok(ClientReport {
         id: config.id,
         outcome,
     })
 }
 
-/// Plans for the clients, in their order: by what workers found, where the client is still so as it was
-/// planned for, else here.
-/// `held` is what workers found, none where there are none. An error comes only where a growth is
+/// Plans for the clients, in their order: by what was found, where the client is still so as it was planned
+/// for, else here. An error comes only where a growth is
 /// refused; some of them may then have been taken in.
 pub fn plan_all<
     R: Threads + Sync,
     G: Gate + Sync,
     A: Allocator + Copy + Send + Sync,
     M: Machine<A>,
+    F: Found<A>,
 >(
     crew: &Crew<R, G>,
     alloc: A,
     relayer: &mut Relayer<A, M>,
-    held: &mut Option<Held<A>>,
+    found: &mut F,
 ) -> Result<Vec<ClientReport<A>, A>, AllocError>
     requires ready { IsPlannable relayer.old }
     requires room { HasLogRoom relayer.old (length relayer.old.config.clients) }
@@ -248,7 +259,7 @@ pub fn plan_all<
     let clients = relayer.config().clients.len();
     let mut reports = Vec::with_capacity(alloc, clients)?;
     for client in 0..clients {
-        reports.push(plan_client(crew, alloc, relayer, held, client)?)?;
+        reports.push(plan_client(crew, alloc, relayer, found, client)?)?;
     }
     Ok(reports)
 }

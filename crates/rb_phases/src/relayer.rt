@@ -1,5 +1,5 @@
 //! A relayer with the step tables of its chains.
-ghost use Rattle.std.specs.Prelude.{◌≡◌, ◌<◌, ◌++◌, ◌∷◌, [], Some, None, length, replicate, IfOk, IfErr, OnOk, OnErr};
+ghost use Rattle.std.specs.Prelude.{◌≡◌, ◌<◌, ◌++◌, ◌∷◌, [], Some, None, length, IfOk, IfErr, OnOk, OnErr};
 ghost use Rattle.std.specs.Option.{option_copied};
 ghost use denote.Param.Send.{Frees};
 ghost use Rattle.rb_events.specs.Config.{config_view, IsConfig};
@@ -11,13 +11,12 @@ ghost use Rattle.rb_machine.specs.Refused.{IsRefusal};
 ghost use Rattle.rb_machine.specs.Replied.{reply_view};
 ghost use Rattle.rb_machine.specs.Seen.{event_view};
 ghost use Rattle.rb_machine.specs.Standing.{book_at, path_view};
-ghost use Rattle.rb_phases.specs.Heads.{head_of};
 ghost use Rattle.rb_phases.specs.Phases.{standing_in};
+ghost use Rattle.rb_phases.specs.Tables.{AreTables};
 
 use crate::crew::Crew;
 use crate::machine::Machine;
 use crate::tables::{no_tables, table_in, take_in};
-use rb_board::Pen;
 use rb_book::ChainBook;
 use rb_core::{Core, CoreError, Event, JobView, OpenBatch, Reply};
 use rb_events::Config;
@@ -26,7 +25,6 @@ use rb_graph::SharedGraph;
 use rb_scan::{Part, PathView};
 use std::alloc::{AllocError, Allocator, Global};
 use std::marker::Model;
-use std::sync::Wait;
 use std::thread::Threads;
 
 /// A relayer: what it has taken in, and a step table of each chain that was planned for. A table is
@@ -77,37 +75,22 @@ impl<A: Allocator + Copy> Relayer<A> {
     }
 }
 
-impl Relayer<Global, Pen> {
-    /// A relayer over the pen of a board, with a place for a table of each chain.
-    pub fn over(pen: Pen, tables: Vec<Option<SharedGraph>>) -> Relayer<Global, Pen>
-        requires { tables.items ≡ replicate (length pen.config.chains) None }
-        ensures { result ≡ head_of pen }
+impl<A: Allocator + Copy, M: Machine<A>> Relayer<A, M> {
+    /// A relayer over a machine, with the tables that are kept of its chains.
+    pub fn from_parts(machine: M, tables: Vec<Option<SharedGraph<A>>, A>) -> Relayer<A, M>
+        requires { AreTables (M.seen_as machine) tables.items }
+        ensures { result ≡ M.seen_as machine }
     {
-        Relayer {
-            machine: pen,
-            tables,
-        }
+        Relayer { machine, tables }
     }
 
-    /// How many events it has taken in.
-    pub(crate) fn front(&self) -> usize {
-        self.machine.head().front()
-    }
-
-    /// Shows the workers all that it has taken in. Where a growth is refused, they are shown nothing
-    /// more.
-    pub fn publish<R: Wait>(self, rt: &R) -> (Relayer<Global, Pen>, Result<(), AllocError>)
-        ensures { result.0 ≡ self }
+    /// The machine, and the tables.
+    pub fn into_parts(self) -> (M, Vec<Option<SharedGraph<A>>, A>)
+        ensures machine { M.seen_as result.0 ≡ self }
+        ensures tables { AreTables self result.1.items }
     {
         let Relayer { machine, tables } = self;
-        let (machine, published) = machine.publish(rt);
-        (Relayer { machine, tables }, published)
-    }
-
-    /// Ends the board.
-    pub fn close<R: Wait>(self, rt: &R) {
-        let Relayer { machine, tables: _ } = self;
-        machine.close(rt);
+        (machine, tables)
     }
 }
 
@@ -157,6 +140,13 @@ impl<A: Allocator + Copy, M: Machine<A>> Relayer<A, M> {
         self.machine.core().config()
     }
 
+    /// How many events it has taken in.
+    pub fn front(&self) -> usize
+        ensures { result ≡ length self.now.log }
+    {
+        self.machine.core().front()
+    }
+
     /// A client as a worker gets it.
     pub(crate) fn client_view(&self, client: usize) -> Result<JobView<A>, CoreError>
         ensures view { IfOk result (λ view. client_view (state_in self.now) client ≡ Some view) }
@@ -174,7 +164,7 @@ impl<A: Allocator + Copy, M: Machine<A>> Relayer<A, M> {
     }
 
     /// Whether a part of a path was scanned as the path still is.
-    pub(crate) fn is_scanned(&self, path: usize, part: Part) -> bool
+    pub fn is_scanned(&self, path: usize, part: Part) -> bool
         ensures { result ≡ is_scanned (state_in self.now) path part }
     {
         self.machine.core().is_scanned(path, part)

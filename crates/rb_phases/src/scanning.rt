@@ -6,14 +6,13 @@ ghost use Rattle.rb_machine.specs.Standing.{path_view};
 ghost use Rattle.rb_phases.specs.Phases.{standing_in, HasLogRoom, IsLater, IsAllScanned, KeepsScans};
 
 use crate::crew::Crew;
-use crate::found::found_scan;
+use crate::found::Found;
 use crate::machine::Machine;
 use crate::relayer::Relayer;
 use crate::taking::{note, offer};
 use rb_core::{CoreError, Event, Scan, scan};
-use rb_gang::Gate;
+use rb_gang::{Gate, Place};
 use rb_scan::{Part, PathView, ScanError};
-use rb_worker::{Held, scan_place};
 use std::alloc::{AllocError, Allocator};
 use std::thread::Threads;
 
@@ -33,6 +32,15 @@ fn view_of<A: Allocator + Copy, M: Machine<A>>(
     }
 }
 
+/// How a gate names the scan of a part of a path.
+fn scan_place(path: usize, part: Part) -> Place {
+    let part = match part {
+        Part::Packets => 0,
+        Part::Channel => 1,
+    };
+    Place::Scan(path, part)
+}
+
 /// The scan of a part of a path.
 fn scan_of<A: Allocator + Copy>(view: &PathView<A>, part: Part) -> Result<Scan<A>, AllocError>
     ensures { IfOk result (λ scan. scan ≡ record { view = view.now; part = part }) }
@@ -43,11 +51,11 @@ fn scan_of<A: Allocator + Copy>(view: &PathView<A>, part: Part) -> Result<Scan<A
     }
 }
 
-/// Takes in the scan of a part of a path that a worker found, if one did, and it is of the path as it
-/// is; tells whether that was so.
-fn take_found<A: Allocator + Copy, M: Machine<A>>(
+/// Takes in the scan of a part of a path that was found, if one was, and it is of the path as it is;
+/// tells whether that was so.
+fn take_found<A: Allocator + Copy, M: Machine<A>, F: Found<A>>(
     relayer: &mut Relayer<A, M>,
-    held: &mut Option<Held<A>>,
+    found: &mut F,
     path: usize,
     part: Part,
 ) -> Result<bool, AllocError>
@@ -58,7 +66,7 @@ fn take_found<A: Allocator + Copy, M: Machine<A>>(
     ensures nothing { result ≡ Ok false → state_in relayer.new ≡ state_in relayer.old }
     ensures later { OnOk result (IsLater 1 relayer.old relayer.new) }
 {
-    match found_scan(held, path, part) {
+    match found.take_scan(path, part) {
         Some(scan) => {
             let reply = offer(relayer, Event::Scanned { path, scan })?;
             Ok(reply.is_some())
@@ -90,11 +98,11 @@ fn scan_here<R: Threads + Sync, G: Gate + Sync, A: Allocator + Copy, M: Machine<
     Ok(())
 }
 
-/// Scans a part of a path, unless it has a valid scan: by what a worker found, or here.
-fn scan_part<R: Threads + Sync, G: Gate + Sync, A: Allocator + Copy, M: Machine<A>>(
+/// Scans a part of a path, unless it has a valid scan: by what was found, or here.
+fn scan_part<R: Threads + Sync, G: Gate + Sync, A: Allocator + Copy, M: Machine<A>, F: Found<A>>(
     crew: &Crew<R, G>,
     relayer: &mut Relayer<A, M>,
-    held: &mut Option<Held<A>>,
+    found: &mut F,
     path: usize,
     part: Part,
 ) -> Result<(), AllocError>
@@ -108,17 +116,17 @@ fn scan_part<R: Threads + Sync, G: Gate + Sync, A: Allocator + Copy, M: Machine<
     if relayer.is_scanned(path, part) {
         return Ok(());
     }
-    if take_found(relayer, held, path, part)? {
+    if take_found(relayer, found, path, part)? {
         return Ok(());
     }
     scan_here(crew, relayer, path, part)
 }
 
 /// Scans both parts of a path, unless they have valid scans.
-fn scan_path<R: Threads + Sync, G: Gate + Sync, A: Allocator + Copy, M: Machine<A>>(
+fn scan_path<R: Threads + Sync, G: Gate + Sync, A: Allocator + Copy, M: Machine<A>, F: Found<A>>(
     crew: &Crew<R, G>,
     relayer: &mut Relayer<A, M>,
-    held: &mut Option<Held<A>>,
+    found: &mut F,
     path: usize,
 ) -> Result<(), AllocError>
     requires path { path < length relayer.old.config.paths }
@@ -128,19 +136,18 @@ fn scan_path<R: Threads + Sync, G: Gate + Sync, A: Allocator + Copy, M: Machine<
     ensures others { OnOk result (KeepsScans relayer.old relayer.new) }
     ensures later { OnOk result (IsLater 2 relayer.old relayer.new) }
 {
-    scan_part(crew, relayer, held, path, Part::Packets)?;
-    scan_part(crew, relayer, held, path, Part::Channel)?;
+    scan_part(crew, relayer, found, path, Part::Packets)?;
+    scan_part(crew, relayer, found, path, Part::Channel)?;
     Ok(())
 }
 
-/// Scans the parts of paths that have no valid scan, in the order of the paths: by what workers found,
-/// where that is of the path as it is, else here.
-/// `held` is what workers found, none where there are none. An error comes only where a growth is
-/// refused; some of them may then have been taken in.
-pub fn scan_all<R: Threads + Sync, G: Gate + Sync, A: Allocator + Copy, M: Machine<A>>(
+/// Scans the parts of paths that have no valid scan, in the order of the paths: by what was found,
+/// where that is of the path as it is, else here. An error comes only where a growth is refused; some
+/// of them may then have been taken in.
+pub fn scan_all<R: Threads + Sync, G: Gate + Sync, A: Allocator + Copy, M: Machine<A>, F: Found<A>>(
     crew: &Crew<R, G>,
     relayer: &mut Relayer<A, M>,
-    held: &mut Option<Held<A>>,
+    found: &mut F,
 ) -> Result<(), AllocError>
     requires room { HasLogRoom relayer.old (2 * length relayer.old.config.paths) }
     ensures standing { OnOk result (standing_in relayer.new ≡ standing_in relayer.old) }
@@ -149,7 +156,7 @@ pub fn scan_all<R: Threads + Sync, G: Gate + Sync, A: Allocator + Copy, M: Machi
 {
     let paths = relayer.config().paths.len();
     for path in 0..paths {
-        scan_path(crew, relayer, held, path)?;
+        scan_path(crew, relayer, found, path)?;
     }
     Ok(())
 }

@@ -2,7 +2,10 @@
 //! scripts, and what is said of answers that others made (`judge`).
 #![tactic(auto)]
 
+mod found;
+mod head;
 mod judging;
+mod orders;
 mod run;
 mod supervisor;
 mod workers;

@@ -20,7 +20,8 @@ use rb_core::{Core, CoreError, Draft, Event, Reply};
 use rb_events::{Asked, Config, Observation, Turn};
 use rb_gang::Gate;
 use rb_phases::{
-    Crew, RefusedEvent, Relayer, TurnReport, drafts_of, hear_all, plan_all, scan_all, settle_all,
+    Crew, Nothing, RefusedEvent, Relayer, TurnReport, drafts_of, hear_all, plan_all, scan_all,
+    settle_all,
 };
 use std::alloc::{AllocError, Allocator, Global};
 use std::marker::Model;
@@ -64,7 +65,7 @@ pub(crate) fn prepare<R: Threads + Sync, G: Gate + Sync, A: Allocator + Copy>(
     ensures later { OnOk result (IsLater (1 + length goals.now + length events.items + 2 * length relayer.old.config.paths) relayer.old relayer.new) }
 {
     let (window_back, refused) = hear_all(alloc, relayer, window, goals, events)?;
-    scan_all(crew, relayer, &mut None)?;
+    scan_all(crew, relayer, &mut Nothing)?;
     Ok((window_back, refused))
 }
 
@@ -168,7 +169,7 @@ impl<A: Allocator + Copy + Send + Sync> Supervisor<A> {
             goals.as_slice(),
             events,
         )?;
-        let clients = plan_all(crew, alloc, &mut relayer, &mut None)?;
+        let clients = plan_all(crew, alloc, &mut relayer, &mut Nothing)?;
         let settlements = settle_all(alloc, &mut relayer, settlements.as_slice())?;
         let report = TurnReport {
             window_back,

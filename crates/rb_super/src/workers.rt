@@ -9,16 +9,19 @@ ghost use Rattle.rb_phases.specs.Phases.{standing_in, HasLogRoom, IsLater, IsPla
 ghost use Rattle.rb_phases.specs.Views.{refused_view, client_report_view, turn_report_view};
 ghost use Rattle.rb_super.specs.Told.{told_as, IsTurnFor, most_events};
 
+use crate::found::FoundByWorkers;
+use crate::head::{Head, close, publish, relayer_over};
+use crate::orders::{plan_orders, scan_orders};
 use rb_base::Window;
-use rb_board::{Pen, open};
+use rb_board::open;
 use rb_core::Core;
 use rb_events::{Asked, Config, Observation, Turn};
 use rb_gang::Gate;
 use rb_phases::{
-    ClientReport, Crew, RefusedEvent, Relayer, TurnReport, hear_all, no_tables, plan_all,
-    plan_orders, scan_all, scan_orders, settle_all,
+    ClientReport, Crew, RefusedEvent, Relayer, TurnReport, hear_all, no_tables, plan_all, scan_all,
+    settle_all,
 };
-use rb_worker::{Held, Order, Team};
+use rb_worker::{Order, Team};
 use std::alloc::{AllocError, Global};
 use std::marker::Model;
 use std::sync::{Arc, Wait};
@@ -30,7 +33,7 @@ use std::thread::Threads;
 /// has taken in. It is not `Drop`: end it by `stop`.
 pub struct Workers<G: Gate> {
     alloc: Global,
-    relayer: Relayer<Global, Pen>,
+    relayer: Relayer<Global, Head>,
     team: Team<G>,
 }
 
@@ -45,20 +48,20 @@ impl<G: Gate> Model for Workers<G> {
 /// Ends the workers, and then the board.
 fn end<R: Threads + Wait, G: Gate + Send + Sync + Drop + 'static>(
     rt: &R,
-    relayer: Relayer<Global, Pen>,
+    relayer: Relayer<Global, Head>,
     team: Team<G>,
 ) {
     team.stop(rt);
-    relayer.close(rt);
+    close(rt, relayer);
 }
 
 /// Goes on with what was given, or ends the workers and the board.
 fn or_end<R: Threads + Wait, G: Gate + Send + Sync + Drop + 'static, T>(
     rt: &R,
-    relayer: Relayer<Global, Pen>,
+    relayer: Relayer<Global, Head>,
     team: Team<G>,
     given: Result<T, AllocError>,
-) -> Result<(Relayer<Global, Pen>, Team<G>, T), AllocError>
+) -> Result<(Relayer<Global, Head>, Team<G>, T), AllocError>
     ensures same { IfOk result (λ r. r.0 ≡ relayer) }
     ensures given { IfOk result (λ r. given ≡ Ok r.2) }
 {
@@ -74,21 +77,21 @@ fn or_end<R: Threads + Wait, G: Gate + Send + Sync + Drop + 'static, T>(
 /// What workers find for orders, on all that the relayer has taken in; none where there is no order.
 fn find<R: Threads + Sync + Wait, G: Gate + Send + Sync + Drop + 'static>(
     rt: &R,
-    relayer: Relayer<Global, Pen>,
+    relayer: Relayer<Global, Head>,
     team: Team<G>,
     orders: Result<Vec<Order>, AllocError>,
-) -> Result<(Relayer<Global, Pen>, Team<G>, Option<Held>), AllocError>
+) -> Result<(Relayer<Global, Head>, Team<G>, FoundByWorkers), AllocError>
     ensures { IfOk result (λ r. r.0 ≡ relayer) }
 {
     let (relayer, team, orders) = or_end(rt, relayer, team, orders)?;
     if orders.is_empty() {
-        return Ok((relayer, team, None));
+        return Ok((relayer, team, FoundByWorkers { held: None }));
     }
-    let (relayer, published) = relayer.publish(rt);
+    let (relayer, published) = publish(rt, relayer);
     let (relayer, mut team, ()) = or_end(rt, relayer, team, published)?;
     let held = team.find(rt, orders);
     let (relayer, team, held) = or_end(rt, relayer, team, held)?;
-    Ok((relayer, team, Some(held)))
+    Ok((relayer, team, FoundByWorkers { held: Some(held) }))
 }
 
 /// Leads a relayer through a turn up to where its clients are planned; tells whether the window goes
@@ -96,12 +99,12 @@ fn find<R: Threads + Sync + Wait, G: Gate + Send + Sync + Drop + 'static>(
 fn prepare<R: Threads + Sync + Wait, G: Gate + Send + Sync + Drop + 'static>(
     crew: &Crew<R, G>,
     alloc: Global,
-    relayer: Relayer<Global, Pen>,
+    relayer: Relayer<Global, Head>,
     team: Team<G>,
     window: Window,
     goals: &[Asked],
     events: Vec<Observation>,
-) -> Result<(Relayer<Global, Pen>, Team<G>, (bool, Vec<RefusedEvent>)), AllocError>
+) -> Result<(Relayer<Global, Head>, Team<G>, (bool, Vec<RefusedEvent>)), AllocError>
     requires goals { All (λ (g : Asked). g.client < length relayer.config.clients) goals.now }
     requires events { All (IsSeen (length relayer.config.chains) (length relayer.config.clients) (length relayer.config.paths)) events.items }
     requires room { HasLogRoom relayer (1 + length goals.now + length events.items + 2 * length relayer.config.paths) }
@@ -117,8 +120,8 @@ fn prepare<R: Threads + Sync + Wait, G: Gate + Send + Sync + Drop + 'static>(
     let heard = hear_all(alloc, &mut relayer, window, goals, events);
     let (relayer, team, heard) = or_end(crew.rt(), relayer, team, heard)?;
     let orders = scan_orders(alloc, &relayer);
-    let (mut relayer, team, mut held) = find(crew.rt(), relayer, team, orders)?;
-    let scanned = scan_all(crew, &mut relayer, &mut held);
+    let (mut relayer, team, mut found) = find(crew.rt(), relayer, team, orders)?;
+    let scanned = scan_all(crew, &mut relayer, &mut found);
     let (relayer, team, ()) = or_end(crew.rt(), relayer, team, scanned)?;
     Ok((relayer, team, heard))
 }
@@ -127,9 +130,9 @@ fn prepare<R: Threads + Sync + Wait, G: Gate + Send + Sync + Drop + 'static>(
 fn plan<R: Threads + Sync + Wait, G: Gate + Send + Sync + Drop + 'static>(
     crew: &Crew<R, G>,
     alloc: Global,
-    relayer: Relayer<Global, Pen>,
+    relayer: Relayer<Global, Head>,
     team: Team<G>,
-) -> Result<(Relayer<Global, Pen>, Team<G>, Vec<ClientReport>), AllocError>
+) -> Result<(Relayer<Global, Head>, Team<G>, Vec<ClientReport>), AllocError>
     requires ready { IsPlannable relayer }
     requires room { HasLogRoom relayer (length relayer.config.clients) }
     ensures reports { IfOk result (λ r. AreReported (standing_in relayer) (standing_in r.0) 0 (length relayer.config.clients)
@@ -138,8 +141,8 @@ fn plan<R: Threads + Sync + Wait, G: Gate + Send + Sync + Drop + 'static>(
 {
     let mut relayer = relayer;
     let orders = plan_orders(crew, alloc, &mut relayer);
-    let (mut relayer, team, mut held) = find(crew.rt(), relayer, team, orders)?;
-    let clients = plan_all(crew, alloc, &mut relayer, &mut held);
+    let (mut relayer, team, mut found) = find(crew.rt(), relayer, team, orders)?;
+    let clients = plan_all(crew, alloc, &mut relayer, &mut found);
     or_end(crew.rt(), relayer, team, clients)
 }
 
@@ -162,7 +165,7 @@ impl<G: Gate + Send + Sync + Drop + 'static> Workers<G> {
         let tables = no_tables(alloc, config.chains.len())?;
         let core = Core::new(alloc, config)?;
         let (pen, desks) = open(rt, alloc, core, workers)?;
-        let relayer = Relayer::over(pen, tables);
+        let relayer = relayer_over(pen, tables);
         match Team::start(rt, alloc, desks, gate) {
             Ok(team) => Ok(Workers {
                 alloc,
@@ -170,7 +173,7 @@ impl<G: Gate + Send + Sync + Drop + 'static> Workers<G> {
                 team,
             }),
             Err(AllocError) => {
-                relayer.close(rt);
+                close(rt, relayer);
                 Err(AllocError)
             }
         }

@@ -1,21 +1,19 @@
 //! What workers are told to do.
 ghost use Rattle.std.specs.Prelude.{◌≡◌, ◌<◌, true, length, is_some};
 ghost use denote.Param.Send.{Frees};
-ghost use Rattle.std.specs.declared.alloc.Global.{Global as Heap};
 ghost use Rattle.rb_phases.specs.Phases.{standing_in};
 
-use crate::crew::Crew;
-use crate::planning::{table_for, view_of};
-use crate::relayer::Relayer;
-use rb_board::{Note, Pen};
+use crate::head::Head;
+use rb_board::Note;
 use rb_gang::Gate;
+use rb_phases::{Crew, Relayer, table_for, view_of};
 use rb_scan::Part;
 use rb_worker::Order;
 use std::alloc::{AllocError, Global};
 use std::thread::Threads;
 
 /// A note of all that was taken in, which is to be shown before a worker gets the note.
-fn note_of(relayer: &Relayer<Global, Pen>) -> Note {
+fn note_of(relayer: &Relayer<Global, Head>) -> Note {
     Note {
         front: relayer.front(),
     }
@@ -23,9 +21,9 @@ fn note_of(relayer: &Relayer<Global, Pen>) -> Note {
 
 /// The scans of the parts of paths that have no valid scan, in the order of the paths.
 /// An error comes only where a growth is refused.
-pub fn scan_orders(
+pub(crate) fn scan_orders(
     alloc: Global,
-    relayer: &Relayer<Global, Pen>,
+    relayer: &Relayer<Global, Head>,
 ) -> Result<Vec<Order>, AllocError> {
     let note = note_of(relayer);
     let mut orders = Vec::new(alloc);
@@ -43,7 +41,7 @@ pub fn scan_orders(
 fn plan_order<R: Threads + Sync, G: Gate + Sync>(
     crew: &Crew<R, G>,
     alloc: Global,
-    relayer: &mut Relayer<Global, Pen>,
+    relayer: &mut Relayer<Global, Head>,
     client: usize,
 ) -> Result<Order, AllocError>
     requires client { client < length relayer.old.config.clients }
@@ -62,10 +60,10 @@ fn plan_order<R: Threads + Sync, G: Gate + Sync>(
 
 /// The plans of the clients that have no open batch, in their order.
 /// An error comes only where a growth is refused.
-pub fn plan_orders<R: Threads + Sync, G: Gate + Sync>(
+pub(crate) fn plan_orders<R: Threads + Sync, G: Gate + Sync>(
     crew: &Crew<R, G>,
     alloc: Global,
-    relayer: &mut Relayer<Global, Pen>,
+    relayer: &mut Relayer<Global, Head>,
 ) -> Result<Vec<Order>, AllocError>
     requires window { is_some (standing_in relayer.old).window ≡ true }
     ensures same { relayer.new ≡ relayer.old }

@@ -1,5 +1,5 @@
 use Rattle.std.proofs.Crossing.{frees}
-use Rattle.rb_phases.proofs.orders.plan_order.Goals as goal
+use Rattle.rb_super.proofs.orders.plan_order.Goals as goal
 
 -- the heap frees what any thread took of it
 pub table_for-requires-clause-alloc : goal.table_for-requires-clause-alloc
