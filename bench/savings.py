@@ -1,8 +1,10 @@
 #!/usr/bin/env python3
-"""What a plan saves: for each client that is planned in the first turn of a script the fee of the least list, of a list
-with the fewest updates, and of the list that a light client's bisection finds, by the reference planner's steps and fees.
+"""What a plan saves: for each client that gets updates in a turn of a script the fee of the least list, of a list with
+the fewest updates, and of the list that a light client's bisection finds, by the reference planner's steps and fees.
 
-    savings.py SCRIPT..      one line for each client; `-` where there is no such list
+    savings.py SCRIPT..      one line for each turn and client; `-` where there is no such list
+
+A script is read as TOML 1.0, by Python's tomllib: what only TOML 1.1 has (a line feed in an inline table) is a fault here.
 
 Bisection is CometBFT's skipping verification (light client specification, Schedule): from the highest height that is
 trusted to the goal at once; where that step isn't accepted, to the middle of the two, and so on; after each step that is
@@ -44,16 +46,42 @@ def shown(count, fee):
     return f"{fee:>8,} in {count:<3}" if count is not None else f"{'-':>8}       "
 
 
+def planned(script):
+    """Of what is planned, turn by turn: the turn's number, the client, its goal and its view."""
+    relayer = reference.Relayer(script)
+    for number, turn in enumerate(script.turns, 1):
+        relayer.take_in(turn)
+        for client in script.clients.values():
+            view = relayer.view(client)
+            goal, _ = relayer.goal(client, reference.labels_of(view))
+            if goal and client.id not in relayer.open:
+                yield number, client.id, goal, view
+            relayer.plan(client)
+        relayer.settle_all(turn.settlements)
+
+
+def tell(name):
+    """A script's lines."""
+    for number, client, goal, view in planned(reference.read_script(reference.read_file(name))):
+        _, updates = reference.by_labels(view, goal)
+        if not updates:
+            continue
+        plan = len(updates), sum(view.fee(t, h) for t, h in updates)
+        where = f"{pathlib.Path(name).stem}, {number}, {client}"
+        print(f"{where:40}", shown(*plan), shown(*fewest(view, goal)), shown(*bisected(view, updates[-1][1])))
+
+
 def main():
-    print(f"{'script, client':40}{'plan':>15}{'fewest':>15}{'bisection':>16}")
+    if sys.argv[1:] in ([], ["-h"], ["--help"]):
+        sys.stderr.write(f"{__doc__}\n")
+        sys.exit(2)
+    print(f"{'script, turn, client':40}{'plan':>15}{'fewest':>15}{'bisection':>16}")
     for name in sys.argv[1:]:
-        script = reference.read_script(reference.read_file(name))
-        for client, (goal, view) in reference.planned(script, 0).items():
-            _, updates = reference.by_labels(view, goal)
-            if not updates:
-                continue
-            plan = len(updates), sum(view.fee(t, h) for t, h in updates)
-            print(f"{pathlib.Path(name).stem + ', ' + client:40}", shown(*plan), shown(*fewest(view, goal)), shown(*bisected(view, updates[-1][1])))
+        try:
+            tell(name)
+        except (OSError, reference.Fault) as error:
+            reason = error.strerror if isinstance(error, OSError) else f"{error} (read as TOML 1.0)"
+            sys.exit(f"savings.py: {name}: {reason}")
 
 
 if __name__ == "__main__":

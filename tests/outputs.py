@@ -62,6 +62,8 @@ def commands_of(script, value):
     """The commands for a report's value."""
     hosts, lines = {client["id"]: client["host"] for client in script.get("client", [])}, []
     for number, turn in enumerate(value["turns"], 1):
+        lines += [f"# turn {number}: refused window 806 WindowBack"] if turn["window_back"] else []
+        lines += [f"# turn {number}: refused event {r['event']} {r['number']} {r['name']}" for r in turn["refused"]]
         for client in turn["clients"]:
             head = f"# turn {number} client {client['id']}: "
             if client["outcome"] == "held":
@@ -73,9 +75,11 @@ def commands_of(script, value):
             host = hosts[client["id"]]
             own = client["id"].removeprefix(host + ".") or client["id"]
             packets = f", packet messages {len(client['messages'])}" if client["messages"] else ""
+            packets += f", message {client['too_big']} over the gas limit: no batch" if "too_big" in client else ""
             lines.append(f"{head}total fee {client['total']['fee']}, updates {client['total']['updates']}{packets}")
+            sent = [] if "too_big" in client else client["updates"]
             lines += [f"hermes update client --host-chain {word(host)} --client {word(own)} --height {u['height']} --trusted-height {u['trusted']}"
-                      for u in client["updates"]]
+                      for u in sent]
     return "".join(line + "\n" for line in lines)
 
 

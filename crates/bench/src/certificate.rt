@@ -38,7 +38,7 @@ fn labelling_of(labels: Vec<Label>) -> Result<Labelling> {
     if !are_labels(labels.as_slice()) {
         bail!("labels by rising height are wanted");
     }
-    Ok(Labelling::new(labels))
+    Ok(Labelling::new(labels)?)
 }
 
 /// The labels of the heights from 1 on: 1 costs nothing, each other this.

@@ -9,12 +9,12 @@ pub fn advice_for(name: FaultName, path: &str) -> &'static str {
         FaultName::UnknownKey => keys_at(path),
         FaultName::WrongType => type_at(path),
         FaultName::BadVersion => "the version of a script is 1 or 2, of a setup or a certificate 1",
-        FaultName::OutOfRange => "this number is too small or too big",
+        FaultName::OutOfRange => range_at(path),
         FaultName::BadIdentifier => {
             "an identifier has 1 to 64 letters, digits and . _ + - # [ ] < >, a set's name at most 32"
         }
         FaultName::DuplicateIdentifier => "an earlier one has this identifier",
-        FaultName::UnknownIdentifier => "nothing has this identifier",
+        FaultName::UnknownIdentifier => wanted_at(path),
         FaultName::BadHex => "64 hexadecimal digits belong here",
         FaultName::BadTime => "a time is a text as '2026-11-22T10:00:00Z', from 1970 on",
         FaultName::BadVotes => "votes are the letters C, N, A and B",
@@ -93,9 +93,55 @@ fn keys_at(path: &str) -> &'static str {
     }
 }
 
+/// Which numbers may stand at a path.
+fn range_at(path: &str) -> &'static str {
+    match key_of(path) {
+        "height" => "a height is from 1 to 2^63 - 1, in an event of a packet to 2^63 - 2",
+        "at_least" | "exactly" | "updates" => "a height is from 1 to 2^63 - 1",
+        "seq" | "first" => "a sequence is from 1 to 2^63 - 1",
+        "period_ns" | "batch" | "turn" => "a number from 1 to 2^63 - 1 belongs here",
+        "drift_ns" | "refresh_ns" | "timeout_height" | "done" | "trust" => {
+            "a number from 0 to 2^63 - 1 belongs here"
+        }
+        "validators" => "a power is from 1 to 2^60 - 1",
+        "labels" => "a label's height is from 1, its fee and its count from 0 to 2^63 - 1",
+        _ => "this number is too small or too big",
+    }
+}
+
+/// What an identifier at a path should be of.
+fn wanted_at(path: &str) -> &'static str {
+    match key_of(path) {
+        "host" | "of" | "source" | "dest" | "chain" => "no chain has this identifier",
+        "forward" | "back" | "client" => "no client has this identifier",
+        "path" => "no path has this identifier",
+        _ => "nothing has this identifier",
+    }
+}
+
+/// What belongs where an element of an array, or of one of its elements, has another type.
+fn element_type(array: &str, is_inner: bool) -> &'static str {
+    match array {
+        "validators" if is_inner => {
+            "a key in quotes, 64 hexadecimal digits, and a power without belong here"
+        }
+        "validators" => { "a key and a power belong here, as ['64 hexadecimal digits', 10]" }
+        "updates" if !is_inner => "a height and a trusted height belong here, as [3, 1]",
+        "labels" if !is_inner => "a height, a fee and a count belong here, as [3, 112, 1]",
+        "fee" | "gas" | "limits" | "trust" | "updates" | "labels" => "a whole number belongs here",
+        "chain" | "client" | "path" | "turn" | "goal" | "event" | "settle" => {
+            "a table belongs here"
+        }
+        _ => "a value of another type belongs here",
+    }
+}
+
 /// What belongs where a value has another type.
 fn type_at(path: &str) -> &'static str {
     let (table, key) = table_and_key(path);
+    if let Some((array, indices)) = key.split_once('[') {
+        return element_type(array, indices.contains("]["));
+    }
     match key {
         "from" | "until" | "time" | "timeout_time" => {
             "a time in quotes belongs here, as '2026-11-22T10:00:00Z'"
@@ -116,7 +162,14 @@ fn type_at(path: &str) -> &'static str {
         "trust" => "two numbers belong here, as [1, 3]",
         "validators" =>
             "pairs of a key and a power belong here, as [['64 hexadecimal digits', 10]]",
-        "goal" | "event" | "settle" => "an array of tables belongs here",
+        "goal" | "event" | "settle" => "an array of tables belongs here, as [[turn.goal]]",
+        "chain" | "path" if table.is_empty() => {
+            "an array of tables belongs here, as [[chain]] or [[path]]"
+        }
+        "client" if table.is_empty() => {
+            "an array of tables belongs here, as [[client]]; in a certificate an identifier in quotes"
+        }
+        "turn" => "an array of tables belongs here, as [[turn]]; in a certificate a turn's number",
         "id"
         | "host"
         | "of"
@@ -137,7 +190,7 @@ fn type_at(path: &str) -> &'static str {
         "defaults" => "a table belongs here, as [chain.defaults]",
         "updates" => "pairs of a height and a trusted height belong here, as [[3, 1]]",
         "labels" => "a height, a fee and a count belong here, as [[3, 112, 1]]",
-        "chain" | "client" | "path" if !table.is_empty() => "a text in quotes belongs here",
+        "chain" | "client" | "path" => "a text in quotes belongs here",
         _ => "a value of another type, or an array of another length, belongs here",
     }
 }

@@ -21,7 +21,7 @@ pub enum Failure<'a> {
         advice: &'static str,
     },
     /// A file or a folder of answers can't be read.
-    #[error("device\n{file}: {error}\nThe folder of answers has a folder for each client, each path and each chain that is tracked.")]
+    #[error("device\n{file}: {error}\nThe folder of answers has a folder for each client, each path and each chain that is tracked, and in each of these *.json are files.")]
     UnreadableAnswers {
         file: String,
         error: io::Error,

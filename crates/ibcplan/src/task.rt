@@ -62,13 +62,17 @@ const AFTER_HELP: &str = "Examples:
 
 Results go to standard output; what went wrong goes to standard error.
 
+./ibcplan --unproved COMMAND .. does the same by a program of which nothing was
+proved, which it builds each time, in a minute or two.
+
 Exit status:
   0  done; of certify: the plan is the cheapest
   1  the content of a file is refused
   2  the command line is wrong
   3  of certify: the certificate doesn't show that the plan is the cheapest, and
      standard output says why
-  4  no memory, or a file or an output that fails";
+  4  no memory, or a file or an output that fails
+  5  of ./ibcplan: the program isn't built, and can't be";
 
 const AFTER_PLAN: &str = "Examples:
   ibcplan plan examples/smallest.toml
@@ -83,7 +87,9 @@ use it: where a plan takes less than a second or two, plan is faster.";
 
 const AFTER_COMMANDS: &str = "Examples:
   ibcplan commands examples/smallest.toml
-  ibcplan commands examples/smallest.toml > updates.sh";
+  ibcplan commands examples/smallest.toml > updates.sh
+
+It writes those of every turn, of which only the last turn's are to be run.";
 
 const AFTER_IMPORT: &str = "Examples:
   ibcplan import examples/import/setup.toml examples/import/answers > script.toml

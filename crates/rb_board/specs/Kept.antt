@@ -1,5 +1,5 @@
 -- The board's rule, and what the pen and the desks hold by it.
-use Rattle.std.specs.Prelude.{◌≡◌, ℕ, List, [], drop, Option, Some, None}
+use Rattle.std.specs.Prelude.{◌≡◌, ◌++◌, ℕ, List, [], drop, Option, Some, None}
 use mathlib.Core.Option.{some}
 use lib.ListN.{get_elem?}
 use Rattle.atomic_table.specs.declared.shared.Seat.{Seat}
@@ -9,21 +9,24 @@ use Rattle.left_right.specs.declared.board.Doing.{Doing}
 use Rattle.left_right.specs.declared.part.Part.{Part}
 use Rattle.left_right.specs.declared.reader.Reader.{Reader}
 use Rattle.left_right.specs.declared.writer.Writer.{Writer}
+use Rattle.rb_core.specs.Follower.{Follower, IsOfLog, events_in}
 use Rattle.rb_events.specs.Config.{Config}
+use Rattle.rb_machine.specs.Entry.{Logged}
+use Rattle.rb_machine.specs.Event.{Event}
 use Rattle.rb_board.specs.Knowledge.{Knowledge, nothing_yet, Begins}
 use Rattle.rb_board.specs.declared.held.Held.{Held}
 
 -- what a copy of the board shows
 abbrev pub knowledge_of : {A : Type 0} → Held A → Knowledge
-knowledge_of held = record { config = Some held.core.config; log = held.core.log }
+knowledge_of held = record { config = Some held.follower.config; entries = held.follower.entries }
 
--- the rule: what each seat knows is a beginning of what is published
+-- the rule: a log is published, and what each seat knows is a beginning of it
 abbrev pub Known : {A : Type 0} → Held A → List Knowledge → Type 0
-Known held views = (seat : ℕ) (v : Knowledge) → get_elem? views seat ≡ some v → Begins v (knowledge_of held)
+Known held views = IsOfLog held.follower × ((seat : ℕ) (v : Knowledge) → get_elem? views seat ≡ some v → Begins v (knowledge_of held))
 
--- what is known after a publish or a look: all that is published, which begins with what was known before
+-- what is known after a publish or a look: all that is published, which is a log and begins with what was known before
 abbrev pub Sees : {A : Type 0} → Knowledge → Held A → Held A → Knowledge → Type 0
-Sees v before after w = Begins v (knowledge_of after) × (w ≡ knowledge_of after)
+Sees v before after w = Begins v (knowledge_of after) × (w ≡ knowledge_of after) × IsOfLog after.follower
 
 -- what a seat knows
 abbrev pub known_by : {A : Type 0} → Seat (Option (Part (Held A))) (Doing (Held A) Knowledge) → Knowledge
@@ -42,3 +45,18 @@ pending writer = drop writer.behind writer.log.items
 abbrev pub config_or : Option Config → Config
 config_or (Some config) = config
 config_or None = record { limit = 0; chains = []; clients = []; paths = [] }
+
+-- what is known, as a follower
+abbrev pub follower_of : Knowledge → Follower
+follower_of k = record { config = config_or k.config; entries = k.entries }
+
+-- the same with what waits
+abbrev pub followed_on : Follower → List Logged → Follower
+followed_on f waiting = record f { entries = f.entries ++ waiting }
+
+-- the pen knows what is published, which is a log, and leads with what waits to the board's log
+pub record IsKnown {A : Type 0} (shown : Held A) (known : Knowledge) (waiting : List Logged) (config : Config) (log : List Event) : Type 0 where
+  pub all : known ≡ knowledge_of shown
+  pub config_same : shown.follower.config ≡ config
+  pub published : IsOfLog shown.follower
+  pub leads : log ≡ events_in (followed_on shown.follower waiting)

@@ -2,23 +2,21 @@
 use Rattle.std.specs.Prelude.{◌≡◌, ◌⊎◌, List, [], ◌∷◌, ◌++◌, Option, None}
 use mathlib.Core.List.{IsPrefix}
 use Rattle.rb_events.specs.Config.{Config}
-use Rattle.rb_machine.specs.Event.{Event}
-use Rattle.rb_board.specs.Waiting.{operation_view}
-use Rattle.rb_board.specs.declared.operation.Operation.{Operation}
+use Rattle.rb_machine.specs.Entry.{Logged}
 
--- how the board's core is configured, and a beginning of the board's log
+-- how the board's core is configured, and the entries of a beginning of the board's log
 pub record Knowledge : Type 0 where
   pub config : Option Config
-  pub log : List Event
+  pub entries : List Logged
 
 -- what a newcomer knows
 abbrev pub nothing_yet : Knowledge
-nothing_yet = record { config = None; log = [] }
+nothing_yet = record { config = None; entries = [] }
 
--- the same after one more event
-abbrev pub with_event : {A : Type 0} → Knowledge → Operation A → Knowledge
-with_event k operation = record k { log = k.log ++ operation_view operation ∷ [] }
+-- the same after one more entry
+abbrev pub with_entry : Knowledge → Logged → Knowledge
+with_entry k entry = record k { entries = k.entries ++ entry ∷ [] }
 
 -- the second knows all that the first knows
 abbrev pub Begins : Knowledge → Knowledge → Type 0
-Begins a b = ((a.config ≡ None) ⊎ (a.config ≡ b.config)) × IsPrefix a.log b.log
+Begins a b = ((a.config ≡ None) ⊎ (a.config ≡ b.config)) × IsPrefix a.entries b.entries

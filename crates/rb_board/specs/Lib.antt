@@ -1,4 +1,3 @@
-pub mod Waiting
 pub mod Knowledge
 pub mod Ends
 pub mod Kept

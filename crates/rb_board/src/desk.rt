@@ -1,9 +1,10 @@
 //! The desks.
 ghost use Rattle.std.specs.Prelude.{◌≡◌, ◌≤◌, ◌<◌, length, max, Some, IsSome, IfOk, IfErr, IfNone, IfSome, OnOk};
 ghost use mathlib.Core.List.{IsPrefix};
+ghost use Rattle.rb_core.specs.Follower.{IsOfLog, events_in, state_after};
 ghost use Rattle.rb_machine.specs.Machine.{client_view, client_view_refusal, path_view_refusal, state_of};
 ghost use Rattle.rb_machine.specs.Standing.{path_view};
-ghost use Rattle.rb_board.specs.Kept.{Sees, config_or, known_by, known_of};
+ghost use Rattle.rb_board.specs.Kept.{Sees, follower_of, known_by, known_of};
 ghost use Rattle.rb_board.specs.Unseen.{IsUnseen};
 
 use crate::error::DeskError;
@@ -11,7 +12,7 @@ use crate::held::Held;
 use crate::note::Note;
 use crate::rule::{Knows, Looks, Published};
 use left_right::reader::{Reader, Reading};
-use rb_core::{Core, JobView};
+use rb_core::{Follower, JobView};
 use rb_scan::PathView;
 use std::alloc::{Allocator, Global};
 use std::marker::Model;
@@ -26,22 +27,23 @@ pub struct Desk<A: Allocator = Global> {
 }
 
 impl<A: Allocator> Model for Desk<A> {
-    ghost use Rattle.std.specs.Prelude.{◌≡◌, IsSome, Some};
+    ghost use Rattle.std.specs.Prelude.{IsSome};
     ghost use Rattle.rb_board.specs.Ends as ends;
-    ghost use Rattle.rb_board.specs.Kept.{config_or, known_of};
+    ghost use Rattle.rb_core.specs.Follower.{events_in};
+    ghost use Rattle.rb_board.specs.Kept.{follower_of, known_of};
 
     ghost Value = { ends.Desk };
 
-    ghost view = { λ d. record { config = config_or (known_of d.reader).config; seen = (known_of d.reader).log; told = d.told } };
+    ghost view = { λ d. record { config = (follower_of (known_of d.reader)).config; seen = events_in (follower_of (known_of d.reader)); told = d.told } };
 
-    ghost invariant = { λ d. IsSome d.reader × ((known_of d.reader).config ≡ Some (config_or (known_of d.reader).config)) };
+    ghost invariant = { λ d. IsSome d.reader × IsSome (known_of d.reader).config };
 }
 
 impl<A: Allocator + Copy> Desk<A> {
     /// The desk that reads so, and was told nothing.
     pub(crate) fn new(reader: Reader<Held<A>, Knows, Published, A>) -> Desk<A>
-        requires { (known_by reader.place).config ≡ Some (config_or (known_by reader.place).config) }
-        ensures { result ≡ record { config = config_or (known_by reader.place).config; seen = (known_by reader.place).log; told = 0 } }
+        requires { IsSome (known_by reader.place).config }
+        ensures { let f = follower_of (known_by reader.place) in result ≡ record { config = f.config; seen = events_in f; told = 0 } }
     {
         Desk {
             reader: Some(reader),
@@ -69,7 +71,7 @@ impl<A: Allocator + Copy> Desk<A> {
         let Some(reading) = enter(&mut self.reader) else {
             return Err(DeskError::Closed);
         };
-        let front = front_of(&reading.get().core, self.told);
+        let front = front_of(&reading.get().follower, self.told);
         self.reader = Some(reading.leave());
         front
     }
@@ -88,7 +90,7 @@ impl<A: Allocator + Copy> Desk<A> {
         let Some(reading) = enter(&mut self.reader) else {
             return Err(DeskError::Closed);
         };
-        let view = client_of(&reading.get().core, client, self.told);
+        let view = client_of(&reading.get().follower, client, self.told);
         self.reader = Some(reading.leave());
         view
     }
@@ -107,7 +109,7 @@ impl<A: Allocator + Copy> Desk<A> {
         let Some(reading) = enter(&mut self.reader) else {
             return Err(DeskError::Closed);
         };
-        let view = path_of(&reading.get().core, path, self.told);
+        let view = path_of(&reading.get().follower, path, self.told);
         self.reader = Some(reading.leave());
         view
     }
@@ -134,45 +136,48 @@ fn enter<A: Allocator + Copy>(
 }
 
 /// How many events there are, where they are at least so many.
-fn front_of<A: Allocator + Copy>(core: &Core<A>, told: usize) -> Result<usize, DeskError>
-    ensures front { IfOk result (λ front. front ≡ length core.now.log) }
-    ensures enough { OnOk result (told ≤ length core.now.log) }
-    ensures behind { IfErr result (λ e. length core.now.log < told) }
+fn front_of<A: Allocator + Copy>(follower: &Follower<A>, told: usize) -> Result<usize, DeskError>
+    requires { IsOfLog follower.now }
+    ensures front { IfOk result (λ front. front ≡ length (events_in follower.now)) }
+    ensures enough { OnOk result (told ≤ length (events_in follower.now)) }
+    ensures behind { IfErr result (λ e. length (events_in follower.now) < told) }
 {
-    if core.front() < told {
+    if follower.front() < told {
         return Err(DeskError::Behind);
     }
-    Ok(core.front())
+    Ok(follower.front())
 }
 
 /// A client, where there are at least so many events.
 fn client_of<A: Allocator + Copy>(
-    core: &Core<A>,
+    follower: &Follower<A>,
     client: usize,
     told: usize,
 ) -> Result<JobView<A>, DeskError>
-    ensures enough { OnOk result (told ≤ length core.now.log) }
-    ensures view { IfOk result (λ view. client_view (state_of core.now.config core.now.log) client ≡ Some view) }
-    ensures refused { IfErr result (λ e. IsUnseen e (record { config = core.now.config; seen = core.now.log; told = told }) (client_view_refusal (state_of core.now.config core.now.log) client)) }
+    requires { IsOfLog follower.now }
+    ensures enough { OnOk result (told ≤ length (events_in follower.now)) }
+    ensures view { IfOk result (λ view. client_view (state_after follower.now) client ≡ Some view) }
+    ensures refused { IfErr result (λ e. IsUnseen e (record { config = follower.now.config; seen = events_in follower.now; told = told }) (client_view_refusal (state_after follower.now) client)) }
 {
-    if core.front() < told {
+    if follower.front() < told {
         return Err(DeskError::Behind);
     }
-    Ok(core.client_view(client)?)
+    Ok(follower.client_view(client)?)
 }
 
 /// A path, where there are at least so many events.
 fn path_of<A: Allocator + Copy>(
-    core: &Core<A>,
+    follower: &Follower<A>,
     path: usize,
     told: usize,
 ) -> Result<PathView<A>, DeskError>
-    ensures enough { OnOk result (told ≤ length core.now.log) }
-    ensures view { IfOk result (λ view. path_view (state_of core.now.config core.now.log).standing path ≡ Some view) }
-    ensures refused { IfErr result (λ e. IsUnseen e (record { config = core.now.config; seen = core.now.log; told = told }) (path_view_refusal (state_of core.now.config core.now.log) path)) }
+    requires { IsOfLog follower.now }
+    ensures enough { OnOk result (told ≤ length (events_in follower.now)) }
+    ensures view { IfOk result (λ view. path_view (state_after follower.now).standing path ≡ Some view) }
+    ensures refused { IfErr result (λ e. IsUnseen e (record { config = follower.now.config; seen = events_in follower.now; told = told }) (path_view_refusal (state_after follower.now) path)) }
 {
-    if core.front() < told {
+    if follower.front() < told {
         return Err(DeskError::Behind);
     }
-    Ok(core.path_view(path)?)
+    Ok(follower.path_view(path)?)
 }

@@ -7,7 +7,6 @@ mod error;
 mod held;
 mod note;
 mod opening;
-mod operation;
 mod pen;
 mod rule;
 

@@ -1,6 +1,9 @@
 //! The pen.
-ghost use Rattle.std.specs.Prelude.{◌≡◌, ◌++◌, ◌∷◌, [], ◌<◌, ◌^◌, length, None, IfOk, IfErr, OnOk, MatchResult};
+ghost use Rattle.std.specs.Prelude.{◌≡◌, ◌++◌, ◌∷◌, [], ◌<◌, ◌^◌, length, All, None, IfOk, IfErr, OnOk, MatchResult};
 ghost use mathlib.Core.List.{IsPrefix};
+ghost use Rattle.rb_machine.specs.Config.{IsSetUp};
+ghost use Rattle.rb_machine.specs.Event.{IsEvent};
+ghost use Rattle.rb_machine.specs.Log.{IsLog};
 ghost use Rattle.rb_machine.specs.Machine.{refusal_of, reply_of, state_of};
 ghost use Rattle.rb_machine.specs.Refused.{IsRefusal};
 ghost use Rattle.rb_machine.specs.Replied.{reply_view};
@@ -10,11 +13,10 @@ ghost use Rattle.rb_board.specs.Kept.{pending};
 use crate::desk::Desk;
 use crate::held::Held;
 use crate::note::Note;
-use crate::operation::Operation;
 use crate::rule::{Knows, Looks, Published, Tells};
 use left_right::Absorb;
 use left_right::writer::Writer;
-use rb_core::{Core, CoreError, Event, Reply};
+use rb_core::{Core, CoreError, Event, Reply, SharedEntry};
 use std::alloc::{AllocError, Allocator, Global};
 use std::marker::Model;
 use std::sync::Wait;
@@ -24,27 +26,25 @@ use std::sync::Wait;
 /// `close`.
 pub struct Pen<A: Allocator + Copy = Global>
 where
-    Held<A>: Absorb<Operation<A>, State = Knows>,
+    Held<A>: Absorb<SharedEntry<A>, State = Knows>,
 {
-    alloc: A,
-    writer: Writer<Held<A>, Operation<A>, Knows, Published, A>,
+    writer: Writer<Held<A>, SharedEntry<A>, Knows, Published, A>,
     head: Core<A>,
 }
 
 impl<A: Allocator + Copy> Model for Pen<A>
 where
-    Held<A>: Absorb<Operation<A>, State = Knows>,
+    Held<A>: Absorb<SharedEntry<A>, State = Knows>,
 {
-    ghost use Rattle.std.specs.Prelude.{◌≡◌, ◌++◌, map};
+    ghost use Rattle.rb_core.specs.Follower.{events_in};
     ghost use Rattle.rb_board.specs.Ends as ends;
-    ghost use Rattle.rb_board.specs.Kept.{knowledge_of, known_by, pending};
-    ghost use Rattle.rb_board.specs.Waiting.{operation_view};
+    ghost use Rattle.rb_board.specs.Kept.{IsKnown, known_by, pending};
 
     ghost Value = { ends.Pen };
 
-    ghost view = { λ p. record { config = p.head.config; log = p.head.log; published = p.writer.desk.shown.value.core.log } };
+    ghost view = { λ p. record { config = p.head.config; log = p.head.log; published = events_in p.writer.desk.shown.value.follower } };
 
-    ghost invariant = { λ p. (known_by p.writer.desk.place ≡ knowledge_of p.writer.desk.shown.value) × (p.writer.desk.shown.value.core.config ≡ p.head.config) × (p.head.log ≡ p.writer.desk.shown.value.core.log ++ map operation_view (pending p.writer)) };
+    ghost invariant = { λ p. IsKnown p.writer.desk.shown.value (known_by p.writer.desk.place) (pending p.writer) p.head.config p.head.log };
 }
 
 impl<A: Allocator + Copy> Pen<A> {
@@ -58,19 +58,19 @@ impl<A: Allocator + Copy> Pen<A> {
         requires { (0 < places) × (places < 2 ^ 32) }
         ensures { IfOk result (λ pen. pen ≡ record { config = core.config; log = core.log; published = core.log }) }
     {
-        let first = Held { core: core.copy()? };
-        let second = Held { core: core.copy()? };
+        let first = Held {
+            follower: core.follower()?,
+        };
+        let second = Held {
+            follower: first.follower.copy()?,
+        };
         let writer = Writer::new(alloc, first, second, places)?;
         let (writer, shown) = writer.publish_as::<Looks, R>(rt);
         if shown.is_err() {
             writer.take(rt);
             return Err(AllocError);
         }
-        Ok(Pen {
-            alloc,
-            writer,
-            head: core,
-        })
+        Ok(Pen { writer, head: core })
     }
 
     /// Appends an event to the board's log, where the core after all appended events accepts it, and
@@ -86,9 +86,8 @@ impl<A: Allocator + Copy> Pen<A> {
         ensures reply { IfOk result (λ reply. reply_view reply ≡ reply_of (state_of self.old.config self.old.log) (event_view event)) }
     {
         let ready = self.head.judge(event)?;
-        let copy = ready.event().copy()?;
-        let operation = Operation::new(self.alloc, copy)?;
-        keep(&mut self.writer, operation)?;
+        let entry = ready.entry().share()?;
+        keep(&mut self.writer, entry)?;
         Ok(self.head.settle(ready))
     }
 
@@ -110,17 +109,10 @@ impl<A: Allocator + Copy> Pen<A> {
         ensures published { OnOk result.1 (result.0.published ≡ self.log) }
         ensures unchanged { IfErr result.1 (λ _. result.0.published ≡ self.published) }
     {
-        let Pen {
-            alloc,
-            writer,
-            head,
-        } = self;
+        let Pen { writer, head } = self;
+        know(&head);
         let (writer, published) = writer.publish_as::<Looks, R>(rt);
-        let pen = Pen {
-            alloc,
-            writer,
-            head,
-        };
+        let pen = Pen { writer, head };
         (pen, published)
     }
 
@@ -129,7 +121,7 @@ impl<A: Allocator + Copy> Pen<A> {
         ensures { result.front ≡ length self.now.published }
     {
         Note {
-            front: self.writer.published().core.front(),
+            front: self.writer.published().follower.front(),
         }
     }
 
@@ -148,26 +140,32 @@ impl<A: Allocator + Copy> Pen<A> {
         ensures config { result.config ≡ self.config }
         ensures log { result.log ≡ self.log }
     {
-        let Pen {
-            alloc: _,
-            writer,
-            head,
-        } = self;
+        let Pen { writer, head } = self;
         writer.take(rt);
         head
     }
 }
 
-/// Puts an event behind those that are to be published.
+/// Tells that what a core has taken in is a log.
+fn know<A: Allocator + Copy>(core: &Core<A>)
+    ensures set_up { IsSetUp core.now.config }
+    ensures events { All IsEvent core.now.log }
+    ensures accepted { IsLog core.now.config core.now.log }
+{
+    core.config();
+    core.front();
+}
+
+/// Puts an entry behind those that are to be published.
 fn keep<A: Allocator + Copy>(
-    writer: &mut Writer<Held<A>, Operation<A>, Knows, Published, A>,
-    operation: Operation<A>,
+    writer: &mut Writer<Held<A>, SharedEntry<A>, Knows, Published, A>,
+    entry: SharedEntry<A>,
 ) -> Result<(), AllocError>
     ensures desk { writer.new.desk ≡ writer.old.desk }
-    ensures pending { MatchResult result (λ _. pending writer.new ≡ pending writer.old ++ operation ∷ []) (λ _. pending writer.new ≡ pending writer.old) }
+    ensures pending { MatchResult result (λ _. pending writer.new ≡ pending writer.old ++ entry ∷ []) (λ _. pending writer.new ≡ pending writer.old) }
 {
-    match writer.append(operation) {
+    match writer.append(entry) {
         Ok(()) => Ok(()),
-        Err(_operation) => Err(AllocError),
+        Err(_entry) => Err(AllocError),
     }
 }

@@ -5,32 +5,30 @@ ghost use Rattle.rb_board.specs.Kept.{Known, Sees};
 use crate::held::Held;
 use atomic_table::{Join, Split};
 use crossbeam_utils::rule::{Outcome, Protocol};
-use rb_core::Event;
+use rb_core::SharedEntry;
 use rb_events::Config;
 use std::alloc::Allocator;
 use std::collections::LinkedList;
 use std::marker::Model;
 
-/// What a seat at the board knows: how the board's core is configured, if that is known, and a
-/// beginning of the board's log. No value of it is made.
+/// What a seat at the board knows: how the board's core is configured, if that is known, and the
+/// entries of a beginning of the board's log. No value of it is made.
 pub(crate) struct Knows {
     config: Option<Config>,
-    log: LinkedList<Event>,
+    entries: LinkedList<SharedEntry>,
 }
 
 impl Model for Knows {
-    ghost use Rattle.std.specs.Prelude.{map};
     ghost use Rattle.std.specs.Option.{option_map};
-    ghost use Rattle.rb_machine.specs.Seen.{event_view};
     ghost use Rattle.rb_events.specs.Config.{config_view};
     ghost use Rattle.rb_board.specs.Knowledge.{Knowledge};
 
     ghost Value = { Knowledge };
 
-    ghost view = { λ k. record { config = option_map config_view k.config; log = map event_view k.log } };
+    ghost view = { λ k. record { config = option_map config_view k.config; entries = k.entries } };
 }
 
-/// The rule: what each seat knows is a beginning of what is published.
+/// The rule: a log is published, and what each seat knows is a beginning of it.
 pub(crate) struct Published;
 
 impl<A: Allocator> Protocol<Held<A>, Knows> for Published {

@@ -194,7 +194,7 @@ const SCANS: &[Taken] = &[NOTED, NOTED, NOTED, NOTED];
 const PLANS: &[Taken] = &[
     Taken::Replied(Reply::Opened(1)),
     NOTED,
-    Taken::Undone(Place::Scan(2, 0)),
+    Taken::Undone(Place::Scan(2, Part::Packets)),
     Taken::Undone(Place::Plan(0)),
 ];
 
@@ -252,7 +252,7 @@ fn order_on<'a>(heap: Heap<'a>, kind: usize, note: Note) -> Option<(Order<Heap<'
             part: Part::Channel,
             note,
         };
-        return Some((order, Place::Scan(0, 1)));
+        return Some((order, Place::Scan(0, Part::Channel)));
     }
     let order = Order::Plan {
         client: 0,

@@ -1,4 +1,6 @@
 pub mod Lists
+pub mod Compared
+pub mod Words
 pub mod Rising
 pub mod Places
 pub mod Breakers

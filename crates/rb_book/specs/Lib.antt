@@ -1,6 +1,7 @@
 pub use Rattle.rb_valset.specs.Validator
 pub use Rattle.rb_valset.specs.ValidatorSet
 pub mod Votes
+pub mod Words
 pub mod Header
 pub mod Book
 pub mod Invariant

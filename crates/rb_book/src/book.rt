@@ -227,10 +227,28 @@ impl<A: Allocator> ChainBook<A> {
     fn is_same(&self, other: &ChainBook<A>) -> bool
         ensures { result ≡ same_book self.now other.now }
     {
+        if !same_records(self.records.as_slice(), other.records.as_slice()) {
+            return false;
+        }
         self.limit == other.limit
             && same_sets(self.sets.as_slice(), other.sets.as_slice())
-            && same_records(self.records.as_slice(), other.records.as_slice())
-            && same_headers(self.headers.as_slice(), other.headers.as_slice())
+            && self.has_same_headers(other)
+    }
+
+    /// Whether the headers are the same, where the records are. A header's own record is among these.
+    fn has_same_headers(&self, other: &ChainBook<A>) -> bool
+        requires { self.now.records ≡ other.now.records }
+        ensures { result ≡ pointwise same_header self.now.headers other.now.headers }
+    {
+        if self.headers.len() != other.headers.len() {
+            return false;
+        }
+        for place in 0..self.headers.len() {
+            if !self.headers[place].is_same_signing(&other.headers[place]) {
+                return false;
+            }
+        }
+        true
     }
 
     /// How many addresses the sets have together with this one.
@@ -428,13 +446,15 @@ fn same_sets<A: Allocator>(sets: &[ValidatorSet<A>], others: &[ValidatorSet<A>])
 fn same_records(records: &[Known], others: &[Known]) -> bool
     ensures { result ≡ pointwise same_known records.now others.now }
 {
-    records == others
-}
-
-fn same_headers<A: Allocator>(headers: &[Header<A>], others: &[Header<A>]) -> bool
-    ensures { result ≡ pointwise same_header headers.now others.now }
-{
-    headers == others
+    if records.len() != others.len() {
+        return false;
+    }
+    for place in 0..records.len() {
+        if !records[place].is_same(&others[place]) {
+            return false;
+        }
+    }
+    true
 }
 
 fn copy_sets<A: Allocator + Copy>(

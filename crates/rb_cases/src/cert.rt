@@ -229,7 +229,7 @@ fn make_labelling(alloc: Global, rows: &[(u64, u64, u64)]) -> Result<Labelling, 
     if !are_labels(labels.as_slice()) {
         return Err(Fail::from("labels"));
     }
-    Ok(Labelling::new(labels))
+    Ok(Labelling::new(labels)?)
 }
 
 fn make_updates(alloc: Global, rows: &[(u64, u64)]) -> Result<Vec<Update>, Fail> {

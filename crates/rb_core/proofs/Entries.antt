@@ -1,7 +1,7 @@
 -- The events come back from what a log keeps of them.
 use Rattle.std.proofs.Common.{◌≡◌, ℕ, ◌<◌, Bool, true, false, cond, not, leb, ltb, List, [], ◌∷◌, ◌++◌, Option, Some, None, is_some, map, length, All, refl, sym, ap, ◌∙◌, subst}
 use Rattle.std.specs.List.{fold}
-use Rattle.std.specs.Option.{option_map, option_map_or, option_to_list}
+use Rattle.std.specs.Option.{option_map, option_map_or}
 use Rattle.std.proofs.lemmas.Bool.{leb-false, not-false}
 use Rattle.std.proofs.lemmas.List.{map-append}
 use Rattle.std.proofs.lemmas.List.Elements.{All-append, All-cons, All-nil}
@@ -86,20 +86,17 @@ event_back s (Scanned path scan) e = ap (option_map (λ v. Scanned path (record 
 event_back s (Planned d) e = ap (option_map (λ job. Planned (record { job = job; answer = d.answer }))) (draft_seen s d e)
 event_back s (Settled client number done) e = refl
 
-abbrev next : State → List Logged → Option Event → List Event
+abbrev pub next : State → List Logged → Option Event → List Event
 next s xs o = option_map_or (λ event. event ∷ events_of (after s event) xs) o (events_of s xs)
 
-pub events-snoc : (s : State) (xs : List Logged) (x : Logged) → events_of s (xs ++ x ∷ []) ≡ events_of s xs ++ option_to_list (event_of (fold after s (events_of s xs)) x)
-events-snoc s [] x = go (event_of s x)
+-- the events of some entries, and of others after them
+pub events-append : (s : State) (xs ys : List Logged) → events_of s (xs ++ ys) ≡ events_of s xs ++ events_of (fold after s (events_of s xs)) ys
+events-append s [] ys = refl
+events-append s (x ∷ xs) ys = go (event_of s x) (events-append s xs ys) (λ t. events-append t xs ys)
   where
-    go : (o : Option Event) → next s [] o ≡ option_to_list o
-    go None = refl
-    go (Some e) = refl
-events-snoc s (y ∷ ys) x = go (event_of s y) (events-snoc s ys x) (λ t. events-snoc t ys x)
-  where
-    go : (o : Option Event) → events_of s (ys ++ x ∷ []) ≡ events_of s ys ++ option_to_list (event_of (fold after s (events_of s ys)) x)
-        → ((t : State) → events_of t (ys ++ x ∷ []) ≡ events_of t ys ++ option_to_list (event_of (fold after t (events_of t ys)) x))
-        → next s (ys ++ x ∷ []) o ≡ next s ys o ++ option_to_list (event_of (fold after s (next s ys o)) x)
+    go : (o : Option Event) → events_of s (xs ++ ys) ≡ events_of s xs ++ events_of (fold after s (events_of s xs)) ys
+        → ((t : State) → events_of t (xs ++ ys) ≡ events_of t xs ++ events_of (fold after t (events_of t xs)) ys)
+        → next s (xs ++ ys) o ≡ next s xs o ++ events_of (fold after s (next s xs o)) ys
     go None here there = here
     go (Some e) here there = ap (λ es. e ∷ es) (there (after s e))
 
@@ -116,8 +113,15 @@ accepted-snoc s (x ∷ es) e none = go (is_some (refusal_of s x)) (accepted-snoc
     go true rest = rest
     go false rest = ap (λ ys. x ∷ ys) rest
 
-after_free : (s : State) (e : Event) → refusal_of s e ≡ None → after s e ≡ accepted s e
+pub after_free : (s : State) (e : Event) → refusal_of s e ≡ None → after s e ≡ accepted s e
 after_free s e none = ap (λ (o : Option Refusal). cond (is_some o) s (accepted s e)) none
+
+-- what entries stand for, with that of one more event that isn't refused
+pub events_grow : (config : Config) (xs : List Logged) (e : Event) → refusal_of (state_of config (events_of (opening config) xs)) e ≡ None
+    → events_of (opening config) (xs ++ logged_of e ∷ []) ≡ events_of (opening config) xs ++ e ∷ []
+events_grow config xs e none =
+    let s = state_of config (events_of (opening config) xs) in
+    events-append (opening config) xs (logged_of e ∷ []) ∙ ap (λ o. events_of (opening config) xs ++ next s [] o) (event_back s e (free s e none).beside)
 
 -- what the entries of a log stand for, with one more accepted event
 pub settled : (config : Config) (old now : State) (xs ys : List Logged) (e : Event) → IsFold config (events_of (opening config) xs) old
@@ -126,9 +130,7 @@ pub settled : (config : Config) (old now : State) (xs ys : List Logged) (e : Eve
 settled config old now xs ys e is none rule now_is ys_is =
     let log = events_of (opening config) xs in
     let free_there : refusal_of (state_of config log) e ≡ None = subst (λ (t : State). refusal_of t e ≡ None) is.state none in
-    let back : event_of (state_of config log) (logged_of e) ≡ Some e = event_back (state_of config log) e (free (state_of config log) e free_there).beside in
-    let more : events_of (opening config) ys ≡ log ++ e ∷ [] =
-    ap (events_of (opening config)) ys_is ∙ events-snoc (opening config) xs (logged_of e) ∙ ap (λ o. log ++ option_to_list o) back in
+    let more : events_of (opening config) ys ≡ log ++ e ∷ [] = ap (events_of (opening config)) ys_is ∙ events_grow config xs e free_there in
     let grown : IsFold config (log ++ e ∷ []) now = record {
       state = now_is ∙ sym (after_free old e none) ∙ ap (λ (t : State). after t e) is.state ∙ sym (fold-append after (opening config) log (e ∷ []));
       set_up = is.set_up;

@@ -2,4 +2,5 @@ pub mod Settled
 pub mod Within
 pub mod Shown
 pub mod Entries
+pub mod Unjudged
 pub mod Rooms

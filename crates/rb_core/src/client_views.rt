@@ -14,10 +14,11 @@ ghost use Rattle.rb_task.specs.Same.{same_fees, same_job, same_options, same_pat
 ghost use Rattle.rb_machine.specs.Standing.{book_at, empty_book, path_task, path_tasks, view_of};
 
 use crate::known::Known;
-use crate::path_views::{find_book, part_for, seen_owed};
+use crate::path_views::{part_for, seen_owed};
 use rb_base::Window;
 use rb_book::{ChainBook, SharedBook};
 use rb_events::{PathConfig, Refusal};
+use rb_known::views::find_book;
 use rb_known::{KnownClient, KnownPath};
 use rb_machine::CoreError;
 use rb_scan::Part;

@@ -1,58 +1,16 @@
 //! New and copied parts of a core.
-ghost use Rattle.std.specs.Prelude.{◌≡◌, ◌≤◌, IfOk, replicate, map};
+ghost use Rattle.std.specs.Prelude.{◌≡◌, ◌≤◌, IfOk, replicate};
 ghost use Rattle.rb_events.specs.Config.{config_view};
-ghost use Rattle.rb_known.specs.Held.{books_of, clients_of, paths_of};
 ghost use Rattle.rb_core.specs.Known.{state_view};
 ghost use Rattle.rb_machine.specs.Machine.{opening, no_scans};
-ghost use Rattle.rb_machine.specs.Standing.{empty_book, new_client, new_path};
 
 use crate::known::Known;
-use crate::scans::Scans;
-use rb_book::{ChainBook, SharedBook};
-use rb_events::{ClientConfig, Config, PathConfig};
-use rb_known::{KnownClient, KnownPath};
+use rb_events::Config;
+use rb_known::books::{new_books, share_books};
+use rb_known::clients::{copy_clients, new_clients};
+use rb_known::paths::{copy_paths, new_paths};
+use rb_machine::Scans;
 use std::alloc::{AllocError, Allocator};
-
-fn new_books<A: Allocator + Copy>(
-    alloc: A,
-    chains: usize,
-    limit: usize,
-) -> Result<Vec<SharedBook<A>, A>, AllocError>
-    requires { (1 ≤ limit) × (limit ≤ 4096) }
-    ensures { IfOk result (λ books. books_of books.items ≡ replicate chains (empty_book limit)) }
-{
-    let mut books = Vec::with_capacity(alloc, chains)?;
-    for _ in 0..chains {
-        books.push(SharedBook::new(alloc, ChainBook::with_limit(alloc, limit)?)?)?;
-    }
-    Ok(books)
-}
-
-fn new_clients<A: Allocator + Copy>(
-    alloc: A,
-    configs: &[ClientConfig],
-) -> Result<Vec<KnownClient<A>, A>, AllocError>
-    ensures { IfOk result (λ clients. clients_of clients.items ≡ map new_client configs.now) }
-{
-    let mut clients = Vec::with_capacity(alloc, configs.len())?;
-    for config in configs {
-        clients.push(KnownClient::new(alloc, *config))?;
-    }
-    Ok(clients)
-}
-
-fn new_paths<A: Allocator + Copy>(
-    alloc: A,
-    configs: &[PathConfig],
-) -> Result<Vec<KnownPath<A>, A>, AllocError>
-    ensures { IfOk result (λ paths. paths_of paths.items ≡ map new_path configs.now) }
-{
-    let mut paths = Vec::with_capacity(alloc, configs.len())?;
-    for config in configs {
-        paths.push(KnownPath::new(alloc, *config))?;
-    }
-    Ok(paths)
-}
 
 fn new_plans<A: Allocator + Copy>(alloc: A, clients: usize) -> Result<Vec<usize, A>, AllocError>
     ensures { IfOk result (λ plans. plans.items ≡ replicate clients 0) }
@@ -91,45 +49,6 @@ pub(crate) fn new_known<A: Allocator + Copy>(
         scans: new_scans(alloc, config.paths.len())?,
         front: 0,
     })
-}
-
-fn share_books<A: Allocator + Copy>(
-    alloc: A,
-    books: &[SharedBook<A>],
-) -> Result<Vec<SharedBook<A>, A>, AllocError>
-    ensures { IfOk result (λ shared. books_of shared.items ≡ books_of books.now) }
-{
-    let mut shared = Vec::with_capacity(alloc, books.len())?;
-    for book in books {
-        shared.push(book.share()?)?;
-    }
-    Ok(shared)
-}
-
-fn copy_clients<A: Allocator + Copy>(
-    alloc: A,
-    clients: &[KnownClient<A>],
-) -> Result<Vec<KnownClient<A>, A>, AllocError>
-    ensures { IfOk result (λ copies. clients_of copies.items ≡ clients_of clients.now) }
-{
-    let mut copies = Vec::with_capacity(alloc, clients.len())?;
-    for client in clients {
-        copies.push(client.copy()?)?;
-    }
-    Ok(copies)
-}
-
-fn copy_paths<A: Allocator + Copy>(
-    alloc: A,
-    paths: &[KnownPath<A>],
-) -> Result<Vec<KnownPath<A>, A>, AllocError>
-    ensures { IfOk result (λ copies. paths_of copies.items ≡ paths_of paths.now) }
-{
-    let mut copies = Vec::with_capacity(alloc, paths.len())?;
-    for path in paths {
-        copies.push(path.copy()?)?;
-    }
-    Ok(copies)
 }
 
 fn copy_scans<A: Allocator + Copy>(

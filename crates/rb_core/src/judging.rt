@@ -1,6 +1,6 @@
 //! Events are judged, and then taken in.
-ghost use Rattle.std.specs.Prelude.{◌≡◌, ◌<◌, ◌++◌, ◌∷◌, [], map, vec_len, vec_capacity, None, IfOk, IfErr};
-ghost use Rattle.rb_machine.specs.Entry.{entry_view, logged_of};
+ghost use Rattle.std.specs.Prelude.{◌≡◌, ◌<◌, ◌++◌, ◌∷◌, [], vec_len, vec_capacity, None, IfOk, IfErr};
+ghost use Rattle.rb_machine.specs.Entry.{logged_of};
 ghost use Rattle.rb_machine.specs.Event as events;
 ghost use Rattle.rb_machine.specs.Event.{IsEvent};
 ghost use Rattle.rb_machine.specs.Kept.{IsKept};
@@ -13,13 +13,14 @@ ghost use Rattle.rb_machine.specs.Seen.{event_view};
 use crate::known::Known;
 use crate::refusing::refuse;
 use crate::taking::{make_room, put};
-use rb_machine::{CoreError, Entry, Event, Ready, Reply};
+use rb_machine::{CoreError, Event, Ready, Reply, SharedEntry};
 use std::alloc::Allocator;
 
 /// Judges an event, and makes what taking it in takes.
 pub(crate) fn make_ready<A: Allocator + Copy>(
+    alloc: A,
     known: &mut Known<A>,
-    log: &mut Vec<Entry<A>, A>,
+    log: &mut Vec<SharedEntry<A>, A>,
     event: Event<A>,
 ) -> Result<Ready<A>, CoreError>
     requires kept { IsKept (state_view known.old) }
@@ -38,13 +39,13 @@ pub(crate) fn make_ready<A: Allocator + Copy>(
     }
     make_room(known, &event)?;
     log.reserve(1)?;
-    Ok(Ready::new(known.front, event)?)
+    Ok(Ready::new(alloc, known.front, event)?)
 }
 
 /// Takes in an event that was judged. Takes no memory.
 pub(crate) fn take_in<A: Allocator + Copy>(
     known: &mut Known<A>,
-    log: &mut Vec<Entry<A>, A>,
+    log: &mut Vec<SharedEntry<A>, A>,
     ready: Ready<A>,
 ) -> Reply
     requires kept { IsKept (state_view known.old) }
@@ -52,7 +53,7 @@ pub(crate) fn take_in<A: Allocator + Copy>(
     requires room { HasRoom known.old ready.event }
     requires log_room { vec_len log.old < vec_capacity log.old }
     ensures state { state_view known.new ≡ accepted (state_view known.old) ready.event }
-    ensures log { map entry_view log.new.items ≡ map entry_view log.old.items ++ logged_of ready.event ∷ [] }
+    ensures log { log.new.items ≡ log.old.items ++ logged_of ready.event ∷ [] }
     ensures rules { IsEvent ready.event }
     ensures reply { reply_view result ≡ reply_of (state_view known.old) ready.event }
 {

@@ -11,7 +11,6 @@ ghost use Rattle.rb_machine.specs.Seen.{observed};
 ghost use Rattle.rb_machine.specs.Standing as standings;
 ghost use Rattle.rb_machine.specs.Standing.{AreTracked, goes_back, judged, changed, with_client, after_answer, batch_opened};
 
-use crate::scans::Scans;
 use rb_base::Window;
 use rb_book::SharedBook;
 use rb_events::{Asked, Observation, Refusal, Settlement};
@@ -27,7 +26,7 @@ use rb_known::paths::{
     refuse_sent, refuse_written, settle_messages,
 };
 use rb_known::{KnownClient, KnownPath, Mark, settled_messages};
-use rb_machine::{Reply, Scan};
+use rb_machine::{Reply, Scan, Scans};
 use rb_scan::Packet;
 use rb_task::Planned;
 use std::alloc::{AllocError, Allocator, Global};

@@ -1,4 +1,5 @@
-//! The relayer machine: `Core`, which judges events and takes them in, and shows clients and paths.
+//! The relayer machine: `Core`, which judges events and takes them in, and shows clients and paths;
+//! and `Follower`, which takes in the entries of a core's log and judges nothing again.
 //!
 //! A core is the fold of its log: its state is what the definitions of `rb_machine` make of the events
 //! that it has taken in, from which its views, replies and refusals follow.
@@ -6,17 +7,19 @@
 
 mod client_views;
 mod copies;
+mod follower;
+mod following;
 mod judging;
 mod known;
 mod machine;
 mod path_views;
 mod refusing;
-mod scans;
 mod taking;
 
+pub use follower::Follower;
 pub use machine::Core;
 pub use rb_known::OpenBatch;
-pub use rb_machine::{CoreError, Entry, Event, Ready, Reply, Scan, scan};
+pub use rb_machine::{CoreError, Entry, Event, Ready, Reply, Scan, SharedEntry, scan};
 pub use rb_task::{
     Batch, Draft, JobView, Message, PathTask, Plan, Planned, Sending, Task, answer, draft,
 };

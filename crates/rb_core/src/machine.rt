@@ -1,12 +1,11 @@
 //! The relayer machine.
 ghost use Rattle.std.specs.Prelude.{◌≡◌, ◌++◌, ◌∷◌, [], All, length, Some, IfOk, IfErr};
 ghost use Rattle.std.specs.Option.{option_copied};
-ghost use Rattle.rb_base.specs.Fee.{IsFeeTable};
 ghost use Rattle.rb_events.specs.Config.{config_view, IsConfig};
-ghost use Rattle.rb_events.specs.declared.config.ClientConfig.{ClientConfig as SetUpClient};
 ghost use Rattle.rb_machine.specs.Batches.{batch_open};
 ghost use Rattle.rb_machine.specs.Config.{IsSetUp};
 ghost use Rattle.rb_core.specs.Core.{state_in, refusal_in, IsReady};
+ghost use Rattle.rb_core.specs.Follower.{IsOfLog, events_in};
 ghost use Rattle.rb_machine.specs.Entry.{log_from};
 ghost use Rattle.rb_machine.specs.Event.{IsEvent};
 ghost use Rattle.rb_machine.specs.Judged as judged;
@@ -19,14 +18,16 @@ ghost use Rattle.rb_machine.specs.Standing.{path_view};
 
 use crate::client_views::client_view;
 use crate::copies::{copy_known, new_known};
+use crate::follower::Follower;
 use crate::judging::{make_ready, take_in};
 use crate::known::Known;
 use crate::path_views::{is_scanned, path_view};
-use rb_events::{ClientConfig, Config};
+use rb_events::Config;
 use rb_known::OpenBatch;
 use rb_known::clients::open_batch;
 use rb_machine::laws::client_views_are_views;
-use rb_machine::{CoreError, Entry, Event, Ready, Reply, copy_entries};
+use rb_machine::rules::fee_tables;
+use rb_machine::{CoreError, Event, Ready, Reply, SharedEntry, share_entries};
 use rb_scan::{Part, PathView};
 use rb_task::JobView;
 use std::alloc::{AllocError, Allocator, Global};
@@ -39,7 +40,7 @@ pub struct Core<A: Allocator = Global> {
     alloc: A,
     config: Config<A>,
     known: Known<A>,
-    log: Vec<Entry<A>, A>,
+    log: Vec<SharedEntry<A>, A>,
 }
 
 impl<A: Allocator> Model for Core<A> {
@@ -55,15 +56,6 @@ impl<A: Allocator> Model for Core<A> {
     ghost view = { λ c. record { config = config_view c.config; log = log_from (config_view c.config) c.log.items; room = cores.room_of (vec_capacity c.log - vec_len c.log) c.known } };
 
     ghost invariant = { λ c. IsFold (config_view c.config) (log_from (config_view c.config) c.log.items) (state_view c.known) };
-}
-
-/// Tells that what updates cost is given by fee tables.
-fn fee_tables(clients: &[ClientConfig])
-    ensures { All (λ (client : SetUpClient). IsFeeTable client.fees) clients.now }
-{
-    for client in clients {
-        client.fees.charge(0, 0);
-    }
 }
 
 impl<A: Allocator + Copy> Core<A> {
@@ -93,8 +85,22 @@ impl<A: Allocator + Copy> Core<A> {
             alloc: self.alloc,
             config: self.config.copy()?,
             known: copy_known(self.alloc, &self.known)?,
-            log: copy_entries(self.alloc, self.log.as_slice())?,
+            log: share_entries(self.alloc, self.log.as_slice())?,
         })
+    }
+
+    /// A follower that has followed this core's log. An error comes only where a growth is refused.
+    pub fn follower(&self) -> Result<Follower<A>, AllocError>
+        ensures config { IfOk result (λ follower. follower.config ≡ self.now.config) }
+        ensures events { IfOk result (λ follower. events_in follower ≡ self.now.log) }
+        ensures log { IfOk result IsOfLog }
+    {
+        Ok(Follower::new(
+            self.alloc,
+            self.config.copy()?,
+            copy_known(self.alloc, &self.known)?,
+            share_entries(self.alloc, self.log.as_slice())?,
+        ))
     }
 
     /// Judges an event, and makes what taking it in takes. Nothing that can be seen changes, whatever
@@ -108,7 +114,7 @@ impl<A: Allocator + Copy> Core<A> {
         ensures kept { (other : judged.Ready) → IsReady self.old other → IsReady self.new other }
         ensures refused { IfErr result (λ e. IsRefusal e (refusal_in self.old (event_view event))) }
     {
-        make_ready(&mut self.known, &mut self.log, event)
+        make_ready(self.alloc, &mut self.known, &mut self.log, event)
     }
 
     /// Takes in an event that this core judged after the events that it has taken in. Takes no
@@ -141,7 +147,7 @@ impl<A: Allocator + Copy> Core<A> {
     }
 
     /// What is kept of the events that were taken in, from which they come back. Takes no memory.
-    pub fn log(&self) -> &[Entry<A>]
+    pub fn log(&self) -> &[SharedEntry<A>]
         ensures { log_from self.now.config result.now ≡ self.now.log }
     {
         self.log.as_slice()

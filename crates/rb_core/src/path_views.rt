@@ -1,37 +1,18 @@
 //! What is seen of paths.
-ghost use Rattle.std.specs.Prelude.{◌≡◌, ◌==◌, ◌&&◌, is_some, map, slice_get, slice_index_or, IfSome, IfOk, IfErr, MatchOption, Some, None};
-ghost use Rattle.std.specs.Bool.{beq};
-ghost use Rattle.std.specs.Cmp.Lexicographic.{pointwise};
-ghost use Rattle.std.specs.List.Sorted.{IsStrictlyIncreasing};
-ghost use Rattle.rb_book.specs.Book.{height_of, time_of, times_of};
-ghost use Rattle.rb_scan.specs.Path.{heights_of as path_heights, times_of as path_times};
-ghost use Rattle.rb_scan.specs.Same.{same_order, same_packet, same_path, same_record};
+ghost use Rattle.std.specs.Prelude.{◌≡◌, is_some, slice_get, slice_index_or, IfSome, IfOk, IfErr, MatchOption, Some, None};
 ghost use Rattle.rb_machine.specs.Config.{part_for};
-ghost use Rattle.rb_known.specs.Held.{books_of};
 ghost use Rattle.rb_core.specs.Known.{standing_view, state_view};
 ghost use Rattle.rb_machine.specs.Machine.{no_scans, scan_of, is_view, is_scanned, is_missed, all_scanned, seen_owed, path_view_refusal};
 ghost use Rattle.rb_machine.specs.Refused.{IsRefusal};
-ghost use Rattle.rb_machine.specs.Standing.{book_at, empty_book, view_of_path, path_view};
+ghost use Rattle.rb_machine.specs.Standing.{path_view};
 
 use crate::known::Known;
-use rb_base::{Height, Moment};
-use rb_book::{Known as KnownRecord, SharedBook};
 use rb_events::{PathConfig, Refusal};
 use rb_known::KnownPath;
+use rb_known::views::{is_as_seen, view_of};
 use rb_machine::{CoreError, Scan};
-use rb_scan::{Packet, PacketMsg, Part, PathView};
-use std::alloc::{AllocError, Allocator};
-
-/// The book of a chain, if there is such a chain.
-pub(crate) fn find_book<A: Allocator + Copy>(
-    books: &[SharedBook<A>],
-    chain: usize,
-) -> Option<&SharedBook<A>>
-    ensures { let book = book_at (books_of books.now) chain
-        in MatchOption result (book ≡ empty_book 1) (λ shared. book ≡ shared.now.book) }
-{
-    books.get(chain)
-}
+use rb_scan::{PacketMsg, Part, PathView};
+use std::alloc::Allocator;
 
 /// A path, if there is one at this place.
 fn find_path<A: Allocator + Copy>(known: &Known<A>, path: usize) -> Option<&KnownPath<A>>
@@ -52,47 +33,6 @@ fn last_scan<A: Allocator + Copy>(known: &Known<A>, path: usize, part: Part) -> 
     }
 }
 
-/// The records of the book of a chain.
-fn records_in<A: Allocator + Copy>(books: &[SharedBook<A>], chain: usize) -> &[KnownRecord]
-    ensures { result.now ≡ (book_at (books_of books.now) chain).records }
-{
-    match find_book(books, chain) {
-        Some(shared) => shared.book().records(),
-        None => &[],
-    }
-}
-
-/// The heights and the times of those records, which rise.
-fn times_in<A: Allocator + Copy>(
-    alloc: A,
-    books: &[SharedBook<A>],
-    chain: usize,
-) -> Result<Vec<(Height, Moment), A>, AllocError>
-    ensures value { IfOk result (λ list. list.items ≡ times_of (book_at (books_of books.now) chain)) }
-    ensures heights { IfOk result (λ list. IsStrictlyIncreasing (path_heights list.items)) }
-    ensures times { IfOk result (λ list. IsStrictlyIncreasing (path_times list.items)) }
-{
-    let Some(shared) = find_book(books, chain) else {
-        return Ok(Vec::new(alloc));
-    };
-    let list = shared.book().times()?;
-    Ok(list)
-}
-
-/// A path as it is scanned.
-fn view_of<A: Allocator + Copy>(
-    alloc: A,
-    books: &[SharedBook<A>],
-    path: &KnownPath<A>,
-) -> Result<PathView<A>, AllocError>
-    ensures { IfOk result (λ view. view ≡ view_of_path (books_of books.now) path.now.path) }
-{
-    let config = path.config();
-    let sent = Vec::from_slice(alloc, path.packets())?;
-    let list = times_in(alloc, books, config.destination)?;
-    Ok(PathView::new(config.order, config.first, sent, path.is_closed(), list))
-}
-
 /// A path as it is scanned. `UnknownObject` where there is none at this place, `NoMemory` where a
 /// growth is refused.
 pub(crate) fn path_view<A: Allocator + Copy>(
@@ -108,53 +48,6 @@ pub(crate) fn path_view<A: Allocator + Copy>(
     };
     let view = view_of(alloc, known.books.as_slice(), held)?;
     Ok(view)
-}
-
-fn same_packets(packets: &[Packet], others: &[Packet]) -> bool
-    ensures { result ≡ pointwise same_packet packets.now others.now }
-{
-    packets == others
-}
-
-/// Whether these are the heights and the times of records.
-fn are_times_of(times: &[(Height, Moment)], records: &[KnownRecord]) -> bool
-    ensures { result ≡ pointwise same_record times.now (map (λ k. (height_of k, time_of k)) records.now) }
-{
-    if times.len() != records.len() {
-        return false;
-    }
-    for (place, record) in records.iter().enumerate() {
-        let (height, time) = times[place];
-        if height != record.height() || time != record.record().time() {
-            return false;
-        }
-    }
-    true
-}
-
-/// Whether a path has the order, the first sequence and the packets that were seen, and is closed as
-/// was seen.
-fn is_sent_as_seen<A: Allocator + Copy>(path: &KnownPath<A>, view: &PathView<A>) -> bool
-    ensures { let p = path.now.path in let v = view.now
-        in result ≡ (same_order v.order p.config.order && (v.first == p.config.first) && beq v.closed p.closed && pointwise same_packet v.packets p.packets) }
-{
-    let config = path.config();
-    view.order() == config.order
-        && view.first() == config.first
-        && view.is_closed() == path.is_closed()
-        && same_packets(view.packets(), path.packets())
-}
-
-/// Whether a path is as it was seen.
-fn is_as_seen<A: Allocator + Copy>(
-    books: &[SharedBook<A>],
-    path: &KnownPath<A>,
-    view: &PathView<A>,
-) -> bool
-    ensures { result ≡ same_path view.now (view_of_path (books_of books.now) path.now.path) }
-{
-    let chain = path.config().destination;
-    is_sent_as_seen(path, view) && are_times_of(view.destination(), records_in(books, chain))
 }
 
 /// Whether there is a path at this place, which is as it was seen. Takes no memory.

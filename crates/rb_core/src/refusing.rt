@@ -1,9 +1,10 @@
 //! Why an event is refused.
-ghost use Rattle.std.specs.Prelude.{◌≡◌, true};
+ghost use Rattle.std.specs.Prelude.{◌≡◌, ◌<◌, true, length, None, IfNone, IsSome};
 ghost use Rattle.rb_machine.specs.Kept.{IsKept};
-ghost use Rattle.rb_core.specs.Known.{state_view};
-ghost use Rattle.rb_machine.specs.Machine.{is_known, is_held, scan_refusal, draft_refusal, refusal_beside, refusal_of};
+ghost use Rattle.rb_core.specs.Known.{standing_view, state_view};
+ghost use Rattle.rb_machine.specs.Machine.{is_known, is_held, max_events, scan_refusal, draft_refusal, refusal_beside, refusal_of};
 ghost use Rattle.rb_machine.specs.Seen.{event_view};
+ghost use Rattle.rb_machine.specs.Standing.{judged};
 
 use crate::client_views::{is_job, plan_number};
 use crate::known::Known;
@@ -81,6 +82,20 @@ fn refuse_planned<A: Allocator + Copy>(known: &Known<A>, draft: &Draft<A>) -> Op
     None
 }
 
+/// Why an event whose chain, client or path is there would be refused by how things stand.
+fn refuse_standing<A: Allocator + Copy>(known: &Known<A>, event: &Event<A>) -> Option<Refusal>
+    requires object { is_known (state_view known.now) (event_view event.now) ≡ true }
+    requires kept { IsKept (state_view known.now) }
+    ensures { result ≡ judged (standing_view known.now) (event_view event.now) }
+{
+    match event {
+        Event::Window(window) => known.refuse_window(*window),
+        Event::Observed(observation) => known.refuse_observed(observation),
+        Event::Settled(settlement) => known.refuse_settled(*settlement),
+        Event::Asked(_) | Event::Scanned { .. } | Event::Planned(_) => None,
+    }
+}
+
 /// Why an event whose chain, client or path is there would be refused by what is known.
 fn refuse_known<A: Allocator + Copy>(known: &Known<A>, event: &Event<A>) -> Option<Refusal>
     requires object { is_known (state_view known.now) (event_view event.now) ≡ true }
@@ -88,12 +103,9 @@ fn refuse_known<A: Allocator + Copy>(known: &Known<A>, event: &Event<A>) -> Opti
     ensures { result ≡ refusal_beside (state_view known.now) (event_view event.now) }
 {
     match event {
-        Event::Window(window) => known.refuse_window(*window),
-        Event::Asked(_) => None,
-        Event::Observed(observation) => known.refuse_observed(observation),
         Event::Scanned { path, scan } => refuse_scanned(known, *path, scan),
         Event::Planned(draft) => refuse_planned(known, draft),
-        Event::Settled(settlement) => known.refuse_settled(*settlement),
+        _ => refuse_standing(known, event),
     }
 }
 
@@ -109,4 +121,42 @@ pub(crate) fn refuse<A: Allocator + Copy>(known: &Known<A>, event: &Event<A>) ->
         return Some(Refusal::LogFull);
     }
     refuse_known(known, event)
+}
+
+/// Why an event can't be taken in even where what was seen isn't compared. Takes no memory.
+pub(crate) fn refuse_unseen<A: Allocator + Copy>(
+    known: &Known<A>,
+    event: &Event<A>,
+) -> Option<Refusal>
+    requires { IsKept (state_view known.now) }
+    ensures object { IfNone result (is_known (state_view known.now) (event_view event.now) ≡ true) }
+    ensures few { IfNone result (known.now.front < max_events) }
+    ensures accepted { IfNone result (judged (standing_view known.now) (event_view event.now) ≡ None) }
+{
+    if !is_known(known, event) {
+        return Some(Refusal::UnknownObject);
+    }
+    if MAX_EVENTS <= known.front {
+        return Some(Refusal::LogFull);
+    }
+    refuse_standing(known, event)
+}
+
+/// Why an answer for a client can't be taken in even where what it was made for isn't compared.
+/// Takes no memory.
+pub(crate) fn refuse_answer<A: Allocator>(known: &Known<A>, client: usize) -> Option<Refusal>
+    ensures within { IfNone result (client < length known.now.clients.items) }
+    ensures few { IfNone result (known.now.front < max_events) }
+    ensures window { IfNone result (IsSome known.now.window) }
+{
+    if known.clients.len() <= client {
+        return Some(Refusal::UnknownObject);
+    }
+    if MAX_EVENTS <= known.front {
+        return Some(Refusal::LogFull);
+    }
+    if known.window.is_none() {
+        return Some(Refusal::OutOfOrder);
+    }
+    None
 }

@@ -1,12 +1,13 @@
 //! What is called round each job.
+use rb_scan::Part;
 
 /// A job. Objects are named by their numbers in a script's order.
 #[derive(Clone, Copy, Debug, PartialEq, Eq)]
 pub enum Place {
     /// The row of this number is made.
     Row(usize),
-    /// A part of a path is scanned: 0 for its packets, 1 for its channel.
-    Scan(usize, usize),
+    /// A part of a path is scanned.
+    Scan(usize, Part),
     /// A client is planned.
     Plan(usize),
     /// A worker's plan for a client was handed over, or the calling thread's own was taken in.

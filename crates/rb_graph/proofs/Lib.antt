@@ -1,6 +1,4 @@
-pub mod Rising
 pub mod Filtered
-pub mod Found
 pub mod Members
 pub mod Lower
 pub mod CellOf
@@ -11,11 +9,5 @@ pub mod Headers
 pub mod Known
 pub mod Into
 pub mod Charges
-pub mod Numbering
-pub mod Room
-pub mod OwnPlace
 pub mod Targets
-pub mod Inserted
-pub mod Entered
-pub mod Laned
 pub mod Finishing

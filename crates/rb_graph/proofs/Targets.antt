@@ -12,13 +12,14 @@ use Rattle.rb_step.specs.StepRule.{AcceptsWithin}
 use Rattle.rb_step.specs.KnownStep.{step_at}
 use Rattle.rb_step.specs.Laws.{SuccessIsAcceptance}
 use Rattle.rb_graph.specs.StepTable.{Target, IsStepFee, lower_records}
-use Rattle.rb_graph.specs.Kept.{Source, source_of, step_from, is_accepted_from, charge_from, fee_from}
+use Rattle.rb_graph.specs.Source.{Source, source_of, step_from, is_accepted_from, charge_from, fee_from}
 use Rattle.rb_graph.proofs.Charges.{charge_by_source}
 use Rattle.rb_graph.proofs.Filtered.{low-within}
 use Rattle.rb_graph.proofs.Headers.{backed_at}
 use Rattle.rb_graph.proofs.Into.{accepted_is, step_is}
 use Rattle.rb_graph.proofs.Known.{no_header}
-use Rattle.rb_graph.proofs.Lower.{heights_up, lower-at, length-lower}
+use Rattle.rb_kept.proofs.Rising.{heights_up}
+use Rattle.rb_graph.proofs.Lower.{lower-at, length-lower}
 use Rattle.rb_graph.proofs.Members.{find-In, in_at}
 
 no_known : Known

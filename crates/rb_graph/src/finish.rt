@@ -9,8 +9,7 @@ use crate::cause::Cause;
 use crate::frame::Frame;
 use crate::frame_row::FrameRow;
 use crate::graph::Graph;
-use crate::lanes::Lanes;
-use crate::source::Kept;
+use rb_kept::{Kept, Lanes};
 use std::alloc::{Allocator, Global};
 
 impl<A: Allocator + Copy> Frame<A> {

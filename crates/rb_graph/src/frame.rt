@@ -1,14 +1,13 @@
 //! A book whose rows are to be made.
 ghost use Rattle.std.specs.Prelude.{◌≡◌, ◌<◌, All, IfOk, Some, length, map, slice_get};
 ghost use Rattle.rb_book.specs.Invariant.{IsBacked};
-ghost use Rattle.rb_graph.specs.Kept.{first_naming};
+ghost use Rattle.rb_kept.specs.Kept.{first_naming};
 ghost use Rattle.rb_graph.specs.Frame.{IsRowOf, IsWhole};
 
-use crate::build::{first_namings, kept_of, next_places};
 use crate::frame_row::FrameRow;
-use crate::numbers::{number_sets, tallies_of};
 use rb_base::Height;
 use rb_book::{ChainBook, Header};
+use rb_kept::{first_namings, kept_of, next_places, number_sets, tallies_of};
 use rb_lanes::{Columns, Tally};
 use std::alloc::{AllocError, Allocator, Global};
 use std::marker::Model;
@@ -27,8 +26,8 @@ pub struct Frame<A: Allocator = Global> {
 impl<A: Allocator> Model for Frame<A> {
     ghost use Rattle.std.specs.Prelude.{◌≡◌, map, All};
     ghost use Rattle.rb_book.specs.Book.{Book};
-    ghost use Rattle.rb_graph.specs.Kept as tables;
-    ghost use Rattle.rb_graph.specs.Numbering as numbers;
+    ghost use Rattle.rb_kept.specs.Kept as tables;
+    ghost use Rattle.rb_kept.specs.Numbering as numbers;
 
     ghost Value = { Book };
 

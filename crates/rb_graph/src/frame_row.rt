@@ -2,9 +2,8 @@
 ghost use Rattle.std.specs.Prelude.{◌≡◌, ◌↔◌, IsTrue};
 ghost use Rattle.rb_graph.specs.Frame.{IsRowOf};
 
-use crate::build::is_kept_of;
 use crate::frame::Frame;
-use crate::source::Kept;
+use rb_kept::{Kept, is_kept_of};
 use std::alloc::{Allocator, Global};
 use std::marker::Model;
 

@@ -1,4 +1,6 @@
+pub mod Copied
 pub mod Places
 pub mod Counted
 pub mod Replaced
 pub mod Stored
+pub mod Found

@@ -1,10 +1,10 @@
 //! The books of the chains, by their places.
-ghost use Rattle.std.specs.Prelude.{◌≡◌, ◌<◌, ℕ, None, length, slice_set, IfOk, OnOk};
+ghost use Rattle.std.specs.Prelude.{◌≡◌, ◌<◌, ◌≤◌, ℕ, None, length, replicate, slice_set, IfOk, OnOk};
 ghost use Rattle.std.specs.Option.{option_and_then};
 ghost use Rattle.rb_book.specs.Intake.{set_refusal, header_refusal, record_refusal, after_set, after_header, after_record};
 ghost use Rattle.rb_events.specs.Refusal.{of_book};
 ghost use Rattle.rb_known.specs.Held.{books_of, IsApart};
-ghost use Rattle.rb_machine.specs.Standing.{book_at};
+ghost use Rattle.rb_machine.specs.Standing.{book_at, empty_book};
 
 use rb_base::Height;
 use rb_book::{BookError, ChainBook, Header, Record, SharedBook};
@@ -134,4 +134,35 @@ pub fn put_record<A: Allocator + Copy>(
     ensures { books_of books.new.items ≡ slice_set (books_of books.old.items) chain (after_record (book_at (books_of books.old.items) chain) height entry) }
 {
     books[chain].put_record(height, entry);
+}
+
+/// A book for each chain, with room for so many headers. An error comes only where a growth is refused.
+pub fn new_books<A: Allocator + Copy>(
+    alloc: A,
+    chains: usize,
+    limit: usize,
+) -> Result<Vec<SharedBook<A>, A>, AllocError>
+    requires { (1 ≤ limit) × (limit ≤ 4096) }
+    ensures { IfOk result (λ books. books_of books.items ≡ replicate chains (empty_book limit)) }
+{
+    let mut books = Vec::with_capacity(alloc, chains)?;
+    for _ in 0..chains {
+        books.push(SharedBook::new(alloc, ChainBook::with_limit(alloc, limit)?)?)?;
+    }
+    Ok(books)
+}
+
+/// The same books, with one more owner each; one that stands apart is copied. An error comes only where a
+/// growth is refused.
+pub fn share_books<A: Allocator + Copy>(
+    alloc: A,
+    books: &[SharedBook<A>],
+) -> Result<Vec<SharedBook<A>, A>, AllocError>
+    ensures { IfOk result (λ shared. books_of shared.items ≡ books_of books.now) }
+{
+    let mut shared = Vec::with_capacity(alloc, books.len())?;
+    for book in books {
+        shared.push(book.share()?)?;
+    }
+    Ok(shared)
 }

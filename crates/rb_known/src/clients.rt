@@ -1,16 +1,16 @@
 //! The clients, by their places.
-ghost use Rattle.std.specs.Prelude.{◌≡◌, ◌<◌, ℕ, length, slice_get, Some, IfSome, IsSome, IsSomeAnd, OnOk};
+ghost use Rattle.std.specs.Prelude.{◌≡◌, ◌<◌, ℕ, length, map, slice_get, Some, IfOk, IfSome, IsSome, IsSomeAnd, OnOk};
 ghost use Rattle.std.specs.Option.{option_copied, option_map, option_and_then};
 ghost use Rattle.rb_machine.specs.Machine.{max_events};
 ghost use Rattle.rb_known.specs.Held.{clients_of, HasStoredRoom, HasSettleRoom};
 ghost use Rattle.rb_machine.specs.Standing as standings;
-ghost use Rattle.rb_machine.specs.Standing.{changed_at, tracked, with_height, batch_opened, after_answer, settled_refusal, after_batch};
+ghost use Rattle.rb_machine.specs.Standing.{changed_at, tracked, new_client, with_height, batch_opened, after_answer, settled_refusal, after_batch};
 
 use crate::client::KnownClient;
 use crate::opened::OpenBatch;
 use crate::settling::settled_updates;
 use rb_base::Height;
-use rb_events::{Goal, Refusal};
+use rb_events::{ClientConfig, Goal, Refusal};
 use rb_task::Planned;
 use std::alloc::{AllocError, Allocator};
 
@@ -133,4 +133,32 @@ pub fn make_settle_room<A: Allocator>(
     let known = &mut clients[client];
     let count = known.update_count();
     known.make_room(count)
+}
+
+/// The clients as they are configured, with nothing stored. An error comes only where a growth is refused.
+pub fn new_clients<A: Allocator + Copy>(
+    alloc: A,
+    configs: &[ClientConfig],
+) -> Result<Vec<KnownClient<A>, A>, AllocError>
+    ensures { IfOk result (λ clients. clients_of clients.items ≡ map new_client configs.now) }
+{
+    let mut clients = Vec::with_capacity(alloc, configs.len())?;
+    for config in configs {
+        clients.push(KnownClient::new(alloc, *config))?;
+    }
+    Ok(clients)
+}
+
+/// Equal clients. An error comes only where a growth is refused.
+pub fn copy_clients<A: Allocator + Copy>(
+    alloc: A,
+    clients: &[KnownClient<A>],
+) -> Result<Vec<KnownClient<A>, A>, AllocError>
+    ensures { IfOk result (λ copies. clients_of copies.items ≡ clients_of clients.now) }
+{
+    let mut copies = Vec::with_capacity(alloc, clients.len())?;
+    for client in clients {
+        copies.push(client.copy()?)?;
+    }
+    Ok(copies)
 }

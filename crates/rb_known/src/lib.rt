@@ -12,6 +12,7 @@ mod packets;
 mod path;
 pub mod paths;
 mod settling;
+pub mod views;
 
 pub use client::KnownClient;
 pub use mark::Mark;

@@ -1,18 +1,18 @@
 //! The paths, by their places.
-ghost use Rattle.std.specs.Prelude.{◌≡◌, ◌<◌, ℕ, List, [], length, slice_get, Some, None, true, IfSome, OnOk};
+ghost use Rattle.std.specs.Prelude.{◌≡◌, ◌<◌, ℕ, List, [], length, map, slice_get, Some, None, true, IfOk, IfSome, OnOk};
 ghost use Rattle.std.specs.Option.{option_map, option_and_then};
 ghost use Rattle.rb_book.specs.Book.{Book};
 ghost use Rattle.rb_scan.specs.Owed.{packet_at};
 ghost use Rattle.rb_scan.specs.Path.{Path};
 ghost use Rattle.rb_known.specs.Held.{paths_of, HasPacketRoom};
 ghost use Rattle.rb_known.specs.Marked.{mark_by};
-ghost use Rattle.rb_machine.specs.Standing.{changed_at, view_of_path, with_packet, with_mark, sent_refusal, received_refusal, written_refusal, cleared_refusal, after_message, after_messages};
+ghost use Rattle.rb_machine.specs.Standing.{changed_at, new_path, view_of_path, with_packet, with_mark, sent_refusal, received_refusal, written_refusal, cleared_refusal, after_message, after_messages};
 ghost use Rattle.rb_machine.specs.Refusal.{refused_if};
 
 use crate::mark::Mark;
 use crate::path::KnownPath;
 use rb_base::Height;
-use rb_events::Refusal;
+use rb_events::{PathConfig, Refusal};
 use rb_scan::{Packet, PacketMsg, Sequence};
 use rb_task::Message;
 use std::alloc::{AllocError, Allocator};
@@ -147,4 +147,33 @@ pub fn settle_messages<A: Allocator>(paths: &mut Vec<KnownPath<A>, A>, messages:
     for message in messages {
         settle_message(paths, message.path(), message.packet());
     }
+}
+
+/// The paths as they are configured, on which nothing has happened. An error comes only where a growth is
+/// refused.
+pub fn new_paths<A: Allocator + Copy>(
+    alloc: A,
+    configs: &[PathConfig],
+) -> Result<Vec<KnownPath<A>, A>, AllocError>
+    ensures { IfOk result (λ paths. paths_of paths.items ≡ map new_path configs.now) }
+{
+    let mut paths = Vec::with_capacity(alloc, configs.len())?;
+    for config in configs {
+        paths.push(KnownPath::new(alloc, *config))?;
+    }
+    Ok(paths)
+}
+
+/// Equal paths. An error comes only where a growth is refused.
+pub fn copy_paths<A: Allocator + Copy>(
+    alloc: A,
+    paths: &[KnownPath<A>],
+) -> Result<Vec<KnownPath<A>, A>, AllocError>
+    ensures { IfOk result (λ copies. paths_of copies.items ≡ paths_of paths.now) }
+{
+    let mut copies = Vec::with_capacity(alloc, paths.len())?;
+    for path in paths {
+        copies.push(path.copy()?)?;
+    }
+    Ok(copies)
 }

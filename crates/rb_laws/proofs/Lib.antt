@@ -5,3 +5,4 @@ pub mod Room
 pub mod Cases
 pub mod OneVerdict
 pub mod Viewed
+pub mod Told

@@ -51,7 +51,8 @@ pub fn limits_fit_log()
     ensures { LimitsFitLog }
 {}
 
-/// Every schedule of a supervisor and its workers gives the script's report.
+/// In every schedule of a supervisor and its workers, of a script whose log has room, the reports of the turns
+/// that are over are the script's.
 pub fn schedules()
     ensures { Schedules }
 {

@@ -150,14 +150,14 @@ numbers_within s (Settled place number done) all client = one_more (plan_number 
 -- ---- every event
 
 -- what is kept, by the clients at their places
-record IsTended (s : State) : Type 0 where
+pub record IsTended (s : State) : Type 0 where
   tracks : (place : ℕ) (c : KnownClient) → slice_get s.standing.clients place ≡ Some c → c.config.tracks < length s.standing.books
   plans : length s.plans ≡ length s.standing.clients
   scans : length s.scans ≡ length s.standing.paths
   batches : (place : ℕ) (c : KnownClient) → slice_get s.standing.clients place ≡ Some c → c.batches ≤ s.front
   numbers : (client : ℕ) → plan_number s client ≤ s.front
 
-accepted_tended : (s : State) (e : Event) → IsTended s → IsTended (accepted s e)
+pub accepted_tended : (s : State) (e : Event) → IsTended s → IsTended (accepted s e)
 unfolding Keeps
 accepted_tended s e is =
     let long = lengths_changed s.standing e in
@@ -196,7 +196,7 @@ get_new [] place = refl
 get_new (c ∷ cs) zero = refl
 get_new (c ∷ cs) (suc place) = get_new cs place
 
-opening_tended : (config : Config) → IsSetUp config → IsTended (opening config)
+pub opening_tended : (config : Config) → IsSetUp config → IsTended (opening config)
 opening_tended config is = record {
   tracks = λ place c at.
       let m = mapped new_client (slice_get config.clients place) c (sym (get_new config.clients place) ∙ at) in
@@ -224,7 +224,7 @@ tracked_there [] most all client lt = absurd (omega (arith, lt))
 tracked_there (c ∷ cs) most all zero lt = all 0 c refl
 tracked_there (c ∷ cs) most all (suc client) lt = tracked_there cs most (λ place d at. all (suc place) d at) client (omega (arith, lt))
 
-kept : (s : State) → IsTended s → IsKept s
+pub kept : (s : State) → IsTended s → IsKept s
 kept s is = record {
   tracked = tracked_there s.standing.clients (length s.standing.books) is.tracks;
   plans = is.plans;

@@ -16,5 +16,4 @@ pub mod Steps
 pub mod Logs
 pub mod Growing
 pub mod Apart
-pub mod Copied
 pub mod Keeping

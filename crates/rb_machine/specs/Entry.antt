@@ -1,5 +1,5 @@
 -- What a log keeps of an event, and how the events come back from it.
-use Rattle.std.specs.Prelude.{ℕ, List, [], ◌∷◌, map, Option, Some}
+use Rattle.std.specs.Prelude.{ℕ, List, [], ◌∷◌, Option, Some}
 use Rattle.std.specs.Option.{option_map, option_map_or}
 use Rattle.rb_events.specs.Config.{Config}
 use Rattle.rb_scan.specs.declared.scan.Part.{Part}
@@ -52,5 +52,5 @@ events_of s [] = []
 events_of s (x ∷ xs) = option_map_or (λ event. event ∷ events_of (after s event) xs) (event_of s x) (events_of s xs)
 
 -- the events that the entries of a log stand for
-abbrev pub log_from : {A : Type 0} → Config → List (Entry A) → List Event
-log_from config entries = events_of (opening config) (map entry_view entries)
+abbrev pub log_from : Config → List Logged → List Event
+log_from config entries = events_of (opening config) entries

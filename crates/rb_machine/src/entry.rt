@@ -1,5 +1,5 @@
 //! What a log keeps of an event.
-ghost use Rattle.std.specs.Prelude.{◌≡◌, IfOk, map};
+ghost use Rattle.std.specs.Prelude.{◌≡◌, IfOk};
 ghost use Rattle.std.specs.Option.{option_copied};
 ghost use Rattle.rb_machine.specs.Entry.{entry_view, logged_of};
 ghost use Rattle.rb_machine.specs.Seen.{event_view};
@@ -37,7 +37,7 @@ pub enum Entry<A: Allocator = Global> {
 
 impl<A: Allocator + Copy> Entry<A> {
     /// What a log keeps of an event. An error comes only where a growth is refused.
-    pub(crate) fn of(event: &Event<A>) -> Result<Entry<A>, AllocError>
+    pub fn of(event: &Event<A>) -> Result<Entry<A>, AllocError>
         ensures { IfOk result (λ entry. entry_view entry ≡ logged_of (event_view event.now)) }
     {
         Ok(match event {
@@ -55,30 +55,10 @@ impl<A: Allocator + Copy> Entry<A> {
             Event::Settled(settlement) => Entry::Settled(*settlement),
         })
     }
-
-    /// An equal entry, on the same allocator. An error comes only where a growth is refused.
-    pub(crate) fn copy(&self) -> Result<Entry<A>, AllocError>
-        ensures { IfOk result (λ entry. entry_view entry ≡ entry_view self.now) }
-    {
-        Ok(match self {
-            Entry::Window(window) => Entry::Window(*window),
-            Entry::Asked(asked) => Entry::Asked(*asked),
-            Entry::Observed(observation) => Entry::Observed(observation.copy()?),
-            Entry::Scan { path, part } => Entry::Scan {
-                path: *path,
-                part: *part,
-            },
-            Entry::Plan { client, answer } => Entry::Plan {
-                client: *client,
-                answer: copy_answer(answer.as_ref())?,
-            },
-            Entry::Settled(settlement) => Entry::Settled(*settlement),
-        })
-    }
 }
 
-/// An equal answer, if there is one.
-fn copy_answer<A: Allocator + Copy>(
+/// An equal answer, if there is one. An error comes only where a growth is refused.
+pub fn copy_answer<A: Allocator + Copy>(
     answer: Option<&Planned<A>>,
 ) -> Result<Option<Planned<A>>, AllocError>
     ensures { IfOk result (λ copy. copy ≡ option_copied answer.entry) }
@@ -87,18 +67,4 @@ fn copy_answer<A: Allocator + Copy>(
         Some(answer) => Some(answer.copy()?),
         None => None,
     })
-}
-
-/// Equal entries, in their order.
-pub fn copy_entries<A: Allocator + Copy>(
-    alloc: A,
-    entries: &[Entry<A>],
-) -> Result<Vec<Entry<A>, A>, AllocError>
-    ensures { IfOk result (λ copies. map entry_view copies.items ≡ map entry_view entries.now) }
-{
-    let mut copies = Vec::with_capacity(alloc, entries.len())?;
-    for entry in entries {
-        copies.push(entry.copy()?)?;
-    }
-    Ok(copies)
 }

@@ -3,6 +3,7 @@ ghost use Rattle.std.specs.Prelude.{◌≡◌, IfOk};
 ghost use Rattle.rb_machine.specs.Event.{IsEvent};
 ghost use Rattle.rb_machine.specs.Seen.{event_view};
 
+use crate::rules::observation_is_event;
 use crate::seen::{Scan, copy_scan};
 use rb_base::Window;
 use rb_events::{Asked, Observation, Settlement};
@@ -54,9 +55,7 @@ impl<A: Allocator + Copy> Event<A> {
             Event::Window(window) => {
                 window.until();
             }
-            Event::Observed(Observation::SetSeen { set, .. }) => {
-                set.members();
-            }
+            Event::Observed(observation) => observation_is_event(observation),
             Event::Planned(draft) => {
                 draft.answer();
             }

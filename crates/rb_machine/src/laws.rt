@@ -93,7 +93,7 @@ pub fn present_drafts_are_accepted()
     ensures { PresentDraftsAreAccepted }
 {}
 
-/// A draft that is accepted is right for its client as things stand.
+/// A draft that is accepted was made for what its client is to be brought to as things stand.
 pub fn accepted_drafts_are_of_the_moment()
     ensures { AcceptedDraftsAreOfTheMoment }
 {}

@@ -1,11 +1,11 @@
 //! Events that were judged.
 ghost use Rattle.std.specs.Prelude.{◌≡◌, IfOk};
-ghost use Rattle.rb_machine.specs.Entry.{entry_view, logged_of};
+ghost use Rattle.rb_machine.specs.Entry.{logged_of};
 ghost use Rattle.rb_machine.specs.Event.{IsEvent};
 ghost use Rattle.rb_machine.specs.Seen.{event_view};
 
-use crate::entry::Entry;
 use crate::event::Event;
+use crate::shared_entry::SharedEntry;
 use std::alloc::{AllocError, Allocator, Global};
 use std::marker::Model;
 
@@ -15,12 +15,12 @@ use std::marker::Model;
 pub struct Ready<A: Allocator = Global> {
     front: usize,
     event: Event<A>,
-    entry: Entry<A>,
+    entry: SharedEntry<A>,
 }
 
 impl<A: Allocator> Model for Ready<A> {
     ghost use Rattle.std.specs.Prelude.{◌≡◌};
-    ghost use Rattle.rb_machine.specs.Entry.{entry_view, logged_of};
+    ghost use Rattle.rb_machine.specs.Entry.{logged_of};
     ghost use Rattle.rb_machine.specs.Event.{IsEvent};
     ghost use Rattle.rb_machine.specs.Judged as judged;
     ghost use Rattle.rb_machine.specs.Seen.{event_view};
@@ -29,17 +29,17 @@ impl<A: Allocator> Model for Ready<A> {
 
     ghost view = { λ r. record { front = r.front; event = event_view r.event } };
 
-    ghost invariant = { λ r. (entry_view r.entry ≡ logged_of (event_view r.event)) × IsEvent (event_view r.event) };
+    ghost invariant = { λ r. (r.entry ≡ logged_of (event_view r.event)) × IsEvent (event_view r.event) };
 }
 
 impl<A: Allocator + Copy> Ready<A> {
     /// The event, with what a log keeps of it. A core takes it in only where it has judged it itself. An
     /// error comes only where a growth is refused.
-    pub fn new(front: usize, event: Event<A>) -> Result<Ready<A>, AllocError>
+    pub fn new(alloc: A, front: usize, event: Event<A>) -> Result<Ready<A>, AllocError>
         ensures { IfOk result (λ ready. ready ≡ record { front = front; event = event_view event }) }
     {
         event.rules();
-        let entry = Entry::of(&event)?;
+        let entry = SharedEntry::of(alloc, &event)?;
         Ok(Ready {
             front,
             event,
@@ -61,10 +61,17 @@ impl<A: Allocator + Copy> Ready<A> {
         &self.event
     }
 
+    /// What a log keeps of the event.
+    pub fn entry(&self) -> &SharedEntry<A>
+        ensures { result.now ≡ logged_of self.now.event }
+    {
+        &self.entry
+    }
+
     /// The event, and what a log keeps of it.
-    pub fn into_parts(self) -> (Event<A>, Entry<A>)
+    pub fn into_parts(self) -> (Event<A>, SharedEntry<A>)
         ensures event { event_view result.0 ≡ self.event }
-        ensures entry { entry_view result.1 ≡ logged_of self.event }
+        ensures entry { result.1 ≡ logged_of self.event }
         ensures rules { IsEvent self.event }
     {
         (self.event, self.entry)

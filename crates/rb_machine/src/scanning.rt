@@ -9,6 +9,13 @@ use std::alloc::Allocator;
 pub fn scan<A: Allocator + Copy>(view: &PathView<A>, part: Part) -> Result<Scan<A>, ScanError>
     ensures { IfOk result (λ scan. scan ≡ record { view = view.now; part = part }) }
 {
-    let owed = owed_part(view, part)?;
-    Ok(Scan::new(view.copy()?, part, owed))
+    into_scan(view.copy()?, part)
+}
+
+/// The same, where the view goes into the scan. `NoMemory` where a growth is refused.
+pub fn into_scan<A: Allocator + Copy>(view: PathView<A>, part: Part) -> Result<Scan<A>, ScanError>
+    ensures { IfOk result (λ scan. scan ≡ record { view = view; part = part }) }
+{
+    let owed = owed_part(&view, part)?;
+    Ok(Scan::new(view, part, owed))
 }

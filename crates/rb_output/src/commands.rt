@@ -1,11 +1,14 @@
 //! The commands that a relayer (Hermes) runs for a report.
-use rb_events::{ClientConfig, Config};
-use rb_phases::{ClientReport, Outcome, Plan, PricedUpdate, Report, TurnReport};
+use rb_events::{ClientConfig, Config, Refusal};
+use rb_phases::{
+    ClientReport, Outcome, Plan, PricedUpdate, RefusedEvent, Report, Sending, TurnReport,
+};
 use std::alloc::{AllocError, Global};
 
-/// The commands for a report of a script with this configuration: for each turn and client a comment
-/// line of what came of it, and after it a line for each update, in the order in which they are
-/// submitted. Of the packet messages that follow them the comment tells the number: a script doesn't
+/// The commands for a report of a script with this configuration: for each turn a comment line for each
+/// of its events that is refused, and for its window if that is; then for each client a comment line of
+/// what came of it, and after it a line for each update, in the order in which they are
+/// submitted; none where a message is over the gas limit alone. Of the packet messages that follow them the comment tells the number: a script doesn't
 /// have the ports and channels that commands for packets name.
 pub fn commands_of(alloc: Global, config: &Config, report: &Report) -> Result<String, AllocError> {
     let mut text = String::new(alloc);
@@ -23,10 +26,25 @@ fn push_turn(
     config: &Config,
     turn: &TurnReport,
 ) -> Result<(), AllocError> {
+    if turn.window_back {
+        let refusal = Refusal::WindowBack.number();
+        let name = Refusal::WindowBack.name();
+        writeln!(text, "# turn {number}: refused window {refusal} {name}")?;
+    }
+    for refused in &turn.refused {
+        push_refused(text, number, refused)?;
+    }
     for (client, report) in config.clients.iter().zip(&turn.clients) {
         push_client(text, number, host_of(config, client), report)?;
     }
     Ok(())
+}
+
+fn push_refused(text: &mut String, turn: u64, refused: &RefusedEvent) -> Result<(), AllocError> {
+    let event = refused.event;
+    let number = refused.refusal.number();
+    let name = refused.refusal.name();
+    writeln!(text, "# turn {turn}: refused event {event} {number} {name}")
 }
 
 /// The identifier of the chain that hosts a client.
@@ -68,19 +86,22 @@ fn push_plan(
         "# turn {turn} client {id}: total fee {fee}, updates {count}"
     )?;
     push_messages(text, plan.messages.len())?;
+    if let Sending::TooBig(message) = &plan.sending {
+        return writeln!(text, ", message {message} over the gas limit: no batch");
+    }
+    text.push_str("\n")?;
     for update in &plan.updates {
         push_update(text, host, own_id(host, id), update)?;
     }
     Ok(())
 }
 
-/// Ends a plan's comment line, with the number of its packet messages where there are any.
+/// Adds the number of a plan's packet messages where there are any.
 fn push_messages(text: &mut String, count: usize) -> Result<(), AllocError> {
     if count == 0 {
-        text.push_str("\n")
-    } else {
-        writeln!(text, ", packet messages {count}")
+        return Ok(());
     }
+    write!(text, ", packet messages {count}")
 }
 
 /// What follows `HOST.` in a client's identifier where it begins with that and more, else the whole.

@@ -274,7 +274,8 @@ pub fn drafts_of<
 >(crew: &Crew<R, G>, alloc: A, relayer: &mut Relayer<A, M>) -> Result<Vec<Draft<A>, A>, AllocError>
     requires ready { IsPlannable relayer.old }
     requires alloc { Frees A.Allocator A.dealloc_token }
-    ensures { IfOk result (λ drafts. AreDrafts (standing_in relayer.old) drafts.items) }
+    ensures drafts { IfOk result (λ drafts. AreDrafts (standing_in relayer.old) drafts.items) }
+    ensures same { relayer.new ≡ relayer.old }
 {
     let clients = relayer.config().clients.len();
     let mut drafts = Vec::with_capacity(alloc, clients)?;

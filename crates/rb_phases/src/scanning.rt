@@ -32,15 +32,6 @@ fn view_of<A: Allocator + Copy, M: Machine<A>>(
     }
 }
 
-/// How a gate names the scan of a part of a path.
-fn scan_place(path: usize, part: Part) -> Place {
-    let part = match part {
-        Part::Packets => 0,
-        Part::Channel => 1,
-    };
-    Place::Scan(path, part)
-}
-
 /// The scan of a part of a path.
 fn scan_of<A: Allocator + Copy>(view: &PathView<A>, part: Part) -> Result<Scan<A>, AllocError>
     ensures { IfOk result (λ scan. scan ≡ record { view = view.now; part = part }) }
@@ -91,9 +82,9 @@ fn scan_here<R: Threads + Sync, G: Gate + Sync, A: Allocator + Copy, M: Machine<
     ensures later { OnOk result (IsLater 1 relayer.old relayer.new) }
 {
     let view = view_of(relayer, path)?;
-    crew.before(scan_place(path, part));
+    crew.before(Place::Scan(path, part));
     let scan = scan_of(&view, part)?;
-    crew.after(scan_place(path, part));
+    crew.after(Place::Scan(path, part));
     note(relayer, Event::Scanned { path, scan })?;
     Ok(())
 }

@@ -70,7 +70,7 @@ impl<A: Allocator + Copy> Planner<'_, A> {
                 labels.push(Label { height, cost })?;
             }
         }
-        Ok(Labelling::new(labels))
+        Ok(Labelling::new(labels)?)
     }
 }
 

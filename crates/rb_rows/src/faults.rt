@@ -1,5 +1,5 @@
 use crate::planning::answer_to;
-use crate::scripts::{Base, GOAL, edited};
+use rb_row_scripts::{Base, GOAL, edited};
 use std::alloc::{AllocError, Global};
 use std::test::Fail;
 

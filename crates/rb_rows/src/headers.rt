@@ -1,5 +1,5 @@
 use crate::planning::{ASKED, LABELS, PLAN, answer_to, report_of};
-use crate::scripts::{CHAINS, CLIENT, GOAL, HEADERS, SET, STORED, TURN, joined};
+use rb_row_scripts::{CHAINS, CLIENT, GOAL, HEADERS, SET, STORED, TURN, joined};
 use std::alloc::Global;
 use std::test::Fail;
 

@@ -1,9 +1,9 @@
 ghost use Rattle.std.specs.Prelude.{◌≤◌};
 
-use crate::scripts::{Base, GOAL, ONE_STEP, edited, joined};
 use rb_base::{Counted, Fault, Faulty};
 use rb_fields::RunError;
 use rb_gang::OpenGate;
+use rb_row_scripts::{Base, EARLY_TURN, GOAL, HELD_IN_THE_SECOND, LAST, ONE_STEP, edited, joined};
 use rb_text::run_over;
 use std::alloc::{AllocError, Global};
 use std::io::ErrorKind;
@@ -84,29 +84,6 @@ update 8 from 7 fee 111
 update 9 from 8 fee 111
 update 10 from 9 fee 111
 ";
-
-/// The last header of one step's turn, and the end of its events.
-pub const LAST: &str = "time = '1970-01-01T00:01:40Z', set = 'A', next = 'A', votes = 'CCCA' },
-]
-";
-
-/// The same, and another turn in which as much is asked.
-pub const HELD_IN_THE_SECOND: &str =
-    "time = '1970-01-01T00:01:40Z', set = 'A', next = 'A', votes = 'CCCA' },
-]
-
-[[turn]]
-from = '1970-01-01T00:03:20Z'
-until = '1970-01-01T00:03:21Z'
-goal = [{ client = 'c0', at_least = 10 }]
-";
-
-/// A turn whose window begins later than that of the turn after it.
-pub const EARLY_TURN: &str = "[[turn]]
-from = '1970-01-01T00:03:21Z'
-until = '1970-01-01T00:03:21Z'
-
-[[turn]]";
 
 /// A client beside the other.
 const OTHER_CLIENT: &str = "[[client]]

@@ -1,5 +1,5 @@
 use crate::planning::{answer_to, report_of};
-use crate::scripts::{SET, TURN, joined};
+use rb_row_scripts::{SET, TURN, joined};
 use rb_script::read_script;
 use std::alloc::{AllocError, Global};
 use std::process::Abort;

@@ -2,8 +2,8 @@
 ghost use Rattle.std.specs.Prelude.{◌≤◌};
 
 use crate::planning::{ASKED, LABELS, answer_by, check_each_call, report_of};
-use crate::scripts::{Base, edited};
 use rb_base::Fault;
+use rb_row_scripts::{Base, edited};
 use std::alloc::Global;
 use std::process::Abort;
 use std::sync::Wait;

@@ -30,7 +30,7 @@ client_states_in (answers.Transactions page) = []
 abbrev pub client_states_of : List Saved → List ClientState
 client_states_of saved = flat_map (λ s. client_states_in s.answer) saved
 
--- what the setup gives, or else the client's state, of which there is one
+-- what the setup gives, or else what the first client state gives
 abbrev pub chosen : {A : Type 0} → Option A → (ClientState → A) → List ClientState → Option A
 chosen (Some x) get states = Some x
 chosen None get [] = None

@@ -3,6 +3,7 @@ ghost use Rattle.std.specs.Prelude.{◌≡◌, ◌<◌, true, length, is_some};
 ghost use denote.Param.Send.{Frees};
 ghost use Rattle.rb_phases.specs.Phases.{standing_in};
 
+use crate::found::FoundByWorkers;
 use crate::head::Head;
 use rb_board::Note;
 use rb_gang::Gate;
@@ -10,6 +11,7 @@ use rb_phases::{Crew, Relayer, table_for, view_of};
 use rb_scan::Part;
 use rb_worker::Order;
 use std::alloc::{AllocError, Global};
+use std::sync::Wait;
 use std::thread::Threads;
 
 /// A note of all that was taken in, which is to be shown before a worker gets the note.
@@ -19,22 +21,21 @@ fn note_of(relayer: &Relayer<Global, Head>) -> Note {
     }
 }
 
-/// The scans of the parts of paths that have no valid scan, in the order of the paths.
-/// An error comes only where a growth is refused.
-pub(crate) fn scan_orders(
-    alloc: Global,
+/// Tells workers to scan the parts of paths that have no valid scan, in the order of the paths. An error
+/// comes only where a growth is refused.
+pub(crate) fn order_scans<R: Wait, G: Gate + Send + Sync + Drop + 'static>(
     relayer: &Relayer<Global, Head>,
-) -> Result<Vec<Order>, AllocError> {
+    found: &mut FoundByWorkers<'_, R, G>,
+) -> Result<(), AllocError> {
     let note = note_of(relayer);
-    let mut orders = Vec::new(alloc);
     for path in 0..relayer.config().paths.len() {
         for part in [Part::Packets, Part::Channel] {
             if !relayer.is_scanned(path, part) {
-                orders.push(Order::Scan { path, part, note })?;
+                found.order(Order::Scan { path, part, note })?;
             }
         }
     }
-    Ok(orders)
+    Ok(())
 }
 
 /// The plan of a client, with the table of the chain that it tracks.
@@ -58,22 +59,26 @@ fn plan_order<R: Threads + Sync, G: Gate + Sync>(
     })
 }
 
-/// The plans of the clients that have no open batch, in their order.
-/// An error comes only where a growth is refused.
-pub(crate) fn plan_orders<R: Threads + Sync, G: Gate + Sync>(
+/// Tells workers to plan for the clients that have no open batch, in their order; each begins as soon as it
+/// is told. An error comes only where a growth is refused.
+pub(crate) fn order_plans<R, G>(
     crew: &Crew<R, G>,
     alloc: Global,
     relayer: &mut Relayer<Global, Head>,
-) -> Result<Vec<Order>, AllocError>
+    found: &mut FoundByWorkers<'_, R, G>,
+) -> Result<(), AllocError>
+where
+    R: Threads + Sync + Wait,
+    G: Gate + Send + Sync + Drop + 'static,
     requires window { is_some (standing_in relayer.old).window ≡ true }
     ensures same { relayer.new ≡ relayer.old }
 {
-    let mut orders = Vec::new(alloc);
     let clients = relayer.config().clients.len();
     for client in 0..clients {
         if relayer.open_batch(client).is_none() {
-            orders.push(plan_order(crew, alloc, relayer, client)?)?;
+            let order = plan_order(crew, alloc, relayer, client)?;
+            found.order(order)?;
         }
     }
-    Ok(orders)
+    Ok(())
 }

@@ -1,17 +1,17 @@
 //! The supervisor with workers.
-ghost use Rattle.std.specs.Prelude.{◌≡◌, ◌<◌, ◌≤◌, ◌+◌, ◌*◌, [], true, Ok, length, is_some, IfOk, All, map, fold};
+ghost use Rattle.std.specs.Prelude.{◌≡◌, ◌<◌, ◌≤◌, ◌+◌, ◌*◌, [], true, Ok, length, is_some, IfOk, OnOk, All, map, fold};
 ghost use Rattle.rb_events.specs.Config.{config_view, IsConfig};
 ghost use Rattle.rb_events.specs.Script.{IsSeen};
 ghost use Rattle.rb_machine.specs.Seen.{observed};
 ghost use Rattle.rb_machine.specs.Standing.{goes_back, standing_after};
 ghost use Rattle.rb_phases.specs.Turns.{after_window, after_question, refusals, IsTurnReport, after_turn};
-ghost use Rattle.rb_phases.specs.Phases.{standing_in, HasLogRoom, IsLater, IsPlannable, AreReported};
+ghost use Rattle.rb_phases.specs.Phases.{standing_in, HasLogRoom, IsLater, IsAllScanned, IsPlannable, AreReported};
 ghost use Rattle.rb_phases.specs.Views.{refused_view, client_report_view, turn_report_view};
 ghost use Rattle.rb_super.specs.Told.{told_as, IsTurnFor, most_events};
 
 use crate::found::FoundByWorkers;
 use crate::head::{Head, close, publish, relayer_over};
-use crate::orders::{plan_orders, scan_orders};
+use crate::orders::{order_plans, order_scans};
 use rb_base::Window;
 use rb_board::open;
 use rb_core::Core;
@@ -21,7 +21,7 @@ use rb_phases::{
     ClientReport, Crew, RefusedEvent, Relayer, TurnReport, hear_all, no_tables, plan_all, scan_all,
     settle_all,
 };
-use rb_worker::{Order, Team};
+use rb_worker::{Held, Team};
 use std::alloc::{AllocError, Global};
 use std::marker::Model;
 use std::sync::{Arc, Wait};
@@ -74,24 +74,86 @@ fn or_end<R: Threads + Wait, G: Gate + Send + Sync + Drop + 'static, T>(
     }
 }
 
-/// What workers find for orders, on all that the relayer has taken in; none where there is no order.
-fn find<R: Threads + Sync + Wait, G: Gate + Send + Sync + Drop + 'static>(
-    rt: &R,
+/// Shows workers all that the relayer has taken in, to find something on that.
+fn search<'a, R: Threads + Wait, G: Gate + Send + Sync + Drop + 'static>(
+    rt: &'a R,
+    alloc: Global,
     relayer: Relayer<Global, Head>,
     team: Team<G>,
-    orders: Result<Vec<Order>, AllocError>,
-) -> Result<(Relayer<Global, Head>, Team<G>, FoundByWorkers), AllocError>
+) -> Result<(Relayer<Global, Head>, FoundByWorkers<'a, R, G>), AllocError>
     ensures { IfOk result (λ r. r.0 ≡ relayer) }
 {
-    let (relayer, team, orders) = or_end(rt, relayer, team, orders)?;
-    if orders.is_empty() {
-        return Ok((relayer, team, FoundByWorkers { held: None }));
-    }
     let (relayer, published) = publish(rt, relayer);
-    let (relayer, mut team, ()) = or_end(rt, relayer, team, published)?;
-    let held = team.find(rt, orders);
-    let (relayer, team, held) = or_end(rt, relayer, team, held)?;
-    Ok((relayer, team, FoundByWorkers { held: Some(held) }))
+    let (relayer, team, ()) = or_end(rt, relayer, team, published)?;
+    let held = Held::new(alloc);
+    Ok((relayer, FoundByWorkers { rt, team, held }))
+}
+
+/// Shows the workers the same once more, while they do what they were told to do: so the copy of the board
+/// that they don't look at follows then, and not before the next search.
+fn catch_up<'a, R: Threads + Wait, G: Gate + Send + Sync + Drop + 'static>(
+    relayer: Relayer<Global, Head>,
+    found: FoundByWorkers<'a, R, G>,
+    ordered: Result<(), AllocError>,
+) -> Result<(Relayer<Global, Head>, FoundByWorkers<'a, R, G>), AllocError>
+    ensures { IfOk result (λ r. r.0 ≡ relayer) }
+{
+    let (relayer, published) = publish(found.rt, relayer);
+    if ordered.is_ok() && published.is_ok() {
+        return Ok((relayer, found));
+    }
+    let rt = found.rt;
+    let (team, _finished) = found.finish();
+    end(rt, relayer, team);
+    Err(AllocError)
+}
+
+/// Tells workers to scan the parts of paths that have no valid scan.
+fn begin_scans<'a, R: Threads + Wait, G: Gate + Send + Sync + Drop + 'static>(
+    rt: &'a R,
+    alloc: Global,
+    relayer: Relayer<Global, Head>,
+    team: Team<G>,
+) -> Result<(Relayer<Global, Head>, FoundByWorkers<'a, R, G>), AllocError>
+    ensures { IfOk result (λ r. r.0 ≡ relayer) }
+{
+    let (relayer, mut found) = search(rt, alloc, relayer, team)?;
+    let ordered = order_scans(&relayer, &mut found);
+    let begun = catch_up(relayer, found, ordered)?;
+    Ok(begun)
+}
+
+/// Tells workers to plan for the clients that have no open batch.
+fn begin_plans<'a, R: Threads + Sync + Wait, G: Gate + Send + Sync + Drop + 'static>(
+    crew: &'a Crew<R, G>,
+    alloc: Global,
+    relayer: Relayer<Global, Head>,
+    team: Team<G>,
+) -> Result<(Relayer<Global, Head>, FoundByWorkers<'a, R, G>), AllocError>
+    requires window { is_some (standing_in relayer).window ≡ true }
+    ensures same { IfOk result (λ r. r.0 ≡ relayer) }
+{
+    let (mut relayer, mut found) = search(crew.rt(), alloc, relayer, team)?;
+    let ordered = order_plans(crew, alloc, &mut relayer, &mut found);
+    let begun = catch_up(relayer, found, ordered)?;
+    Ok(begun)
+}
+
+/// Waits until the workers have come to their ends, and goes on with what was given, or ends them and the
+/// board.
+fn finish<R: Threads + Wait, G: Gate + Send + Sync + Drop + 'static, T: Drop>(
+    rt: &R,
+    relayer: Relayer<Global, Head>,
+    found: FoundByWorkers<'_, R, G>,
+    given: Result<T, AllocError>,
+) -> Result<(Relayer<Global, Head>, Team<G>, T), AllocError>
+    ensures same { IfOk result (λ r. r.0 ≡ relayer) }
+    ensures given { IfOk result (λ r. given ≡ Ok r.2) }
+{
+    let (team, finished) = found.finish();
+    let (relayer, team, ()) = or_end(rt, relayer, team, finished)?;
+    let (relayer, team, value) = or_end(rt, relayer, team, given)?;
+    Ok((relayer, team, value))
 }
 
 /// Leads a relayer through a turn up to where its clients are planned; tells whether the window goes
@@ -119,10 +181,9 @@ fn prepare<R: Threads + Sync + Wait, G: Gate + Send + Sync + Drop + 'static>(
     let mut relayer = relayer;
     let heard = hear_all(alloc, &mut relayer, window, goals, events);
     let (relayer, team, heard) = or_end(crew.rt(), relayer, team, heard)?;
-    let orders = scan_orders(alloc, &relayer);
-    let (mut relayer, team, mut found) = find(crew.rt(), relayer, team, orders)?;
+    let (mut relayer, mut found) = begin_scans(crew.rt(), alloc, relayer, team)?;
     let scanned = scan_all(crew, &mut relayer, &mut found);
-    let (relayer, team, ()) = or_end(crew.rt(), relayer, team, scanned)?;
+    let (relayer, team, ()) = finish(crew.rt(), relayer, found, scanned)?;
     Ok((relayer, team, heard))
 }
 
@@ -139,11 +200,9 @@ fn plan<R: Threads + Sync + Wait, G: Gate + Send + Sync + Drop + 'static>(
         (map client_report_view r.2.items)) }
     ensures later { IfOk result (λ r. IsLater (length relayer.config.clients) relayer r.0) }
 {
-    let mut relayer = relayer;
-    let orders = plan_orders(crew, alloc, &mut relayer);
-    let (mut relayer, team, mut found) = find(crew.rt(), relayer, team, orders)?;
+    let (mut relayer, mut found) = begin_plans(crew, alloc, relayer, team)?;
     let clients = plan_all(crew, alloc, &mut relayer, &mut found);
-    or_end(crew.rt(), relayer, team, clients)
+    finish(crew.rt(), relayer, found, clients)
 }
 
 impl<G: Gate + Send + Sync + Drop + 'static> Workers<G> {

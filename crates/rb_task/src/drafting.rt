@@ -19,5 +19,5 @@ pub fn draft<A: Allocator + Copy>(
     ensures right { IfOk result IsDraft }
 {
     let planned = answer(job.alloc(), &job.task(), graph)?;
-    Ok(Draft::new(job.copy()?, planned))
+    Draft::new(job.alloc(), job.copy()?, planned)
 }

@@ -12,6 +12,13 @@ use std::marker::Model;
 /// What is planned is right for that.
 #[derive(Drop)]
 pub struct Draft<A: Allocator = Global> {
+    // apart, since drafts are handed on by value among much smaller events
+    parts: Box<Parts<A>, A>,
+}
+
+/// What a draft is made of.
+#[derive(Drop)]
+struct Parts<A: Allocator> {
     job: JobView<A>,
     answer: Option<Planned<A>>,
 }
@@ -21,25 +28,30 @@ impl<A: Allocator> Model for Draft<A> {
 
     ghost Value = { drafts.Draft };
 
-    ghost view = { λ d. record { job = d.job; answer = d.answer } };
+    ghost view = { λ d. record { job = d.parts.value.job; answer = d.parts.value.answer } };
 
-    ghost invariant = { λ d. drafts.IsAnswer d.job.task d.answer };
+    ghost invariant = { λ d. drafts.IsAnswer d.parts.value.job.task d.parts.value.answer };
 }
 
 impl<A: Allocator> Draft<A> {
     /// What is planned for a client, which is right for it.
-    pub(crate) fn new(job: JobView<A>, answer: Option<Planned<A>>) -> Draft<A>
+    pub(crate) fn new(
+        alloc: A,
+        job: JobView<A>,
+        answer: Option<Planned<A>>,
+    ) -> Result<Draft<A>, AllocError>
         requires { IsAnswer job.task answer }
-        ensures { result ≡ record { job = job; answer = answer } }
+        ensures { IfOk result (λ draft. draft ≡ record { job = job; answer = answer }) }
     {
-        Draft { job, answer }
+        let parts = Box::new(alloc, Parts { job, answer })?;
+        Ok(Draft { parts })
     }
 
     /// The client as the worker got it.
     pub fn job(&self) -> &JobView<A>
         ensures { result.now ≡ self.now.job }
     {
-        &self.job
+        &self.parts.job
     }
 
     /// What is planned for it.
@@ -47,7 +59,7 @@ impl<A: Allocator> Draft<A> {
         ensures value { option_copied result ≡ self.now.answer }
         ensures right { IsDraft self.now }
     {
-        self.answer.as_ref()
+        self.parts.answer.as_ref()
     }
 
     /// Both, apart.
@@ -56,7 +68,7 @@ impl<A: Allocator> Draft<A> {
         ensures answer { result.1 ≡ self.answer }
         ensures right { IsDraft self }
     {
-        let Draft { job, answer } = self;
+        let Parts { job, answer } = Box::into_inner(self.parts);
         (job, answer)
     }
 }
@@ -67,10 +79,10 @@ impl<A: Allocator + Copy> Draft<A> {
     pub fn copy(&self) -> Result<Draft<A>, AllocError>
         ensures { IfOk result (λ copy. copy ≡ self.now) }
     {
-        Ok(Draft {
-            job: self.job.copy()?,
-            answer: copy_answer(&self.answer)?,
-        })
+        let job = self.parts.job.copy()?;
+        let answer = copy_answer(&self.parts.answer)?;
+        let parts = Box::new(*Box::allocator(&self.parts), Parts { job, answer })?;
+        Ok(Draft { parts })
     }
 }
 

@@ -231,7 +231,7 @@ fn labels(field: &Field<'_>) -> Result<Labelling, RunError>
     judge_triples(field.alloc, items)?;
     let labels = read_labels(field.alloc, items)?;
     judge_order(field.alloc, labels.as_slice())?;
-    Ok(Labelling::new(labels))
+    Ok(Labelling::new(labels)?)
 }
 
 #[tactic(auto, using(rb_fields::proofs::Steps::steps))]

@@ -162,9 +162,14 @@ fn plan_both<R: Threads + Wait + Copy + Send + 'static, G: Gate + Send + Sync + 
     let orders = plan_orders(alloc, note)?;
     let mut team = Team::start(rt, alloc, desks, gate).ok()?;
     let is_whole = team.len() == 2;
-    let held = team.find(rt, orders);
+    let mut held = Held::new(alloc);
+    let mut is_ordered = true;
+    for order in orders {
+        is_ordered = team.order(rt, &mut held, order).is_ok() && is_ordered;
+    }
+    let is_finished = team.finish(rt, &mut held).is_ok();
     team.stop(rt);
-    if is_whole { held.ok() } else { None }
+    (is_whole && is_ordered && is_finished).then_some(held)
 }
 
 /// Does the orders one after the other.

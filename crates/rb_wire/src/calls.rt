@@ -42,8 +42,8 @@ impl<T: Drop, A: Allocator> Tx<T, A> {
         }
     }
 
-    /// Ends the sending. The token shows all that was sent; there is none where the other end is
-    /// gone. Takes no memory, and doesn't wait.
+    /// Ends the sending. The token shows all that was sent; there is none where no mark can be left for
+    /// the other end, as where that is gone. Takes no memory, and doesn't wait.
     pub fn finish(self) -> Option<Finished<T, A>>
         ensures { IfSome result (λ token. IsTokenFrom self token) }
     {

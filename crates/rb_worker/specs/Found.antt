@@ -2,8 +2,6 @@
 use Rattle.std.specs.Prelude.{◌≡◌, ◌≤◌, ℕ, length, max, Option, Some, None}
 use Rattle.rb_gang.specs.declared.gate.Place.{Place}
 use Rattle.rb_gang.specs.declared.gate.Place.TheVariants as place
-use Rattle.rb_scan.specs.declared.scan.Part.{Part}
-use Rattle.rb_scan.specs.declared.scan.Part.TheVariants.{Packets, Channel}
 use Rattle.rb_task.specs.Draft.{Draft, IsDraft}
 use Rattle.rb_machine.specs.Machine.{client_view, state_of}
 use Rattle.rb_machine.specs.Scan.{Scan}
@@ -16,23 +14,15 @@ use Rattle.rb_worker.specs.declared.order.Order.TheVariants as order
 
 -- ---- the jobs by name
 
-abbrev pub part_number : Part → ℕ
-part_number Packets = 0
-part_number Channel = 1
-
--- how a gate names the scan of a part of a path
-abbrev pub scan_place : ℕ → Part → Place
-scan_place path part = place.Scan path (part_number part)
-
 -- the job of an order, none where the worker is to end
 abbrev pub ordered_place : {A : Type 0} → Order A → Option Place
-ordered_place (order.Scan path part note) = Some (scan_place path part)
+ordered_place (order.Scan path part note) = Some (place.Scan path part)
 ordered_place (order.Plan client note graph) = Some (place.Plan client)
 ordered_place order.Stop = None
 
 -- the job that a finding is of
 abbrev pub found_place : {A : Type 0} → Finding A → Place
-found_place (found.Scanned path scan) = scan_place path scan.part
+found_place (found.Scanned path scan) = place.Scan path scan.part
 found_place (found.Planned draft) = place.Plan draft.job.client
 found_place (found.Short place) = place
 found_place (found.Unseen place) = place

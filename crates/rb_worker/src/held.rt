@@ -1,10 +1,9 @@
-//! Findings that are held until all are there.
+//! Findings that are held until they are asked for.
 ghost use Rattle.std.specs.Prelude.{◌≡◌, IfSome};
 ghost use Rattle.rb_task.specs.Draft.{IsDraft};
 
 use crate::finding::Finding;
 use crate::order::Order;
-use crate::place::part_number;
 use crate::slots::Slots;
 use rb_core::{Draft, Scan};
 use rb_gang::Place;
@@ -24,32 +23,32 @@ pub struct Held<A: Allocator = Global> {
 }
 
 /// Where the scan of a part of a path is held.
-fn scan_slot(path: usize, part: usize) -> usize {
-    path.saturating_mul(2).saturating_add(part)
+fn scan_slot(path: usize, part: Part) -> usize {
+    let first = path.saturating_mul(2);
+    match part {
+        Part::Packets => first,
+        Part::Channel => first.saturating_add(1),
+    }
 }
 
 impl<A: Allocator + Copy> Held<A> {
-    /// These jobs are ordered, and nothing is found.
-    pub(crate) fn new(alloc: A, orders: &[Order<A>]) -> Result<Held<A>, AllocError> {
-        let mut held = Held {
+    /// Nothing is ordered. Takes no memory.
+    pub fn new(alloc: A) -> Held<A> {
+        Held {
             scans: Slots::new(alloc),
             plans: Slots::new(alloc),
             missing: 0,
             is_short: false,
-        };
-        for order in orders {
-            held.expect(order)?;
         }
-        Ok(held)
     }
 }
 
 impl<A: Allocator> Held<A> {
     /// The job of the order is ordered.
-    fn expect(&mut self, order: &Order<A>) -> Result<(), AllocError> {
+    pub(crate) fn expect(&mut self, order: &Order<A>) -> Result<(), AllocError> {
         let is_new = match order {
             Order::Scan { path, part, .. } => {
-                let slot = scan_slot(*path, part_number(*part));
+                let slot = scan_slot(*path, *part);
                 self.scans.expect(slot)?
             }
             Order::Plan { client, .. } => self.plans.expect(*client)?,
@@ -72,7 +71,7 @@ impl<A: Allocator> Held<A> {
     pub(crate) fn put(&mut self, finding: Finding<A>) {
         let was_ordered = match finding {
             Finding::Scanned { path, scan } => {
-                let slot = scan_slot(path, part_number(scan.part()));
+                let slot = scan_slot(path, scan.part());
                 self.scans.fill(slot, Some(scan))
             }
             Finding::Planned(draft) => {
@@ -89,6 +88,15 @@ impl<A: Allocator> Held<A> {
         self.missing = self.missing.saturating_sub(usize::from(was_ordered));
     }
 
+    /// Whether the job of this name was ordered, and has not come to an end.
+    pub(crate) fn is_missing(&self, place: Place) -> bool {
+        match place {
+            Place::Scan(path, part) => self.scans.is_missing(scan_slot(path, part)),
+            Place::Plan(client) => self.plans.is_missing(client),
+            Place::Row(_) | Place::Taken(_) => false,
+        }
+    }
+
     /// Whether all that was ordered has come to an end.
     pub(crate) fn is_whole(&self) -> bool {
         self.missing == 0
@@ -103,7 +111,7 @@ impl<A: Allocator> Held<A> {
     pub fn take_scan(&mut self, path: usize, part: Part) -> Option<Scan<A>>
         ensures { IfSome result (λ scan. scan.part ≡ part) }
     {
-        let scan = self.scans.take(scan_slot(path, part_number(part)))?;
+        let scan = self.scans.take(scan_slot(path, part))?;
         if scan.part() == part {
             Some(scan)
         } else {

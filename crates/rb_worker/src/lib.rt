@@ -6,7 +6,6 @@
 mod finding;
 mod held;
 mod order;
-mod place;
 mod seeing;
 mod slots;
 mod team;
@@ -16,6 +15,5 @@ mod working;
 pub use finding::{Finding, Findings};
 pub use held::Held;
 pub use order::{Order, Orders};
-pub use place::scan_place;
 pub use team::Team;
 pub use working::{work, worker_loop};

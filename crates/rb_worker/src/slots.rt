@@ -48,6 +48,11 @@ impl<T: Drop, A: Allocator> Slots<T, A> {
         }
     }
 
+    /// Whether the job of this place was ordered, and has not come to an end.
+    pub(crate) fn is_missing(&self, place: usize) -> bool {
+        self.slots.get(place).is_some_and(is_ordered)
+    }
+
     /// The job of this place has come to an end, with what was found, if it was done; tells whether
     /// it was ordered, and had not come to an end before. Else this changes nothing.
     pub(crate) fn fill(&mut self, place: usize, found: Option<T>) -> bool {

@@ -6,7 +6,7 @@ use crate::order::Order;
 use crate::worker::Worker;
 use crossbeam_utils::sync::Parker;
 use rb_board::Desk;
-use rb_gang::Gate;
+use rb_gang::{Gate, Place};
 use rb_wire::LaneFull;
 use std::alloc::{AllocError, Global};
 use std::sync::{Arc, Wait};
@@ -50,25 +50,7 @@ where
     Ok(workers)
 }
 
-impl<G: Gate + Send + Sync + Drop + 'static> Team<G> {
-    /// Starts a worker for each desk; fewer where no thread can be made or a growth is refused.
-    pub fn start<R: Threads + Wait + Copy + Send + 'static>(
-        rt: &R,
-        alloc: Global,
-        desks: Vec<Desk>,
-        gate: &Arc<G, Global>,
-    ) -> Result<Team<G>, AllocError> {
-        let gate = Arc::try_clone(gate)?;
-        let home = Parker::new(alloc)?;
-        let workers = start_workers(rt, alloc, desks, &gate, &home)?;
-        Ok(Team {
-            alloc,
-            workers,
-            gate,
-            home,
-        })
-    }
-
+impl<G: Gate> Team<G> {
     /// How many workers there are.
     pub fn len(&self) -> usize {
         self.workers.len()
@@ -93,7 +75,7 @@ impl<G: Gate + Send + Sync + Drop + 'static> Team<G> {
 
     /// Sends an order to the worker whose job it is, if there is room for it: object k is the work of
     /// worker k modulo the number of workers. One that ends a worker is dropped.
-    fn order(&mut self, order: Order) -> Result<(), LaneFull<Order>> {
+    fn try_send(&mut self, order: Order) -> Result<(), LaneFull<Order>> {
         let count = self.workers.len();
         match order.object() {
             Some(object) if count > 0 => self.workers[object % count].order(order),
@@ -105,7 +87,7 @@ impl<G: Gate + Send + Sync + Drop + 'static> Team<G> {
     fn send<R: Wait>(&mut self, rt: &R, order: Order, held: &mut Held) {
         let mut order = order;
         for _ in rt.forever() {
-            match self.order(order) {
+            match self.try_send(order) {
                 Ok(()) => return,
                 Err(LaneFull { item }) => order = item,
             }
@@ -113,27 +95,65 @@ impl<G: Gate + Send + Sync + Drop + 'static> Team<G> {
         }
     }
 
-    /// Gives out the orders, but those that end a worker, and waits until each job has come to an end;
-    /// what was found is held until then. Where there is no worker, nothing is found. An error comes
-    /// only where a growth was refused, also to a worker in one of the jobs.
-    pub fn find<R: Wait>(&mut self, rt: &R, orders: Vec<Order>) -> Result<Held, AllocError> {
-        let mut held = Held::new(self.alloc, orders.as_slice())?;
-        if self.workers.is_empty() {
-            return Ok(held);
+    /// Gives out an order, but for one that ends a worker; what is found while there is no room for it is
+    /// held. Where there is no worker, nothing is ordered. An error comes only where a growth is refused;
+    /// it is not ordered then.
+    pub fn order<R: Wait>(
+        &mut self,
+        rt: &R,
+        held: &mut Held,
+        order: Order,
+    ) -> Result<(), AllocError> {
+        if !self.workers.is_empty() {
+            held.expect(&order)?;
+            self.send(rt, order, held);
         }
-        for order in orders {
-            self.send(rt, order, &mut held);
+        Ok(())
+    }
+
+    /// Waits until the job of this name has come to an end. One that was not ordered is not waited for.
+    pub fn wait_for<R: Wait>(&mut self, rt: &R, held: &mut Held, place: Place) {
+        for _ in rt.forever() {
+            if !held.is_missing(place) {
+                return;
+            }
+            self.wait(rt, held);
         }
+    }
+
+    /// Waits until each job that was ordered has come to an end. An error comes only where a growth was
+    /// refused to a worker in one of them.
+    pub fn finish<R: Wait>(&mut self, rt: &R, held: &mut Held) -> Result<(), AllocError> {
         for _ in rt.forever() {
             if held.is_whole() {
                 break;
             }
-            self.wait(rt, &mut held);
+            self.wait(rt, held);
         }
         if held.is_short() {
             return Err(AllocError);
         }
-        Ok(held)
+        Ok(())
+    }
+}
+
+impl<G: Gate + Send + Sync + Drop + 'static> Team<G> {
+    /// Starts a worker for each desk; fewer where no thread can be made or a growth is refused.
+    pub fn start<R: Threads + Wait + Copy + Send + 'static>(
+        rt: &R,
+        alloc: Global,
+        desks: Vec<Desk>,
+        gate: &Arc<G, Global>,
+    ) -> Result<Team<G>, AllocError> {
+        let gate = Arc::try_clone(gate)?;
+        let home = Parker::new(alloc)?;
+        let workers = start_workers(rt, alloc, desks, &gate, &home)?;
+        Ok(Team {
+            alloc,
+            workers,
+            gate,
+            home,
+        })
     }
 
     /// Tells the workers to end, and waits for that.

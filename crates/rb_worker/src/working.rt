@@ -2,12 +2,11 @@
 ghost use Rattle.std.specs.Prelude.{◌≡◌, IfSome};
 ghost use Rattle.std.specs.Option.{option_map};
 ghost use mathlib.Core.List.{IsPrefix};
-ghost use Rattle.rb_worker.specs.Found.{IsFoundOn, found_place, ordered_place, scan_place, told_after};
+ghost use Rattle.rb_worker.specs.Found.{IsFoundOn, found_place, ordered_place, told_after};
 ghost use Rattle.rb_gang.specs.declared.gate.Place.TheVariants as place;
 
 use crate::finding::{Finding, Findings};
 use crate::order::{Order, Orders};
-use crate::place::scan_place;
 use crate::seeing::{plan_seen, scan_seen};
 use rb_board::{Desk, DeskError};
 use rb_gang::{Gate, Place};
@@ -26,10 +25,10 @@ fn find_scan<G: Gate, A: Allocator + Copy>(
     ensures config { desk.new.config ≡ desk.old.config }
     ensures told { desk.new.told ≡ desk.old.told }
     ensures begins { IsPrefix desk.old.seen desk.new.seen }
-    ensures place { found_place result ≡ scan_place path part }
+    ensures place { found_place result ≡ place.Scan path part }
     ensures right { IsFoundOn desk.new result }
 {
-    let place = scan_place(path, part);
+    let place = Place::Scan(path, part);
     gate.before(place);
     let found = scan_seen(desk, path, part);
     gate.after(place);

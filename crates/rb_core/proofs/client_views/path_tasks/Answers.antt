@@ -5,7 +5,8 @@ use Rattle.rb_core.specs.Known.{state_view}
 use Rattle.rb_machine.specs.Machine.{seen_owed}
 use Rattle.rb_machine.specs.Standing.{KnownPath, path_task}
 use Rattle.rb_task.specs.Task.{PathTask}
-use Rattle.rb_core.proofs.Shown.{get-from_get_or, next_place, walked}
+use Rattle.rb_known.proofs.Found.{get-from_get_or}
+use Rattle.rb_core.proofs.Shown.{next_place, walked}
 use Rattle.rb_core.proofs.client_views.path_tasks.Goals as goal
 
 pub loop-place-preserved : goal.loop-place-preserved

@@ -35,8 +35,11 @@ loop-client-preserved g c =
       same = c.planned_for.ensures.same ∙ inv.same;
     }
 
-pub returns : goal.returns
-returns g c =
+pub returns-clause-drafts : goal.returns-clause-drafts
+returns-clause-drafts g c =
     let core = c.args.relayer.now in
     let all : c.loop-client.client ≡ length core.config.clients = omega (arith, ap (λ (k : Config). length k.clients) c.config.ensures.value) in
     first_all (standing_in core) c.loop-client.client c.loop-client.drafts.items (all ∙ sym (sizes_in core).clients) c.loop-client.invariant.drafts
+
+pub returns-clause-same : goal.returns-clause-same
+returns-clause-same g c = c.loop-client.invariant.same

@@ -7,11 +7,11 @@ use Rattle.rb_super.proofs.Ended.{ended}
 use Rattle.rb_super.proofs.workers.plan.Goals as goal
 
 pub plan_all-clients-requires-clause-ready : goal.plan_all-clients-requires-clause-ready
-plan_all-clients-requires-clause-ready g c = λ ks _. subst IsPlannable (sym (c.in_ok-relayer.ensures ∙ c.plan_orders-orders.ensures.same)) c.requires.ready
+plan_all-clients-requires-clause-ready g c = λ ks _. subst IsPlannable (sym (c.in_ok-relayer.ensures.same)) c.requires.ready
 
 pub plan_all-clients-requires-clause-room : goal.plan_all-clients-requires-clause-room
 plan_all-clients-requires-clause-room g c = λ ks _.
-    subst (λ (k : Core). HasLogRoom k (length k.config.clients)) (sym (c.in_ok-relayer.ensures ∙ c.plan_orders-orders.ensures.same)) c.requires.room
+    subst (λ (k : Core). HasLogRoom k (length k.config.clients)) (sym (c.in_ok-relayer.ensures.same)) c.requires.room
 
 -- the heap frees what any thread took of it
 pub plan_all-clients-requires-clause-alloc : goal.plan_all-clients-requires-clause-alloc
@@ -19,19 +19,19 @@ plan_all-clients-requires-clause-alloc g c κs within = frees
 
 pub returns-clause-reports : goal.returns-clause-reports
 returns-clause-reports g c =
-    let mid = c.in_ok-relayer.ensures ∙ c.plan_orders-orders.ensures.same in
+    let mid = c.in_ok-relayer.ensures.same in
     let core = c.args.relayer in
     let new = c.plan_all-clients.new.relayer in
-    ended c.or_end.result c.plan_all-clients.result new (λ x. x.0) (λ x. x.2)
+    ended c.finish.result c.plan_all-clients.result new (λ x. x.0) (λ x. x.2)
     (λ k clients. AreReported (standing_in core) (standing_in k) 0 (length core.config.clients) (map client_report_view clients.items))
-    c.or_end.ensures.same c.or_end.ensures.given
+    c.finish.ensures.same c.finish.ensures.given
     (subst (λ (k : Core). IfOk c.plan_all-clients.result (λ clients. AreReported (standing_in k) (standing_in new) 0 (length k.config.clients) (map client_report_view clients.items))) mid
     c.plan_all-clients.ensures.reports)
 
 pub returns-clause-later : goal.returns-clause-later
 returns-clause-later g c =
-    let mid = c.in_ok-relayer.ensures ∙ c.plan_orders-orders.ensures.same in
+    let mid = c.in_ok-relayer.ensures.same in
     let new = c.plan_all-clients.new.relayer in
-    ended c.or_end.result c.plan_all-clients.result new (λ x. x.0) (λ x. x.2) (λ k clients. IsLater (length c.args.relayer.config.clients) c.args.relayer k)
-    c.or_end.ensures.same c.or_end.ensures.given
+    ended c.finish.result c.plan_all-clients.result new (λ x. x.0) (λ x. x.2) (λ k clients. IsLater (length c.args.relayer.config.clients) c.args.relayer k)
+    c.finish.ensures.same c.finish.ensures.given
     (subst (λ (k : Core). IfOk c.plan_all-clients.result (λ _. IsLater (length k.config.clients) k new)) mid c.plan_all-clients.ensures.later)

@@ -1,16 +1,23 @@
-use Rattle.std.proofs.Common.{rules, ap}
+use Rattle.std.proofs.Common.{◌≡◌, [], rules, sym, ap, ◌∙◌, subst}
 use Rattle.std.specs.Prelude.{List}
 use Rattle.left_right.specs.Sides.{view}
 use Rattle.rb_machine.specs.Event.{Event}
-use Rattle.rb_board.specs.Kept.{pending}
-use Rattle.rb_board.proofs.Boarding.{opens, shows, opened}
+use Rattle.rb_core.specs.Follower.{IsOfLog}
+use Rattle.rb_board.specs.Kept.{followed_on, pending}
+use Rattle.rb_board.proofs.Boarding.{opens, shows, shown_then, nothing_waits, opened}
 use Rattle.rb_board.proofs.pen.Pen.new.Goals as goal
 
 pub new-requires-clause-rule : goal.new-requires-clause-rule
-new-requires-clause-rule g c = opens {A = g.row.A.Denot} (record { core = c.in_ok-copy.field-0 })
+new-requires-clause-rule g c = opens {A = g.row.A.Denot} (record { follower = c.in_ok-follower.field-0 }) c.in_ok-follower.ensures.log
 
 pub publish_as-writer-requires : goal.publish_as-writer-requires
-publish_as-writer-requires g c next is = shows _ _ c.in_ok-writer.writer.desk.shown.value next (pending c.in_ok-writer.writer) is
+publish_as-writer-requires g c next is =
+    let old = c.in_ok-writer.writer in
+    let first = old.desk.shown.value in
+    let none : pending old ≡ [] = search rules in
+    let is_first : first ≡ record { follower = c.in_ok-follower.field-0 } = search rules in
+    let same = shown_then first next (pending old) is ∙ ap (followed_on first.follower) none ∙ nothing_waits first.follower in
+    shows _ _ first next (pending old) (subst IsOfLog (sym (same ∙ (λ i. (is_first i).follower))) c.in_ok-follower.ensures.log) is
 
 pub invariant_of-result : goal.invariant_of-result
 invariant_of-result g c =
@@ -18,7 +25,7 @@ invariant_of-result g c =
     let new = c.publish_as-writer.result.0 in
     let e = c.publish_as-writer.ensures in
     (opened c.publish_as-writer.result.1 old.desk.shown.value new.desk.shown.value (view old.desk.place) (view new.desk.place) (pending old) (pending new)
-    c.args.core.log c.args.core.config (search rules) (search rules) (search rules) (search rules) e.values e.rule).0
+    c.args.core.config c.args.core.log (search rules) (search rules) (search rules) (search rules) e.values e.rule).0
 
 pub returns : goal.returns
 returns g c =
@@ -27,4 +34,4 @@ returns g c =
     let e = c.publish_as-writer.ensures in
     ap (λ (log : List Event). record { config = c.args.core.config; log = c.args.core.log; published = log })
     (opened c.publish_as-writer.result.1 old.desk.shown.value new.desk.shown.value (view old.desk.place) (view new.desk.place) (pending old) (pending new)
-    c.args.core.log c.args.core.config (search rules) (search rules) (search rules) (search rules) e.values e.rule).1
+    c.args.core.config c.args.core.log (search rules) (search rules) (search rules) (search rules) e.values e.rule).1

@@ -1,14 +1,14 @@
-use Rattle.std.proofs.Common.{◌≡◌, List, map, sym, ap, ◌∙◌, subst}
+use Rattle.std.proofs.Common.{List, sym, ap, ◌∙◌, subst}
 use Rattle.rb_events.specs.Config.{Config}
 use Rattle.rb_core.specs.Core.{Core, IsFold}
-use Rattle.rb_machine.specs.Entry.{Logged, entry_view, events_of}
+use Rattle.rb_machine.specs.Entry.{Logged, events_of}
 use Rattle.rb_machine.specs.Machine.{State, opening}
 use Rattle.rb_core.proofs.machine.Core.copy.Goals as goal
 
 pub invariant_of-result : goal.invariant_of-result
 invariant_of-result g c =
     subst (λ (p : Config × List Logged × State). IsFold p.0 (events_of (opening p.0) p.1) p.2)
-    (λ i. (sym c.in_ok-copy.ensures i, sym (c.in_ok-copy_entries.ensures ∙ ap (map entry_view) c.as_slice.ensures.value) i, sym c.in_ok-copy_known.ensures i))
+    (λ i. (sym c.in_ok-copy.ensures i, sym (c.in_ok-share_entries.ensures ∙ c.as_slice.ensures.value) i, sym c.in_ok-copy_known.ensures i))
     c.self.invariant
 
 pub returns-clause-config : goal.returns-clause-config
@@ -16,5 +16,5 @@ returns-clause-config g c = c.in_ok-copy.ensures ∙ ap (λ (x : Core). x.config
 
 pub returns-clause-log : goal.returns-clause-log
 returns-clause-log g c =
-    (λ i. events_of (opening (c.in_ok-copy.ensures i)) ((c.in_ok-copy_entries.ensures ∙ ap (map entry_view) c.as_slice.ensures.value) i))
+    (λ i. events_of (opening (c.in_ok-copy.ensures i)) ((c.in_ok-share_entries.ensures ∙ c.as_slice.ensures.value) i))
     ∙ ap (λ (x : Core). x.log) c.self.view_is

@@ -1,4 +1,4 @@
-use Rattle.std.proofs.Common.{◌≡◌, sym, ap, ◌∙◌, subst, length, All}
+use Rattle.std.proofs.Common.{ap, ◌∙◌, subst, length, All}
 use Rattle.rb_events.specs.Config.{config_view}
 use Rattle.rb_core.specs.Core.{Core, state_in}
 use Rattle.rb_machine.specs.Entry.{log_from}

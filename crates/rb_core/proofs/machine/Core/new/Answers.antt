@@ -1,8 +1,7 @@
-use Rattle.std.proofs.Common.{List, All, map, ap, subst}
+use Rattle.std.proofs.Common.{List, All, subst}
 use Rattle.rb_base.specs.Fee.{IsFeeTable}
 use Rattle.rb_events.specs.Config.{config_view}
 use Rattle.rb_events.specs.declared.config.ClientConfig.{ClientConfig}
-use Rattle.rb_machine.specs.Entry.{entry_view}
 use Rattle.rb_core.proofs.Rooms.{new_fold}
 use Rattle.rb_core.proofs.machine.Core.new.Goals as goal
 
@@ -10,4 +9,4 @@ pub invariant_of-result : goal.invariant_of-result
 invariant_of-result g c =
     new_fold (config_view c.args.config) _ _ c.requires
     (subst (λ (xs : List ClientConfig). All (λ (client : ClientConfig). IsFeeTable client.fees) xs) c.as_slice.ensures.value c.fee_tables.ensures)
-    c.in_ok-known.ensures (ap (map entry_view) c.new.ensures.items)
+    c.in_ok-known.ensures c.new.ensures.items

@@ -1,11 +1,10 @@
-use Rattle.std.proofs.Common.{◌≡◌, ◌++◌, ◌∷◌, ◌<◌, [], List, None, map, sym, ap, ◌∙◌, subst, arith, vec_len, vec_capacity}
+use Rattle.std.proofs.Common.{◌≡◌, ◌++◌, ◌∷◌, ◌<◌, [], None, sym, ap, ◌∙◌, subst, arith}
 use Rattle.rb_events.specs.Config.{config_view}
 use Rattle.rb_core.specs.Core.{Core, Room, state_in}
-use Rattle.rb_machine.specs.Entry.{entry_view, log_from}
-use Rattle.rb_machine.specs.Event.{Event}
+use Rattle.rb_machine.specs.Entry.{log_from}
 use Rattle.rb_machine.specs.Kept.{IsKept}
 use Rattle.rb_core.specs.Known.{state_view}
-use Rattle.rb_machine.specs.Machine.{Reply, State, refusal_of, reply_of}
+use Rattle.rb_machine.specs.Machine.{State, refusal_of, reply_of}
 use Rattle.rb_core.proofs.Entries.{settled}
 use Rattle.rb_machine.proofs.Keeping.{kept_of_events}
 use Rattle.rb_core.proofs.Rooms.{has_room}
@@ -36,7 +35,7 @@ invariant_of-self g c =
     let taken = c.take_in.ensures in
     let accepted : refusal_of (state_view inside.known) c.args.ready.event ≡ None =
     ap (λ (s : State). refusal_of s c.args.ready.event) (c.self.invariant.state ∙ ap state_in c.self.view_is) ∙ c.requires.accepted in
-    (settled (config_view inside.config) (state_view inside.known) (state_view c.take_in.new.known) (map entry_view inside.log.items) (map entry_view c.take_in.new.log.items) c.args.ready.event
+    (settled (config_view inside.config) (state_view inside.known) (state_view c.take_in.new.known) inside.log.items c.take_in.new.log.items c.args.ready.event
     c.self.invariant accepted taken.rules taken.state taken.log).1
 
 pub returns-clause-log : goal.returns-clause-log
@@ -45,7 +44,7 @@ returns-clause-log g c =
     let taken = c.take_in.ensures in
     let accepted : refusal_of (state_view inside.known) c.args.ready.event ≡ None =
     ap (λ (s : State). refusal_of s c.args.ready.event) (c.self.invariant.state ∙ ap state_in c.self.view_is) ∙ c.requires.accepted in
-    (settled (config_view inside.config) (state_view inside.known) (state_view c.take_in.new.known) (map entry_view inside.log.items) (map entry_view c.take_in.new.log.items) c.args.ready.event
+    (settled (config_view inside.config) (state_view inside.known) (state_view c.take_in.new.known) inside.log.items c.take_in.new.log.items c.args.ready.event
     c.self.invariant accepted taken.rules taken.state taken.log).0
     ∙ ap (λ (x : Core). x.log ++ c.args.ready.event ∷ []) c.self.view_is
 

@@ -1,0 +1,10 @@
+pub mod Rising
+pub mod Found
+pub mod OwnSet
+pub mod OwnPlace
+pub mod Exceeded
+pub mod Numbering
+pub mod Room
+pub mod Inserted
+pub mod Entered
+pub mod Laned
