@@ -9,9 +9,3 @@ pub fn graph_of(alloc: Global, headers: u32, sets: u32, validators: u32) -> Resu
     let book = make_book(alloc, headers, sets, validators)?;
     Ok(Graph::from_book(alloc, book)?)
 }
-
-/// Makes that table, and answers the number of its rows.
-pub fn make_table(alloc: Global, headers: u32, sets: u32, validators: u32) -> Result<usize> {
-    let graph = graph_of(alloc, headers, sets, validators)?;
-    Ok(graph.rows().count())
-}

@@ -1,7 +1,6 @@
 //! Work for the bench scripts to time: `bench SUBCOMMAND NUMBERS` does it and prints what it did.
 #![tactic(auto)]
 
-mod batch;
 mod board;
 mod book;
 mod certificate;
@@ -10,7 +9,6 @@ mod graph;
 mod kept;
 mod machine;
 mod plan;
-mod scan;
 mod share;
 mod turn;
 
@@ -23,17 +21,12 @@ use std::{env, thread};
 
 /// The subcommands and their numbers.
 const USAGE: &str = "bench book HEADERS SETS VALIDATORS
-bench graph HEADERS SETS VALIDATORS
 bench keep HEADERS SETS VALIDATORS
 bench build HEADERS SETS VALIDATORS [WORKERS]
 bench plan HEADERS SETS VALIDATORS
-bench certify HEADERS VALIDATORS
 bench certify-plan HEADERS SETS VALIDATORS
-bench certify-labels LABELS
-bench scan PACKETS
 bench share CLIENTS VIEWS HEADERS VALIDATORS
 bench share-turns CLIENTS VIEWS HEADERS VALIDATORS
-bench batch MESSAGES PER_TRANSACTION
 bench events PACKETS PATHS
 bench views CLIENTS VIEWS HEADERS
 bench turn CLIENTS PATHS PACKETS HEADERS
@@ -180,36 +173,15 @@ fn perform<R: Clock + Threads + Wait + AllocGlobal + Sync>(
             let records = book::fill(alloc, headers, sets, validators)?;
             format!(in alloc; "{records} records")?
         }
-        "graph" => {
-            let (headers, sets, validators) = book_numbers(task)?;
-            let rows = graph::make_table(alloc, headers, sets, validators)?;
-            format!(in alloc; "{rows} rows")?
-        }
         "keep" => {
             let (headers, sets, validators) = book_numbers(task)?;
             kept::keep_timed(rt, headers, sets, validators)?
         }
         "build" => build_timed(rt, task)?,
         "plan" => plan_timed(rt, task)?,
-        "certify" => {
-            let holds = certificate::certify_plan(alloc, number(task, 0)?, number(task, 1)?)?;
-            format!(in alloc; "{holds}")?
-        }
         "certify-plan" => certify_timed(rt, task)?,
-        "certify-labels" => {
-            let holds = certificate::certify_labels(alloc, number(task, 0)?)?;
-            format!(in alloc; "{holds}")?
-        }
-        "scan" => {
-            let messages = scan::scan_path(alloc, number(task, 0)?)?;
-            format!(in alloc; "{messages} messages")?
-        }
         "share" => share::hold_views(rt, &share_task(task)?)?,
         "share-turns" => share::hold_turns(rt, &share_task(task)?)?,
-        "batch" => {
-            let transactions = batch::cut_messages(alloc, number(task, 0)?, number(task, 1)?)?;
-            format!(in alloc; "{transactions} transactions")?
-        }
         _ => return perform_board(rt, task),
     };
     Ok(Some(told))

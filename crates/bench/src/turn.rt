@@ -3,13 +3,14 @@ use crate::machine::{Intake, Task, enter, new_core, see_headers, send_packets, s
 use anyhow::{Result, bail};
 use rb_core::{Core, Draft, Event, JobView, draft, scan};
 use rb_graph::Graph;
-use rb_scan::{Part, PathView};
+use rb_scan::Part;
 use std::alloc::Global;
 use std::rt::Clock;
 use std::time::Instant;
 
 /// Scans a part of a path as it is seen, and takes the scan in.
-fn scan_part<T: Intake>(intake: &mut T, path: usize, view: &PathView, part: Part) -> Result<()> {
+fn scan_part<T: Intake>(intake: &mut T, path: usize, part: Part) -> Result<()> {
+    let view = intake.core().path_view(path)?;
     let found = scan(view, part)?;
     intake.take(Event::Scanned { path, scan: found })
 }
@@ -17,9 +18,8 @@ fn scan_part<T: Intake>(intake: &mut T, path: usize, view: &PathView, part: Part
 /// Scans both parts of each path.
 pub fn scan_paths<T: Intake>(intake: &mut T, task: &Task) -> Result<()> {
     for path in 0..task.paths as usize {
-        let view = intake.core().path_view(path)?;
-        scan_part(intake, path, &view, Part::Packets)?;
-        scan_part(intake, path, &view, Part::Channel)?;
+        scan_part(intake, path, Part::Packets)?;
+        scan_part(intake, path, Part::Channel)?;
     }
     Ok(())
 }

@@ -4,7 +4,7 @@ ghost use Rattle.rb_board.specs.Kept.{knowledge_of};
 
 use crate::rule::Knows;
 use left_right::Absorb;
-use rb_core::{Follower, SharedEntry};
+use rb_core::{Follower, Told};
 use std::alloc::{AllocError, Allocator, Global};
 
 /// One of the two copies: a follower of the entries that were appended.
@@ -13,7 +13,7 @@ pub(crate) struct Held<A: Allocator = Global> {
     pub(crate) follower: Follower<A>,
 }
 
-impl<A: Allocator + Copy> Absorb<SharedEntry<A>> for Held<A> {
+impl<A: Allocator + Copy> Absorb<Told<A>> for Held<A> {
     type State = Knows;
 
     ghost state = { knowledge_of };
@@ -22,19 +22,15 @@ impl<A: Allocator + Copy> Absorb<SharedEntry<A>> for Held<A> {
 
     /// Follows the entry, which the other copy is to follow, too. Where that is refused, this copy is as
     /// it was.
-    fn absorb_first(&mut self, entry: &SharedEntry<A>, _other: &Held<A>) -> Result<(), AllocError> {
-        match self.follower.follow(entry.share()?) {
+    fn absorb_first(&mut self, told: &Told<A>, _other: &Held<A>) -> Result<(), AllocError> {
+        match self.follower.follow(told.share()?) {
             Ok(()) => Ok(()),
-            Err(_entry) => Err(AllocError),
+            Err(_told) => Err(AllocError),
         }
     }
 
     /// Follows the entry itself. Where that is refused, it comes back, and this copy is as it was.
-    fn absorb_second(
-        &mut self,
-        entry: SharedEntry<A>,
-        _other: &Held<A>,
-    ) -> Result<(), SharedEntry<A>> {
-        self.follower.follow(entry)
+    fn absorb_second(&mut self, told: Told<A>, _other: &Held<A>) -> Result<(), Told<A>> {
+        self.follower.follow(told)
     }
 }

@@ -16,7 +16,7 @@ use crate::note::Note;
 use crate::rule::{Knows, Looks, Published, Tells};
 use left_right::Absorb;
 use left_right::writer::Writer;
-use rb_core::{Core, CoreError, Event, Reply, SharedEntry};
+use rb_core::{Core, CoreError, Event, Reply, Told};
 use std::alloc::{AllocError, Allocator, Global};
 use std::marker::Model;
 use std::sync::Wait;
@@ -26,15 +26,15 @@ use std::sync::Wait;
 /// `close`.
 pub struct Pen<A: Allocator + Copy = Global>
 where
-    Held<A>: Absorb<SharedEntry<A>, State = Knows>,
+    Held<A>: Absorb<Told<A>, State = Knows>,
 {
-    writer: Writer<Held<A>, SharedEntry<A>, Knows, Published, A>,
+    writer: Writer<Held<A>, Told<A>, Knows, Published, A>,
     head: Core<A>,
 }
 
 impl<A: Allocator + Copy> Model for Pen<A>
 where
-    Held<A>: Absorb<SharedEntry<A>, State = Knows>,
+    Held<A>: Absorb<Told<A>, State = Knows>,
 {
     ghost use Rattle.rb_core.specs.Follower.{events_in};
     ghost use Rattle.rb_board.specs.Ends as ends;
@@ -86,8 +86,8 @@ impl<A: Allocator + Copy> Pen<A> {
         ensures reply { IfOk result (λ reply. reply_view reply ≡ reply_of (state_of self.old.config self.old.log) (event_view event)) }
     {
         let ready = self.head.judge(event)?;
-        let entry = ready.entry().share()?;
-        keep(&mut self.writer, entry)?;
+        let told = Told::of(&ready)?;
+        keep(&mut self.writer, told)?;
         Ok(self.head.settle(ready))
     }
 
@@ -158,14 +158,14 @@ fn know<A: Allocator + Copy>(core: &Core<A>)
 
 /// Puts an entry behind those that are to be published.
 fn keep<A: Allocator + Copy>(
-    writer: &mut Writer<Held<A>, SharedEntry<A>, Knows, Published, A>,
-    entry: SharedEntry<A>,
+    writer: &mut Writer<Held<A>, Told<A>, Knows, Published, A>,
+    told: Told<A>,
 ) -> Result<(), AllocError>
     ensures desk { writer.new.desk ≡ writer.old.desk }
-    ensures pending { MatchResult result (λ _. pending writer.new ≡ pending writer.old ++ entry ∷ []) (λ _. pending writer.new ≡ pending writer.old) }
+    ensures pending { MatchResult result (λ _. pending writer.new ≡ pending writer.old ++ told ∷ []) (λ _. pending writer.new ≡ pending writer.old) }
 {
-    match writer.append(entry) {
+    match writer.append(told) {
         Ok(()) => Ok(()),
-        Err(_entry) => Err(AllocError),
+        Err(_told) => Err(AllocError),
     }
 }

@@ -1,5 +1,5 @@
 -- A follower: what is known after the entries of a log, where nothing is judged again.
-use Rattle.std.specs.Prelude.{List, All, fold}
+use Rattle.std.specs.Prelude.{◌≡◌, ℕ, List, All, Some, fold}
 use Rattle.std.specs.Option.{option_map_or}
 use Rattle.rb_events.specs.Config.{Config}
 use Rattle.rb_machine.specs.Config.{IsSetUp}
@@ -7,6 +7,9 @@ use Rattle.rb_machine.specs.Entry.{Logged, event_of, events_of}
 use Rattle.rb_machine.specs.Event.{Event, IsEvent}
 use Rattle.rb_machine.specs.Log.{IsLog}
 use Rattle.rb_machine.specs.Machine.{State, opening, accepted, state_of}
+use Rattle.rb_machine.specs.Scan.{Scan}
+use Rattle.rb_machine.specs.Standing.{path_view}
+use Rattle.rb_scan.specs.declared.scan.Part.{Part}
 
 -- how it is configured, and the entries that it has followed
 pub record Follower : Type 0 where
@@ -33,3 +36,7 @@ followed s x = option_map_or (accepted s) (event_of s x) s
 
 abbrev pub followed_by : Config → List Logged → State
 followed_by config entries = fold followed (opening config) entries
+
+-- it is of this part of a path, as the path is
+abbrev pub IsPresentScan : State → ℕ → Part → Scan → Type 0
+IsPresentScan s path part scan = (path_view s.standing path ≡ Some scan.view) × (scan.part ≡ part)

@@ -15,7 +15,7 @@ use crate::known::Known;
 use crate::path_views::path_view;
 use rb_events::Config;
 use rb_machine::laws::client_views_are_views;
-use rb_machine::{CoreError, SharedEntry, share_entries};
+use rb_machine::{CoreError, SharedEntry, Told, share_entries};
 use rb_scan::PathView;
 use rb_task::JobView;
 use std::alloc::{AllocError, Allocator, Global};
@@ -81,17 +81,17 @@ impl<A: Allocator + Copy> Follower<A> {
 
     /// Follows the next entry of the log. Where it isn't followed (a growth is refused, or nothing is
     /// there that it speaks of) it comes back, and nothing has changed.
-    pub fn follow(&mut self, entry: SharedEntry<A>) -> Result<(), SharedEntry<A>>
+    pub fn follow(&mut self, told: Told<A>) -> Result<(), Told<A>>
         ensures config { self.new.config ≡ self.old.config }
-        ensures entries { MatchResult result (λ _. self.new.entries ≡ self.old.entries ++ entry ∷ []) (λ _. self.new.entries ≡ self.old.entries) }
-        ensures back { IfErr result (λ back. back ≡ entry) }
+        ensures entries { MatchResult result (λ _. self.new.entries ≡ self.old.entries ++ told ∷ []) (λ _. self.new.entries ≡ self.old.entries) }
+        ensures back { IfErr result (λ back. back ≡ told) }
     {
-        match follow_for(self.alloc, &mut self.known, &mut self.log, entry.entry()) {
+        match follow_for(self.alloc, &mut self.known, &mut self.log, &told) {
             Ok(()) => {
-                self.log.push_reserved(entry);
+                self.log.push_reserved(told.into_entry());
                 Ok(())
             }
-            Err(_) => Err(entry),
+            Err(_) => Err(told),
         }
     }
 

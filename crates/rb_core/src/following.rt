@@ -1,18 +1,18 @@
 //! Entries of a log are taken in as they are.
-ghost use Rattle.std.specs.Prelude.{◌≡◌, ◌<◌, MatchResult, OnOk, vec_len, vec_capacity};
-ghost use Rattle.rb_core.specs.Follower.{followed};
+ghost use Rattle.std.specs.Prelude.{◌≡◌, ◌<◌, IfOk, IfSome, MatchResult, OnOk, vec_len, vec_capacity};
+ghost use Rattle.rb_core.specs.Follower.{followed, IsPresentScan};
 ghost use Rattle.rb_core.specs.Known.{state_view};
-ghost use Rattle.rb_machine.specs.Entry.{plan, scan, entry_view};
+ghost use Rattle.rb_machine.specs.Entry.{plan, scan};
 ghost use Rattle.rb_machine.specs.Kept.{IsKept};
 ghost use Rattle.rb_machine.specs.Machine.{accepted};
 ghost use Rattle.rb_machine.specs.Seen.{event_view};
 
 use crate::known::Known;
-use crate::path_views::path_view;
+use crate::path_views::{is_view, path_view};
 use crate::refusing::{refuse_answer, refuse_unseen};
 use crate::taking::{make_room, put};
 use rb_events::Refusal;
-use rb_machine::{CoreError, Entry, Event, SharedEntry, copy_answer, into_scan};
+use rb_machine::{CoreError, Entry, Event, Scan, SharedEntry, Told, copy_answer, scan};
 use rb_scan::{Part, ScanError};
 use rb_task::Planned;
 use std::alloc::Allocator;
@@ -30,21 +30,56 @@ fn follow_event<A: Allocator + Copy>(known: &mut Known<A>, event: Event<A>) -> R
     Ok(())
 }
 
+/// The scan that was made, where it is of this part of a path, as the path is.
+fn scan_as_it_is<'a, A: Allocator + Copy>(
+    known: &Known<A>,
+    path: usize,
+    part: Part,
+    made: Option<&'a Scan<A>>,
+) -> Option<&'a Scan<A>>
+    ensures { IfSome result (λ scan. IsPresentScan (state_view known.now) path part scan.now) }
+{
+    let scan = made?;
+    if scan.part() == part && is_view(known, path, scan.view()) {
+        Some(scan)
+    } else {
+        None
+    }
+}
+
+/// A scan of a part of a path, as the path is: the one that was made, where it is that, else a new one.
+fn scan_for<A: Allocator + Copy>(
+    alloc: A,
+    known: &Known<A>,
+    path: usize,
+    part: Part,
+    made: Option<&Scan<A>>,
+) -> Result<Scan<A>, CoreError>
+    ensures { IfOk result (IsPresentScan (state_view known.now) path part) }
+{
+    if let Some(scan) = scan_as_it_is(known, path, part, made) {
+        return Ok(scan.share()?);
+    }
+    let view = path_view(alloc, known, path)?;
+    match scan(view, part) {
+        Ok(scan) => Ok(scan),
+        Err(ScanError::NoMemory) => Err(CoreError::NoMemory),
+    }
+}
+
 /// Takes in a scan of a part of a path, as the path is.
 fn follow_scan<A: Allocator + Copy>(
     alloc: A,
     known: &mut Known<A>,
     path: usize,
     part: Part,
+    made: Option<&Scan<A>>,
 ) -> Result<(), CoreError>
     requires { IsKept (state_view known.old) }
     ensures { MatchResult result (λ _. state_view known.new ≡ followed (state_view known.old) (scan path part)) (λ _. state_view known.new ≡ state_view known.old) }
 {
-    let view = path_view(alloc, known, path)?;
-    match into_scan(view, part) {
-        Ok(scan) => follow_event(known, Event::Scanned { path, scan }),
-        Err(ScanError::NoMemory) => Err(CoreError::NoMemory),
-    }
+    let scan = scan_for(alloc, known, path, part, made)?;
+    follow_event(known, Event::Scanned { path, scan })
 }
 
 /// Takes in what was planned for a client, as the client is.
@@ -68,16 +103,16 @@ fn follow_plan<A: Allocator + Copy>(
 fn follow_entry<A: Allocator + Copy>(
     alloc: A,
     known: &mut Known<A>,
-    entry: &Entry<A>,
+    told: &Told<A>,
 ) -> Result<(), CoreError>
     requires { IsKept (state_view known.old) }
-    ensures { MatchResult result (λ _. state_view known.new ≡ followed (state_view known.old) (entry_view entry.now)) (λ _. state_view known.new ≡ state_view known.old) }
+    ensures { MatchResult result (λ _. state_view known.new ≡ followed (state_view known.old) told.now) (λ _. state_view known.new ≡ state_view known.old) }
 {
-    match entry {
+    match told.entry() {
         Entry::Window(window) => follow_event(known, Event::Window(*window)),
         Entry::Asked(asked) => follow_event(known, Event::Asked(*asked)),
         Entry::Observed(observation) => follow_event(known, Event::Observed(observation.copy()?)),
-        Entry::Scan { path, part } => follow_scan(alloc, known, *path, *part),
+        Entry::Scan { path, part } => follow_scan(alloc, known, *path, *part, told.scan()),
         Entry::Plan { client, answer } => {
             follow_plan(known, *client, copy_answer(answer.as_ref())?)
         }
@@ -90,13 +125,13 @@ pub(crate) fn follow_for<A: Allocator + Copy>(
     alloc: A,
     known: &mut Known<A>,
     log: &mut Vec<SharedEntry<A>, A>,
-    entry: &Entry<A>,
+    told: &Told<A>,
 ) -> Result<(), CoreError>
     requires { IsKept (state_view known.old) }
-    ensures known { MatchResult result (λ _. state_view known.new ≡ followed (state_view known.old) (entry_view entry.now)) (λ _. state_view known.new ≡ state_view known.old) }
+    ensures known { MatchResult result (λ _. state_view known.new ≡ followed (state_view known.old) told.now) (λ _. state_view known.new ≡ state_view known.old) }
     ensures log { log.new.items ≡ log.old.items }
     ensures room { OnOk result (vec_len log.new < vec_capacity log.new) }
 {
     log.reserve(1)?;
-    follow_entry(alloc, known, entry)
+    follow_entry(alloc, known, told)
 }

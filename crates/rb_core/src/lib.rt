@@ -19,7 +19,7 @@ mod taking;
 pub use follower::Follower;
 pub use machine::Core;
 pub use rb_known::OpenBatch;
-pub use rb_machine::{CoreError, Entry, Event, Ready, Reply, Scan, SharedEntry, scan};
+pub use rb_machine::{CoreError, Entry, Event, Ready, Reply, Scan, SharedEntry, Told, scan};
 pub use rb_task::{
     Batch, Draft, JobView, Message, PathTask, Plan, Planned, Sending, Task, answer, draft,
 };

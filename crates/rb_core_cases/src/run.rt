@@ -229,7 +229,7 @@ impl<A: Allocator + Copy> Run<A> {
             Ok(view) => view,
             Err(refusal) => return reply_text(texts, Err(refusal)).ok(),
         };
-        let scan = scan(&view, part).ok()?;
+        let scan = scan(view, part).ok()?;
         let text = scan_text(texts, &scan).ok()?;
         self.kept.push(Event::Scanned { path, scan }).ok()?;
         Some(text)

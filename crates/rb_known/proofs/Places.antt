@@ -1,11 +1,23 @@
 -- Lists by their places, seen through a view of their elements.
-use Rattle.std.proofs.Common.{◌≡◌, ℕ, zero, suc, ◌<◌, List, [], ◌∷◌, Some, IsSomeAnd, length, map, get_or, set, sym, ap, ◌∙◌, subst}
+use Rattle.std.proofs.Common.{◌≡◌, ℕ, zero, suc, ◌<◌, ◌==◌, List, [], ◌∷◌, Some, Ok, IsSomeAnd, length, map, get_or, set, refl, sym, ap, ◌∙◌, subst, arith}
 use Rattle.std.specs.List.{slice_get}
 use Rattle.std.specs.Option.{option_map_or}
 use Rattle.std.proofs.lemmas.List.{get_or-set_same, map-set, length-set, length-map, get_or-map, get_or_default}
 use Rattle.std.proofs.Math.Seq.{map-set_same}
-use Rattle.std.proofs.lemmas.Option.{slice_get-get_or}
+use Rattle.std.specs.Cmp.{nat_cmp_is}
+use Rattle.std.specs.List.Sorted.{IsStrictlyIncreasing}
+use Rattle.std.specs.Ordering.{nat_cmp}
+use Rattle.std.specs.declared.cmp.Ordering.TheVariants.{Equal}
+use Rattle.std.proofs.lemmas.Option.{none-some, same_Some, slice_get-get_or}
+use Rattle.rb_book.specs.Search.{IsKnownPlace}
+use Rattle.rb_book.proofs.Places.{IsPlace-from_number_search}
 use Rattle.rb_machine.specs.Standing.{changed_at}
+
+-- what is at a place is there, whatever stands for one past the end
+pub at_place : {X : Type 0} (xs : List X) (i : ℕ) (x : X) → slice_get xs i ≡ Some x → (i < length xs) × ((d : X) → get_or xs i d ≡ x)
+at_place [] i x e = absurd (none-some x e)
+at_place (y ∷ xs) zero x e = (omega arith, λ d. same_Some y x e)
+at_place (y ∷ xs) (suc i) x e = let rest = at_place xs i x e in (omega (arith, rest.0), rest.1)
 
 -- the element that is read at a place
 pub found : {X : Type 0} (xs : List X) (i : ℕ) (x : X) → i < length xs → x ≡ get_or xs i x → slice_get xs i ≡ Some x
@@ -54,3 +66,10 @@ there view xs i x d lt at =
 -- what a change of it makes of the views
 pub seen_set : {X Y : Type 0} (view : X → Y) (f : Y → Y) (xs : List X) (i : ℕ) (x y : X) (d : Y) → i < length xs → x ≡ get_or xs i x → view y ≡ f (view x) → map view (set xs i y) ≡ set (map view xs) i (f (get_or (map view xs) i d))
 seen_set view f xs i x y d lt at e = map-set view xs i y ∙ ap (set (map view xs) i) (e ∙ ap f (sym (there view xs i x d lt at)))
+
+-- where keys rise, the element with a key stands where it was found
+pub known_here : {X : Type 0} (key : X → ℕ) (k : ℕ) (xs : List X) (i : ℕ) (x : X) → IsStrictlyIncreasing (map key xs) → slice_get xs i ≡ Some x → key x ≡ k
+    → IsKnownPlace (λ y. key y == k) xs i
+known_here {X} key k xs i x up at same =
+    let p = at_place xs i x at in
+    IsPlace-from_number_search key k xs (Ok i) up p.0 (λ d. ap (λ (y : X). nat_cmp (key y) k) (p.1 d) ∙ ap (λ n. nat_cmp n k) same ∙ sym (nat_cmp_is k k Equal refl))

@@ -1,8 +1,8 @@
 //! Look-ups among the packets of a path.
-ghost use Rattle.std.specs.Prelude.{◌≡◌, ◌==◌, ◌+◌, ◌≤◌, false, nat_lt, map, find, vec_len, vec_capacity};
+ghost use Rattle.std.specs.Prelude.{◌≡◌, ◌==◌, ◌+◌, ◌≤◌, false, IfSome, nat_lt, map, find, vec_len, vec_capacity};
 ghost use Rattle.std.specs.List.Sorted.{IsStrictlyIncreasing};
 ghost use Rattle.std.specs.Option.{option_map_or, option_copied};
-ghost use Rattle.rb_book.specs.Search.{IsPlace};
+ghost use Rattle.rb_book.specs.Search.{IsKnownPlace, IsPlace};
 ghost use Rattle.rb_scan.specs.Packet.{Packet, is_finished};
 ghost use Rattle.rb_scan.specs.Path.{sequences_of};
 ghost use Rattle.rb_known.specs.Marked.{mark_by};
@@ -12,11 +12,29 @@ use crate::mark::Mark;
 use rb_scan::Packet;
 use std::alloc::Allocator;
 
+/// The place of the packet with this sequence, where it is as far from the first packet as its sequence
+/// is from the first one's: so it is where no sequence was left out.
+fn place_in_turn(packets: &[Packet], sequence: u64) -> Option<usize>
+    requires { IsStrictlyIncreasing (sequences_of packets.now) }
+    ensures { IfSome result (IsKnownPlace (λ (p : Packet). p.sequence == sequence) packets.now) }
+{
+    let first = packets.first()?.sequence().get();
+    let place = sequence.checked_sub(first)? as usize;
+    if packets.get(place)?.sequence().get() == sequence {
+        Some(place)
+    } else {
+        None
+    }
+}
+
 /// The place of the packet with this sequence, or else the place where one belongs.
 pub(crate) fn place(packets: &[Packet], sequence: u64) -> Result<usize, usize>
     requires { IsStrictlyIncreasing (sequences_of packets.now) }
     ensures { IsPlace (λ (p : Packet). p.sequence == sequence) (λ (p : Packet). nat_lt p.sequence sequence) packets.now result }
 {
+    if let Some(place) = place_in_turn(packets, sequence) {
+        return Ok(place);
+    }
     packets.binary_search_by_key(
         &sequence,
         |packet: &Packet| -> u64

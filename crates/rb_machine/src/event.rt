@@ -4,7 +4,7 @@ ghost use Rattle.rb_machine.specs.Event.{IsEvent};
 ghost use Rattle.rb_machine.specs.Seen.{event_view};
 
 use crate::rules::observation_is_event;
-use crate::seen::{Scan, copy_scan};
+use crate::seen::Scan;
 use rb_base::Window;
 use rb_events::{Asked, Observation, Settlement};
 use rb_task::Draft;
@@ -29,8 +29,8 @@ pub enum Event<A: Allocator = Global> {
 }
 
 impl<A: Allocator + Copy> Event<A> {
-    /// An equal event, on the allocator of this one; the book of a plan is shared. An error comes
-    /// only where a growth is refused.
+    /// An equal event, on the allocator of this one; a scan and the book of a plan are shared. An
+    /// error comes only where a growth is refused.
     pub fn copy(&self) -> Result<Event<A>, AllocError>
         ensures { IfOk result (λ event. event_view event ≡ event_view self.now) }
     {
@@ -40,7 +40,7 @@ impl<A: Allocator + Copy> Event<A> {
             Event::Observed(observation) => Event::Observed(observation.copy()?),
             Event::Scanned { path, scan } => Event::Scanned {
                 path: *path,
-                scan: copy_scan(scan)?,
+                scan: scan.share()?,
             },
             Event::Planned(draft) => Event::Planned(draft.copy()?),
             Event::Settled(settlement) => Event::Settled(*settlement),

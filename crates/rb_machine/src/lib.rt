@@ -14,13 +14,15 @@ mod scanning;
 mod scans;
 mod seen;
 mod shared_entry;
+mod told;
 
 pub use entry::{Entry, copy_answer};
 pub use error::CoreError;
 pub use event::Event;
 pub use ready::Ready;
 pub use reply::Reply;
-pub use scanning::{into_scan, scan};
+pub use scanning::scan;
 pub use scans::Scans;
-pub use seen::{Scan, copy_scan};
+pub use seen::Scan;
 pub use shared_entry::{SharedEntry, share_entries};
+pub use told::Told;

@@ -5,17 +5,12 @@ use crate::seen::Scan;
 use rb_scan::{Part, PathView, ScanError, owed_part};
 use std::alloc::Allocator;
 
-/// What a part of a path owes as the path is seen. `NoMemory` where a growth is refused.
-pub fn scan<A: Allocator + Copy>(view: &PathView<A>, part: Part) -> Result<Scan<A>, ScanError>
-    ensures { IfOk result (λ scan. scan ≡ record { view = view.now; part = part }) }
-{
-    into_scan(view.copy()?, part)
-}
-
-/// The same, where the view goes into the scan. `NoMemory` where a growth is refused.
-pub fn into_scan<A: Allocator + Copy>(view: PathView<A>, part: Part) -> Result<Scan<A>, ScanError>
+/// What a part of a path owes as the path is seen; the view goes into the scan. `NoMemory` where a
+/// growth is refused.
+pub fn scan<A: Allocator + Copy>(view: PathView<A>, part: Part) -> Result<Scan<A>, ScanError>
     ensures { IfOk result (λ scan. scan ≡ record { view = view; part = part }) }
 {
     let owed = owed_part(&view, part)?;
-    Ok(Scan::new(view, part, owed))
+    let scan = Scan::new(view, part, owed)?;
+    Ok(scan)
 }

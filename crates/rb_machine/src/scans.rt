@@ -4,7 +4,7 @@ ghost use Rattle.std.specs.Option.{option_map, option_copied};
 ghost use Rattle.rb_machine.specs.Machine.{no_scans, scan_of, with_scan};
 ghost use Rattle.rb_machine.specs.Scan.{Scan};
 
-use crate::seen::{Scan, copy_scan};
+use crate::seen::Scan;
 use rb_scan::Part;
 use std::alloc::{AllocError, Allocator, Global};
 use std::marker::Model;
@@ -62,24 +62,24 @@ impl<A: Allocator> Scans<A> {
     }
 }
 
-/// An equal scan, if there is one.
-fn copy_last<A: Allocator + Copy>(scan: &Option<Scan<A>>) -> Result<Option<Scan<A>>, AllocError>
+/// The same scan for one more owner, if there is one.
+fn share_last<A: Allocator>(scan: &Option<Scan<A>>) -> Result<Option<Scan<A>>, AllocError>
     ensures { IfOk result (λ copy. copy ≡ scan.now) }
 {
     Ok(match scan {
-        Some(scan) => Some(copy_scan(scan)?),
+        Some(scan) => Some(scan.share()?),
         None => None,
     })
 }
 
-impl<A: Allocator + Copy> Scans<A> {
-    /// Equal scans, on the same allocators. An error comes only where a growth is refused.
+impl<A: Allocator> Scans<A> {
+    /// The same scans, which share what was seen. Takes no memory; the error is that too many share it.
     pub fn copy(&self) -> Result<Scans<A>, AllocError>
         ensures { IfOk result (λ copy. copy ≡ self.now) }
     {
         Ok(Scans {
-            packets: copy_last(&self.packets)?,
-            channel: copy_last(&self.channel)?,
+            packets: share_last(&self.packets)?,
+            channel: share_last(&self.channel)?,
         })
     }
 }

@@ -2,19 +2,20 @@
 ghost use Rattle.std.specs.Prelude.{◌≡◌, IfOk};
 ghost use Rattle.rb_scan.specs.Owed.{owed_part};
 
-use rb_scan::{PacketMsg, Part, PathView, ScanError};
+use rb_scan::{PacketMsg, Part, PathView};
 use std::alloc::{AllocError, Allocator, Global};
 use std::marker::Model;
+use std::sync::Arc;
 
-/// The messages that a part of a path owes, with the path as it was seen.
-#[derive(Debug, Drop)]
-pub struct Scan<A: Allocator = Global> {
+/// What the owners of a scan share.
+#[derive(Drop)]
+struct Seen<A: Allocator = Global> {
     view: PathView<A>,
     part: Part,
     owed: Vec<PacketMsg, A>,
 }
 
-impl<A: Allocator> Model for Scan<A> {
+impl<A: Allocator> Model for Seen<A> {
     ghost use Rattle.std.specs.Prelude.{◌≡◌};
     ghost use Rattle.rb_scan.specs.Owed.{owed_part};
     ghost use Rattle.rb_machine.specs.Scan as scans;
@@ -26,57 +27,91 @@ impl<A: Allocator> Model for Scan<A> {
     ghost invariant = { λ s. s.owed.items ≡ owed_part s.view s.part };
 }
 
-impl<A: Allocator> Scan<A> {
-    /// The scan of a part, whose messages these are.
-    pub(crate) fn new(view: PathView<A>, part: Part, owed: Vec<PacketMsg, A>) -> Scan<A>
-        requires { owed.items ≡ owed_part view part }
-        ensures { result ≡ record { view = view; part = part } }
-    {
-        Scan { view, part, owed }
-    }
-
+impl<A: Allocator> Seen<A> {
     /// The path as it was seen.
-    pub fn view(&self) -> &PathView<A>
+    fn view(&self) -> &PathView<A>
         ensures { result.now ≡ self.now.view }
     {
         &self.view
     }
 
     /// The part.
-    pub fn part(&self) -> Part
+    fn part(&self) -> Part
         ensures { result ≡ self.now.part }
     {
         self.part
     }
 
     /// The messages that it owes.
-    pub fn owed(&self) -> &[PacketMsg]
+    fn owed(&self) -> &[PacketMsg]
         ensures { result.now ≡ owed_part self.now.view self.now.part }
     {
         self.owed.as_slice()
     }
 }
 
-impl<A: Allocator + Copy> Scan<A> {
-    /// An equal scan, on the same allocator; `NoMemory` where a growth is refused.
-    pub fn copy(&self) -> Result<Scan<A>, ScanError>
-        ensures { IfOk result (λ copy. copy ≡ self.now) }
+/// The messages that a part of a path owes, with the path as it was seen. It may have several owners,
+/// which share both.
+#[derive(Drop)]
+pub struct Scan<A: Allocator = Global> {
+    seen: Arc<Seen<A>, A>,
+}
+
+impl<A: Allocator> Model for Scan<A> {
+    ghost use Rattle.std.specs.Arc.{arc_value};
+    ghost use Rattle.rb_machine.specs.Scan as scans;
+
+    ghost Value = { scans.Scan };
+
+    ghost view = { λ s. arc_value s.seen };
+}
+
+impl<A: Allocator> Scan<A> {
+    /// The path as it was seen.
+    pub fn view(&self) -> &PathView<A>
+        ensures { result.now ≡ self.now.view }
     {
-        let alloc = *self.owed.allocator();
+        self.seen.view()
+    }
+
+    /// The part.
+    pub fn part(&self) -> Part
+        ensures { result ≡ self.now.part }
+    {
+        self.seen.part()
+    }
+
+    /// The messages that it owes.
+    pub fn owed(&self) -> &[PacketMsg]
+        ensures { result.now ≡ owed_part self.now.view self.now.part }
+    {
+        self.seen.owed()
+    }
+
+    /// The same scan, for one more owner. Takes no memory; the error is that too many share it.
+    pub fn share(&self) -> Result<Scan<A>, AllocError>
+        ensures { IfOk result (λ scan. scan ≡ self.now) }
+    {
         Ok(Scan {
-            view: self.view.copy()?,
-            part: self.part,
-            owed: Vec::from_slice(alloc, self.owed.as_slice())?,
+            seen: Arc::try_clone(&self.seen)?,
         })
     }
 }
 
-/// An equal scan, on the same allocator. An error comes only where a growth is refused.
-pub fn copy_scan<A: Allocator + Copy>(scan: &Scan<A>) -> Result<Scan<A>, AllocError>
-    ensures { IfOk result (λ copy. copy ≡ scan.now) }
-{
-    match scan.copy() {
-        Ok(copy) => Ok(copy),
-        Err(ScanError::NoMemory) => Err(AllocError),
+impl<A: Allocator + Copy> Scan<A> {
+    /// The scan of a part, whose messages these are. An error comes only where a growth is refused.
+    pub(crate) fn new(
+        view: PathView<A>,
+        part: Part,
+        owed: Vec<PacketMsg, A>,
+    ) -> Result<Scan<A>, AllocError>
+        requires { owed.items ≡ owed_part view part }
+        ensures { IfOk result (λ scan. scan ≡ record { view = view; part = part }) }
+    {
+        let alloc = *owed.allocator();
+        let seen = Seen { view, part, owed };
+        Ok(Scan {
+            seen: Arc::new(alloc, seen)?,
+        })
     }
 }

@@ -33,8 +33,8 @@ fn view_of<A: Allocator + Copy, M: Machine<A>>(
 }
 
 /// The scan of a part of a path.
-fn scan_of<A: Allocator + Copy>(view: &PathView<A>, part: Part) -> Result<Scan<A>, AllocError>
-    ensures { IfOk result (λ scan. scan ≡ record { view = view.now; part = part }) }
+fn scan_of<A: Allocator + Copy>(view: PathView<A>, part: Part) -> Result<Scan<A>, AllocError>
+    ensures { IfOk result (λ scan. scan ≡ record { view = view; part = part }) }
 {
     match scan(view, part) {
         Ok(scan) => Ok(scan),
@@ -83,7 +83,7 @@ fn scan_here<R: Threads + Sync, G: Gate + Sync, A: Allocator + Copy, M: Machine<
 {
     let view = view_of(relayer, path)?;
     crew.before(Place::Scan(path, part));
-    let scan = scan_of(&view, part)?;
+    let scan = scan_of(view, part)?;
     crew.after(Place::Scan(path, part));
     note(relayer, Event::Scanned { path, scan })?;
     Ok(())

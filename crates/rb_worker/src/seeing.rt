@@ -27,7 +27,7 @@ pub(crate) fn scan_seen<A: Allocator + Copy>(
     ensures refused { IfErr result (λ e. IsUnseen e desk.new (path_view_refusal (state_of desk.new.config desk.new.seen) path)) }
 {
     let view = desk.view_path(path)?;
-    match scan(&view, part) {
+    match scan(view, part) {
         Ok(scan) => Ok(scan),
         Err(ScanError::NoMemory) => Err(DeskError::NoMemory),
     }

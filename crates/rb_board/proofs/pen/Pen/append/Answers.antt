@@ -20,7 +20,7 @@ invariant_of-self-2 g c =
       config_same = (λ j. (desk j).shown.value.follower.config) ∙ i.config_same ∙ sym after;
       published = subst (λ d. IsOfLog d.shown.value.follower) (sym desk) i.published;
       leads = appends old.desk.shown.value.follower c.self.inside.head.config c.self.inside.head.log c.settle.new.self.log (pending old) (pending new)
-          c.in_ok-entry.entry c.in_ok-ready.ready.event i.config_same i.leads
+          c.in_ok-told.told c.in_ok-ready.ready.event i.config_same i.leads
           ((λ j. refusal_of (state_of (sym config j) (sym log j)) c.in_ok-ready.ready.event) ∙ c.in_ok-ready.ensures.ready.accepted)
           (search rules) (search rules) (search rules)
           ∙ (λ j. events_in (followed_on (sym desk j).shown.value.follower (pending new)));

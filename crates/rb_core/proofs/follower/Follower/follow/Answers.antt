@@ -1,6 +1,6 @@
 use Rattle.std.proofs.Common.{◌≡◌, List, [], ◌∷◌, ◌++◌, sym, ap, ◌∙◌, subst}
 use Rattle.rb_events.specs.Config.{config_view}
-use Rattle.rb_core.specs.Follower.{Follower, followed, followed_by}
+use Rattle.rb_core.specs.Follower.{Follower, followed_by}
 use Rattle.rb_core.specs.Known.{state_view}
 use Rattle.rb_machine.specs.Entry.{Logged}
 use Rattle.rb_machine.specs.Kept.{IsKept}
@@ -13,17 +13,16 @@ follow_for-requires g c =
     subst IsKept (sym c.self.invariant.1) (kept_of_entries (config_view inside.config) inside.log.items c.self.invariant.0)
 
 -- the entries, and the next one
-more : (old kept new : List Logged) (entry : Logged) → kept ≡ old → new ≡ kept ++ entry ∷ [] → new ≡ old ++ entry ∷ []
-more old kept new entry same put = put ∙ ap (λ (xs : List Logged). xs ++ entry ∷ []) same
+more : (old kept new : List Logged) (put entry : Logged) → kept ≡ old → put ≡ entry → new ≡ kept ++ put ∷ [] → new ≡ old ++ entry ∷ []
+more old kept new put entry same is e = e ∙ λ i. same i ++ is i ∷ []
 
 pub invariant_of-self : goal.invariant_of-self
 invariant_of-self g c =
     let inside = c.self.inside in (
       c.self.invariant.0,
-      follows_on (config_view inside.config) inside.log.items c.push_reserved.new.self.items c.args.entry
-          (state_view inside.known) (state_view c.follow_for.new.known) c.self.invariant.1
-          (c.in-Ok.ensures.known ∙ ap (followed (state_view inside.known)) c.entry.ensures)
-          (more inside.log.items c.follow_for.new.log.items c.push_reserved.new.self.items c.args.entry c.in-Ok.ensures.log c.push_reserved.ensures.items),
+      follows_on (config_view inside.config) inside.log.items c.push_reserved.new.self.items c.args.told
+          (state_view inside.known) (state_view c.follow_for.new.known) c.self.invariant.1 c.in-Ok.ensures.known
+          (more inside.log.items c.follow_for.new.log.items c.push_reserved.new.self.items c.into_entry.result c.args.told c.in-Ok.ensures.log c.into_entry.ensures c.push_reserved.ensures.items),
     )
 
 pub invariant_of-self-in-Err : goal.invariant_of-self-in-Err
@@ -33,5 +32,5 @@ invariant_of-self-in-Err g c =
 
 pub returns-in-Ok-clause-entries : goal.returns-in-Ok-clause-entries
 returns-in-Ok-clause-entries g c =
-    more c.self.inside.log.items c.follow_for.new.log.items c.push_reserved.new.self.items c.args.entry c.in-Ok.ensures.log c.push_reserved.ensures.items
-    ∙ ap (λ (f : Follower). f.entries ++ c.args.entry ∷ []) c.self.view_is
+    more c.self.inside.log.items c.follow_for.new.log.items c.push_reserved.new.self.items c.into_entry.result c.args.told c.in-Ok.ensures.log c.into_entry.ensures c.push_reserved.ensures.items
+    ∙ ap (λ (f : Follower). f.entries ++ c.args.told ∷ []) c.self.view_is

@@ -6,6 +6,6 @@ use Rattle.rb_machine.proofs.scans.Scans.copy.Goals as goal
 
 pub invariant_of-result : goal.invariant_of-result
 invariant_of-result g c = (
-  subst (λ (o : Option Scan). ForSome o (λ (x : Scan). x.part ≡ Packets)) (sym c.in_ok-copy_last.ensures) c.self.invariant.0,
-  subst (λ (o : Option Scan). ForSome o (λ (x : Scan). x.part ≡ Channel)) (sym c.in_ok-copy_last-2.ensures) c.self.invariant.1,
+  subst (λ (o : Option Scan). ForSome o (λ (x : Scan). x.part ≡ Packets)) (sym c.in_ok-share_last.ensures) c.self.invariant.0,
+  subst (λ (o : Option Scan). ForSome o (λ (x : Scan). x.part ≡ Channel)) (sym c.in_ok-share_last-2.ensures) c.self.invariant.1,
 )
