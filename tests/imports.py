@@ -1,8 +1,8 @@
 """Runs of `import` over made-up answers, compared with a plain reading of them (answers.py), and over answers that are spoiled.
 
 For each seed the script that `import` writes has the values of the plain reading, for one client, and for two clients, a path
-and two turns; `plan` of that script is what the reference planner says. Then each answer that is spoiled in one place has its
-error, which names the file, and nothing is written."""
+and two turns; `plan` of that script is what the reference planner says. Where headers or next sets are missing, the script is written,
+and a line tells each. Then each answer that is spoiled in one place has its error, which names the file, and nothing is written."""
 import json
 import random
 import re
@@ -63,6 +63,18 @@ def example_cases():
     script = answers.script_of(setup.read_text(), folder)
     yield Case("the example's import", ["import", str(setup), str(folder)], b"", script, b"", 0, reader=values_of)
     yield Case("the example's plan", ["plan", "-"], answers.in_toml(script), (EXAMPLE / "setup.report").read_bytes(), b"", 0)
+
+
+def notice_cases(top):
+    """Answers that lack headers or next sets: each line tells one, and the script is written."""
+    setup, text = top / "lacking.toml", setups(2)[0]
+    setup.write_text(text)
+    for number, (change, lines) in enumerate(NOTICES):
+        folder = top / f"lacking-{number}"
+        answers.make(folder, 1, between=0)
+        change(folder)
+        lines = [line.format(folder=folder).encode() for line in lines]
+        yield Case(f"lacking answers {number}", ["import", str(setup), str(folder)], b"", answers.script_of(text, folder), lines[0], 0, reader=values_of, named=(b"".join(lines),))
 
 
 # ---- spoiled answers
@@ -204,8 +216,8 @@ def written(file, text):
     return lambda folder: (folder / file).write_text(text)
 
 
-def removed(file):
-    return lambda folder: (folder / file).unlink()
+def removed(*files):
+    return lambda folder: [(folder / file).unlink() for file in files]
 
 
 def removed_folder(name):
@@ -230,6 +242,7 @@ CHANGES = [
     (moved(COMMIT_FILE, "hub-4/again\n.json", copy=True), "refused TwoAnswers at hub-4 80", 1, [COMMIT_FILE, r"hub-4/again\u{a}.json"]),
     (moved(PAGE_FILE, "hub-4/again.json", copy=True), "refused TooManyValidators at hub-4 80", 1, ["hub-4/again.json"]),
     (removed("hub-4/validators-80-2.json"), "refused MissingPage at hub-4 80", 1, [COMMIT_FILE, PAGE_FILE]),
+    (removed(PAGE_FILE, "hub-4/validators-80-2.json"), "refused MissingSet at hub-4 80", 1, [COMMIT_FILE, "/validators?height=80&per_page=100 into files *.json of the folder hub-4\n"]),
     (edited(PAGE_FILE, put("result.block_height", "79")), "refused MissingPage at hub-4 80", 1, [COMMIT_FILE, "hub-4/validators-80-2.json"]),
     (removed(STATE_FILE), "refused MissingClientState at hub-on-zone", 1, ["client_states/ID"]),
     (moved(STATE_FILE, "hub-on-zone/again.json", copy=True), "refused TwoAnswers at hub-on-zone 0", 1, [STATE_FILE, "again.json"]),
@@ -241,6 +254,17 @@ CHANGES = [
     (moved("transfers/received.json", "transfers/again.json", copy=True), "refused TwoAnswers at transfers 2", 1, ["received.json", "again.json"]),
     (removed_folder("hub-4"), "device", 4, ["hub-4"]),
     (removed_folder("transfers"), "device", 4, ["transfers"]),
+]
+
+
+NEXT_SET = ("notice MissingNextSet at hub-on-zone %d: {folder}/hub-on-zone/consensus_states.json: no answer has the next validators, so that no "
+            "update starts from this record; fetch all pages of /validators?height=%d&per_page=100 into files *.json of the folder hub-4\n")
+# changes of the folder after which the script is written all the same, and the lines that tell what isn't there
+NOTICES = [
+    (edited(STORED_FILE, put(f"{CONSENSUS}.consensus_state.next_validators_hash", "00" * 32)), [NEXT_SET % (1, 2)]),
+    (lambda folder: [file.unlink() for file in (folder / "hub-4").glob("*.json")], [
+        "notice MissingHeaders at hub-4: no answer is of /commit, so that there is nothing to update to; fetch /commit and /validators of some "
+        "heights into files *.json of the folder hub-4\n", NEXT_SET % (1, 2), NEXT_SET % (80, 81)]),
 ]
 
 
@@ -291,6 +315,7 @@ def import_cases(top, seeds):
     for seed in range(1, seeds + 1):
         yield from seed_cases(top, seed)
     yield from example_cases()
+    yield from notice_cases(top)
     yield from spoiled_cases(top)
 
 

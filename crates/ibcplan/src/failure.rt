@@ -36,8 +36,10 @@ pub enum Failure<'a> {
         flaw: Flaw<'a>,
     },
     /// Standard output fails.
-    #[error("device\nStandard output can't be written; what it took may be only a beginning.")]
-    Unwritten,
+    #[error("device\nstandard output: {error}\nIt can't be written; what it took may be only a beginning.")]
+    Unwritten {
+        error: io::Error,
+    },
     /// Memory is wanting.
     #[error("no memory\nThe system gives no more (as `ulimit -v` bounds it); what standard output took may be only a beginning.")]
     NoMemory,
@@ -51,8 +53,22 @@ impl<'a> Failure<'a> {
                 let flaw = flaw_of(&mut fault, input);
                 Failure::Refused { fault, flaw }
             }
-            RunError::Device => Failure::Unwritten,
+            RunError::Device => Failure::untaken(),
             RunError::NoMemory => Failure::NoMemory,
+        }
+    }
+
+    /// Standard output takes nothing, and gives no reason.
+    pub fn untaken() -> Failure<'a> {
+        let error = io::Error::from(io::ErrorKind::WriteZero);
+        Failure::Unwritten { error }
+    }
+
+    /// The failure, with the reason that standard output gave where it fails.
+    pub fn because_of(self, reason: Option<io::Error>) -> Failure<'a> {
+        match (self, reason) {
+            (Failure::Unwritten { .. }, Some(error)) => Failure::Unwritten { error },
+            (failure, _) => failure,
         }
     }
 
@@ -74,7 +90,7 @@ impl<'a> Failure<'a> {
             Failure::Refused { .. } | Failure::RefusedAnswers(_) => status::REFUSED,
             Failure::Unreadable { .. }
             | Failure::UnreadableAnswers { .. }
-            | Failure::Unwritten
+            | Failure::Unwritten { .. }
             | Failure::NoMemory => status::FAILED,
         }
     }

@@ -3,18 +3,25 @@ use crate::failure::Failure;
 use crate::host::Host;
 use crate::input::{Input, bytes_of};
 use crate::shown::shown_text;
-use rb_import::{ImportError, Saved, SavedAnswers, SavedError, compose, read_saved};
+use rb_import::{Composed, ImportError, Saved, SavedAnswers, SavedError, compose, read_saved};
 use rb_setup::{Setup, read_setup};
 use std::alloc::{AllocError, Global};
 use std::fs::File;
 use std::{fs, io};
 
-/// The text of the script that a setup and the answers in a folder make.
+/// The text of a script, and the lines that tell which answers aren't there.
+#[derive(Drop)]
+pub struct ImportedText {
+    pub script: String,
+    pub notices: String,
+}
+
+/// The script that a setup and the answers in a folder make.
 pub fn imported<'a, R: Host>(
     rt: &R,
     input: &Input<'a>,
     folder: &str,
-) -> Result<String, Failure<'a>> {
+) -> Result<ImportedText, Failure<'a>> {
     let alloc = rt.alloc();
     let setup = match read_setup(alloc, input.bytes()) {
         Ok(setup) => setup,
@@ -22,7 +29,13 @@ pub fn imported<'a, R: Host>(
     };
     let answers = read_answers(rt, &setup, folder)?;
     match compose(alloc, &setup, &answers) {
-        Ok(text) => Ok(text),
+        Ok(Composed { text, notices }) => match format!(in alloc; "{notices}") {
+            Ok(notices) => Ok(ImportedText {
+                script: text,
+                notices,
+            }),
+            Err(_) => Err(Failure::NoMemory),
+        },
         Err(error) => Err(refusal(alloc, &error)),
     }
 }

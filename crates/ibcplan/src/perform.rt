@@ -1,10 +1,10 @@
-//! The tasks done: files are read, results go to standard output, failures to standard error.
+//! The tasks done: files are read, results go to standard output, failures and notices to standard error.
 ghost use Rattle.std.specs.Prelude.{◌≡◌, ◌⊎◌, false, IfOk};
 ghost use Rattle.ibcplan.specs.Status.{IsPlanned, IsConfirmed, IsDenied};
 
 use crate::failure::Failure;
 use crate::host::Host;
-use crate::importing::imported;
+use crate::importing::{ImportedText, imported};
 use crate::input::Input;
 use crate::progress::Progress;
 use crate::status;
@@ -44,8 +44,8 @@ pub fn show<R: Print + Eprint>(rt: &R, message: &clap::Error) -> u8 {
     match message.print(rt) {
         Ok(()) if message.use_stderr() => status::COMMAND_LINE,
         Ok(()) => status::DONE,
-        Err(_) => {
-            let _ = eprintln!(rt; "{}", Failure::Unwritten);
+        Err(error) => {
+            let _ = eprintln!(rt; "{}", Failure::Unwritten { error });
             status::FAILED
         }
     }
@@ -57,38 +57,13 @@ pub fn no_memory<R: Eprint>(rt: &R) -> u8 {
     status::FAILED
 }
 
-/// Reads the files of a task, does it, and sends on what the writer may still hold.
+/// Does a task, and sends on what the writer may still hold; then what is to be told of the results stands
+/// on standard error.
 fn outcome_of<'a, R: Host>(rt: &R, task: Task<'a>, is_watched: bool) -> Result<u8, Failure<'a>> {
     let mut output = Tally::new(Counted::new(io::writer(rt)));
-    let status = match task {
-        Task::Plan { script, workers } => {
-            let script = Input::read(rt, script)?;
-            let progress = Progress::new(*rt, is_watched);
-            plan(rt, rt.alloc(), &script, workers, progress, &mut output)?
-        }
-        Task::PlanJson { script } => {
-            let script = Input::read(rt, script)?;
-            let text = planned_text(rt, rt.alloc(), &script, Form::Json)?;
-            write(&text, &mut output)?
-        }
-        Task::Commands { script } => {
-            let script = Input::read(rt, script)?;
-            let text = planned_text(rt, rt.alloc(), &script, Form::Commands)?;
-            write(&text, &mut output)?
-        }
-        Task::Import { setup, folder } => {
-            let setup = Input::read(rt, setup)?;
-            let script = imported(rt, &setup, folder)?;
-            write(&script, &mut output)?
-        }
-        Task::Certify {
-            script,
-            certificate,
-        } => {
-            let script = Input::read(rt, script)?;
-            let certificate = Input::read(rt, certificate)?;
-            certify(rt, rt.alloc(), &script, &certificate, &mut output)?
-        }
+    let done = match done_of(rt, task, is_watched, &mut output) {
+        Ok(done) => done,
+        Err(failure) => return Err(failure.because_of(output.error())),
     };
     let refused = output.refused();
     flush(output.into_inner())?;
@@ -97,7 +72,73 @@ fn outcome_of<'a, R: Host>(rt: &R, task: Task<'a>, is_watched: bool) -> Result<u
             "refused events: {refused}; their lines in the report begin with 'refused event'"
         );
     }
-    Ok(status)
+    if let Some(notices) = &done.notices {
+        let _ = eprint!(rt; "{notices}");
+    }
+    Ok(done.status)
+}
+
+/// The status to end with, and lines to tell where the results were written.
+#[derive(Drop)]
+struct Done {
+    status: u8,
+    notices: Option<String>,
+}
+
+impl Done {
+    /// Done, with nothing to tell.
+    fn quietly(status: u8) -> Done {
+        Done {
+            status,
+            notices: None,
+        }
+    }
+}
+
+/// Reads the files of a task and does it.
+fn done_of<'a, R: Host, W: Sink>(
+    rt: &R,
+    task: Task<'a>,
+    is_watched: bool,
+    output: &mut W,
+) -> Result<Done, Failure<'a>>
+    requires { W.is_broken output.old ≡ false }
+{
+    let status = match task {
+        Task::Plan { script, workers } => {
+            let script = Input::read(rt, script)?;
+            let progress = Progress::new(*rt, is_watched);
+            plan(rt, rt.alloc(), &script, workers, progress, output)?
+        }
+        Task::PlanJson { script } => {
+            let script = Input::read(rt, script)?;
+            let text = planned_text(rt, rt.alloc(), &script, Form::Json)?;
+            write(&text, output)?
+        }
+        Task::Commands { script } => {
+            let script = Input::read(rt, script)?;
+            let text = planned_text(rt, rt.alloc(), &script, Form::Commands)?;
+            write(&text, output)?
+        }
+        Task::Import { setup, folder } => {
+            let setup = Input::read(rt, setup)?;
+            let ImportedText { script, notices } = imported(rt, &setup, folder)?;
+            let status = write(&script, output)?;
+            return Ok(Done {
+                status,
+                notices: Some(notices),
+            });
+        }
+        Task::Certify {
+            script,
+            certificate,
+        } => {
+            let script = Input::read(rt, script)?;
+            let certificate = Input::read(rt, certificate)?;
+            certify(rt, rt.alloc(), &script, &certificate, output)?
+        }
+    };
+    Ok(Done::quietly(status))
 }
 
 /// Writes the report of the script that a file holds, by so many workers, through a gate.
@@ -169,7 +210,7 @@ fn write<'a, W: Sink>(script: &String, output: &mut W) -> Result<u8, Failure<'a>
 {
     match write_whole(output, script.as_bytes()) {
         Ok(()) => Ok(status::DONE),
-        Err(_) => Err(Failure::Unwritten),
+        Err(_) => Err(Failure::untaken()),
     }
 }
 
@@ -203,6 +244,6 @@ fn certify<'a, R: Threads + Sync, W: Sink>(
 fn flush<'a, R: Print>(output: Counted<Printer<'_, R>>) -> Result<(), Failure<'a>> {
     match output.into_inner().flush() {
         Ok(()) => Ok(()),
-        Err(_) => Err(Failure::Unwritten),
+        Err(error) => Err(Failure::Unwritten { error }),
     }
 }

@@ -1,4 +1,4 @@
-//! How many events a report tells of that were refused, counted as it is written.
+//! What is told of a report once it is written: how many events were refused, and why its writer failed.
 use rb_base::Sink;
 use std::io;
 
@@ -32,11 +32,13 @@ impl Lines {
     }
 }
 
-/// A sink that counts the refused events in the report that it takes.
+/// A sink that counts the refused events in the report that it takes, and keeps the error of the write
+/// that failed.
 #[derive(Drop)]
 pub struct Tally<W> {
     inner: W,
     lines: Lines,
+    error: Option<io::Error>,
 }
 
 impl<W: Sink> Tally<W> {
@@ -52,6 +54,7 @@ impl<W: Sink> Tally<W> {
                 count: 0,
                 alike: Some(0),
             },
+            error: None,
         }
     }
 
@@ -60,11 +63,20 @@ impl<W: Sink> Tally<W> {
         self.lines.count
     }
 
+    /// The error of the last write that failed, unless that took nothing and gave none.
+    pub fn error(&self) -> Option<io::Error> {
+        self.error
+    }
+
     /// The sink.
     pub fn into_inner(self) -> W
         ensures { result ≡ self.inner }
     {
-        let Tally { inner, lines: _ } = self;
+        let Tally {
+            inner,
+            lines: _,
+            error: _,
+        } = self;
         inner
     }
 }
@@ -76,8 +88,9 @@ impl<W: Sink> Sink for Tally<W> {
 
     fn write(&mut self, piece: &[u8]) -> io::Result<usize> {
         let result = self.inner.write(piece);
-        if let Ok(taken) = &result {
-            self.lines.see_all(&piece[..*taken]);
+        match &result {
+            Ok(taken) => self.lines.see_all(&piece[..*taken]),
+            Err(error) => self.error = Some(*error),
         }
         result
     }

@@ -1,9 +1,11 @@
 //! The script of a setup and of answers.
-ghost use Rattle.std.specs.Prelude.{◌≡◌, ◌≤◌, ◌++◌, ℕ, List, length, IfOk, IfErr, string_bytes};
+ghost use Rattle.std.specs.Prelude.{◌≡◌, ◌≤◌, ◌++◌, ℕ, List, length, All, IfOk, IfErr, string_bytes};
 ghost use Rattle.rb_setup.specs.Limits.{max_bytes};
+ghost use Rattle.rb_import.specs.Notices.{IsChainOf, IsRecordOf};
 ghost use Rattle.rb_import.specs.Problems.{IsToldIn};
 ghost use Rattle.rb_import.specs.Texts.{warning};
 
+use crate::notice::{Notices, notices_of};
 use crate::text::push_script;
 use rb_seen::{
     ImportError, ProblemName, Saved, SavedAnswers, SeenChain, SeenClient, SeenPacket, seen_chain,
@@ -24,17 +26,51 @@ pub struct Seen<'a> {
     pub paths: Vec<Vec<SeenPacket<'a>>>,
 }
 
+impl Seen<'_> {
+    ghost use Rattle.std.specs.Prelude.{◌↔◌, IsTrue};
+    ghost use Rattle.rb_import.specs.Notices.{LacksHeaders, WasSeenOf};
+
+    /// Whether no header was seen of the chain at a place.
+    pub fn lacks_headers(&self, place: usize) -> bool
+        ensures { IsTrue result ↔ LacksHeaders self.now.chains.items place }
+    {
+        match self.chains.get(place) {
+            Some(chain) => chain.commits.is_empty(),
+            None => false,
+        }
+    }
+
+    /// Whether the set of this hash was seen of the chain at a place.
+    pub fn has_set(&self, place: usize, hash: &[u8; 32]) -> bool
+        ensures { IsTrue result ↔ WasSeenOf self.now.chains.items place hash.now }
+    {
+        match self.chains.get(place) {
+            Some(chain) => chain.sets.with_hash(hash).is_some(),
+            None => false,
+        }
+    }
+}
+
+/// A script's text, and what isn't among the answers that it was made of.
+#[derive(Drop)]
+pub struct Composed<'a> {
+    pub text: String,
+    pub notices: Notices<'a>,
+}
+
 /// The text of the script that a setup and the answers of its chains, clients and paths make, which
-/// begins with the line that says that signatures were not verified. The first problem is answered:
-/// of the chains, of the clients, then of the paths, each in order. `NoMemory` comes where a growth
-/// is refused.
+/// begins with the line that says that signatures were not verified; and what isn't among the answers,
+/// though the script stands without it. The first problem is answered: of the chains, of the clients,
+/// then of the paths, each in order. `NoMemory` comes where a growth is refused.
 pub fn compose<'a>(
     alloc: Global,
     setup: &'a Setup,
     answers: &'a SavedAnswers,
-) -> Result<String, ImportError<'a>>
-    ensures size { IfOk result (λ text. length (string_bytes text) ≤ max_bytes) }
-    ensures warning { IfOk result (λ text. (rest : List ℕ) × (string_bytes text ≡ warning ++ rest)) }
+) -> Result<Composed<'a>, ImportError<'a>>
+    ensures size { IfOk result (λ script. length (string_bytes script.text) ≤ max_bytes) }
+    ensures warning { IfOk result (λ script. (rest : List ℕ) × (string_bytes script.text ≡ warning ++ rest)) }
+    ensures headers { IfOk result (λ script. All (IsChainOf setup.entry.now) script.notices.headers.items) }
+    ensures records { IfOk result (λ script. All (IsRecordOf setup.entry.now) script.notices.next_sets.items) }
     ensures told { IfErr result (IsToldIn setup.entry.now) }
 {
     let seen = Seen {
@@ -48,7 +84,8 @@ pub fn compose<'a>(
     if text.len() > MAX_BYTES {
         return Err(ImportError::of(ProblemName::ScriptTooBig, "-"));
     }
-    Ok(text)
+    let notices = notices_of(alloc, setup, &seen)?;
+    Ok(Composed { text, notices })
 }
 
 /// The text that a script goes on with, behind the line that it begins with.

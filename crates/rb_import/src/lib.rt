@@ -3,7 +3,9 @@
 
 mod composing;
 mod event_text;
+mod notice;
 mod text;
 
-pub use composing::compose;
+pub use composing::{Composed, compose};
+pub use notice::{MissingHeaders, MissingNextSet, Notices};
 pub use rb_seen::{ImportError, Problem, ProblemName, Saved, SavedAnswers, SavedError, read_saved};

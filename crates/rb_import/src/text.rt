@@ -220,10 +220,7 @@ fn push_records(
     stored: &SeenClient<'_>,
 ) -> Result<(), AllocError> {
     for record in &stored.stored {
-        let is_next_known = match seen.chains.get(client.tracks) {
-            Some(chain) => chain.sets.with_hash(&record.state.next).is_some(),
-            None => false,
-        };
+        let is_next_known = seen.has_set(client.tracks, &record.state.next);
         push_stored(text, client.id.as_str(), record, is_next_known)?;
     }
     Ok(())

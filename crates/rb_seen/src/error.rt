@@ -78,7 +78,7 @@ impl ProblemName {
         }
     }
 
-    /// What is wrong, and what to do.
+    /// What is wrong, and what to do; of answers that are to be fetched for a height `Problem` tells which.
     pub fn advice(self) -> &'static str {
         match self {
             ProblemName::WrongFolder => {
@@ -90,25 +90,19 @@ impl ProblemName {
                 "the revision number isn't that of the chain's identifier; fetch the answer again, or mend the setup's chain"
             }
             ProblemName::TwoAnswers => "both tell of the same; keep one of the two",
-            ProblemName::OtherTotal =>
-                "the pages tell different totals; fetch all of /validators?height=HEIGHT again",
-            ProblemName::MissingPage => {
-                "pages are missing; fetch /validators?height=HEIGHT&per_page=100&page=1 and those after it"
-            }
+            ProblemName::OtherTotal => "the pages tell different totals",
+            ProblemName::MissingPage => "pages are missing",
             ProblemName::TooManyValidators => "a page is there twice; keep each page once",
-            ProblemName::BadSet =>
-                "these validators make no set; fetch all of /validators?height=HEIGHT again",
+            ProblemName::BadSet => "these validators make no set",
             ProblemName::OtherSet => {
                 "the set's hash isn't the header's validators_hash; fetch /commit and /validators of this height from one node"
             }
-            ProblemName::MissingSet => {
-                "no answer has the validators that the header names; fetch /validators?height=HEIGHT"
-            }
+            ProblemName::MissingSet => "no answer has the validators that the header names",
             ProblemName::SignatureCount => {
-                "the commit has another number of signatures than the set has validators; fetch /commit?height=HEIGHT again"
+                "the commit has another number of signatures than the set has validators"
             }
             ProblemName::OtherSigner => {
-                "a signature is of another validator than that of its place; fetch /commit?height=HEIGHT again"
+                "a signature is of another validator than that of its place"
             }
             ProblemName::MissingClientState => {
                 "the client's state isn't there, and the setup leaves out period_ns, drift_ns or trust; fetch /ibc/core/client/v1/client_states/ID"
@@ -142,6 +136,28 @@ pub struct Problem<'a> {
     pub other: Option<&'a str>,
 }
 
+impl Problem<'_> {
+    /// Writes which answers of a height are to be fetched, where such are wrong or missing, and into which
+    /// folder: a chain's has its identifier.
+    fn write_request<W: fmt::Write>(&self, f: &mut fmt::Formatter<W>, height: u64) -> fmt::Result {
+        let chain = self.object;
+        match self.name {
+            ProblemName::OtherTotal | ProblemName::BadSet => write!(
+                f,
+                "; fetch all pages of /validators?height={height}&per_page=100 again"
+            ),
+            ProblemName::MissingPage | ProblemName::MissingSet => write!(
+                f,
+                "; fetch all pages of /validators?height={height}&per_page=100 into files *.json of the folder {chain}"
+            ),
+            ProblemName::SignatureCount | ProblemName::OtherSigner => {
+                write!(f, "; fetch /commit?height={height} again")
+            }
+            _ => Ok(()),
+        }
+    }
+}
+
 impl fmt::Display for Problem<'_> {
     fn fmt<W: fmt::Write>(&self, f: &mut fmt::Formatter<W>) -> fmt::Result {
         let name = self.name.name();
@@ -155,8 +171,11 @@ impl fmt::Display for Problem<'_> {
             (Some(file), None) => write!(f, "{file}: ")?,
             _ => {}
         }
-        let advice = self.name.advice();
-        write!(f, "{advice}")
+        f.write_str(self.name.advice())?;
+        match self.number {
+            Some(height) => self.write_request(f, height),
+            None => Ok(()),
+        }
     }
 }
 

@@ -1,0 +1,35 @@
+-- What isn't among the answers that a script is made of.
+use Rattle.std.specs.Prelude.{◌≡◌, ℕ, List, length, Any, Contains, IsSomeAnd, Some, slice_get}
+use Rattle.rb_setup.specs.declared.setup.ClientSetup.{ClientSetup}
+use Rattle.rb_setup.specs.declared.setup.Setup.{Setup}
+use Rattle.rb_seen.specs.declared.chain.SeenChain.{SeenChain}
+use Rattle.rb_seen.specs.declared.client.Stored.{Stored}
+use Rattle.rb_seen.specs.Sets.{WasSeen}
+use Rattle.rb_import.specs.declared.notice.MissingHeaders.{MissingHeaders}
+use Rattle.rb_import.specs.declared.notice.MissingNextSet.{MissingNextSet}
+
+-- a set of this hash was seen of the chain at a place
+abbrev pub WasSeenOf : List SeenChain → ℕ → List ℕ → Type 0
+WasSeenOf chains place hash = IsSomeAnd (slice_get chains place) (λ (c : SeenChain). WasSeen c.sets.sets.items hash)
+
+-- no header was seen of the chain at a place
+abbrev pub LacksHeaders : List SeenChain → ℕ → Type 0
+LacksHeaders chains place = IsSomeAnd (slice_get chains place) (λ (c : SeenChain). length c.commits.items ≡ 0)
+
+-- a client of the setup tracks the chain at a place
+abbrev pub IsTracked : Setup → ℕ → Type 0
+IsTracked setup place = Any (λ (c : ClientSetup). c.tracks ≡ place) setup.clients.items
+
+-- it is told of this client's record, and of the chain that the client tracks
+abbrev pub TellsRecord : List ℕ → List ℕ → Stored → MissingNextSet → Type 0
+TellsRecord client chain stored missing =
+    (missing.client.now ≡ client) × (missing.stored ≡ stored) × (missing.chain.now ≡ chain)
+
+-- it is told of a chain of the setup
+unfoldable pub IsChainOf : Setup → MissingHeaders → Type 0
+IsChainOf setup missing = Contains setup.chains.items missing.chain.now
+
+-- it is told of a client of the setup, and of the chain that this one tracks
+unfoldable pub IsRecordOf : Setup → MissingNextSet → Type 0
+IsRecordOf setup missing =
+    Any (λ (c : ClientSetup). (c.id ≡ missing.client.now) × (slice_get setup.chains.items c.tracks ≡ Some missing.chain.now)) setup.clients.items

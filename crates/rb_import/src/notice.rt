@@ -1,0 +1,151 @@
+//! What isn't among answers that make a script: it is written all the same, but updates may be missed.
+ghost use Rattle.std.specs.Prelude.{◌≡◌, ◌↔◌, All, IsTrue, IsNone, IfSome, IfOk};
+ghost use Rattle.rb_import.specs.Notices.{IsChainOf, IsRecordOf, IsTracked, TellsRecord, WasSeenOf};
+
+use crate::composing::Seen;
+use rb_seen::Stored;
+use rb_setup::{ClientSetup, Setup};
+use std::alloc::{AllocError, Global};
+use std::fmt;
+
+/// A chain that a client tracks, of which there is no header.
+#[derive(Clone, Copy, Debug)]
+pub struct MissingHeaders<'a> {
+    pub chain: &'a str,
+}
+
+impl fmt::Display for MissingHeaders<'_> {
+    fn fmt<W: fmt::Write>(&self, f: &mut fmt::Formatter<W>) -> fmt::Result {
+        let chain = self.chain;
+        write!(
+            f,
+            "notice MissingHeaders at {chain}: no answer is of /commit, so that there is nothing to update to; fetch /commit and /validators of some heights into files *.json of the folder {chain}"
+        )
+    }
+}
+
+/// A record that a client has stored, and the chain that the client tracks: no answer on that has the next
+/// validators that the record names, so that no update starts from it.
+#[derive(Clone, Copy)]
+pub struct MissingNextSet<'a> {
+    pub client: &'a str,
+    pub stored: Stored<'a>,
+    pub chain: &'a str,
+}
+
+impl fmt::Display for MissingNextSet<'_> {
+    fn fmt<W: fmt::Write>(&self, f: &mut fmt::Formatter<W>) -> fmt::Result {
+        let client = self.client;
+        let height = self.stored.state.height;
+        let file = self.stored.file;
+        let chain = self.chain;
+        let next = height.get().saturating_add(1);
+        write!(
+            f,
+            "notice MissingNextSet at {client} {height}: {file}: no answer has the next validators, so that no update starts from this record; fetch all pages of /validators?height={next}&per_page=100 into files *.json of the folder {chain}"
+        )
+    }
+}
+
+/// What isn't among the answers: of chains in the setup's order, then of clients, of each by rising height.
+/// Shown as a line each.
+#[derive(Drop)]
+pub struct Notices<'a> {
+    pub headers: Vec<MissingHeaders<'a>>,
+    pub next_sets: Vec<MissingNextSet<'a>>,
+}
+
+impl fmt::Display for Notices<'_> {
+    fn fmt<W: fmt::Write>(&self, f: &mut fmt::Formatter<W>) -> fmt::Result {
+        for missing in &self.headers {
+            writeln!(f, "{missing}")?;
+        }
+        for missing in &self.next_sets {
+            writeln!(f, "{missing}")?;
+        }
+        Ok(())
+    }
+}
+
+/// What isn't among the answers of which this was seen.
+pub fn notices_of<'a>(
+    alloc: Global,
+    setup: &'a Setup,
+    seen: &Seen<'a>,
+) -> Result<Notices<'a>, AllocError>
+    ensures headers { IfOk result (λ n. All (IsChainOf setup.entry.now) n.headers.items) }
+    ensures records { IfOk result (λ n. All (IsRecordOf setup.entry.now) n.next_sets.items) }
+{
+    let headers = missing_headers(alloc, setup, seen)?;
+    let next_sets = missing_next_sets(alloc, setup, seen)?;
+    Ok(Notices { headers, next_sets })
+}
+
+#[tactic(auto, using(crate::proofs::Noticed::noticing))]
+fn missing_headers<'a>(
+    alloc: Global,
+    setup: &'a Setup,
+    seen: &Seen<'a>,
+) -> Result<Vec<MissingHeaders<'a>>, AllocError>
+    ensures { IfOk result (λ found. All (IsChainOf setup.entry.now) found.items) }
+{
+    let mut found = Vec::new(alloc);
+    for (place, id) in setup.chains.iter().enumerate() {
+        if is_tracked(setup, place) && seen.lacks_headers(place) {
+            found.push(MissingHeaders { chain: id.as_str() })?;
+        }
+    }
+    Ok(found)
+}
+
+/// Whether a client tracks the chain at a place.
+fn is_tracked(setup: &Setup, place: usize) -> bool
+    ensures { IsTrue result ↔ IsTracked setup.now place }
+{
+    setup.clients.iter().any(|client| client.tracks == place)
+}
+
+#[tactic(auto, using(crate::proofs::Noticed::noticing))]
+fn missing_next_sets<'a>(
+    alloc: Global,
+    setup: &'a Setup,
+    seen: &Seen<'a>,
+) -> Result<Vec<MissingNextSet<'a>>, AllocError>
+    ensures { IfOk result (λ found. All (IsRecordOf setup.entry.now) found.items) }
+{
+    let mut found = Vec::new(alloc);
+    for (place, client) in setup.clients.iter().enumerate() {
+        let Some(chain) = setup.chains.get(client.tracks) else {
+            continue;
+        };
+        let Some(client_seen) = seen.clients.get(place) else {
+            continue;
+        };
+        for stored in &client_seen.stored {
+            if let Some(missing) = missing_next_set(seen, client, chain.as_str(), stored) {
+                found.push(missing)?;
+            }
+        }
+    }
+    Ok(found)
+}
+
+/// A client's record, where its next set wasn't seen of the chain that the client tracks.
+fn missing_next_set<'a>(
+    seen: &Seen<'a>,
+    client: &'a ClientSetup,
+    chain: &'a str,
+    stored: &Stored<'a>,
+) -> Option<MissingNextSet<'a>>
+    ensures when { IsNone result ↔ WasSeenOf seen.now.chains.items client.entry.now.tracks stored.now.state.now.next }
+    ensures record { IfSome result (TellsRecord client.entry.now.id chain.entry.now stored.now) }
+{
+    if seen.has_set(client.tracks, &stored.state.next) {
+        return None;
+    }
+    Some(MissingNextSet {
+        client: client.id.as_str(),
+        stored: *stored,
+        chain,
+    })
+}
