@@ -21,8 +21,8 @@ use rb_task::JobView;
 use std::alloc::{AllocError, Allocator, Global};
 use std::marker::Model;
 
-/// What a core knows, by the entries of its log: what the core judged isn't judged again, and no view
-/// is compared. A contract sees how it is configured, and the entries.
+/// What a core knows, by the entries of its log: what the core judged isn't judged again. A contract sees
+/// how it is configured, and the entries.
 #[derive(Drop)]
 pub struct Follower<A: Allocator = Global> {
     alloc: A,
