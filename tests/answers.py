@@ -72,13 +72,13 @@ def renamed(folder, chance):
 class Chain:
     """Blocks from 1 on, whose validators change every few blocks."""
 
-    def __init__(self, chance, name, blocks, size=6, page=4):
+    def __init__(self, chance, name, blocks, size=6, page=4, every=12):
         self.name, self.chance, self.page = name, chance, page
         keys = [chance.randbytes(32) for _ in range(size * 3 // 2)]
         members = {key: chance.randint(50, 900) for key in keys[:size]}
         self.sets, self.times, self.roots = {}, {}, {}
         for height in range(1, blocks + 2):
-            if height % 12 == 0:
+            if height % every == 0:
                 gone = chance.choice(sorted(members))
                 del members[gone]
                 members[chance.choice([k for k in keys if k not in members and k != gone])] = chance.randint(50, 900)
@@ -174,6 +174,19 @@ def make(folder, seed, between=6):
     write(folder / "transfers" / "cleared.json", tx_search([(50, "acknowledge_packet", 2, later), (51, "timeout_packet", 1, later)], encoded))
 
 
+def make_busy(folder, stored, headers, every):
+    """Writes the answers on hub-4, of which these heights have a header, and of clients of it that have stored these records, by client."""
+    hub = Chain(random.Random(1), "hub-4", max(headers), every=every)
+    for height in headers:
+        write(folder / hub.name / f"commit-{height}.json", hub.commit(height))
+    for height in sorted({*headers, *range(every, max(headers) + 2, every), 1}):  # each set
+        for number, page in enumerate(hub.validators(height), 1):
+            write(folder / hub.name / f"validators-{height}-{number}.json", page)
+    for name, heights in stored.items():
+        write(folder / name / "client_state.json", client_state(hub, heights[-1]))
+        write(folder / name / "consensus_states.json", consensus_states(hub, heights))
+
+
 @contextlib.contextmanager
 def serve(chance):
     """A node of a made-up hub-4 and a gateway of the chain that hosts a client of it: their addresses, while they answer."""
@@ -234,7 +247,7 @@ def answers_in(folder):
 
 
 def chain_events(folder, name, named):
-    """The sets that headers or records name, by height, and the headers."""
+    """The sets that headers or records name, the highest first, and the headers."""
     headers, pages = {}, {}
     for answer in answers_in(folder / name):
         result = answer["result"]
@@ -250,7 +263,7 @@ def chain_events(folder, name, named):
         members = in_order([(base64.b64decode(v["pub_key"]["value"]), int(v["voting_power"])) for v in pages[height]])
         known.setdefault(set_hash(members).hex(), members)
     events = [{"kind": "set", "chain": name, "name": digits[:32], "validators": [[key.hex(), power] for power, _, key in members]}
-              for digits, members in known.items() if digits in named]
+              for digits, members in reversed(known.items()) if digits in named]
     reference = {digits: digits[:32] for digits in known}
     for height in sorted(headers):
         header, commit = headers[height]["header"], headers[height]["commit"]
@@ -289,9 +302,23 @@ def packet_events(folder, path):
         yield event
 
 
+def height_of(state):
+    return int(state["height"]["revision_height"])
+
+
+def kept(records, folder):
+    """The records that a book of 4,096 has room for beside its chain's headers: the highest, and those of a header's height."""
+    for chain in {client["of"] for client, _ in records}:
+        headers = {int(a["result"]["signed_header"]["header"]["height"]) for a in answers_in(folder / chain) if "signed_header" in a["result"]}
+        bare = sorted({height_of(state) for client, state in records if client["of"] == chain} - headers)
+        gone = set(bare[:max(len(bare) + len(headers) - 4096, 0)])
+        records = [(client, state) for client, state in records if client["of"] != chain or height_of(state) not in gone]
+    return records
+
+
 def script_of(setup, folder):
     """The script of a setup's text and of the answers, as TOML's values, its times in nanoseconds."""
-    script = tomllib.loads(setup)
+    script = tomllib.loads(setup) | {"version": 2}
     records, by_chain = [], {}
     for client in script.get("client", []):
         states = answers_in(folder / client["id"])
@@ -301,9 +328,11 @@ def script_of(setup, folder):
         client.setdefault("trust", [int(given["trust_level"][k]) for k in ("numerator", "denominator")])
         client.setdefault("refresh_ns", 0)
         stored = [s for a in states for s in a.get("consensus_states", [])]
-        for state in sorted(stored, key=lambda s: int(s["height"]["revision_height"])):
-            records.append((client, state))
-            by_chain.setdefault(client["of"], set()).add(state["consensus_state"]["next_validators_hash"].lower())
+        records += [(client, state) for state in sorted(stored, key=height_of)]
+        by_chain.setdefault(client["of"], set())
+    records = kept(records, folder)
+    for client, state in records:
+        by_chain[client["of"]].add(state["consensus_state"]["next_validators_hash"].lower())
     events, references = [], {}
     for chain in script["chain"]:
         if chain["id"] in by_chain:
@@ -312,7 +341,7 @@ def script_of(setup, folder):
     for client, state in records:
         inner = state["consensus_state"]
         following = inner["next_validators_hash"].lower()
-        events.append({"kind": "stored", "client": client["id"], "height": int(state["height"]["revision_height"]),
+        events.append({"kind": "stored", "client": client["id"], "height": height_of(state),
                        "time": nanoseconds(inner["timestamp"]), "root": base64.b64decode(inner["root"]["hash"]).hex(),
                        "next": references[client["of"]].get(following, following)})
     for path in script.get("path", []):

@@ -11,6 +11,7 @@ import shutil
 import subprocess
 import sys
 import tomllib
+from datetime import timedelta
 
 import answers
 from program import TOP, Case
@@ -75,6 +76,29 @@ def notice_cases(top):
         change(folder)
         lines = [line.format(folder=folder).encode() for line in lines]
         yield Case(f"lacking answers {number}", ["import", str(setup), str(folder)], b"", answers.script_of(text, folder), lines[0], 0, reader=values_of, named=(b"".join(lines),))
+
+
+def busy_cases(top):
+    """Clients with more records than a book of version 1 holds, of which the newest alone hasn't expired, and more sets than any book does;
+    and with more records than any book holds."""
+    two = CLIENT % ("again-on-zone", "zone-1", "hub-4")
+    for most, every, first, setup, others, lines in (
+        (1500, 1, 1505, HEAD + ONE, {}, []),
+        (4100, 12, 4100, HEAD + ONE + two, {"again-on-zone": [2, 3, 7, 4100]}, [MANY % ("hub-on-zone", 6), MANY % ("again-on-zone", 2)]),
+    ):
+        folder, path = top / f"busy-{most}", top / f"busy-{most}.toml"
+        answers.make_busy(folder, {"hub-on-zone": range(1, most + 1), **others}, [first, most + 10, most + 30], every)
+        begin, end = (f"{answers.START + timedelta(seconds=most * 6.4 + later):%Y-%m-%dT%H:%M:%SZ}" for later in (300, 310))
+        turn = f'[[turn]]\nfrom = "{begin}"\nuntil = "{end}"\ngoal = [{{ client = "hub-on-zone", at_least = {most + 30} }}]\n'
+        text = setup.replace("fee", "period_ns = 313_000_000_000\nfee") + turn
+        path.write_text(text)
+        script, lines = answers.script_of(text, folder), [line.encode() for line in lines]
+        yield Case(f"{most} records", ["import", str(path), str(folder)], b"", script, b"".join(lines[:1]), 0, reader=values_of, named=(b"".join(lines),))
+        if most < 4096:  # the reference planner takes long for more
+            toml = answers.in_toml(script)
+            report = reference.report(reference.read_script(toml))
+            assert f" from {most} " in report and f"\nupdate {most + 30} " in report
+            yield Case(f"plan of {most} records", ["plan", "-"], toml, report.encode(), b"", 0)
 
 
 # ---- spoiled answers
@@ -181,7 +205,6 @@ DAMAGES = [
     ("hub-4/commit-80.json", gone(SIGNED), "UnknownShape at -"),
     ("hub-4/commit-80.json", put("error", {"code": -32603, "message": "height 80 is not available"}), "NodeError at -"),
     ("hub-4/commit-80.json", put(f"{HEADER}.height", "79"), f"OtherHeight at {COMMIT}.height"),
-    ("hub-4/commit-80.json", put(f"{HEADER}.chain_id", "hub-5"), "OtherChain at hub-4 80"),
     ("hub-4/commit-80.json", put(f"{HEADER}.validators_hash", "00" * 32), "OtherSet at hub-4 80"),
     ("hub-4/commit-80.json", put(f"{SIGNATURE}.validator_address", "00" * 20), "OtherSigner at hub-4 80"),
     ("hub-4/commit-80.json", gone(f"{COMMIT}.signatures[5]"), "SignatureCount at hub-4 80"),
@@ -189,7 +212,6 @@ DAMAGES = [
     ("hub-4/validators-80-1.json", put(f"{FIRST}.voting_power", "0"), f"BadPower at {FIRST}.voting_power"),
     ("hub-4/validators-80-1.json", put(f"{FIRST}.voting_power", "-3"), f"BadNumber at {FIRST}.voting_power"),
     ("hub-4/validators-80-1.json", put(f"{FIRST}.voting_power", "1"), "OtherSet at hub-4 80"),
-    ("hub-on-zone/client_state.json", put(f"{STATE}.chain_id", "hub-5"), "OtherChain at hub-on-zone 0"),
     ("hub-on-zone/client_state.json", put(f"{STATE}.latest_height.revision_number", "5"), "OtherRevision at hub-on-zone 0"),
     ("hub-on-zone/client_state.json", put(f"{STATE}.trust_level.denominator", "4"), f"BadTrust at {STATE}.trust_level"),
     ("hub-on-zone/client_state.json", put(f"{STATE}.trusting_period", "336h"), f"BadDuration at {STATE}.trusting_period"),
@@ -243,6 +265,8 @@ CHANGES = [
     (moved(PAGE_FILE, "hub-4/again.json", copy=True), "refused TooManyValidators at hub-4 80", 1, ["hub-4/again.json"]),
     (removed("hub-4/validators-80-2.json"), "refused MissingPage at hub-4 80", 1, [COMMIT_FILE, PAGE_FILE]),
     (removed(PAGE_FILE, "hub-4/validators-80-2.json"), "refused MissingSet at hub-4 80", 1, [COMMIT_FILE, "/validators?height=80&per_page=100 into files *.json of the folder hub-4\n"]),
+    (edited(COMMIT_FILE, put(f"{HEADER}.chain_id", "hub-5")), "refused OtherChain at hub-4 80", 1, [f"{COMMIT_FILE}: the answer is on another chain; fetch it"]),
+    (edited(STATE_FILE, put(f"{STATE}.chain_id", "hub-5")), "refused OtherChain at hub-on-zone 0", 1, [f"{STATE_FILE}: ", "follows another chain than the setup's `of` says"]),
     (edited(PAGE_FILE, put("result.block_height", "79")), "refused MissingPage at hub-4 80", 1, [COMMIT_FILE, "hub-4/validators-80-2.json"]),
     (removed(STATE_FILE), "refused MissingClientState at hub-on-zone", 1, ["client_states/ID"]),
     (moved(STATE_FILE, "hub-on-zone/again.json", copy=True), "refused TwoAnswers at hub-on-zone 0", 1, [STATE_FILE, "again.json"]),
@@ -259,6 +283,7 @@ CHANGES = [
 
 NEXT_SET = ("notice MissingNextSet at hub-on-zone %d: {folder}/hub-on-zone/consensus_states.json: no answer has the next validators, so that no "
             "update starts from this record; fetch all pages of /validators?height=%d&per_page=100 into files *.json of the folder hub-4\n")
+MANY = "notice TooManyRecords at %s: %d of its stored records, the lowest, are left out; a chain's book holds 4,096 records\n"
 # changes of the folder after which the script is written all the same, and the lines that tell what isn't there
 NOTICES = [
     (edited(STORED_FILE, put(f"{CONSENSUS}.consensus_state.next_validators_hash", "00" * 32)), [NEXT_SET % (1, 2)]),
@@ -316,6 +341,7 @@ def import_cases(top, seeds):
         yield from seed_cases(top, seed)
     yield from example_cases()
     yield from notice_cases(top)
+    yield from busy_cases(top)
     yield from spoiled_cases(top)
 
 
@@ -323,7 +349,7 @@ def chain_cases(top, program):
     """`import` and `plan` in a row by a shell; at last over what `examples/collect` got of made-up nodes."""
     words = " ".join(map(shlex.quote, program))
     folders = [(top / f"seed-{seed}", top / f"setup-{seed}-0.toml") for seed in range(1, 21)]
-    folders.append((top / "collected", top / "setup-4-0.toml"))
+    folders += [(top / "collected", top / "setup-4-0.toml"), (top / "busy-1500", top / "busy-1500.toml")]
     with answers.serve(random.Random(7)) as (rpc, rest):
         subprocess.run([TOP / "examples" / "collect", top / "collected", "hub-on-zone", "hub-4", rpc, rest, "4"], check=True)
     for folder, setup in folders:

@@ -16,7 +16,8 @@ pub fn advice_for(name: FaultName, path: &str) -> &'static str {
         FaultName::DuplicateIdentifier => "an earlier one has this identifier",
         FaultName::UnknownIdentifier => wanted_at(path),
         FaultName::BadHex => "64 hexadecimal digits belong here",
-        FaultName::BadTime => "a time is a text as '2026-11-22T10:00:00Z', from 1970 on",
+        FaultName::BadTime =>
+            "a time is a text as '2026-11-22T10:00:00Z', with Z or an offset, at most 9 digits of a second, from 1970 on",
         FaultName::BadVotes => "votes are the letters C, N, A and B",
         FaultName::BadKind => {
             "an event's kind is 'set', 'header', 'stored', 'sent', 'received', 'ack', 'cleared' or 'closed'"

@@ -35,7 +35,7 @@ impl Lines {
 /// A sink that counts the refused events in the report that it takes, and keeps the error of the write
 /// that failed.
 #[derive(Drop)]
-pub struct Tally<W> {
+pub(crate) struct Tally<W> {
     inner: W,
     lines: Lines,
     error: Option<io::Error>,
@@ -45,7 +45,7 @@ impl<W: Sink> Tally<W> {
     ghost use Rattle.std.specs.Prelude.{◌≡◌};
 
     /// A tally of what this sink will take.
-    pub fn new(inner: W) -> Tally<W>
+    pub(crate) fn new(inner: W) -> Tally<W>
         ensures { result.inner ≡ inner }
     {
         Tally {
@@ -59,17 +59,17 @@ impl<W: Sink> Tally<W> {
     }
 
     /// How many refused events there were, up to 2^64 - 1.
-    pub fn refused(&self) -> u64 {
+    pub(crate) fn refused(&self) -> u64 {
         self.lines.count
     }
 
     /// The error of the last write that failed, unless that took nothing and gave none.
-    pub fn error(&self) -> Option<io::Error> {
+    pub(crate) fn error(&self) -> Option<io::Error> {
         self.error
     }
 
     /// The sink.
-    pub fn into_inner(self) -> W
+    pub(crate) fn into_inner(self) -> W
         ensures { result ≡ self.inner }
     {
         let Tally {

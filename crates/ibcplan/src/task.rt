@@ -69,8 +69,8 @@ Exit status:
   0  done; of certify: the plan is the cheapest
   1  the content of a file is refused
   2  the command line is wrong
-  3  of certify: the certificate doesn't show that the plan is the cheapest, and
-     standard output says why
+  3  of certify: it isn't the plan (the cheapest, and the first among equals), or
+     its labels don't show it; standard output says why
   4  no memory, or a file or an output that fails
   5  of ./ibcplan: the program isn't built, and can't be";
 

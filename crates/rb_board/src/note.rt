@@ -1,6 +1,6 @@
 //! What the pen tells desks.
 
-/// How many events were published when the pen said so.
+/// How many events had happened when it was made: they are to be published before it is handed on.
 #[derive(Clone, Copy, Debug, PartialEq, Eq)]
 pub struct Note {
     pub front: usize,

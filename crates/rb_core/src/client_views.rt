@@ -51,6 +51,17 @@ fn share_in<A: Allocator + Copy>(
     Ok(owner)
 }
 
+/// One more owner of the book of a chain, of an empty one where there is no such chain.
+pub(crate) fn book_of<A: Allocator + Copy>(
+    alloc: A,
+    known: &Known<A>,
+    chain: usize,
+) -> Result<SharedBook<A>, AllocError>
+    ensures { IfOk result (λ shared. shared.book ≡ book_at (standing_view known.now).books chain) }
+{
+    share_in(alloc, known.books.as_slice(), chain)
+}
+
 /// A path as the client has it, if it is a path of the client's.
 fn path_task<A: Allocator + Copy>(
     alloc: A,
@@ -122,7 +133,7 @@ fn job_of<A: Allocator + Copy>(
     ensures { IfOk result (λ job. job ≡ job_of (state_view known.now) client window held.now.client) }
 {
     let config = held.config();
-    let book = share_in(alloc, known.books.as_slice(), config.tracks)?;
+    let book = book_of(alloc, known, config.tracks)?;
     let paths = path_tasks(alloc, known, client)?;
     let next = NextPlan {
         client,

@@ -5,7 +5,7 @@ ghost use Rattle.rb_events.specs.Config.{config_view, IsConfig};
 ghost use Rattle.rb_machine.specs.Batches.{batch_open};
 ghost use Rattle.rb_machine.specs.Config.{IsSetUp};
 ghost use Rattle.rb_core.specs.Core.{state_in, refusal_in, IsReady};
-ghost use Rattle.rb_core.specs.Follower.{IsOfLog, events_in};
+ghost use Rattle.rb_core.specs.Follower.{IsOfLog};
 ghost use Rattle.rb_machine.specs.Entry.{log_from};
 ghost use Rattle.rb_machine.specs.Event.{IsEvent};
 ghost use Rattle.rb_machine.specs.Judged as judged;
@@ -14,14 +14,15 @@ ghost use Rattle.rb_machine.specs.Machine.{client_view, client_view_refusal, is_
 ghost use Rattle.rb_machine.specs.Refused.{IsRefusal};
 ghost use Rattle.rb_machine.specs.Replied.{reply_view};
 ghost use Rattle.rb_machine.specs.Seen.{event_view};
-ghost use Rattle.rb_machine.specs.Standing.{path_view};
+ghost use Rattle.rb_machine.specs.Standing.{book_at, path_view};
 
-use crate::client_views::client_view;
+use crate::client_views::{book_of, client_view};
 use crate::copies::{copy_known, new_known};
 use crate::follower::Follower;
 use crate::judging::{make_ready, take_in};
 use crate::known::Known;
 use crate::path_views::{is_scanned, path_view};
+use rb_book::SharedBook;
 use rb_events::Config;
 use rb_known::OpenBatch;
 use rb_known::clients::open_batch;
@@ -92,15 +93,12 @@ impl<A: Allocator + Copy> Core<A> {
     /// A follower that has followed this core's log. An error comes only where a growth is refused.
     pub fn follower(&self) -> Result<Follower<A>, AllocError>
         ensures config { IfOk result (λ follower. follower.config ≡ self.now.config) }
-        ensures events { IfOk result (λ follower. events_in follower ≡ self.now.log) }
+        ensures state { IfOk result (λ follower. follower.state ≡ state_in self.now) }
         ensures log { IfOk result IsOfLog }
     {
-        Ok(Follower::new(
-            self.alloc,
-            self.config.copy()?,
-            copy_known(self.alloc, &self.known)?,
-            share_entries(self.alloc, self.log.as_slice())?,
-        ))
+        let config = self.config.copy()?;
+        let known = copy_known(self.alloc, &self.known)?;
+        Ok(Follower::new(self.alloc, config, known))
     }
 
     /// Judges an event, and makes what taking it in takes. Nothing that can be seen changes, whatever
@@ -162,6 +160,14 @@ impl<A: Allocator + Copy> Core<A> {
     {
         client_views_are_views();
         client_view(self.alloc, &self.known, client)
+    }
+
+    /// One more owner of the book of a chain, of an empty one where there is no such chain. An error comes
+    /// only where a growth is refused, or too many share it.
+    pub fn book(&self, chain: usize) -> Result<SharedBook<A>, AllocError>
+        ensures { IfOk result (λ shared. shared.book ≡ book_at (state_in self.now).standing.books chain) }
+    {
+        book_of(self.alloc, &self.known, chain)
     }
 
     /// A path as it is scanned. `UnknownObject` where there is no such path, `NoMemory` where a growth

@@ -1,2 +1,4 @@
+pub mod Highest
 pub mod Noticed
+pub mod Rooms
 pub mod Told

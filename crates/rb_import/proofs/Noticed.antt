@@ -6,11 +6,16 @@ use Rattle.rb_setup.specs.declared.setup.ClientSetup.{ClientSetup}
 use Rattle.rb_setup.specs.declared.setup.Setup.{Setup}
 use Rattle.rb_import.specs.declared.notice.MissingHeaders.{MissingHeaders}
 use Rattle.rb_import.specs.declared.notice.MissingNextSet.{MissingNextSet}
-use Rattle.rb_import.specs.Notices.{IsChainOf, IsRecordOf}
+use Rattle.rb_import.specs.declared.notice.TooManyRecords.{TooManyRecords}
+use Rattle.rb_import.specs.Notices.{IsChainOf, IsClientOf, IsRecordOf}
 
 pub chain_of : (setup : Setup) (missing : MissingHeaders) (id : List ℕ) (i : ℕ) → i < length setup.chains.items → id ≡ get_or setup.chains.items i id → missing.chain.now ≡ id → IsChainOf setup missing
 unfolding IsChainOf
 chain_of setup missing id i small is same = (i, small, ap (get_or setup.chains.items i) same ∙ sym is ∙ sym same)
+
+pub client_of : (setup : Setup) (many : TooManyRecords) (c : ClientSetup) (i : ℕ) → i < length setup.clients.items → c ≡ get_or setup.clients.items i c → 0 < many.left_out → many.client.now ≡ c.id → IsClientOf setup many
+unfolding IsClientOf
+client_of setup many c i small is some same = ((i, c, small, sym is, sym same), some)
 
 pub record_of : (setup : Setup) (missing : MissingNextSet) (c : ClientSetup) (chain : List ℕ) (i : ℕ) → i < length setup.clients.items → c ≡ get_or setup.clients.items i c
     → slice_get setup.chains.items c.tracks ≡ Some chain → missing.client.now ≡ c.id → missing.chain.now ≡ chain → IsRecordOf setup missing
@@ -18,4 +23,4 @@ unfolding IsRecordOf
 record_of setup missing c chain i small is tracked client same =
     (i, c, small, sym is, (sym client, tracked ∙ ap (λ x. Some x) (sym same)))
 
-pub ruleset noticing = (chain_of, record_of, All-push)
+pub ruleset noticing = (chain_of, client_of, record_of, All-push)

@@ -1,3 +1,4 @@
 pub mod Notices
 pub mod Problems
+pub mod Room
 pub mod Texts

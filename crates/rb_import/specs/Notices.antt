@@ -1,12 +1,15 @@
 -- What isn't among the answers that a script is made of.
-use Rattle.std.specs.Prelude.{◌≡◌, ℕ, List, length, Any, Contains, IsSomeAnd, Some, slice_get}
+use Rattle.std.specs.Prelude.{◌≡◌, ◌<◌, ◌-◌, ℕ, List, Vec, Option, length, Any, Contains, IsSomeAnd, Some, slice_get}
+use Rattle.std.specs.Global.{Global}
 use Rattle.rb_setup.specs.declared.setup.ClientSetup.{ClientSetup}
 use Rattle.rb_setup.specs.declared.setup.Setup.{Setup}
 use Rattle.rb_seen.specs.declared.chain.SeenChain.{SeenChain}
+use Rattle.rb_seen.specs.declared.client.SeenClient.{SeenClient}
 use Rattle.rb_seen.specs.declared.client.Stored.{Stored}
 use Rattle.rb_seen.specs.Sets.{WasSeen}
 use Rattle.rb_import.specs.declared.notice.MissingHeaders.{MissingHeaders}
 use Rattle.rb_import.specs.declared.notice.MissingNextSet.{MissingNextSet}
+use Rattle.rb_import.specs.declared.notice.TooManyRecords.{TooManyRecords}
 
 -- a set of this hash was seen of the chain at a place
 abbrev pub WasSeenOf : List SeenChain → ℕ → List ℕ → Type 0
@@ -15,6 +18,14 @@ WasSeenOf chains place hash = IsSomeAnd (slice_get chains place) (λ (c : SeenCh
 -- no header was seen of the chain at a place
 abbrev pub LacksHeaders : List SeenChain → ℕ → Type 0
 LacksHeaders chains place = IsSomeAnd (slice_get chains place) (λ (c : SeenChain). length c.commits.items ≡ 0)
+
+abbrev left_of : Option SeenClient → Option (Vec Stored Global) → ℕ
+left_of (Some client) (Some records) = length client.stored.items - length records.items
+left_of client records = 0
+
+-- how many of the records that the client at a place has stored aren't written
+abbrev pub left_out : List SeenClient → List (Vec Stored Global) → ℕ → ℕ
+left_out clients records place = left_of (slice_get clients place) (slice_get records place)
 
 -- a client of the setup tracks the chain at a place
 abbrev pub IsTracked : Setup → ℕ → Type 0
@@ -28,6 +39,10 @@ TellsRecord client chain stored missing =
 -- it is told of a chain of the setup
 unfoldable pub IsChainOf : Setup → MissingHeaders → Type 0
 IsChainOf setup missing = Contains setup.chains.items missing.chain.now
+
+-- it is told of a client of the setup, of whose records some are left out
+unfoldable pub IsClientOf : Setup → TooManyRecords → Type 0
+IsClientOf setup many = Any (λ (c : ClientSetup). c.id ≡ many.client.now) setup.clients.items × (0 < many.left_out)
 
 -- it is told of a client of the setup, and of the chain that this one tracks
 unfoldable pub IsRecordOf : Setup → MissingNextSet → Type 0

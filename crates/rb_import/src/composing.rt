@@ -1,15 +1,16 @@
 //! The script of a setup and of answers.
 ghost use Rattle.std.specs.Prelude.{◌≡◌, ◌≤◌, ◌++◌, ℕ, List, length, All, IfOk, IfErr, string_bytes};
 ghost use Rattle.rb_setup.specs.Limits.{max_bytes};
-ghost use Rattle.rb_import.specs.Notices.{IsChainOf, IsRecordOf};
+ghost use Rattle.rb_import.specs.Notices.{IsChainOf, IsClientOf, IsRecordOf};
 ghost use Rattle.rb_import.specs.Problems.{IsToldIn};
 ghost use Rattle.rb_import.specs.Texts.{warning};
 
 use crate::notice::{Notices, notices_of};
+use crate::room::kept_records;
 use crate::text::push_script;
 use rb_seen::{
-    ImportError, ProblemName, Saved, SavedAnswers, SeenChain, SeenClient, SeenPacket, seen_chain,
-    seen_client, seen_packets,
+    ImportError, ProblemName, Saved, SavedAnswers, SeenChain, SeenClient, SeenPacket, Stored,
+    seen_chain, seen_client, seen_packets,
 };
 use rb_setup::{MAX_BYTES, Setup};
 use std::alloc::{AllocError, Global};
@@ -18,17 +19,19 @@ use std::alloc::{AllocError, Global};
 const WARNING: &str =
     "# Signatures were not verified: headers and votes stand as the nodes gave them.\n";
 
-/// What was seen of the chains, clients and paths of a setup, in its order.
+/// What was seen of the chains, clients and paths of a setup, in its order; and of each client the stored
+/// records that the book of the chain that it tracks has room for.
 #[derive(Drop)]
 pub struct Seen<'a> {
     pub chains: Vec<SeenChain<'a>>,
     pub clients: Vec<SeenClient<'a>>,
+    pub records: Vec<Vec<Stored<'a>>>,
     pub paths: Vec<Vec<SeenPacket<'a>>>,
 }
 
 impl Seen<'_> {
     ghost use Rattle.std.specs.Prelude.{◌↔◌, IsTrue};
-    ghost use Rattle.rb_import.specs.Notices.{LacksHeaders, WasSeenOf};
+    ghost use Rattle.rb_import.specs.Notices.{LacksHeaders, WasSeenOf, left_out};
 
     /// Whether no header was seen of the chain at a place.
     pub fn lacks_headers(&self, place: usize) -> bool
@@ -49,9 +52,19 @@ impl Seen<'_> {
             None => false,
         }
     }
+
+    /// How many of the records that the client at a place has stored aren't kept.
+    pub fn left_out(&self, place: usize) -> usize
+        ensures { result ≡ left_out self.now.clients.items self.now.records.items place }
+    {
+        match (self.clients.get(place), self.records.get(place)) {
+            (Some(client), Some(records)) => client.stored.len().saturating_sub(records.len()),
+            _ => 0,
+        }
+    }
 }
 
-/// A script's text, and what isn't among the answers that it was made of.
+/// A script's text, and what isn't among the answers that it was made of or isn't written of them.
 #[derive(Drop)]
 pub struct Composed<'a> {
     pub text: String,
@@ -60,8 +73,9 @@ pub struct Composed<'a> {
 
 /// The text of the script that a setup and the answers of its chains, clients and paths make, which
 /// begins with the line that says that signatures were not verified; and what isn't among the answers,
-/// though the script stands without it. The first problem is answered: of the chains, of the clients,
-/// then of the paths, each in order. `NoMemory` comes where a growth is refused.
+/// though the script stands without it, or isn't written, since no book has room for it. The first
+/// problem is answered: of the chains, of the clients, then of the paths, each in order. `NoMemory` comes
+/// where a growth is refused.
 pub fn compose<'a>(
     alloc: Global,
     setup: &'a Setup,
@@ -70,13 +84,19 @@ pub fn compose<'a>(
     ensures size { IfOk result (λ script. length (string_bytes script.text) ≤ max_bytes) }
     ensures warning { IfOk result (λ script. (rest : List ℕ) × (string_bytes script.text ≡ warning ++ rest)) }
     ensures headers { IfOk result (λ script. All (IsChainOf setup.entry.now) script.notices.headers.items) }
+    ensures too_many { IfOk result (λ script. All (IsClientOf setup.entry.now) script.notices.too_many.items) }
     ensures records { IfOk result (λ script. All (IsRecordOf setup.entry.now) script.notices.next_sets.items) }
     ensures told { IfErr result (IsToldIn setup.entry.now) }
 {
+    let chains = seen_chains(alloc, setup, answers)?;
+    let clients = seen_clients(alloc, setup, answers)?;
+    let paths = seen_paths(alloc, setup, answers)?;
+    let records = kept_records(alloc, setup, chains.as_slice(), clients.as_slice())?;
     let seen = Seen {
-        chains: seen_chains(alloc, setup, answers)?,
-        clients: seen_clients(alloc, setup, answers)?,
-        paths: seen_paths(alloc, setup, answers)?,
+        chains,
+        clients,
+        records,
+        paths,
     };
     let mut body = String::new(alloc);
     push_script(&mut body, setup, &seen)?;

@@ -4,8 +4,9 @@
 mod composing;
 mod event_text;
 mod notice;
+mod room;
 mod text;
 
 pub use composing::{Composed, compose};
-pub use notice::{MissingHeaders, MissingNextSet, Notices};
+pub use notice::{MissingHeaders, MissingNextSet, Notices, TooManyRecords};
 pub use rb_seen::{ImportError, Problem, ProblemName, Saved, SavedAnswers, SavedError, read_saved};

@@ -1,6 +1,7 @@
-//! What isn't among answers that make a script: it is written all the same, but updates may be missed.
+//! What isn't among answers that make a script, and what isn't written of them: the script is written all the same,
+//! but updates may be missed.
 ghost use Rattle.std.specs.Prelude.{◌≡◌, ◌↔◌, All, IsTrue, IsNone, IfSome, IfOk};
-ghost use Rattle.rb_import.specs.Notices.{IsChainOf, IsRecordOf, IsTracked, TellsRecord, WasSeenOf};
+ghost use Rattle.rb_import.specs.Notices.{IsChainOf, IsClientOf, IsRecordOf, IsTracked, TellsRecord, WasSeenOf};
 
 use crate::composing::Seen;
 use rb_seen::Stored;
@@ -20,6 +21,25 @@ impl fmt::Display for MissingHeaders<'_> {
         write!(
             f,
             "notice MissingHeaders at {chain}: no answer is of /commit, so that there is nothing to update to; fetch /commit and /validators of some heights into files *.json of the folder {chain}"
+        )
+    }
+}
+
+/// A client, of whose stored records so many are left out, since the book of the chain that it tracks has no
+/// room for more.
+#[derive(Clone, Copy, Debug)]
+pub struct TooManyRecords<'a> {
+    pub client: &'a str,
+    pub left_out: usize,
+}
+
+impl fmt::Display for TooManyRecords<'_> {
+    fn fmt<W: fmt::Write>(&self, f: &mut fmt::Formatter<W>) -> fmt::Result {
+        let client = self.client;
+        let left_out = self.left_out;
+        write!(
+            f,
+            "notice TooManyRecords at {client}: {left_out} of its stored records, the lowest, are left out; a chain's book holds 4,096 records"
         )
     }
 }
@@ -47,11 +67,12 @@ impl fmt::Display for MissingNextSet<'_> {
     }
 }
 
-/// What isn't among the answers: of chains in the setup's order, then of clients, of each by rising height.
-/// Shown as a line each.
+/// What isn't among the answers or isn't written: of chains in the setup's order, then of clients which have too
+/// many records, then of each client's written records by rising height. Shown as a line each.
 #[derive(Drop)]
 pub struct Notices<'a> {
     pub headers: Vec<MissingHeaders<'a>>,
+    pub too_many: Vec<TooManyRecords<'a>>,
     pub next_sets: Vec<MissingNextSet<'a>>,
 }
 
@@ -60,6 +81,9 @@ impl fmt::Display for Notices<'_> {
         for missing in &self.headers {
             writeln!(f, "{missing}")?;
         }
+        for many in &self.too_many {
+            writeln!(f, "{many}")?;
+        }
         for missing in &self.next_sets {
             writeln!(f, "{missing}")?;
         }
@@ -67,18 +91,24 @@ impl fmt::Display for Notices<'_> {
     }
 }
 
-/// What isn't among the answers of which this was seen.
+/// What isn't among the answers of which this was seen, and what isn't written of it.
 pub fn notices_of<'a>(
     alloc: Global,
     setup: &'a Setup,
     seen: &Seen<'a>,
 ) -> Result<Notices<'a>, AllocError>
     ensures headers { IfOk result (λ n. All (IsChainOf setup.entry.now) n.headers.items) }
+    ensures too_many { IfOk result (λ n. All (IsClientOf setup.entry.now) n.too_many.items) }
     ensures records { IfOk result (λ n. All (IsRecordOf setup.entry.now) n.next_sets.items) }
 {
     let headers = missing_headers(alloc, setup, seen)?;
+    let too_many = too_many_records(alloc, setup, seen)?;
     let next_sets = missing_next_sets(alloc, setup, seen)?;
-    Ok(Notices { headers, next_sets })
+    Ok(Notices {
+        headers,
+        too_many,
+        next_sets,
+    })
 }
 
 #[tactic(auto, using(crate::proofs::Noticed::noticing))]
@@ -106,6 +136,25 @@ fn is_tracked(setup: &Setup, place: usize) -> bool
 }
 
 #[tactic(auto, using(crate::proofs::Noticed::noticing))]
+fn too_many_records<'a>(
+    alloc: Global,
+    setup: &'a Setup,
+    seen: &Seen<'a>,
+) -> Result<Vec<TooManyRecords<'a>>, AllocError>
+    ensures { IfOk result (λ found. All (IsClientOf setup.entry.now) found.items) }
+{
+    let mut found = Vec::new(alloc);
+    for (place, client) in setup.clients.iter().enumerate() {
+        let left_out = seen.left_out(place);
+        if left_out > 0 {
+            let client = client.id.as_str();
+            found.push(TooManyRecords { client, left_out })?;
+        }
+    }
+    Ok(found)
+}
+
+#[tactic(auto, using(crate::proofs::Noticed::noticing))]
 fn missing_next_sets<'a>(
     alloc: Global,
     setup: &'a Setup,
@@ -118,10 +167,10 @@ fn missing_next_sets<'a>(
         let Some(chain) = setup.chains.get(client.tracks) else {
             continue;
         };
-        let Some(client_seen) = seen.clients.get(place) else {
+        let Some(records) = seen.records.get(place) else {
             continue;
         };
-        for stored in &client_seen.stored {
+        for stored in records {
             if let Some(missing) = missing_next_set(seen, client, chain.as_str(), stored) {
                 found.push(missing)?;
             }

@@ -3,12 +3,12 @@ use crate::composing::Seen;
 use crate::event_text::{push_header, push_packet, push_set, push_stored};
 use jiff::Timestamp;
 use rb_base::Moment;
-use rb_seen::{SeenChain, SeenClient};
+use rb_seen::{SeenChain, SeenClient, Stored};
 use rb_setup::{ClientSetup, GoalSetup, PathSetup, Settlement, Setup, TurnSetup};
 use std::alloc::AllocError;
 
 const HEAD: &str = "# Written by ibcplan import.
-version = 1
+version = 2
 chain = [
 ";
 
@@ -153,15 +153,15 @@ fn push_settlements(
     text.push_str("]\n")
 }
 
-/// Adds what was seen: of each chain its sets and its headers, of each client what it has stored, of
-/// each path its packets.
+/// Adds what was seen: of each chain its sets and its headers, of each client the records that
+/// there is room for, of each path its packets.
 fn push_events(text: &mut String, setup: &Setup, seen: &Seen<'_>) -> Result<(), AllocError> {
     text.push_str("event = [\n")?;
     for (place, chain) in seen.chains.iter().enumerate() {
         push_chain(text, setup, seen, place, chain)?;
     }
-    for (client, stored) in setup.clients.iter().zip(&seen.clients) {
-        push_records(text, seen, client, stored)?;
+    for (client, records) in setup.clients.iter().zip(&seen.records) {
+        push_records(text, seen, client, records.as_slice())?;
     }
     for (path, packets) in setup.paths.iter().zip(&seen.paths) {
         for packet in packets {
@@ -171,7 +171,7 @@ fn push_events(text: &mut String, setup: &Setup, seen: &Seen<'_>) -> Result<(), 
     text.push_str("]\n")
 }
 
-/// Adds the sets that are named and the headers of a chain.
+/// Adds the sets that are named, those of the highest heights first, and the headers of a chain.
 fn push_chain(
     text: &mut String,
     setup: &Setup,
@@ -180,7 +180,7 @@ fn push_chain(
     chain: &SeenChain<'_>,
 ) -> Result<(), AllocError> {
     let id = chain_at(setup, place);
-    for set in &chain.sets.sets {
+    for set in chain.sets.sets.iter().rev() {
         if is_named(setup, seen, place, chain, set.set.hash()) {
             push_set(text, id, &set.set)?;
         }
@@ -192,7 +192,7 @@ fn push_chain(
     Ok(())
 }
 
-/// Whether a header of a chain, or a record of a client that tracks it, names a set.
+/// Whether a header of a chain, or a written record of a client that tracks it, names a set.
 fn is_named(
     setup: &Setup,
     seen: &Seen<'_>,
@@ -203,23 +203,23 @@ fn is_named(
     let by_header = chain.commits.iter().any(|commit| commit.header.set == *hash
         || commit.header.next == *hash);
     by_header
-        || setup.clients.iter().zip(&seen.clients).any(|(client, seen)| client.tracks == place
-            && is_stored(seen, hash))
+        || setup.clients.iter().zip(&seen.records).any(|(client, records)| client.tracks == place
+            && is_stored(records.as_slice(), hash))
 }
 
-/// Whether a record that a client has stored names a set.
-fn is_stored(seen: &SeenClient<'_>, hash: &[u8; 32]) -> bool {
-    seen.stored.iter().any(|stored| stored.state.next == *hash)
+/// Whether one of a client's records names a set.
+fn is_stored(records: &[Stored<'_>], hash: &[u8; 32]) -> bool {
+    records.iter().any(|record| record.state.next == *hash)
 }
 
-/// Adds what a client has stored.
+/// Adds records that a client has stored.
 fn push_records(
     text: &mut String,
     seen: &Seen<'_>,
     client: &ClientSetup,
-    stored: &SeenClient<'_>,
+    records: &[Stored<'_>],
 ) -> Result<(), AllocError> {
-    for record in &stored.stored {
+    for record in records {
         let is_next_known = seen.has_set(client.tracks, &record.state.next);
         push_stored(text, client.id.as_str(), record, is_next_known)?;
     }

@@ -1,43 +1,19 @@
 //! Scripts that were read are scripts that the laws speak of.
-ghost use Rattle.std.specs.Prelude.{All};
 ghost use Rattle.rb_events.specs.Script.{script_view, IsScript as IsReadScript};
-ghost use Rattle.rb_events.specs.declared.observation.Observation.{Observation as Seen};
-ghost use Rattle.rb_events.specs.declared.script.Turn.{Turn as CodeTurn};
 ghost use Rattle.rb_laws.specs.Schedule.{IsWithinLimits};
-ghost use Rattle.rb_machine.specs.Event.{IsEvent};
-ghost use Rattle.rb_machine.specs.Seen.{observed};
 ghost use Rattle.rb_phases.specs.Script.{IsScript};
 ghost use Rattle.rb_super.specs.Told.{told};
 
-use rb_events::{Observation, Script, Turn};
-use rb_machine::rules::{fee_tables, observation_is_event};
+use rb_events::Script;
+use rb_super::read_scripts_are_scripts;
 use std::alloc::Allocator;
-
-/// What was observed keeps what every event keeps.
-fn observations_are_events<A: Allocator>(observations: &[Observation<A>])
-    ensures { All (λ (o : Seen _). IsEvent (observed o)) observations.now }
-{
-    for observation in observations {
-        observation_is_event(observation);
-    }
-}
-
-/// The same of the turns of a script.
-fn turns_have_events<A: Allocator>(turns: &[Turn<A>])
-    ensures { All (λ (t : CodeTurn _). All (λ (o : Seen _). IsEvent (observed o)) t.events.items) turns.now }
-{
-    for turn in turns {
-        observations_are_events(turn.events.as_slice());
-    }
-}
 
 /// A script that keeps what `rb_script::read_script` promises of each that it reads keeps what the laws of reports, of verdicts
 /// and of schedules ask of a script, and is within the limits by which its log has room: so they hold of it.
-pub fn read_scripts_are_scripts<A: Allocator>(script: &Script<A>)
+pub fn laws_hold_of_read_scripts<A: Allocator>(script: &Script<A>)
     requires { IsReadScript (script_view script.now) }
     ensures script { IsScript (told (script_view script.now)) }
     ensures limits { IsWithinLimits (told (script_view script.now)) }
 {
-    fee_tables(script.config.clients.as_slice());
-    turns_have_events(script.turns.as_slice());
+    read_scripts_are_scripts(script);
 }

@@ -3,7 +3,7 @@ ghost use Rattle.std.specs.Prelude.{◌≡◌, ◌<◌, true, Some, None, length
 ghost use denote.Param.Send.{Frees};
 ghost use Rattle.rb_machine.specs.Batches.{batch_open};
 ghost use Rattle.rb_core.specs.Core.{state_in};
-ghost use Rattle.rb_task.specs.Draft.{IsDraft};
+ghost use Rattle.rb_task.specs.Draft.{IsDraft, Job};
 ghost use Rattle.rb_machine.specs.Machine.{client_view};
 ghost use Rattle.rb_machine.specs.Standing.{KnownClient};
 ghost use Rattle.rb_phases.specs.Drafts.{AreDrafts};
@@ -43,7 +43,8 @@ pub fn view_of<A: Allocator + Copy, M: Machine<A>>(
     }
 }
 
-/// The table of the chain that a client tracks, where it is seen so: one more owner of it.
+/// The table of the chain that a client tracks: one more owner of it. It is of the book that the client is
+/// seen with. An error comes only where a growth is refused, or too many share it.
 pub fn table_for<
     R: Threads + Sync,
     G: Gate + Sync,
@@ -54,18 +55,15 @@ pub fn table_for<
     alloc: A,
     relayer: &mut Relayer<A, M>,
     client: usize,
-    job: &JobView<A>,
 ) -> Result<SharedGraph<A>, AllocError>
     requires client { client < length relayer.old.config.clients }
-    requires view { client_view (state_in relayer.old) client ≡ Some job.now }
     requires alloc { Frees A.Allocator A.dealloc_token }
-    ensures table { IfOk result (λ table. table ≡ job.now.task.view.book) }
+    ensures table { (job : Job) → client_view (state_in relayer.old) client ≡ Some job → IfOk result (λ table. table ≡ job.task.view.book) }
     ensures same { relayer.new ≡ relayer.old }
 {
-    let config = config_of(relayer, client);
-    let view = job.view();
-    let book = view.book();
-    let table = relayer.table(crew, alloc, config.tracks, book)?;
+    let chain = config_of(relayer, client).tracks;
+    let book = relayer.book(chain)?;
+    let table = relayer.table(crew, alloc, chain, book.book())?;
     Ok(table)
 }
 
@@ -90,7 +88,7 @@ pub fn draft_of<
     ensures right { IfOk result IsDraft }
     ensures same { relayer.new ≡ relayer.old }
 {
-    let table = table_for(crew, alloc, relayer, client, job)?;
+    let table = table_for(crew, alloc, relayer, client)?;
     let draft = draft(job, table.graph())?;
     Ok(draft)
 }

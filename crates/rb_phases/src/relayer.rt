@@ -17,7 +17,7 @@ ghost use Rattle.rb_phases.specs.Tables.{AreTables};
 use crate::crew::Crew;
 use crate::machine::Machine;
 use crate::tables::{no_tables, table_in, take_in};
-use rb_book::ChainBook;
+use rb_book::{ChainBook, SharedBook};
 use rb_core::{Core, CoreError, Event, JobView, OpenBatch, Reply};
 use rb_events::Config;
 use rb_gang::Gate;
@@ -145,6 +145,13 @@ impl<A: Allocator + Copy, M: Machine<A>> Relayer<A, M> {
         ensures { result ≡ length self.now.log }
     {
         self.machine.core().front()
+    }
+
+    /// One more owner of the book of a chain.
+    pub(crate) fn book(&self, chain: usize) -> Result<SharedBook<A>, AllocError>
+        ensures { IfOk result (λ shared. shared.book ≡ book_at (standing_in self.now).books chain) }
+    {
+        self.machine.core().book(chain)
     }
 
     /// A client as a worker gets it.

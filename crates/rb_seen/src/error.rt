@@ -78,14 +78,14 @@ impl ProblemName {
         }
     }
 
-    /// What is wrong, and what to do; of answers that are to be fetched for a height `Problem` tells which.
+    /// What is wrong, and what to do; of answers that are to be fetched for a height, and of another chain's, `Problem`
+    /// tells which.
     pub fn advice(self) -> &'static str {
         match self {
             ProblemName::WrongFolder => {
                 "a chain's folder has answers of /commit and /validators, a client's of client_states and consensus_states, a path's of /tx_search; move the file"
             }
-            ProblemName::OtherChain =>
-                "the answer is on another chain; fetch it from this chain's node",
+            ProblemName::OtherChain => "the answer is on another chain",
             ProblemName::OtherRevision => {
                 "the revision number isn't that of the chain's identifier; fetch the answer again, or mend the setup's chain"
             }
@@ -138,7 +138,7 @@ pub struct Problem<'a> {
 
 impl Problem<'_> {
     /// Writes which answers of a height are to be fetched, where such are wrong or missing, and into which
-    /// folder: a chain's has its identifier.
+    /// folder: a chain's has its identifier. Height 0 is none: an answer on another chain is then a client's.
     fn write_request<W: fmt::Write>(&self, f: &mut fmt::Formatter<W>, height: u64) -> fmt::Result {
         let chain = self.object;
         match self.name {
@@ -153,6 +153,10 @@ impl Problem<'_> {
             ProblemName::SignatureCount | ProblemName::OtherSigner => {
                 write!(f, "; fetch /commit?height={height} again")
             }
+            ProblemName::OtherChain if height == 0 => f.write_str(
+                "; this client follows another chain than the setup's `of` says: is the identifier right?",
+            ),
+            ProblemName::OtherChain => f.write_str("; fetch it from this chain's node"),
             _ => Ok(()),
         }
     }

@@ -7,10 +7,12 @@ mod head;
 mod judging;
 mod orders;
 mod run;
+mod scripts;
 mod supervisor;
 mod workers;
 
 pub use judging::judge;
 pub use run::{run_by_workers, run_script};
+pub use scripts::read_scripts_are_scripts;
 pub use supervisor::Supervisor;
 pub use workers::Workers;

@@ -1,13 +1,12 @@
 //! What workers are told to do.
-ghost use Rattle.std.specs.Prelude.{◌≡◌, ◌<◌, true, length, is_some};
+ghost use Rattle.std.specs.Prelude.{◌≡◌, ◌<◌, length};
 ghost use denote.Param.Send.{Frees};
-ghost use Rattle.rb_phases.specs.Phases.{standing_in};
 
 use crate::found::FoundByWorkers;
 use crate::head::Head;
 use rb_board::Note;
 use rb_gang::Gate;
-use rb_phases::{Crew, Relayer, table_for, view_of};
+use rb_phases::{Crew, Relayer, table_for};
 use rb_scan::Part;
 use rb_worker::Order;
 use std::alloc::{AllocError, Global};
@@ -45,13 +44,11 @@ fn plan_order<R: Threads + Sync, G: Gate + Sync>(
     relayer: &mut Relayer<Global, Head>,
     client: usize,
 ) -> Result<Order, AllocError>
-    requires client { client < length relayer.old.config.clients }
-    requires window { is_some (standing_in relayer.old).window ≡ true }
+    requires { client < length relayer.old.config.clients }
     ensures same { relayer.new ≡ relayer.old }
 {
     let note = note_of(relayer);
-    let job = view_of(relayer, client)?;
-    let graph = table_for(crew, alloc, relayer, client, &job)?;
+    let graph = table_for(crew, alloc, relayer, client)?;
     Ok(Order::Plan {
         client,
         note,
@@ -70,7 +67,6 @@ pub(crate) fn order_plans<R, G>(
 where
     R: Threads + Sync + Wait,
     G: Gate + Send + Sync + Drop + 'static,
-    requires window { is_some (standing_in relayer.old).window ≡ true }
     ensures same { relayer.new ≡ relayer.old }
 {
     let clients = relayer.config().clients.len();

@@ -1,5 +1,5 @@
 //! The supervisor with workers.
-ghost use Rattle.std.specs.Prelude.{◌≡◌, ◌<◌, ◌≤◌, ◌+◌, ◌*◌, [], true, Ok, length, is_some, IfOk, OnOk, All, map, fold};
+ghost use Rattle.std.specs.Prelude.{◌≡◌, ◌<◌, ◌≤◌, ◌+◌, ◌*◌, [], Ok, length, IfOk, OnOk, All, map, fold};
 ghost use Rattle.rb_events.specs.Config.{config_view, IsConfig};
 ghost use Rattle.rb_events.specs.Script.{IsSeen};
 ghost use Rattle.rb_machine.specs.Seen.{observed};
@@ -130,7 +130,6 @@ fn begin_plans<'a, R: Threads + Sync + Wait, G: Gate + Send + Sync + Drop + 'sta
     relayer: Relayer<Global, Head>,
     team: Team<G>,
 ) -> Result<(Relayer<Global, Head>, FoundByWorkers<'a, R, G>), AllocError>
-    requires window { is_some (standing_in relayer).window ≡ true }
     ensures same { IfOk result (λ r. r.0 ≡ relayer) }
 {
     let (mut relayer, mut found) = search(crew.rt(), alloc, relayer, team)?;

@@ -1,24 +1,22 @@
 -- What a run over a text promises.
-use Rattle.std.specs.Prelude.{◌≡◌, ℕ, List, map, Option, Ok}
+use Rattle.std.specs.Prelude.{◌≡◌, ℕ, List, Option, Ok}
 use Rattle.std.specs.declared.alloc.Global.{Global}
 use Rattle.std.specs.Io.KnownBytes.{Appends}
 use Rattle.rb_base.specs.Sink.{AppendsBeginning}
 use Rattle.rb_events.specs.Script.{Script}
-use Rattle.rb_events.specs.declared.config.PathConfig.{PathConfig}
+use Rattle.rb_config.specs.Paths.{path_ids}
 use Rattle.rb_script.specs.Scripts.{script_of}
 use Rattle.rb_phases.specs.Report.{Report}
+use Rattle.rb_phases.specs.Script.{IsScript}
 use Rattle.rb_super.specs.Told.{told}
 use Rattle.rb_phases.specs.Turns.{IsReportOf}
 use Rattle.rb_text.specs.Report.{text}
 
--- the identifiers of a script's paths, by their places
-abbrev pub path_ids : Script Global → List (List ℕ)
-path_ids s = map (λ (p : PathConfig). p.id) s.config.paths
-
--- the bytes hold the script, and this is its report: for each client and turn the least list of updates, with the exact
--- labelling, and the least cut of its messages
+-- the bytes hold the script, which is one of a relayer that is set up, and this is its report: for each client and turn the
+-- least list of updates, with the exact labelling, and the least cut of its messages
 pub record IsReportFor (bytes : List ℕ) (script : Script Global) (report : Report) : Type 0 where
   pub read : script_of bytes ≡ Ok script
+  pub kept : IsScript (told script)
   pub reported : IsReportOf (told script) report
 
 -- the writer took the text of that report, where its bytes are known before and after
@@ -26,11 +24,11 @@ pub record WritesReport (bytes : List ℕ) (old new : Option (List ℕ)) : Type 
   pub script : Script Global
   pub report : Report
   pub planned : IsReportFor bytes script report
-  pub written : Appends old new (text (path_ids script) report)
+  pub written : Appends old new (text (path_ids script.config.paths) report)
 
 -- the writer took a beginning of it, where its bytes are known
 pub record BeginsReport (bytes : List ℕ) (old new : Option (List ℕ)) : Type 0 where
   pub script : Script Global
   pub report : Report
   pub planned : IsReportFor bytes script report
-  pub begun : AppendsBeginning old new (text (path_ids script) report)
+  pub begun : AppendsBeginning old new (text (path_ids script.config.paths) report)

@@ -6,6 +6,7 @@ ghost use Rattle.rb_fields.specs.declared.fault.Fault.{Fault as CodeFault};
 ghost use Rattle.rb_fields.specs.Faults.{fault_view};
 ghost use Rattle.rb_script.specs.Scripts.{script_of};
 ghost use Rattle.rb_super.specs.Told.{told};
+ghost use Rattle.rb_phases.specs.Script as relayed;
 ghost use Rattle.rb_phases.specs.Turns.{IsReportOf};
 ghost use Rattle.rb_phases.specs.Views.{report_view};
 ghost use Rattle.rb_text.specs.Headline.{WritesReport, BeginsReport};
@@ -17,7 +18,7 @@ use rb_fields::RunError;
 use rb_gang::Gate;
 use rb_phases::Report;
 use rb_script::read_script;
-use rb_super::{run_by_workers, run_script};
+use rb_super::{read_scripts_are_scripts, run_by_workers, run_script};
 use std::alloc::{AllocError, Global};
 use std::sync::{Arc, Wait};
 use std::thread::Threads;
@@ -32,9 +33,11 @@ fn run_by<R: Threads + Wait + Copy + Send + Sync + 'static, G: Gate + Send + Syn
 ) -> Result<Report, AllocError>
     requires script { IsScript (script_view script) }
     requires workers { workers ≤ 64 }
+    ensures kept { relayed.IsScript (told (script_view script)) }
     ensures paths { IfOk result (λ report. report.paths.items ≡ map (λ (p : PathConfig). p.id) script.config.paths.items) }
     ensures turns { IfOk result (λ report. IsReportOf (told (script_view script)) (report_view report)) }
 {
+    read_scripts_are_scripts(&script);
     if workers == 0 {
         run_script(rt, alloc, script, 0, &**gate)
     } else {

@@ -1,9 +1,8 @@
-use Rattle.std.proofs.Common.{◌∙◌, ap}
-use Rattle.rb_step.specs.View.{View}
+use Rattle.std.proofs.Common.{◌∙◌, sym}
 use Rattle.rb_phases.proofs.Drafts.{book_seen}
 use Rattle.rb_phases.proofs.planning.table_for.Goals as goal
 
-pub table-requires-clause-book : goal.table-requires-clause-book
-table-requires-clause-book g c = λ ks _.
-    c.book-book.ensures.value ∙ ap (λ (v : View). v.book) c.view-view.ensures
-    ∙ book_seen c.args.relayer.now c.args.client c.config_of-config.result c.args.job.now c.requires.client c.config_of-config.ensures.value c.requires.view
+pub returns-clause-table : goal.returns-clause-table
+returns-clause-table g c = λ job view.
+    c.in_ok-table.ensures.table ∙ c.book-3.ensures ∙ c.in_ok-book.ensures
+    ∙ sym (book_seen c.args.relayer.now c.args.client c.config_of-chain.result job c.requires.client c.config_of-chain.ensures.value view)

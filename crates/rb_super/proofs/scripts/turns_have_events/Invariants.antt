@@ -1,0 +1,9 @@
+use Rattle.std.proofs.Common.{All, take}
+use Rattle.rb_events.specs.declared.observation.Observation.{Observation}
+use Rattle.rb_events.specs.declared.script.Turn.{Turn}
+use Rattle.rb_machine.specs.Event.{IsEvent}
+use Rattle.rb_machine.specs.Seen.{observed}
+use Rattle.rb_super.proofs.scripts.turns_have_events.Given as goal
+
+abbrev pub invariant-loop-turn : goal.invariant-loop-turn
+invariant-loop-turn g l = All (λ (t : Turn _). All (λ (o : Observation _). IsEvent (observed o)) t.events.items) (take l.turn-index l.turns)
