@@ -1,5 +1,5 @@
 -- The board's rule, and what the pen and the desks hold by it.
-use Rattle.std.specs.Prelude.{◌≡◌, ◌≤◌, ℕ, List, [], drop, fold, length, take, Option, Some, None}
+use Rattle.std.specs.Prelude.{◌≡◌, ◌++◌, ℕ, List, [], drop, Option, Some, None}
 use mathlib.Core.Option.{some}
 use lib.ListN.{get_elem?}
 use Rattle.atomic_table.specs.declared.shared.Seat.{Seat}
@@ -9,57 +9,54 @@ use Rattle.left_right.specs.declared.board.Doing.{Doing}
 use Rattle.left_right.specs.declared.part.Part.{Part}
 use Rattle.left_right.specs.declared.reader.Reader.{Reader}
 use Rattle.left_right.specs.declared.writer.Writer.{Writer}
-use Rattle.rb_core.specs.Follower.{Follower, IsOfLog, follows}
-use Rattle.rb_core.specs.declared.told.Told.{Told}
+use Rattle.rb_core.specs.Follower.{Follower, IsOfLog, events_in}
 use Rattle.rb_events.specs.Config.{Config}
+use Rattle.rb_machine.specs.Entry.{Logged}
 use Rattle.rb_machine.specs.Event.{Event}
-use Rattle.rb_machine.specs.Machine.{opening, state_of}
-use Rattle.rb_board.specs.Knowledge.{Begins}
+use Rattle.rb_board.specs.Knowledge.{Knowledge, nothing_yet, Begins}
 use Rattle.rb_board.specs.declared.held.Held.{Held}
 
--- the rule: what a log leads to is published, and what each seat knows is a beginning of it
-abbrev pub Known : {A : Type 0} → Held A → List (Option Follower) → Type 0
-Known held views = IsOfLog held.follower × ((seat : ℕ) (v : Option Follower) → get_elem? views seat ≡ some v → Begins v held.follower)
+-- what a copy of the board shows
+abbrev pub knowledge_of : {A : Type 0} → Held A → Knowledge
+knowledge_of held = record { config = Some held.follower.config; entries = held.follower.entries }
 
--- what is known after a publish or a look: all that is published, to which a log leads, and which begins with what was known
--- before
-abbrev pub Sees : {A : Type 0} → Option Follower → Held A → Held A → Option Follower → Type 0
-Sees v before after w = Begins v after.follower × (w ≡ Some after.follower) × IsOfLog after.follower
+-- the rule: a log is published, and what each seat knows is a beginning of it
+abbrev pub Known : {A : Type 0} → Held A → List Knowledge → Type 0
+Known held views = IsOfLog held.follower × ((seat : ℕ) (v : Knowledge) → get_elem? views seat ≡ some v → Begins v (knowledge_of held))
+
+-- what is known after a publish or a look: all that is published, which is a log and begins with what was known before
+abbrev pub Sees : {A : Type 0} → Knowledge → Held A → Held A → Knowledge → Type 0
+Sees v before after w = Begins v (knowledge_of after) × (w ≡ knowledge_of after) × IsOfLog after.follower
 
 -- what a seat knows
-abbrev pub known_by : {A : Type 0} → Seat (Option (Part (Held A))) (Doing (Held A) (Option Follower)) → Option Follower
+abbrev pub known_by : {A : Type 0} → Seat (Option (Part (Held A))) (Doing (Held A) Knowledge) → Knowledge
 known_by seat = view seat
 
 -- what a reader knows, where there is one
-abbrev pub known_of : {A P : Type 0} → Option (Reader (Held A) (Option Follower) P A) → Option Follower
+abbrev pub known_of : {A P : Type 0} → Option (Reader (Held A) Knowledge P A) → Knowledge
 known_of (Some reader) = view reader.place
-known_of None = None
+known_of None = nothing_yet
 
 -- what waits for the next publish
 abbrev pub pending : {T O V P A S : Type 0} {g : Ghosts T O S} → Writer T O V P A S g → List O
 pending writer = drop writer.behind writer.log.items
 
--- what is known, where something is
-abbrev pub follower_of : Option Follower → Follower
-follower_of (Some follower) = follower
-follower_of None = let none : Config = record { limit = 0; chains = []; clients = []; paths = [] } in record { config = none; state = opening none }
+-- the configuration, where it is known
+abbrev pub config_or : Option Config → Config
+config_or (Some config) = config
+config_or None = record { limit = 0; chains = []; clients = []; paths = [] }
 
--- what is known after what waits
-abbrev pub followed_on : {A : Type 0} → Follower → List (Told A) → Follower
-followed_on f waiting = fold follows f waiting
+-- what is known, as a follower
+abbrev pub follower_of : Knowledge → Follower
+follower_of k = record { config = config_or k.config; entries = k.entries }
 
--- what is known after events of a relayer that is configured so
-abbrev pub known_after : Config → List Event → Follower
-known_after config log = record { config = config; state = state_of config log }
+-- the same with what waits
+abbrev pub followed_on : Follower → List Logged → Follower
+followed_on f waiting = record f { entries = f.entries ++ waiting }
 
--- the beginning of a log that leads to what is shown
-abbrev pub shown_of : {A : Type 0} → Held A → List Event → List Event
-shown_of shown log = take shown.follower.state.front log
-
--- the pen knows what is published: what a beginning of the board's log leads to; and with what waits the whole log
-pub record IsKnown {A : Type 0} (shown : Held A) (known : Option Follower) (waiting : List (Told A)) (config : Config) (log : List Event) : Type 0 where
-  pub all : known ≡ Some shown.follower
-  pub of_log : IsOfLog shown.follower
-  pub begins : shown.follower ≡ known_after config (shown_of shown log)
-  pub within : shown.follower.state.front ≤ length log
-  pub leads : followed_on shown.follower waiting ≡ known_after config log
+-- the pen knows what is published, which is a log, and leads with what waits to the board's log
+pub record IsKnown {A : Type 0} (shown : Held A) (known : Knowledge) (waiting : List Logged) (config : Config) (log : List Event) : Type 0 where
+  pub all : known ≡ knowledge_of shown
+  pub config_same : shown.follower.config ≡ config
+  pub published : IsOfLog shown.follower
+  pub leads : log ≡ events_in (followed_on shown.follower waiting)

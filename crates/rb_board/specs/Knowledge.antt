@@ -1,18 +1,22 @@
--- What is known at a place of the board: what its core has made of a beginning of the board's log, nothing at first.
-use Rattle.std.specs.Prelude.{◌≡◌, List, Option, Some, None, fold}
-use Rattle.rb_core.specs.Follower.{Follower}
-use Rattle.rb_machine.specs.Event.{Event}
-use Rattle.rb_machine.specs.Machine.{State, after}
+-- What is known at a place of the board.
+use Rattle.std.specs.Prelude.{◌≡◌, ◌⊎◌, List, [], ◌∷◌, ◌++◌, Option, None}
+use mathlib.Core.List.{IsPrefix}
+use Rattle.rb_events.specs.Config.{Config}
+use Rattle.rb_machine.specs.Entry.{Logged}
+
+-- how the board's core is configured, and the entries of a beginning of the board's log
+pub record Knowledge : Type 0 where
+  pub config : Option Config
+  pub entries : List Logged
 
 -- what a newcomer knows
-abbrev pub nothing_yet : Option Follower
-nothing_yet = None
+abbrev pub nothing_yet : Knowledge
+nothing_yet = record { config = None; entries = [] }
 
--- some events lead from the first state to the second
-abbrev pub LeadsTo : State → State → Type 0
-LeadsTo s t = (events : List Event) × (fold after s events ≡ t)
+-- the same after one more entry
+abbrev pub with_entry : Knowledge → Logged → Knowledge
+with_entry k entry = record k { entries = k.entries ++ entry ∷ [] }
 
--- what is known first is known of the same relayer, and no later than what is known then
-abbrev pub Begins : Option Follower → Follower → Type 0
-Begins None then = Unit {0}
-Begins (Some first) then = (first.config ≡ then.config) × LeadsTo first.state then.state
+-- the second knows all that the first knows
+abbrev pub Begins : Knowledge → Knowledge → Type 0
+Begins a b = ((a.config ≡ None) ⊎ (a.config ≡ b.config)) × IsPrefix a.entries b.entries

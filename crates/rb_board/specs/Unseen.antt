@@ -1,5 +1,5 @@
 -- Why a desk has no answer.
-use Rattle.std.specs.Prelude.{◌≡◌, ◌<◌, Option, Some}
+use Rattle.std.specs.Prelude.{◌≡◌, ◌<◌, length, Option, Some}
 use Rattle.rb_events.specs.declared.refusal.Refusal.{Refusal}
 use Rattle.rb_machine.specs.declared.error.CoreError.{CoreError}
 use Rattle.rb_machine.specs.declared.error.CoreError.TheVariants as core
@@ -14,6 +14,6 @@ of_core core.NoMemory = NoMemory
 
 -- fewer events are published than the desk was told of, or the core's refusal is the one that is due
 abbrev pub IsUnseen : DeskError → Desk → Option Refusal → Type 0
-IsUnseen Behind desk due = desk.seen.front < desk.told
+IsUnseen Behind desk due = length desk.seen < desk.told
 IsUnseen (Refused refusal) desk due = due ≡ Some refusal
 IsUnseen _ desk due = Unit {0}

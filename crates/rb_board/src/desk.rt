@@ -1,11 +1,10 @@
 //! The desks.
-ghost use Rattle.std.specs.Prelude.{◌≡◌, ◌≤◌, ◌<◌, max, Some, IsSome, IfOk, IfErr, IfNone, IfSome, OnOk};
-ghost use Rattle.rb_core.specs.Follower.{IsOfLog};
-ghost use Rattle.rb_machine.specs.Machine.{client_view, client_view_refusal, path_view_refusal};
+ghost use Rattle.std.specs.Prelude.{◌≡◌, ◌≤◌, ◌<◌, length, max, Some, IsSome, IfOk, IfErr, IfNone, IfSome, OnOk};
+ghost use mathlib.Core.List.{IsPrefix};
+ghost use Rattle.rb_core.specs.Follower.{IsOfLog, events_in, state_after};
+ghost use Rattle.rb_machine.specs.Machine.{client_view, client_view_refusal, path_view_refusal, state_of};
 ghost use Rattle.rb_machine.specs.Standing.{path_view};
-ghost use Rattle.rb_board.specs.Ends.{seen_by};
 ghost use Rattle.rb_board.specs.Kept.{Sees, follower_of, known_by, known_of};
-ghost use Rattle.rb_board.specs.Knowledge.{LeadsTo};
 ghost use Rattle.rb_board.specs.Unseen.{IsUnseen};
 
 use crate::error::DeskError;
@@ -19,8 +18,8 @@ use std::alloc::{Allocator, Global};
 use std::marker::Model;
 
 /// A reader of what is published, for one thread at a time. A contract sees how the board's core is
-/// configured, what is known after the beginning of the board's log that this desk has seen, and how
-/// many events it was told of.
+/// configured, the beginning of the board's log that this desk has seen, and how many events it was
+/// told of.
 #[derive(Drop)]
 pub struct Desk<A: Allocator = Global> {
     reader: Option<Reader<Held<A>, Knows, Published, A>>,
@@ -30,22 +29,21 @@ pub struct Desk<A: Allocator = Global> {
 impl<A: Allocator> Model for Desk<A> {
     ghost use Rattle.std.specs.Prelude.{IsSome};
     ghost use Rattle.rb_board.specs.Ends as ends;
-    ghost use Rattle.rb_core.specs.Follower.{IsOfLog};
+    ghost use Rattle.rb_core.specs.Follower.{events_in};
     ghost use Rattle.rb_board.specs.Kept.{follower_of, known_of};
 
     ghost Value = { ends.Desk };
 
-    ghost view = { λ d. record { config = (follower_of (known_of d.reader)).config; seen = (follower_of (known_of d.reader)).state; told = d.told } };
+    ghost view = { λ d. record { config = (follower_of (known_of d.reader)).config; seen = events_in (follower_of (known_of d.reader)); told = d.told } };
 
-    ghost invariant = { λ d. IsSome d.reader × IsSome (known_of d.reader) × IsOfLog (follower_of (known_of d.reader)) };
+    ghost invariant = { λ d. IsSome d.reader × IsSome (known_of d.reader).config };
 }
 
 impl<A: Allocator + Copy> Desk<A> {
     /// The desk that reads so, and was told nothing.
     pub(crate) fn new(reader: Reader<Held<A>, Knows, Published, A>) -> Desk<A>
-        requires known { IsSome (known_by reader.place) }
-        requires log { IsOfLog (follower_of (known_by reader.place)) }
-        ensures { let f = follower_of (known_by reader.place) in result ≡ record { config = f.config; seen = f.state; told = 0 } }
+        requires { IsSome (known_by reader.place).config }
+        ensures { let f = follower_of (known_by reader.place) in result ≡ record { config = f.config; seen = events_in f; told = 0 } }
     {
         Desk {
             reader: Some(reader),
@@ -66,10 +64,9 @@ impl<A: Allocator + Copy> Desk<A> {
     pub fn front(&mut self) -> Result<usize, DeskError>
         ensures config { self.new.config ≡ self.old.config }
         ensures told { self.new.told ≡ self.old.told }
-        ensures begins { LeadsTo self.old.seen self.new.seen }
-        ensures log { IsOfLog (seen_by self.new) }
-        ensures front { IfOk result (λ front. front ≡ self.new.seen.front) }
-        ensures enough { OnOk result (self.old.told ≤ self.new.seen.front) }
+        ensures begins { IsPrefix self.old.seen self.new.seen }
+        ensures front { IfOk result (λ front. front ≡ length self.new.seen) }
+        ensures enough { OnOk result (self.old.told ≤ length self.new.seen) }
     {
         let Some(reading) = enter(&mut self.reader) else {
             return Err(DeskError::Closed);
@@ -85,11 +82,10 @@ impl<A: Allocator + Copy> Desk<A> {
     pub fn view_client(&mut self, client: usize) -> Result<JobView<A>, DeskError>
         ensures config { self.new.config ≡ self.old.config }
         ensures told { self.new.told ≡ self.old.told }
-        ensures begins { LeadsTo self.old.seen self.new.seen }
-        ensures log { IsOfLog (seen_by self.new) }
-        ensures enough { OnOk result (self.old.told ≤ self.new.seen.front) }
-        ensures view { IfOk result (λ view. client_view self.new.seen client ≡ Some view) }
-        ensures refused { IfErr result (λ e. IsUnseen e self.new (client_view_refusal self.new.seen client)) }
+        ensures begins { IsPrefix self.old.seen self.new.seen }
+        ensures enough { OnOk result (self.old.told ≤ length self.new.seen) }
+        ensures view { IfOk result (λ view. client_view (state_of self.new.config self.new.seen) client ≡ Some view) }
+        ensures refused { IfErr result (λ e. IsUnseen e self.new (client_view_refusal (state_of self.new.config self.new.seen) client)) }
     {
         let Some(reading) = enter(&mut self.reader) else {
             return Err(DeskError::Closed);
@@ -105,11 +101,10 @@ impl<A: Allocator + Copy> Desk<A> {
     pub fn view_path(&mut self, path: usize) -> Result<PathView<A>, DeskError>
         ensures config { self.new.config ≡ self.old.config }
         ensures told { self.new.told ≡ self.old.told }
-        ensures begins { LeadsTo self.old.seen self.new.seen }
-        ensures log { IsOfLog (seen_by self.new) }
-        ensures enough { OnOk result (self.old.told ≤ self.new.seen.front) }
-        ensures view { IfOk result (λ view. path_view self.new.seen.standing path ≡ Some view) }
-        ensures refused { IfErr result (λ e. IsUnseen e self.new (path_view_refusal self.new.seen path)) }
+        ensures begins { IsPrefix self.old.seen self.new.seen }
+        ensures enough { OnOk result (self.old.told ≤ length self.new.seen) }
+        ensures view { IfOk result (λ view. path_view (state_of self.new.config self.new.seen).standing path ≡ Some view) }
+        ensures refused { IfErr result (λ e. IsUnseen e self.new (path_view_refusal (state_of self.new.config self.new.seen) path)) }
     {
         let Some(reading) = enter(&mut self.reader) else {
             return Err(DeskError::Closed);
@@ -142,9 +137,10 @@ fn enter<A: Allocator + Copy>(
 
 /// How many events there are, where they are at least so many.
 fn front_of<A: Allocator + Copy>(follower: &Follower<A>, told: usize) -> Result<usize, DeskError>
-    ensures front { IfOk result (λ front. front ≡ follower.now.state.front) }
-    ensures enough { OnOk result (told ≤ follower.now.state.front) }
-    ensures behind { IfErr result (λ e. follower.now.state.front < told) }
+    requires { IsOfLog follower.now }
+    ensures front { IfOk result (λ front. front ≡ length (events_in follower.now)) }
+    ensures enough { OnOk result (told ≤ length (events_in follower.now)) }
+    ensures behind { IfErr result (λ e. length (events_in follower.now) < told) }
 {
     if follower.front() < told {
         return Err(DeskError::Behind);
@@ -159,9 +155,9 @@ fn client_of<A: Allocator + Copy>(
     told: usize,
 ) -> Result<JobView<A>, DeskError>
     requires { IsOfLog follower.now }
-    ensures enough { OnOk result (told ≤ follower.now.state.front) }
-    ensures view { IfOk result (λ view. client_view follower.now.state client ≡ Some view) }
-    ensures refused { IfErr result (λ e. IsUnseen e (record { config = follower.now.config; seen = follower.now.state; told = told }) (client_view_refusal follower.now.state client)) }
+    ensures enough { OnOk result (told ≤ length (events_in follower.now)) }
+    ensures view { IfOk result (λ view. client_view (state_after follower.now) client ≡ Some view) }
+    ensures refused { IfErr result (λ e. IsUnseen e (record { config = follower.now.config; seen = events_in follower.now; told = told }) (client_view_refusal (state_after follower.now) client)) }
 {
     if follower.front() < told {
         return Err(DeskError::Behind);
@@ -175,9 +171,10 @@ fn path_of<A: Allocator + Copy>(
     path: usize,
     told: usize,
 ) -> Result<PathView<A>, DeskError>
-    ensures enough { OnOk result (told ≤ follower.now.state.front) }
-    ensures view { IfOk result (λ view. path_view follower.now.state.standing path ≡ Some view) }
-    ensures refused { IfErr result (λ e. IsUnseen e (record { config = follower.now.config; seen = follower.now.state; told = told }) (path_view_refusal follower.now.state path)) }
+    requires { IsOfLog follower.now }
+    ensures enough { OnOk result (told ≤ length (events_in follower.now)) }
+    ensures view { IfOk result (λ view. path_view (state_after follower.now).standing path ≡ Some view) }
+    ensures refused { IfErr result (λ e. IsUnseen e (record { config = follower.now.config; seen = events_in follower.now; told = told }) (path_view_refusal (state_after follower.now) path)) }
 {
     if follower.front() < told {
         return Err(DeskError::Behind);

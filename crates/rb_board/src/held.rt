@@ -1,37 +1,36 @@
 //! The two copies of the board.
-ghost use Rattle.rb_core.specs.Follower.{follows};
+ghost use Rattle.rb_board.specs.Knowledge.{with_entry};
+ghost use Rattle.rb_board.specs.Kept.{knowledge_of};
 
+use crate::rule::Knows;
 use left_right::Absorb;
 use rb_core::{Follower, Told};
 use std::alloc::{AllocError, Allocator, Global};
 
-/// One of the two copies: a follower of what was appended.
+/// One of the two copies: a follower of the entries that were appended.
 #[derive(Drop)]
 pub(crate) struct Held<A: Allocator = Global> {
     pub(crate) follower: Follower<A>,
 }
 
 impl<A: Allocator + Copy> Absorb<Told<A>> for Held<A> {
-    type State = Follower<A>;
+    type State = Knows;
 
-    ghost state = { λ h. h.follower };
+    ghost state = { knowledge_of };
 
-    ghost applied = { follows };
+    ghost applied = { with_entry };
 
-    /// Follows what is told, which the other copy is to follow, too. Where that is refused, this copy is
-    /// as it was.
+    /// Follows the entry, which the other copy is to follow, too. Where that is refused, this copy is as
+    /// it was.
     fn absorb_first(&mut self, told: &Told<A>, _other: &Held<A>) -> Result<(), AllocError> {
-        match self.follower.follow(told) {
+        match self.follower.follow(told.share()?) {
             Ok(()) => Ok(()),
-            Err(_error) => Err(AllocError),
+            Err(_told) => Err(AllocError),
         }
     }
 
-    /// Follows what is told. Where that is refused, it comes back, and this copy is as it was.
+    /// Follows the entry itself. Where that is refused, it comes back, and this copy is as it was.
     fn absorb_second(&mut self, told: Told<A>, _other: &Held<A>) -> Result<(), Told<A>> {
-        match self.follower.follow(&told) {
-            Ok(()) => Ok(()),
-            Err(_error) => Err(told),
-        }
+        self.follower.follow(told)
     }
 }

@@ -1,8 +1,6 @@
 //! Boards that are opened.
 ghost use Rattle.std.specs.Prelude.{◌≡◌, ◌≤◌, [], length, vec_capacity, All, IfOk};
 ghost use Rattle.rb_board.specs.Ends.{max_desks};
-ghost use Rattle.rb_core.specs.Core.{state_in};
-ghost use Rattle.rb_machine.specs.Machine.{state_of};
 
 use crate::desk::Desk;
 use crate::pen::Pen;
@@ -20,7 +18,7 @@ pub fn open<A: Allocator + Copy, R: Wait>(
 ) -> Result<(Pen<A>, Vec<Desk<A>, A>), AllocError>
     requires { desks ≤ max_desks }
     ensures pen { IfOk result (λ r. r.0 ≡ record { config = core.config; log = core.log; published = core.log }) }
-    ensures desks { IfOk result (λ r. All (λ d. d ≡ record { config = core.config; seen = state_in core; told = 0 }) r.1.items) }
+    ensures desks { IfOk result (λ r. All (λ d. d ≡ record { config = core.config; seen = core.log; told = 0 }) r.1.items) }
     ensures count { IfOk result (λ r. length r.1.items ≤ desks) }
 {
     let mut all = Vec::with_capacity(alloc, desks)?;
@@ -34,7 +32,7 @@ fn seat_desks<A: Allocator + Copy>(pen: &mut Pen<A>, all: &mut Vec<Desk<A>, A>, 
     requires empty { all.old.items ≡ [] }
     requires room { desks ≤ vec_capacity all.old }
     ensures same { pen.new ≡ pen.old }
-    ensures desks { All (λ d. d ≡ record { config = pen.old.config; seen = state_of pen.old.config pen.old.published; told = 0 }) all.new.items }
+    ensures desks { All (λ d. d ≡ record { config = pen.old.config; seen = pen.old.published; told = 0 }) all.new.items }
     ensures count { length all.new.items ≤ desks }
 {
     for _ in 0..desks {

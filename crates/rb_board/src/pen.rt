@@ -16,7 +16,7 @@ use crate::note::Note;
 use crate::rule::{Knows, Looks, Published, Tells};
 use left_right::Absorb;
 use left_right::writer::Writer;
-use rb_core::{Core, CoreError, Event, Follower, Reply, Told};
+use rb_core::{Core, CoreError, Event, Reply, Told};
 use std::alloc::{AllocError, Allocator, Global};
 use std::marker::Model;
 use std::sync::Wait;
@@ -26,7 +26,7 @@ use std::sync::Wait;
 /// `close`.
 pub struct Pen<A: Allocator + Copy = Global>
 where
-    Held<A>: Absorb<Told<A>, State = Follower<A>>,
+    Held<A>: Absorb<Told<A>, State = Knows>,
 {
     writer: Writer<Held<A>, Told<A>, Knows, Published, A>,
     head: Core<A>,
@@ -34,14 +34,15 @@ where
 
 impl<A: Allocator + Copy> Model for Pen<A>
 where
-    Held<A>: Absorb<Told<A>, State = Follower<A>>,
+    Held<A>: Absorb<Told<A>, State = Knows>,
 {
+    ghost use Rattle.rb_core.specs.Follower.{events_in};
     ghost use Rattle.rb_board.specs.Ends as ends;
-    ghost use Rattle.rb_board.specs.Kept.{IsKnown, known_by, pending, shown_of};
+    ghost use Rattle.rb_board.specs.Kept.{IsKnown, known_by, pending};
 
     ghost Value = { ends.Pen };
 
-    ghost view = { λ p. record { config = p.head.config; log = p.head.log; published = shown_of p.writer.desk.shown.value p.head.log } };
+    ghost view = { λ p. record { config = p.head.config; log = p.head.log; published = events_in p.writer.desk.shown.value.follower } };
 
     ghost invariant = { λ p. IsKnown p.writer.desk.shown.value (known_by p.writer.desk.place) (pending p.writer) p.head.config p.head.log };
 }
@@ -57,7 +58,6 @@ impl<A: Allocator + Copy> Pen<A> {
         requires { (0 < places) × (places < 2 ^ 32) }
         ensures { IfOk result (λ pen. pen ≡ record { config = core.config; log = core.log; published = core.log }) }
     {
-        know(&core);
         let first = Held {
             follower: core.follower()?,
         };
@@ -128,7 +128,7 @@ impl<A: Allocator + Copy> Pen<A> {
     /// A desk that knows what is published. An error comes only where each place is in use.
     pub(crate) fn desk(&mut self) -> Result<Desk<A>, AllocError>
         ensures same { self.new ≡ self.old }
-        ensures knows { IfOk result (λ desk. desk ≡ record { config = self.old.config; seen = state_of self.old.config self.old.published; told = 0 }) }
+        ensures knows { IfOk result (λ desk. desk ≡ record { config = self.old.config; seen = self.old.published; told = 0 }) }
     {
         let mut reader = self.writer.factory().reader()?;
         reader.learn::<Tells>(self.writer.tell::<Tells>());
@@ -151,13 +151,12 @@ fn know<A: Allocator + Copy>(core: &Core<A>)
     ensures set_up { IsSetUp core.now.config }
     ensures events { All IsEvent core.now.log }
     ensures accepted { IsLog core.now.config core.now.log }
-    ensures count { (state_of core.now.config core.now.log).front ≡ length core.now.log }
 {
     core.config();
     core.front();
 }
 
-/// Puts what followers are told behind what is to be published.
+/// Puts an entry behind those that are to be published.
 fn keep<A: Allocator + Copy>(
     writer: &mut Writer<Held<A>, Told<A>, Knows, Published, A>,
     told: Told<A>,

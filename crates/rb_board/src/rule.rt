@@ -5,26 +5,30 @@ ghost use Rattle.rb_board.specs.Kept.{Known, Sees};
 use crate::held::Held;
 use atomic_table::{Join, Split};
 use crossbeam_utils::rule::{Outcome, Protocol};
-use rb_core::Follower;
+use rb_core::Told;
+use rb_events::Config;
 use std::alloc::Allocator;
+use std::collections::LinkedList;
 use std::marker::Model;
 
-/// What a seat at the board knows: what is known after a beginning of the board's log, if anything. No
-/// value of it is made.
+/// What a seat at the board knows: how the board's core is configured, if that is known, and the
+/// entries of a beginning of the board's log. No value of it is made.
 pub(crate) struct Knows {
-    seen: Option<Follower>,
+    config: Option<Config>,
+    entries: LinkedList<Told>,
 }
 
 impl Model for Knows {
-    ghost use Rattle.std.specs.Prelude.{Option};
-    ghost use Rattle.rb_core.specs.Follower.{Follower};
+    ghost use Rattle.std.specs.Option.{option_map};
+    ghost use Rattle.rb_events.specs.Config.{config_view};
+    ghost use Rattle.rb_board.specs.Knowledge.{Knowledge};
 
-    ghost Value = { Option Follower };
+    ghost Value = { Knowledge };
 
-    ghost view = { λ k. k.seen };
+    ghost view = { λ k. record { config = option_map config_view k.config; entries = k.entries } };
 }
 
-/// The rule: what a log leads to is published, and what each seat knows is a beginning of it.
+/// The rule: a log is published, and what each seat knows is a beginning of it.
 pub(crate) struct Published;
 
 impl<A: Allocator> Protocol<Held<A>, Knows> for Published {

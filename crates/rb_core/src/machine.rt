@@ -5,7 +5,7 @@ ghost use Rattle.rb_events.specs.Config.{config_view, IsConfig};
 ghost use Rattle.rb_machine.specs.Batches.{batch_open};
 ghost use Rattle.rb_machine.specs.Config.{IsSetUp};
 ghost use Rattle.rb_core.specs.Core.{state_in, refusal_in, IsReady};
-ghost use Rattle.rb_core.specs.Follower.{IsOfLog};
+ghost use Rattle.rb_core.specs.Follower.{IsOfLog, events_in};
 ghost use Rattle.rb_machine.specs.Entry.{log_from};
 ghost use Rattle.rb_machine.specs.Event.{IsEvent};
 ghost use Rattle.rb_machine.specs.Judged as judged;
@@ -93,12 +93,15 @@ impl<A: Allocator + Copy> Core<A> {
     /// A follower that has followed this core's log. An error comes only where a growth is refused.
     pub fn follower(&self) -> Result<Follower<A>, AllocError>
         ensures config { IfOk result (λ follower. follower.config ≡ self.now.config) }
-        ensures state { IfOk result (λ follower. follower.state ≡ state_in self.now) }
+        ensures events { IfOk result (λ follower. events_in follower ≡ self.now.log) }
         ensures log { IfOk result IsOfLog }
     {
-        let config = self.config.copy()?;
-        let known = copy_known(self.alloc, &self.known)?;
-        Ok(Follower::new(self.alloc, config, known))
+        Ok(Follower::new(
+            self.alloc,
+            self.config.copy()?,
+            copy_known(self.alloc, &self.known)?,
+            share_entries(self.alloc, self.log.as_slice())?,
+        ))
     }
 
     /// Judges an event, and makes what taking it in takes. Nothing that can be seen changes, whatever

@@ -1,13 +1,12 @@
 -- What a worker finds for an order: it is of the job that was ordered, and right for what the worker's desk shows.
-use Rattle.std.specs.Prelude.{◌≡◌, ◌≤◌, ℕ, max, Option, Some, None}
+use Rattle.std.specs.Prelude.{◌≡◌, ◌≤◌, ℕ, length, max, Option, Some, None}
 use Rattle.rb_gang.specs.declared.gate.Place.{Place}
 use Rattle.rb_gang.specs.declared.gate.Place.TheVariants as place
 use Rattle.rb_task.specs.Draft.{Draft, IsDraft}
-use Rattle.rb_core.specs.Follower.{IsOfLog}
-use Rattle.rb_machine.specs.Machine.{client_view}
+use Rattle.rb_machine.specs.Machine.{client_view, state_of}
 use Rattle.rb_machine.specs.Scan.{Scan}
 use Rattle.rb_machine.specs.Standing.{path_view}
-use Rattle.rb_board.specs.Ends.{Desk, seen_by}
+use Rattle.rb_board.specs.Ends.{Desk}
 use Rattle.rb_worker.specs.declared.finding.Finding.{Finding}
 use Rattle.rb_worker.specs.declared.finding.Finding.TheVariants as found
 use Rattle.rb_worker.specs.declared.order.Order.{Order}
@@ -36,18 +35,16 @@ told_after order.Stop told = told
 
 -- ---- what is right
 
--- a log leads to what the desk has seen, which is all that it was told of and shows the path so as it was scanned
+-- the desk has seen all that it was told of, and what it has seen shows the path so as it was scanned
 pub record IsScanOf (desk : Desk) (path : ℕ) (scan : Scan) : Type 0 where
-  pub log : IsOfLog (seen_by desk)
-  pub enough : desk.told ≤ desk.seen.front
-  pub view : path_view desk.seen.standing path ≡ Some scan.view
+  pub enough : desk.told ≤ length desk.seen
+  pub view : path_view (state_of desk.config desk.seen).standing path ≡ Some scan.view
 
--- a log leads to what the desk has seen, which is all that it was told of and shows the client so as it was planned for, and
--- the plan is right for that
+-- the desk has seen all that it was told of, what it has seen shows the client so as it was planned for, and the plan is
+-- right for that
 pub record IsDraftOf (desk : Desk) (client : ℕ) (draft : Draft) : Type 0 where
-  pub log : IsOfLog (seen_by desk)
-  pub enough : desk.told ≤ desk.seen.front
-  pub view : client_view desk.seen client ≡ Some draft.job
+  pub enough : desk.told ≤ length desk.seen
+  pub view : client_view (state_of desk.config desk.seen) client ≡ Some draft.job
   pub right : IsDraft draft
 
 -- a scan and a draft are right for what the desk shows

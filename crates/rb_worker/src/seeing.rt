@@ -1,8 +1,8 @@
 //! What a worker does on what its desk shows.
 ghost use Rattle.std.specs.Prelude.{◌≡◌, IfOk, IfErr};
+ghost use mathlib.Core.List.{IsPrefix};
 ghost use Rattle.rb_task.specs.Draft.{IsDraft};
-ghost use Rattle.rb_machine.specs.Machine.{client_view_refusal, path_view_refusal};
-ghost use Rattle.rb_board.specs.Knowledge.{LeadsTo};
+ghost use Rattle.rb_machine.specs.Machine.{client_view_refusal, path_view_refusal, state_of};
 ghost use Rattle.rb_board.specs.Unseen.{IsUnseen};
 ghost use Rattle.rb_worker.specs.Found.{IsDraftOf, IsScanOf};
 
@@ -21,10 +21,10 @@ pub(crate) fn scan_seen<A: Allocator + Copy>(
 ) -> Result<Scan<A>, DeskError>
     ensures config { desk.new.config ≡ desk.old.config }
     ensures told { desk.new.told ≡ desk.old.told }
-    ensures begins { LeadsTo desk.old.seen desk.new.seen }
+    ensures begins { IsPrefix desk.old.seen desk.new.seen }
     ensures part { IfOk result (λ scan. scan.part ≡ part) }
     ensures right { IfOk result (IsScanOf desk.new path) }
-    ensures refused { IfErr result (λ e. IsUnseen e desk.new (path_view_refusal desk.new.seen path)) }
+    ensures refused { IfErr result (λ e. IsUnseen e desk.new (path_view_refusal (state_of desk.new.config desk.new.seen) path)) }
 {
     let view = desk.view_path(path)?;
     match scan(view, part) {
@@ -61,10 +61,10 @@ pub(crate) fn plan_seen<A: Allocator + Copy>(
 ) -> Result<Draft<A>, DeskError>
     ensures config { desk.new.config ≡ desk.old.config }
     ensures told { desk.new.told ≡ desk.old.told }
-    ensures begins { LeadsTo desk.old.seen desk.new.seen }
+    ensures begins { IsPrefix desk.old.seen desk.new.seen }
     ensures client { IfOk result (λ draft. draft.job.client ≡ client) }
     ensures right { IfOk result (IsDraftOf desk.new client) }
-    ensures refused { IfErr result (λ e. IsUnseen e desk.new (client_view_refusal desk.new.seen client)) }
+    ensures refused { IfErr result (λ e. IsUnseen e desk.new (client_view_refusal (state_of desk.new.config desk.new.seen) client)) }
 {
     let job = desk.view_client(client)?;
     match draft_by(alloc, &job, graph) {

@@ -1,7 +1,7 @@
 //! How workers work.
 ghost use Rattle.std.specs.Prelude.{◌≡◌, IfSome};
 ghost use Rattle.std.specs.Option.{option_map};
-ghost use Rattle.rb_board.specs.Knowledge.{LeadsTo};
+ghost use mathlib.Core.List.{IsPrefix};
 ghost use Rattle.rb_worker.specs.Found.{IsFoundOn, found_place, ordered_place, told_after};
 ghost use Rattle.rb_gang.specs.declared.gate.Place.TheVariants as place;
 
@@ -24,7 +24,7 @@ fn find_scan<G: Gate, A: Allocator + Copy>(
 ) -> Finding<A>
     ensures config { desk.new.config ≡ desk.old.config }
     ensures told { desk.new.told ≡ desk.old.told }
-    ensures begins { LeadsTo desk.old.seen desk.new.seen }
+    ensures begins { IsPrefix desk.old.seen desk.new.seen }
     ensures place { found_place result ≡ place.Scan path part }
     ensures right { IsFoundOn desk.new result }
 {
@@ -49,7 +49,7 @@ fn find_plan<G: Gate, A: Allocator + Copy>(
 ) -> Finding<A>
     ensures config { desk.new.config ≡ desk.old.config }
     ensures told { desk.new.told ≡ desk.old.told }
-    ensures begins { LeadsTo desk.old.seen desk.new.seen }
+    ensures begins { IsPrefix desk.old.seen desk.new.seen }
     ensures place { found_place result ≡ place.Plan client }
     ensures right { IsFoundOn desk.new result }
 {
@@ -75,7 +75,7 @@ pub fn work<G: Gate, A: Allocator + Copy>(
 ) -> Option<Finding<A>>
     ensures config { desk.new.config ≡ desk.old.config }
     ensures told { desk.new.told ≡ told_after order desk.old.told }
-    ensures begins { LeadsTo desk.old.seen desk.new.seen }
+    ensures begins { IsPrefix desk.old.seen desk.new.seen }
     ensures place { option_map found_place result ≡ ordered_place order }
     ensures right { IfSome result (IsFoundOn desk.new) }
 {

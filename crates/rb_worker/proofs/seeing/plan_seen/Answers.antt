@@ -2,7 +2,7 @@ use Rattle.std.proofs.Common.{◌≡◌, ℕ, Option, Some, None, IfSome, refl, 
 use Rattle.std.specs.List.{slice_get}
 use Rattle.std.specs.Option.{option_map, option_and_then}
 use Rattle.rb_base.specs.Window.{Span}
-use Rattle.rb_machine.specs.Machine.{State, client_view, job_of}
+use Rattle.rb_machine.specs.Machine.{State, client_view, job_of, state_of}
 use Rattle.rb_machine.specs.Standing.{KnownClient}
 use Rattle.rb_task.specs.Draft.{Job}
 use Rattle.rb_worker.proofs.seeing.plan_seen.Goals as goal
@@ -22,4 +22,4 @@ of_client s client = windowed s.standing.window
 pub returns-in-Ok-clause-client : goal.returns-in-Ok-clause-client
 returns-in-Ok-clause-client g c =
     ap (λ (j : Job). j.client) c.in-Ok.ensures.job
-    ∙ subst (λ o. IfSome o (λ (j : Job). j.client ≡ c.args.client)) c.in_ok-job.ensures.view (of_client c.view_client.new.self.seen c.args.client)
+    ∙ subst (λ o. IfSome o (λ (j : Job). j.client ≡ c.args.client)) c.in_ok-job.ensures.view (of_client (state_of c.view_client.new.self.config c.view_client.new.self.seen) c.args.client)

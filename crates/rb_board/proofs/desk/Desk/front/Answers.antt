@@ -1,17 +1,15 @@
-use Rattle.std.proofs.Common.{◌≡◌, ◌∙◌, rules, sym, subst}
-use Rattle.std.specs.Prelude.{IfOk}
+use Rattle.std.proofs.Common.{◌≡◌, ◌∙◌, sym, subst}
+use Rattle.std.specs.Prelude.{length, IfOk}
 use Rattle.left_right.specs.Sides.{view}
-use Rattle.rb_core.specs.Follower.{Follower, IsOfLog}
-use Rattle.rb_board.specs.Kept.{follower_of, known_of}
+use Rattle.rb_core.specs.Follower.{Follower, IsOfLog, events_in}
+use Rattle.rb_board.specs.Kept.{known_of}
+use Rattle.rb_board.specs.declared.held.Held.{Held}
 use Rattle.rb_board.proofs.Boarding.{looked, known_then, unlooked}
 use Rattle.rb_board.proofs.desk.Desk.front.Goals as goal
 
 pub returns-in_default-clause-begins : goal.returns-in_default-clause-begins
 returns-in_default-clause-begins g c =
     unlooked (known_of c.self.inside.reader) (known_of c.enter.new.home) c.self.inside.told c.args.self.now (sym c.self.view_is) c.in_default.ensures.closed.1
-
-pub returns-in_default-clause-log : goal.returns-in_default-clause-log
-returns-in_default-clause-log g c = subst (λ k. IsOfLog (follower_of k)) (sym c.in_default.ensures.closed.1) c.self.invariant.2
 
 pub returns-clause-config : goal.returns-clause-config
 returns-clause-config g c =
@@ -23,12 +21,10 @@ returns-clause-begins g c =
     (looked (known_of c.self.inside.reader) (view c.in-Some.reading.place) (view c.leave.result.place) c.in-Some.reading.part.value c.self.inside.told c.args.self.now
     (sym c.self.view_is) c.self.invariant.1 c.in-Some.ensures.seen c.leave.ensures.1).1
 
-pub returns-clause-log : goal.returns-clause-log
-returns-clause-log g c =
-    (looked (known_of c.self.inside.reader) (view c.in-Some.reading.place) (view c.leave.result.place) c.in-Some.reading.part.value c.self.inside.told c.args.self.now
-    (sym c.self.view_is) c.self.invariant.1 c.in-Some.ensures.seen c.leave.ensures.1).2
-
 pub returns-clause-front : goal.returns-clause-front
 returns-clause-front g c =
-    known_then (λ (f : Follower). IfOk c.front_of-front.result (λ front. front ≡ f.state.front))
+    known_then (λ (f : Follower). IfOk c.front_of-front.result (λ front. front ≡ length (events_in f)))
     (view c.leave.result.place) c.in-Some.reading.part.value c.get.result.now (c.leave.ensures.1 ∙ c.in-Some.ensures.seen.1) c.get.ensures c.front_of-front.ensures.front
+
+pub front_of-front-requires : goal.front_of-front-requires
+front_of-front-requires g c = subst (λ (h : Held _). IsOfLog h.follower) (sym c.get.ensures) c.in-Some.ensures.seen.2

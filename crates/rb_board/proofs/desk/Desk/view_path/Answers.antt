@@ -1,20 +1,18 @@
-use Rattle.std.proofs.Common.{◌≡◌, ◌∙◌, rules, sym, subst}
+use Rattle.std.proofs.Common.{◌≡◌, ◌∙◌, sym, subst}
 use Rattle.std.specs.Prelude.{Some, IfOk, IfErr}
 use Rattle.rb_machine.specs.Machine.{path_view_refusal}
 use Rattle.rb_machine.specs.Standing.{path_view}
-use Rattle.rb_board.specs.Unseen.{IsUnseen}
 use Rattle.left_right.specs.Sides.{view}
-use Rattle.rb_core.specs.Follower.{Follower, IsOfLog}
-use Rattle.rb_board.specs.Kept.{follower_of, known_of}
+use Rattle.rb_core.specs.Follower.{Follower, IsOfLog, events_in, state_after}
+use Rattle.rb_board.specs.Kept.{known_of}
+use Rattle.rb_board.specs.declared.held.Held.{Held}
+use Rattle.rb_board.specs.Unseen.{IsUnseen}
 use Rattle.rb_board.proofs.Boarding.{looked, known_then, unlooked}
 use Rattle.rb_board.proofs.desk.Desk.view_path.Goals as goal
 
 pub returns-in_default-clause-begins : goal.returns-in_default-clause-begins
 returns-in_default-clause-begins g c =
     unlooked (known_of c.self.inside.reader) (known_of c.enter.new.home) c.self.inside.told c.args.self.now (sym c.self.view_is) c.in_default.ensures.closed.1
-
-pub returns-in_default-clause-log : goal.returns-in_default-clause-log
-returns-in_default-clause-log g c = subst (λ k. IsOfLog (follower_of k)) (sym c.in_default.ensures.closed.1) c.self.invariant.2
 
 pub returns-clause-config : goal.returns-clause-config
 returns-clause-config g c =
@@ -26,17 +24,15 @@ returns-clause-begins g c =
     (looked (known_of c.self.inside.reader) (view c.in-Some.reading.place) (view c.leave.result.place) c.in-Some.reading.part.value c.self.inside.told c.args.self.now
     (sym c.self.view_is) c.self.invariant.1 c.in-Some.ensures.seen c.leave.ensures.1).1
 
-pub returns-clause-log : goal.returns-clause-log
-returns-clause-log g c =
-    (looked (known_of c.self.inside.reader) (view c.in-Some.reading.place) (view c.leave.result.place) c.in-Some.reading.part.value c.self.inside.told c.args.self.now
-    (sym c.self.view_is) c.self.invariant.1 c.in-Some.ensures.seen c.leave.ensures.1).2
-
 pub returns-clause-view : goal.returns-clause-view
 returns-clause-view g c =
-    known_then (λ (f : Follower). IfOk c.path_of-view.result (λ seen. path_view f.state.standing c.args.path ≡ Some seen))
+    known_then (λ (f : Follower). IfOk c.path_of-view.result (λ seen. path_view (state_after f).standing c.args.path ≡ Some seen))
     (view c.leave.result.place) c.in-Some.reading.part.value c.get.result.now (c.leave.ensures.1 ∙ c.in-Some.ensures.seen.1) c.get.ensures c.path_of-view.ensures.view
 
 pub returns-clause-refused : goal.returns-clause-refused
 returns-clause-refused g c =
-    known_then (λ (f : Follower). IfErr c.path_of-view.result (λ e. IsUnseen e (record { config = f.config; seen = f.state; told = c.self.inside.told }) (path_view_refusal f.state c.args.path)))
+    known_then (λ (f : Follower). IfErr c.path_of-view.result (λ e. IsUnseen e (record { config = f.config; seen = events_in f; told = c.self.inside.told }) (path_view_refusal (state_after f) c.args.path)))
     (view c.leave.result.place) c.in-Some.reading.part.value c.get.result.now (c.leave.ensures.1 ∙ c.in-Some.ensures.seen.1) c.get.ensures c.path_of-view.ensures.refused
+
+pub path_of-view-requires : goal.path_of-view-requires
+path_of-view-requires g c = subst (λ (h : Held _). IsOfLog h.follower) (sym c.get.ensures) c.in-Some.ensures.seen.2
