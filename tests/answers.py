@@ -195,7 +195,7 @@ def serve(chance):
     def answer(path, asked):
         height = int(asked.get("height", ["0"])[0])
         if path == "/status":
-            return {"result": {"sync_info": {"latest_block_height": "80"}}}
+            return {"result": {"sync_info": {"latest_block_height": "81"}}}
         if path == "/commit":
             return hub.commit(height)
         if path == "/validators":
@@ -247,7 +247,7 @@ def answers_in(folder):
 
 
 def chain_events(folder, name, named):
-    """The sets that headers or records name, the highest first, and the headers."""
+    """The sets that headers or records name, the highest first and no more than 1,024, and the headers, no more than 4,096, of them."""
     headers, pages = {}, {}
     for answer in answers_in(folder / name):
         result = answer["result"]
@@ -256,17 +256,22 @@ def chain_events(folder, name, named):
             headers[int(signed["header"]["height"])] = signed
         else:
             pages.setdefault(int(result["block_height"]), []).extend(result["validators"])
+    for height in sorted(headers)[:-4096]:
+        del headers[height]
     for signed in headers.values():
         named |= {signed["header"]["validators_hash"].lower(), signed["header"]["next_validators_hash"].lower()}
     known = {}
     for height in sorted(pages):
         members = in_order([(base64.b64decode(v["pub_key"]["value"]), int(v["voting_power"])) for v in pages[height]])
         known.setdefault(set_hash(members).hex(), members)
+    written = [(digits, members) for digits, members in reversed(known.items()) if digits in named][:1024]
     events = [{"kind": "set", "chain": name, "name": digits[:32], "validators": [[key.hex(), power] for power, _, key in members]}
-              for digits, members in reversed(known.items()) if digits in named]
-    reference = {digits: digits[:32] for digits in known}
+              for digits, members in written]
+    reference = {digits: digits[:32] for digits, _ in written}
     for height in sorted(headers):
         header, commit = headers[height]["header"], headers[height]["commit"]
+        if header["validators_hash"].lower() not in reference:
+            continue
         events.append({"kind": "header", "chain": name, "height": height, "time": nanoseconds(header["time"]),
                        "root": header["app_hash"].lower(), "set": reference[header["validators_hash"].lower()],
                        "next": reference.get(header["next_validators_hash"].lower(), header["next_validators_hash"].lower()),
@@ -310,6 +315,7 @@ def kept(records, folder):
     """The records that a book of 4,096 has room for beside its chain's headers: the highest, and those of a header's height."""
     for chain in {client["of"] for client, _ in records}:
         headers = {int(a["result"]["signed_header"]["header"]["height"]) for a in answers_in(folder / chain) if "signed_header" in a["result"]}
+        headers = set(sorted(headers)[-4096:])
         bare = sorted({height_of(state) for client, state in records if client["of"] == chain} - headers)
         gone = set(bare[:max(len(bare) + len(headers) - 4096, 0)])
         records = [(client, state) for client, state in records if client["of"] != chain or height_of(state) not in gone]

@@ -59,31 +59,31 @@ def seed_cases(top, seed):
 
 
 def example_cases():
-    """The answers that the README speaks of, and their report."""
-    setup, folder = EXAMPLE / "setup.toml", EXAMPLE / "answers"
-    script = answers.script_of(setup.read_text(), folder)
-    yield Case("the example's import", ["import", str(setup), str(folder)], b"", script, b"", 0, reader=values_of)
-    yield Case("the example's plan", ["plan", "-"], answers.in_toml(script), (EXAMPLE / "setup.report").read_bytes(), b"", 0)
+    """The answers that the README speaks of, with packets and without, and their reports."""
+    for name in ("setup", "packets"):
+        setup, folder = EXAMPLE / f"{name}.toml", EXAMPLE / "answers"
+        script = answers.script_of(setup.read_text(), folder)
+        yield Case(f"the example's import of {name}", ["import", str(setup), str(folder)], b"", script, b"", 0, reader=values_of)
+        yield Case(f"the example's plan of {name}", ["plan", "-"], answers.in_toml(script), setup.with_suffix(".report").read_bytes(), b"", 0)
 
 
 def notice_cases(top):
-    """Answers that lack headers or next sets: each line tells one, and the script is written."""
-    setup, text = top / "lacking.toml", setups(2)[0]
-    setup.write_text(text)
-    for number, (change, lines) in enumerate(NOTICES):
-        folder = top / f"lacking-{number}"
+    """Answers that lack something, or have what can't be used: each line tells one, and the script is written."""
+    for number, (which, mend, change, lines) in enumerate(NOTICES):
+        folder, setup, text = top / f"lacking-{number}", top / f"lacking-{number}.toml", mend(setups(2)[which])
+        setup.write_text(text)
         answers.make(folder, 1, between=0)
         change(folder)
         lines = [line.format(folder=folder).encode() for line in lines]
-        yield Case(f"lacking answers {number}", ["import", str(setup), str(folder)], b"", answers.script_of(text, folder), lines[0], 0, reader=values_of, named=(b"".join(lines),))
+        yield Case(f"lacking answers {number}", ["import", str(setup), str(folder)], b"", answers.script_of(text, folder), b"".join(lines[:1]), 0, reader=values_of, named=(b"".join(lines),))
 
 
 def busy_cases(top):
     """Clients with more records than a book of version 1 holds, of which the newest alone hasn't expired, and more sets than any book does;
-    and with more records than any book holds."""
+    and with more records than any book holds. Then more headers, and more sets of headers, than any book holds."""
     two = CLIENT % ("again-on-zone", "zone-1", "hub-4")
     for most, every, first, setup, others, lines in (
-        (1500, 1, 1505, HEAD + ONE, {}, []),
+        (1500, 1, 1505, HEAD + ONE, {}, [SETS % (482, 0)]),
         (4100, 12, 4100, HEAD + ONE + two, {"again-on-zone": [2, 3, 7, 4100]}, [MANY % ("hub-on-zone", 6), MANY % ("again-on-zone", 2)]),
     ):
         folder, path = top / f"busy-{most}", top / f"busy-{most}.toml"
@@ -99,6 +99,17 @@ def busy_cases(top):
             report = reference.report(reference.read_script(toml))
             assert f" from {most} " in report and f"\nupdate {most + 30} " in report
             yield Case(f"plan of {most} records", ["plan", "-"], toml, report.encode(), b"", 0)
+    for most, every, stored, lines in ((1030, 1, [1], [SETS % (7, 7)]), (4100, 12, [1, 4100], [HEADERS % 4, MANY % ("hub-on-zone", 1)])):
+        folder, path, text = top / f"many-{most}", top / f"many-{most}.toml", HEAD + ONE + (TURN % 20).replace("-01T12:09", "-02T12:09")
+        answers.make_busy(folder, {"hub-on-zone": stored}, range(1, most + 1), every)
+        path.write_text(text)
+        script, lines = answers.script_of(text, folder), [line.encode() for line in lines]
+        yield Case(f"{most} headers", ["import", str(path), str(folder)], b"", script, lines[0], 0, reader=values_of, named=(b"".join(lines),))
+        if most < 4096:
+            toml = answers.in_toml(script)
+            report = reference.report(reference.read_script(toml))
+            assert "refused" not in report
+            yield Case(f"plan of {most} headers", ["plan", "-"], toml, report.encode(), b"", 0)
 
 
 # ---- spoiled answers
@@ -130,7 +141,7 @@ SIGNED, HEADER, COMMIT = "result.signed_header", "result.signed_header.header", 
 SIGNATURE, FIRST = f"{COMMIT}.signatures[0]", "result.validators[0]"
 STATE, CONSENSUS, TX, PACKET = "client_state", "consensus_states[0]", "result.txs[0]", "result.txs[0].tx_result.events[1].attributes"
 COMMIT_FILE, PAGE_FILE, STATE_FILE, STORED_FILE = "hub-4/commit-80.json", "hub-4/validators-80-1.json", "hub-on-zone/client_state.json", "hub-on-zone/consensus_states.json"
-SENT_FILE, RECEIVED_FILE = "transfers/sent.json", "transfers/received.json"
+SENT_FILE, RECEIVED_FILE, CLEARED_FILE = "transfers/sent.json", "transfers/received.json", "transfers/cleared.json"
 BIG, LONG = "9223372036854775808", "9223372037s"
 # by file the fields that are needed: where they stand, how a flaw names them (None: as they stand), and what is out of their range
 FIELDS = {
@@ -220,6 +231,10 @@ DAMAGES = [
     ("hub-on-zone/consensus_states.json", put(f"{CONSENSUS}.height.revision_number", "1"), "OtherRevision at hub-on-zone 1"),
     ("hub-on-zone/consensus_states.json", put("consensus_states[1].height.revision_height", "1"), "TwoAnswers at hub-on-zone 1"),
     ("hub-on-zone/consensus_states.json", put("pagination.next_key", "AAAA"), "MissingConsensusStates at hub-on-zone"),
+    (STORED_FILE, put(f"{CONSENSUS}.consensus_state.timestamp", "2026-11-01T12:00:06Z"), "OtherRecord at hub-on-zone 1"),
+    (STORED_FILE, put(f"{CONSENSUS}.consensus_state.root.hash", "A" * 43 + "="), "OtherRecord at hub-on-zone 1"),
+    (STORED_FILE, put(f"{CONSENSUS}.consensus_state.next_validators_hash", "00" * 32), "OtherRecord at hub-on-zone 1"),
+    (STORED_FILE, put("consensus_states[1].consensus_state.next_validators_hash", "00" * 32), "OtherRecord at hub-on-zone 80"),
     ("hub-on-zone/consensus_states.json", put("code", 5), None),
     ("transfers/received.json", put("result.total_count", "7"), "MissingTransactions at transfers 7"),
     ("transfers/received.json", put("result.total_count", "0"), "MissingTransactions at transfers 0"),
@@ -254,11 +269,30 @@ def edited(file, edit):
     return change
 
 
+def in_turn(*changes):
+    return lambda folder: [change(folder) for change in changes]
+
+
+def swapped(old, new):
+    """The change of a setup's text in its last turn, or in its client where nothing of it stands in a turn."""
+    def mend(text):
+        before, _, after = text.rpartition(old)
+        return before + new + after
+    return mend
+
+
+ADVICE = "the node answered an error; ask it again, or another node"
+INTO = " into files *.json of the folder "
+
 # changes of the folder, the line that tells them, the status, and the files that are named
 CHANGES = [
     (written(COMMIT_FILE, "{"), "refused NotJson at -", 1, [COMMIT_FILE]),
     (written("hub-4/status.json", "{}"), "refused UnknownShape at -", 1, ["hub-4/status.json"]),
-    (written("hub-on-zone/gateway.json", '{"code": 5, "message": "client not found", "details": []}'), "refused NodeError at -", 1, ["gateway.json"]),
+    (written("hub-on-zone/gateway.json", '{"code": 5, "message": "client not found", "details": []}'), "refused NodeError at -", 1, [f'gateway.json: {ADVICE}; it said "client not found"\n']),
+    (edited(COMMIT_FILE, put("error", {"code": -32603, "message": "Internal error", "data": "height 80 is not available, lowest height is 100"})),
+     "refused NodeError at -", 1, [f'{COMMIT_FILE}: {ADVICE}; it said "Internal error: height 80 is not available, lowest height is 100"\n']),
+    (edited(COMMIT_FILE, put("error", {"message": 5, "data": "\x1b[1m \"\u00e9\\\n~" + "x" * 300})), "refused NodeError at -", 1, ['; it said "?[1m ????~' + "x" * 190 + '"\n']),
+    (edited(COMMIT_FILE, put("error", "out of order")), "refused NodeError at -", 1, [f"{COMMIT_FILE}: {ADVICE}\n"]),
     (moved(COMMIT_FILE, "hub-4/again.json", copy=True), "refused TwoAnswers at hub-4 80", 1, [COMMIT_FILE, "hub-4/again.json"]),
     (written("hub-4/\x1b[1m.json", "{"), "refused NotJson at -", 1, [r"hub-4/\u{1b}[1m.json: "]),
     (moved(COMMIT_FILE, "hub-4/again\n.json", copy=True), "refused TwoAnswers at hub-4 80", 1, [COMMIT_FILE, r"hub-4/again\u{a}.json"]),
@@ -268,9 +302,12 @@ CHANGES = [
     (edited(COMMIT_FILE, put(f"{HEADER}.chain_id", "hub-5")), "refused OtherChain at hub-4 80", 1, [f"{COMMIT_FILE}: the answer is on another chain; fetch it"]),
     (edited(STATE_FILE, put(f"{STATE}.chain_id", "hub-5")), "refused OtherChain at hub-on-zone 0", 1, [f"{STATE_FILE}: ", "follows another chain than the setup's `of` says"]),
     (edited(PAGE_FILE, put("result.block_height", "79")), "refused MissingPage at hub-4 80", 1, [COMMIT_FILE, "hub-4/validators-80-2.json"]),
-    (removed(STATE_FILE), "refused MissingClientState at hub-on-zone", 1, ["client_states/ID"]),
+    (removed(STATE_FILE), "refused MissingClientState at hub-on-zone", 1, [f"client_states/ID{INTO}hub-on-zone\n"]),
     (moved(STATE_FILE, "hub-on-zone/again.json", copy=True), "refused TwoAnswers at hub-on-zone 0", 1, [STATE_FILE, "again.json"]),
-    (removed("hub-on-zone/consensus_states.json"), "refused MissingConsensusStates at hub-on-zone", 1, ["consensus_states/ID"]),
+    (removed("hub-on-zone/consensus_states.json"), "refused MissingConsensusStates at hub-on-zone", 1, [f"consensus_states/ID, all of its pages,{INTO}hub-on-zone\n"]),
+    (removed(SENT_FILE), "refused MissingSend at transfers 2", 1, [f"{RECEIVED_FILE}: ", f"send_packet; fetch /tx_search with it{INTO}transfers\n"]),
+    (edited(RECEIVED_FILE, gone(f"{TX}.tx_result.events[1]")), "refused MissingReceive at transfers 2", 1, [f"recv_packet; fetch /tx_search with it{INTO}transfers\n"]),
+    (edited(RECEIVED_FILE, put("result.total_count", "3")), "refused MissingTransactions at transfers 3", 1, [f"fetch all pages of /tx_search{INTO}transfers\n"]),
     (moved(STATE_FILE, "hub-4/client_state.json", copy=True), "refused WrongFolder at hub-4 0", 1, ["hub-4/client_state.json"]),
     (moved(COMMIT_FILE, "hub-on-zone/commit.json", copy=True), "refused WrongFolder at hub-on-zone 0", 1, ["hub-on-zone/commit.json"]),
     (moved(COMMIT_FILE, "transfers/commit.json", copy=True), "refused WrongFolder at transfers 0", 1, ["transfers/commit.json"]),
@@ -284,20 +321,52 @@ CHANGES = [
 NEXT_SET = ("notice MissingNextSet at hub-on-zone %d: {folder}/hub-on-zone/consensus_states.json: no answer has the next validators, so that no "
             "update starts from this record; fetch all pages of /validators?height=%d&per_page=100 into files *.json of the folder hub-4\n")
 MANY = "notice TooManyRecords at %s: %d of its stored records, the lowest, are left out; a chain's book holds 4,096 records\n"
-# changes of the folder after which the script is written all the same, and the lines that tell what isn't there
+HEADERS = "notice TooManyHeaders at hub-4: %d of its headers, the lowest, are left out; a chain's book holds 4,096 records\n"
+SETS = "notice TooManySets at hub-4: %d of its validator sets, the lowest, are left out, with %d headers of them; a chain's book holds 1,024 sets\n"
+GOAL = ("notice UnseenGoal at hub-on-zone %d: hub-4 has no header %s height, so that no update reaches it; fetch /commit?height=%d and all pages of "
+        f"/validators?height=%d&per_page=100{INTO}hub-4\n")
+EXPIRED = ("notice NothingTrusted at hub-on-zone: %s, so that no update starts from any; see whether the window is right, or fetch the client's "
+           f"consensus states again{INTO}hub-on-zone\n")
+FUTURE = ("notice FutureHeaders at hub-on-zone %d: headers of hub-4 from this height on, %d of them, are ahead of the window's first moment by the "
+          "client's clock drift or more, so that no update takes them; let the window begin later\n")
+UNSEARCHED = ("notice MissingSearches at transfers: no answer of /tx_search tells of %s, and there isn't an empty one for each; nothing is planned for "
+              f"packets that aren't seen as sent, and what isn't seen as received or cleared is planned again; fetch all pages of /tx_search{INTO}transfers\n")
+SETTING, FROM, UNTIL = "drift_ns = 7\n", "12:09:20Z", "12:09:30Z"
+NO_RECORD = edited(STORED_FILE, put("consensus_states", []))
+NOTHING_FOUND = written(RECEIVED_FILE, '{"result": {"txs": [], "total_count": "0"}}')
+# the setup by its number, its change and that of the folder, after which the script is written all the same, and the lines that tell why updates
+# may be missed; header 80 is of 12:08:32.3
 NOTICES = [
-    (edited(STORED_FILE, put(f"{CONSENSUS}.consensus_state.next_validators_hash", "00" * 32)), [NEXT_SET % (1, 2)]),
-    (lambda folder: [file.unlink() for file in (folder / "hub-4").glob("*.json")], [
+    (0, str, in_turn(removed("hub-4/commit-1.json"), edited(STORED_FILE, put(f"{CONSENSUS}.consensus_state.next_validators_hash", "00" * 32))), [NEXT_SET % (1, 2)]),
+    (0, str, lambda folder: [file.unlink() for file in (folder / "hub-4").glob("*.json")], [
         "notice MissingHeaders at hub-4: no answer is of /commit, so that there is nothing to update to; fetch /commit and /validators of some "
         "heights into files *.json of the folder hub-4\n", NEXT_SET % (1, 2), NEXT_SET % (80, 81)]),
+    (0, swapped("at_least = 80", "at_least = 81"), removed(), [GOAL % (81, "at or above the goal's", 81, 81)]),
+    (0, swapped("at_least = 80", "exactly = 79"), removed(), [GOAL % (79, "at the goal's", 79, 79)]),
+    (0, str, removed(COMMIT_FILE), []),  # height 80 is stored
+    (0, str, in_turn(removed(COMMIT_FILE), edited(STORED_FILE, gone("consensus_states[1]"))), [GOAL % (80, "at or above the goal's", 80, 80)]),
+    (0, swapped(SETTING, SETTING + "period_ns = 1\n"), removed(), [EXPIRED % "all 2 stored records have expired at the window's end"]),
+    (0, swapped(SETTING, SETTING + "period_ns = 563_000_000_000\n"), removed(), []),  # record 80 is trusted until 12:17:55.3
+    (0, swapped(SETTING, SETTING + "period_ns = 1\n"), edited(STORED_FILE, gone("consensus_states[0]")), [EXPIRED % "its stored record has expired at the window's end"]),
+    (0, str, NO_RECORD, [EXPIRED % "it has stored no record"]),
+    (0, swapped(FROM, "12:08:32Z"), removed(), [FUTURE % (80, 1)]),
+    (0, swapped(FROM, "12:00:01Z"), removed(), [FUTURE % (1, 2)]),
+    (0, swapped(FROM, "12:08:33Z"), removed(), []),
+    (1, str, removed(RECEIVED_FILE), [UNSEARCHED % "recv_packet"]),
+    (1, str, removed(SENT_FILE, RECEIVED_FILE, CLEARED_FILE), [UNSEARCHED % "send_packet, recv_packet, acknowledge_packet or timeout_packet"]),
+    (1, str, in_turn(removed(SENT_FILE, CLEARED_FILE), NOTHING_FOUND), [UNSEARCHED % "send_packet, recv_packet, acknowledge_packet or timeout_packet"]),
+    (1, str, NOTHING_FOUND, []),
 ]
 
 
 def files_of(file, line):
-    """The files that a refusal of a spoiled file names: of a header and its set both, of a page that isn't there none."""
+    """The files that a refusal of a spoiled file names: of a header and its set both, of a record and a header both, of a page that isn't
+    there none."""
     name = line.split()[0]
     if name in ("OtherSet", "OtherSigner", "SignatureCount"):
         return [COMMIT_FILE, PAGE_FILE]
+    if name == "OtherRecord":
+        return [f"{file} and ", f"hub-4/commit-{line.split()[-1]}.json: "]
     return [] if name == "MissingConsensusStates" else [file]
 
 
@@ -348,12 +417,12 @@ def import_cases(top, seeds):
 def chain_cases(top, program):
     """`import` and `plan` in a row by a shell; at last over what `examples/collect` got of made-up nodes."""
     words = " ".join(map(shlex.quote, program))
-    folders = [(top / f"seed-{seed}", top / f"setup-{seed}-0.toml") for seed in range(1, 21)]
-    folders += [(top / "collected", top / "setup-4-0.toml"), (top / "busy-1500", top / "busy-1500.toml")]
+    folders = [(top / f"seed-{seed}", top / f"setup-{seed}-0.toml", "") for seed in range(1, 21)]
+    folders += [(top / "collected", top / "setup-4-0.toml", ""), (top / "busy-1500", top / "busy-1500.toml", SETS % (482, 0))]
     with answers.serve(random.Random(7)) as (rpc, rest):
         subprocess.run([TOP / "examples" / "collect", top / "collected", "hub-on-zone", "hub-4", rpc, rest, "4"], check=True)
-    for folder, setup in folders:
+    for folder, setup, told in folders:
         toml = answers.in_toml(answers.script_of(setup.read_text(), folder))
         report = reference.report(reference.read_script(toml)).encode()
         line = f'{words} import "$0" "$1" | {words} plan -'
-        yield Case(f"import and plan of {folder.name}", ["sh", "-c", line, str(setup), str(folder)], b"", report, b"", 0)
+        yield Case(f"import and plan of {folder.name}", ["sh", "-c", line, str(setup), str(folder)], b"", report, told.encode(), 0)

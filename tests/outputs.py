@@ -58,10 +58,14 @@ def word(identifier):
     return f"'{identifier}'" if set(identifier) & set("#[]<>") else identifier
 
 
-def commands_of(script, value):
-    """The commands for a report's value."""
-    hosts, lines = {client["id"]: client["host"] for client in script.get("client", [])}, []
-    for number, turn in enumerate(value["turns"], 1):
+def commands_of(script, value, wanted=None):
+    """The commands for a report's value, of all turns or of one by its number."""
+    hosts, lines, window = {client["id"]: client["host"] for client in script.get("client", [])}, [], None
+    for number, (turn, given) in enumerate(zip(value["turns"], script.get("turn", [])), 1):
+        window = window if turn["window_back"] else given  # the one in force
+        if wanted not in (None, number):
+            continue
+        lines.append(f"# turn {number}: valid from {window['from']} until {window['until']}")
         lines += [f"# turn {number}: refused window 806 WindowBack"] if turn["window_back"] else []
         lines += [f"# turn {number}: refused event {r['event']} {r['number']} {r['name']}" for r in turn["refused"]]
         for client in turn["clients"]:
@@ -110,10 +114,42 @@ def renamed_texts(script, report):
         yield script.replace('"hub"', f'"{host}"').replace('"zone-on-hub"', f'"{own}"'), renamed
 
 
-def output_cases(are_few):
-    """The runs of `plan --json` and of `commands`; few of them tell as much of what is written as all."""
+def stored_texts(are_few):
+    """The texts that have a report; few of them tell as much of what is written as all."""
     stored = [(script, report) for script, report in texts() if report]
-    stored = list(telling(stored)) if are_few else stored
+    return list(telling(stored)) if are_few else stored
+
+
+def strict_cases(are_few):
+    """With `--strict` the same is written, and the status says whether something in it is refused."""
+    commands = ["plan"], ["plan", "--json"], ["run"], ["run", "--workers", "2"]
+    for number, (script, report) in enumerate(stored_texts(are_few)):
+        words = [*commands[number % len(commands)], "--strict", "-"]
+        is_json, status = "--json" in words, 6 if "\nrefused " in report else 0
+        output = value_of(tomllib.loads(script), report) if is_json else report.encode()
+        what = f"{' '.join(words)} of {' '.join(report.split()[:9])}"
+        yield Case(what, words, script.encode(), output, b"", status, reader=json.loads if is_json else None)
+    yield Case("a fault of plan --strict", ["plan", "--strict", "-"], b"version =", b"", b"fault 1001 NotToml at -\n", 1)
+
+
+def turn_cases():
+    """`commands --turn`: the first and the last turn, one whose window is refused, and numbers of no turn."""
+    example = TOP / "examples" / "two_clients.toml"
+    table, report = tomllib.loads(example.read_text()), example.with_suffix(".report").read_text()
+    for number in range(1, len(table["turn"]) + 1):
+        output = commands_of(table, value_of(table, report), number).encode()
+        yield Case(f"commands of turn {number}", ["commands", "--turn", f"{number}", "-"], example.read_bytes(), output, b"", 0)
+    for number, reason in ("0", "0 is not in 1..=500"), ("5", "the last turn of standard input is 4"), ("501", "501 is not in 1..=500"), ("one", "invalid digit found in string"):
+        error = f"error: invalid value '{number}' for '--turn <N>': {reason}\n".encode()
+        yield Case(f"commands of turn {number}", ["commands", f"--turn={number}", "-"], example.read_bytes(), b"", error, 2)
+    window = b"[[turn]]\nfrom = '2025-03-01T13:00:00.50+01:00'\nuntil = '2025-03-01T12:00:60Z'\n"
+    output = b"# turn 1: valid from 2025-03-01T12:00:00.5Z until 2025-03-01T12:00:59Z\n"
+    yield Case("commands of a window as others write it", ["commands", "-"], b"version = 1\n" + window, output, b"", 0)
+
+
+def output_cases(are_few):
+    """The runs of `plan --json` and of `commands`."""
+    stored = stored_texts(are_few)
     smallest = TOP / "examples" / "smallest.toml"
     stored += renamed_texts(smallest.read_text(), smallest.with_suffix(".report").read_text())
     for script, report in stored:

@@ -34,7 +34,7 @@ class Case:
         """Whether the run went as it has to; tells where not."""
         missing = tuple(word for word in self.named if word not in error)
         error = b"".join(error.splitlines(keepends=True)[:1])  # more lines are for the reader
-        if self.reader and status == 0:
+        if self.reader and status == self.status:
             with contextlib.suppress(ValueError):
                 output = self.reader(output)
         got, wanted = (output, error, status, missing), (self.output, self.error, self.status, ())

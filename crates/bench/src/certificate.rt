@@ -4,7 +4,7 @@ ghost use Rattle.std.specs.Prelude.{◌≡◌, IfOk};
 use anyhow::{Context, Result, bail};
 use rb_base::{FeeTable, Height, Moment, Options, Period, Window};
 use rb_book::ChainBook;
-use rb_cert::{Verdict2, certify, certify_par};
+use rb_cert::{Judgement, certify, certify_par};
 use rb_graph::Graph;
 use rb_plan::{Goal, plan};
 use rb_step::{ClientView, are_known};
@@ -45,6 +45,6 @@ pub fn certify_timed<R: Clock + Threads + Sync + AllocGlobal>(
     let micros = start.elapsed(rt)?.as_micros();
     let start = Instant::now(rt)?;
     let together = certify_par(rt, &view, goal, &answer);
-    let holds = alone == Verdict2::Yes && together == Verdict2::Yes;
+    let holds = alone == Judgement::Yes && together == Judgement::Yes;
     Ok((holds, micros, start.elapsed(rt)?.as_micros()))
 }

@@ -55,7 +55,7 @@ fn make_tables(alloc: Global, views: &[JobView]) -> Result<Vec<Graph>> {
 fn plan(tables: &[Graph], view: &JobView) -> Result<Draft> {
     for table in tables {
         if table.is_of(view.view().book()) {
-            return Ok(draft(view, table)?);
+            return Ok(draft(view.copy()?, table)?);
         }
     }
     bail!("a table is missing")

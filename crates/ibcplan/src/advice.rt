@@ -5,9 +5,8 @@ use rb_fields::FaultName;
 pub fn advice_for(name: FaultName, path: &str) -> &'static str {
     match name {
         FaultName::NotToml => "the file has to be TOML in UTF-8",
-        FaultName::MissingKey => "this key is missing",
         FaultName::UnknownKey => keys_at(path),
-        FaultName::WrongType => type_at(path),
+        FaultName::MissingKey | FaultName::WrongType => type_at(path),
         FaultName::BadVersion => "the version of a script is 1 or 2, of a setup or a certificate 1",
         FaultName::OutOfRange => range_at(path),
         FaultName::BadIdentifier => {
@@ -134,6 +133,19 @@ fn element_type(array: &str, is_inner: bool) -> &'static str {
             "a table belongs here"
         }
         _ => "a value of another type belongs here",
+    }
+}
+
+/// A value of the type with this name in TOML, in the words of messages.
+pub fn type_words(name: &str) -> &'static str {
+    match name {
+        "string" => "a text in quotes",
+        "integer" => "a whole number",
+        "float" => "a float",
+        "boolean" => "a boolean",
+        "datetime" => "a date-time without quotes",
+        "array" => "an array",
+        _ => "a table",
     }
 }
 

@@ -35,6 +35,13 @@ pub enum Failure<'a> {
         fault: Fault,
         flaw: Flaw<'a>,
     },
+    /// The script doesn't have the turn that was asked for.
+    #[error("error: invalid value '{turn}' for '--turn <N>': the last turn of {file} is {turns}\n\nFor more information, try '--help'.")]
+    NoSuchTurn {
+        file: Shown<'a>,
+        turn: u64,
+        turns: usize,
+    },
     /// Standard output fails.
     #[error("device\nstandard output: {error}\nIt can't be written; what it took may be only a beginning.")]
     Unwritten {
@@ -88,6 +95,7 @@ impl<'a> Failure<'a> {
     {
         match self {
             Failure::Refused { .. } | Failure::RefusedAnswers(_) => status::REFUSED,
+            Failure::NoSuchTurn { .. } => status::COMMAND_LINE,
             Failure::Unreadable { .. }
             | Failure::UnreadableAnswers { .. }
             | Failure::Unwritten { .. }

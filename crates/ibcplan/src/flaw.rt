@@ -1,5 +1,5 @@
 //! What is wrong with a file that is refused.
-use crate::advice::advice_for;
+use crate::advice::{advice_for, type_words};
 use crate::input::Input;
 use crate::shown::Shown;
 use rb_fields::{Fault, FaultName};
@@ -22,6 +22,19 @@ pub enum Flaw<'a> {
         file: Shown<'a>,
         reason: String,
     },
+    /// A key isn't there.
+    #[error("{file}: this key is missing; {advice} (docs/FORMATS.md)")]
+    Missing {
+        file: Shown<'a>,
+        advice: &'static str,
+    },
+    /// A value has another type than the one that belongs there.
+    #[error("{file}: {advice}; what stands there is {found} (docs/FORMATS.md)")]
+    Type {
+        file: Shown<'a>,
+        advice: &'static str,
+        found: &'static str,
+    },
     /// It is TOML, and holds no script or certificate.
     #[error("{file}: {advice} (docs/FORMATS.md)")]
     Content {
@@ -43,9 +56,15 @@ pub fn flaw_of<'a>(fault: &mut Fault, input: &Input<'a>) -> Flaw<'a> {
             return Flaw::Grammar { file, reason };
         }
     }
-    Flaw::Content {
-        file,
-        advice: advice_for(fault.name, fault.path.as_str()),
+    let advice = advice_for(fault.name, fault.path.as_str());
+    match (fault.name, fault.found) {
+        (FaultName::MissingKey, _) => Flaw::Missing { file, advice },
+        (_, Some(found)) => Flaw::Type {
+            file,
+            advice,
+            found: type_words(found),
+        },
+        (_, None) => Flaw::Content { file, advice },
     }
 }
 

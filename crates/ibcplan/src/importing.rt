@@ -153,9 +153,13 @@ fn read_file<'a, R: Host>(rt: &R, folder: &str, name: &str) -> Result<Saved, Fai
     };
     match read_saved(alloc, name, bytes.as_slice()) {
         Ok(saved) => Ok(saved),
-        Err(SavedError::Flaw { file, flaw }) => {
+        Err(SavedError::Flaw { file, flaw, said }) => {
             let advice = flaw.name.advice();
-            Err(refused(format!(in alloc; "refused {flaw}\n{file}: {advice}")))
+            Err(refused(if said.is_empty() {
+                format!(in alloc; "refused {flaw}\n{file}: {advice}")
+            } else {
+                format!(in alloc; "refused {flaw}\n{file}: {advice}; it said \"{said}\"")
+            }))
         }
         Err(SavedError::NoMemory) => Err(Failure::NoMemory),
     }

@@ -6,11 +6,13 @@
 mod advice;
 mod failure;
 mod flaw;
+mod forms;
 mod host;
 mod importing;
 mod input;
 mod perform;
 mod progress;
+mod reporting;
 mod shown;
 mod status;
 mod tally;

@@ -1,23 +1,22 @@
 //! The tasks done: files are read, results go to standard output, failures and notices to standard error.
 ghost use Rattle.std.specs.Prelude.{◌≡◌, ◌⊎◌, false, IfOk};
-ghost use Rattle.ibcplan.specs.Status.{IsPlanned, IsConfirmed, IsDenied};
+ghost use Rattle.ibcplan.specs.Status.{IsPlanned, IsPlannedStrictly, IsConfirmed, IsDenied};
 
 use crate::failure::Failure;
+use crate::forms::{JsonText, commands_of_script, json_of_script};
 use crate::host::Host;
 use crate::importing::{ImportedText, imported};
 use crate::input::Input;
 use crate::progress::Progress;
+use crate::reporting::{strict_status, write_strictly};
 use crate::status;
 use crate::tally::Tally;
 use crate::task::Task;
 use crate::workers::Workers;
 use clap::error::ErrorKind;
 use rb_base::{Counted, Sink, write_whole};
-use rb_fields::RunError;
-use rb_gang::{Gate, OpenGate};
-use rb_output::{commands_of, json_of};
-use rb_super::run_script;
-use rb_text::{Source, certify_texts, read_script, run_over};
+use rb_gang::Gate;
+use rb_text::{Source, certify_texts, run_over};
 use std::alloc::Global;
 use std::io;
 use std::io::{Printer, Write};
@@ -105,19 +104,32 @@ fn done_of<'a, R: Host, W: Sink>(
     requires { W.is_broken output.old ≡ false }
 {
     let status = match task {
-        Task::Plan { script, workers } => {
+        Task::Plan {
+            script,
+            workers,
+            is_strict,
+        } => {
             let script = Input::read(rt, script)?;
             let progress = Progress::new(*rt, is_watched);
-            plan(rt, rt.alloc(), &script, workers, progress, output)?
+            if is_strict {
+                plan_strictly(rt, rt.alloc(), &script, workers, progress, output)?
+            } else {
+                plan(rt, rt.alloc(), &script, workers, progress, output)?
+            }
         }
-        Task::PlanJson { script } => {
+        Task::PlanJson { script, is_strict } => {
             let script = Input::read(rt, script)?;
-            let text = planned_text(rt, rt.alloc(), &script, Form::Json)?;
-            write(&text, output)?
+            let JsonText { text, has_refusal } = json_of_script(rt, rt.alloc(), &script)?;
+            let status = write(&text, output)?;
+            if is_strict {
+                strict_status(has_refusal)
+            } else {
+                status
+            }
         }
-        Task::Commands { script } => {
+        Task::Commands { script, turn } => {
             let script = Input::read(rt, script)?;
-            let text = planned_text(rt, rt.alloc(), &script, Form::Commands)?;
+            let text = commands_of_script(rt, rt.alloc(), &script, turn)?;
             write(&text, output)?
         }
         Task::Import { setup, folder } => {
@@ -168,39 +180,30 @@ fn plan<
     }
 }
 
-/// What a report is written as, beside its own text.
-#[derive(Clone, Copy)]
-enum Form {
-    Json,
-    Commands,
-}
-
-/// The report of the script that a file holds, in another form.
-fn planned_text<'a, R: Threads + Sync>(
+/// Writes the report as `plan` does; the status also tells whether something in it is refused.
+fn plan_strictly<
+    'a,
+    R: Threads + Wait + Copy + Send + Sync + 'static,
+    G: Gate + Send + Sync + Drop + 'static,
+    W: Sink,
+>(
     rt: &R,
     alloc: Global,
-    input: &Input<'a>,
-    form: Form,
-) -> Result<String, Failure<'a>> {
-    match form_of(rt, alloc, input.bytes(), form) {
-        Ok(text) => Ok(text),
-        Err(error) => Err(Failure::of_run(error, input)),
-    }
-}
-
-/// Reads a script, runs it, and puts its report into a form.
-fn form_of<R: Threads + Sync>(
-    rt: &R,
-    alloc: Global,
-    bytes: &[u8],
-    form: Form,
-) -> Result<String, RunError> {
-    let script = read_script(alloc, bytes)?;
-    let config = script.config.copy()?;
-    let report = run_script(rt, alloc, script, 0, &OpenGate)?;
-    match form {
-        Form::Json => Ok(json_of(alloc, &report)?),
-        Form::Commands => Ok(commands_of(alloc, &config, &report)?),
+    script: &Input<'a>,
+    workers: Workers,
+    gate: G,
+    output: &mut W,
+) -> Result<u8, Failure<'a>>
+    requires { W.is_broken output.old ≡ false }
+    ensures done { IfOk result (IsPlannedStrictly script.now.bytes.items (W.taken output.old) (W.taken output.new)) }
+{
+    let Ok(gate) = Arc::new(alloc, gate) else {
+        return Err(Failure::NoMemory);
+    };
+    let workers = workers.count();
+    match write_strictly(rt, alloc, script.bytes(), output, workers, &gate) {
+        Ok(status) => Ok(status),
+        Err(error) => Err(Failure::of_run(error, script)),
     }
 }
 

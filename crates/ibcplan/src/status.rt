@@ -1,6 +1,6 @@
-//! The status that the program ends with.
+//! The status that the program ends with; 5 is that of the script `./ibcplan` where it can't build it.
 
-/// The task is done; a certificate holds.
+/// The task is done; a certificate holds; of a strict plan: nothing is refused.
 pub const DONE: u8 = 0;
 
 /// The content of a file is refused.
@@ -14,3 +14,6 @@ pub const DENIED: u8 = 3;
 
 /// Want of memory, or a file or an output that fails.
 pub const FAILED: u8 = 4;
+
+/// Of a strict plan: the report is written, and tells of something that is refused.
+pub const PARTLY_REFUSED: u8 = 6;

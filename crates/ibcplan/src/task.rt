@@ -12,14 +12,17 @@ pub enum Task<'a> {
     Plan {
         script: &'a str,
         workers: Workers,
+        is_strict: bool,
     },
     /// Write a script's report as JSON.
     PlanJson {
         script: &'a str,
+        is_strict: bool,
     },
-    /// Write the commands for a script's plans.
+    /// Write the commands for a script's plans, of every turn or of the one with a number, from 1.
     Commands {
         script: &'a str,
+        turn: Option<u64>,
     },
     /// Write the script that a setup and the answers in a folder make.
     Import {
@@ -42,6 +45,10 @@ const COMMANDS: &str = "commands";
 const JSON: &str = "json";
 
 const WORKERS: &str = "workers";
+
+const STRICT: &str = "strict";
+
+const TURN: &str = "turn";
 
 const IMPORT: &str = "import";
 
@@ -72,24 +79,30 @@ Exit status:
   3  of certify: it isn't the plan (the cheapest, and the first among equals), or
      its labels don't show it; standard output says why
   4  no memory, or a file or an output that fails
-  5  of ./ibcplan: the program isn't built, and can't be";
+  5  of ./ibcplan: the program isn't built, and can't be
+  6  of plan and run with --strict: the report is written, and something in it
+     is refused; its lines that begin with 'refused' say what";
 
 const AFTER_PLAN: &str = "Examples:
   ibcplan plan examples/smallest.toml
-  ibcplan plan - < examples/smallest.toml > report.txt";
+  ibcplan plan - < examples/smallest.toml > report.txt
+  ibcplan plan --json examples/two_clients.toml | jq .
+  ibcplan plan --strict examples/lost_client.toml || echo \"exit status $?\"";
 
 const AFTER_RUN: &str = "Examples:
   ibcplan run examples/packets.toml
   ibcplan run --workers 4 examples/hundred_headers.toml
+  ibcplan run --strict --workers 4 examples/hundred_headers.toml
 
 It writes what plan writes, whatever the number of threads. Measure before you
 use it: where a plan takes less than a second or two, plan is faster.";
 
 const AFTER_COMMANDS: &str = "Examples:
   ibcplan commands examples/smallest.toml
-  ibcplan commands examples/smallest.toml > updates.sh
+  ibcplan commands --turn 2 examples/two_clients.toml > updates.sh
 
-It writes those of every turn, of which only the last turn's are to be run.";
+Without --turn it writes those of every turn, of which only the last turn's are
+to be run. Each turn's begin with a comment that says until when they are valid.";
 
 const AFTER_IMPORT: &str = "Examples:
   ibcplan import examples/import/setup.toml examples/import/answers > script.toml
@@ -111,8 +124,18 @@ fn file<'a>(alloc: Global, name: &'a str, help: &'a str) -> Arg<'a> {
         .help(help)
 }
 
+fn script_file<'a>(alloc: Global) -> Arg<'a> {
+    file(alloc, SCRIPT, "The script's file; - for standard input")
+}
+
+fn strict<'a>(alloc: Global) -> Arg<'a> {
+    Arg::new(alloc, STRICT)
+        .long("strict")
+        .action(ArgAction::SetTrue)
+        .help("Ends with status 6 where an event, a window or a settlement is refused")
+}
+
 fn plan_command<'a>(alloc: Global) -> Result<Command<'a>, AllocError> {
-    let script = file(alloc, SCRIPT, "The script's file; - for standard input");
     let json = Arg::new(alloc, JSON)
         .long("json")
         .action(ArgAction::SetTrue)
@@ -122,12 +145,12 @@ fn plan_command<'a>(alloc: Global) -> Result<Command<'a>, AllocError> {
             "Writes the report of a script: for each turn and client the cheapest list of updates",
         )
         .after_help(AFTER_PLAN)
-        .arg(script)?
-        .arg(json)
+        .arg(script_file(alloc))?
+        .arg(json)?
+        .arg(strict(alloc))
 }
 
 fn run_command<'a>(alloc: Global) -> Result<Command<'a>, AllocError> {
-    let script = file(alloc, SCRIPT, "The script's file; - for standard input");
     let workers = Arg::new(alloc, WORKERS)
         .long("workers")
         .value_name("K")
@@ -139,20 +162,25 @@ fn run_command<'a>(alloc: Global) -> Result<Command<'a>, AllocError> {
     Command::new(alloc, RUN)
         .about("Writes the report of a script as plan does, by several threads")
         .after_help(AFTER_RUN)
-        .arg(script)?
-        .arg(workers)
+        .arg(script_file(alloc))?
+        .arg(workers)?
+        .arg(strict(alloc))
 }
 
 fn commands_command<'a>(alloc: Global) -> Result<Command<'a>, AllocError> {
-    let script = file(alloc, SCRIPT, "The script's file; - for standard input");
+    let turn = Arg::new(alloc, TURN)
+        .long("turn")
+        .value_name("N")
+        .value_parser(value_parser!(u64).range(1..=500))
+        .help("Writes those of this turn alone, from 1");
     Command::new(alloc, COMMANDS)
         .about("Writes the commands (of Hermes) that submit the updates of a script's plans")
         .after_help(AFTER_COMMANDS)
-        .arg(script)
+        .arg(script_file(alloc))?
+        .arg(turn)
 }
 
 fn certify_command<'a>(alloc: Global) -> Result<Command<'a>, AllocError> {
-    let script = file(alloc, SCRIPT, "The script's file; - for standard input");
     let certificate = file(
         alloc,
         CERT,
@@ -161,7 +189,7 @@ fn certify_command<'a>(alloc: Global) -> Result<Command<'a>, AllocError> {
     Command::new(alloc, CERTIFY)
         .about("Judges whether a plan is the cheapest for a script, or whether there is none")
         .after_help(AFTER_CERTIFY)
-        .arg(script)?
+        .arg(script_file(alloc))?
         .arg(certificate)
 }
 
@@ -201,6 +229,24 @@ fn twice_standard_input(alloc: Global) -> Result<Error, AllocError> {
     )
 }
 
+/// The task of `plan` or `run`, or none where a word is missing.
+fn plan_of<'a>(name: &str, script: &'a str, given: &ArgMatches<'a>) -> Option<Task<'a>> {
+    let is_strict = given.get_flag(STRICT);
+    if name == PLAN && given.get_flag(JSON) {
+        return Some(Task::PlanJson { script, is_strict });
+    }
+    let workers = if name == RUN {
+        Workers::new(given.get_one(WORKERS)?)?
+    } else {
+        Workers::none()
+    };
+    Some(Task::Plan {
+        script,
+        workers,
+        is_strict,
+    })
+}
+
 /// The task of words that were parsed, or none where one is missing.
 fn task_of<'a>(matches: &ArgMatches<'a>) -> Option<Task<'a>> {
     let (name, given) = matches.subcommand()?;
@@ -217,15 +263,10 @@ fn task_of<'a>(matches: &ArgMatches<'a>) -> Option<Task<'a>> {
             certificate,
         })
     } else if name == COMMANDS {
-        Some(Task::Commands { script })
-    } else if name == RUN {
-        let workers = Workers::new(given.get_one(WORKERS)?)?;
-        Some(Task::Plan { script, workers })
-    } else if given.get_flag(JSON) {
-        Some(Task::PlanJson { script })
+        let turn = given.get_one(TURN);
+        Some(Task::Commands { script, turn })
     } else {
-        let workers = Workers::none();
-        Some(Task::Plan { script, workers })
+        plan_of(name, script, given)
     }
 }
 

@@ -6,3 +6,4 @@ pub mod Clients
 pub mod Revisions
 pub mod Packets
 pub mod Answers
+pub mod Said

@@ -10,6 +10,7 @@ mod commit;
 mod duration;
 mod packets;
 mod revision;
+mod said;
 mod validators;
 
 pub use answer::{Answer, read_answer};
@@ -18,4 +19,5 @@ pub use commit::{BlockIdFlag, Signature, SignedHeader};
 pub use packets::{PacketEvent, PacketKind, PacketPage, RevisionHeight};
 pub use rb_json::{AnswerError, Flaw, FlawName, Key, Part, Place};
 pub use revision::revision_of;
+pub use said::said_in;
 pub use validators::ValidatorsPage;

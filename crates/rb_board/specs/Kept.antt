@@ -1,5 +1,5 @@
 -- The board's rule, and what the pen and the desks hold by it.
-use Rattle.std.specs.Prelude.{◌≡◌, ◌++◌, ℕ, List, [], drop, Option, Some, None}
+use Rattle.std.specs.Prelude.{◌≡◌, ℕ, List, [], drop, fold, Option, Some, None}
 use mathlib.Core.Option.{some}
 use lib.ListN.{get_elem?}
 use Rattle.atomic_table.specs.declared.shared.Seat.{Seat}
@@ -9,16 +9,17 @@ use Rattle.left_right.specs.declared.board.Doing.{Doing}
 use Rattle.left_right.specs.declared.part.Part.{Part}
 use Rattle.left_right.specs.declared.reader.Reader.{Reader}
 use Rattle.left_right.specs.declared.writer.Writer.{Writer}
-use Rattle.rb_core.specs.Follower.{Follower, IsOfLog, events_in}
+use Rattle.rb_core.specs.Follower.{Past, Follower, IsOfLog, events_in, follows}
+use Rattle.rb_core.specs.declared.told.Told.{Told}
 use Rattle.rb_events.specs.Config.{Config}
-use Rattle.rb_machine.specs.Entry.{Logged}
 use Rattle.rb_machine.specs.Event.{Event}
+use Rattle.rb_machine.specs.Machine.{state_of}
 use Rattle.rb_board.specs.Knowledge.{Knowledge, nothing_yet, Begins}
 use Rattle.rb_board.specs.declared.held.Held.{Held}
 
 -- what a copy of the board shows
 abbrev pub knowledge_of : {A : Type 0} → Held A → Knowledge
-knowledge_of held = record { config = Some held.follower.config; entries = held.follower.entries }
+knowledge_of held = record { config = Some held.follower.past.config; entries = held.follower.past.entries }
 
 -- the rule: a log is published, and what each seat knows is a beginning of it
 abbrev pub Known : {A : Type 0} → Held A → List Knowledge → Type 0
@@ -46,17 +47,19 @@ abbrev pub config_or : Option Config → Config
 config_or (Some config) = config
 config_or None = record { limit = 0; chains = []; clients = []; paths = [] }
 
--- what is known, as a follower
-abbrev pub follower_of : Knowledge → Follower
-follower_of k = record { config = config_or k.config; entries = k.entries }
+-- what is known, as the past of a relayer
+abbrev pub past_of : Knowledge → Past
+past_of k = record { config = config_or k.config; entries = k.entries }
 
--- the same with what waits
-abbrev pub followed_on : Follower → List Logged → Follower
-followed_on f waiting = record f { entries = f.entries ++ waiting }
+-- a follower that has followed what waits, too
+abbrev pub followed_on : {A : Type 0} → Follower → List (Told A) → Follower
+followed_on f waiting = fold follows f waiting
 
--- the pen knows what is published, which is a log, and leads with what waits to the board's log
-pub record IsKnown {A : Type 0} (shown : Held A) (known : Knowledge) (waiting : List Logged) (config : Config) (log : List Event) : Type 0 where
+-- the pen knows what is published, which is a log; who follows what waits, too, has followed the board's log, and knows what is
+-- known after it
+pub record IsKnown {A : Type 0} (shown : Held A) (known : Knowledge) (waiting : List (Told A)) (config : Config) (log : List Event) : Type 0 where
   pub all : known ≡ knowledge_of shown
-  pub config_same : shown.follower.config ≡ config
+  pub config_same : shown.follower.past.config ≡ config
   pub published : IsOfLog shown.follower
-  pub leads : log ≡ events_in (followed_on shown.follower waiting)
+  pub leads : log ≡ events_in (followed_on shown.follower waiting).past
+  pub knows : (followed_on shown.follower waiting).state ≡ state_of config log

@@ -1,5 +1,5 @@
 -- What is known at a place of the board.
-use Rattle.std.specs.Prelude.{◌≡◌, ◌⊎◌, List, [], ◌∷◌, ◌++◌, Option, None}
+use Rattle.std.specs.Prelude.{◌≡◌, ◌⊎◌, List, [], Option, None}
 use mathlib.Core.List.{IsPrefix}
 use Rattle.rb_events.specs.Config.{Config}
 use Rattle.rb_machine.specs.Entry.{Logged}
@@ -12,10 +12,6 @@ pub record Knowledge : Type 0 where
 -- what a newcomer knows
 abbrev pub nothing_yet : Knowledge
 nothing_yet = record { config = None; entries = [] }
-
--- the same after one more entry
-abbrev pub with_entry : Knowledge → Logged → Knowledge
-with_entry k entry = record k { entries = k.entries ++ entry ∷ [] }
 
 -- the second knows all that the first knows
 abbrev pub Begins : Knowledge → Knowledge → Type 0

@@ -4,7 +4,7 @@ ghost use mathlib.Core.List.{IsPrefix};
 ghost use Rattle.rb_core.specs.Follower.{IsOfLog, events_in, state_after};
 ghost use Rattle.rb_machine.specs.Machine.{client_view, client_view_refusal, path_view_refusal, state_of};
 ghost use Rattle.rb_machine.specs.Standing.{path_view};
-ghost use Rattle.rb_board.specs.Kept.{Sees, follower_of, known_by, known_of};
+ghost use Rattle.rb_board.specs.Kept.{Sees, known_by, known_of, past_of};
 ghost use Rattle.rb_board.specs.Unseen.{IsUnseen};
 
 use crate::error::DeskError;
@@ -30,11 +30,11 @@ impl<A: Allocator> Model for Desk<A> {
     ghost use Rattle.std.specs.Prelude.{IsSome};
     ghost use Rattle.rb_board.specs.Ends as ends;
     ghost use Rattle.rb_core.specs.Follower.{events_in};
-    ghost use Rattle.rb_board.specs.Kept.{follower_of, known_of};
+    ghost use Rattle.rb_board.specs.Kept.{known_of, past_of};
 
     ghost Value = { ends.Desk };
 
-    ghost view = { λ d. record { config = (follower_of (known_of d.reader)).config; seen = events_in (follower_of (known_of d.reader)); told = d.told } };
+    ghost view = { λ d. record { config = (past_of (known_of d.reader)).config; seen = events_in (past_of (known_of d.reader)); told = d.told } };
 
     ghost invariant = { λ d. IsSome d.reader × IsSome (known_of d.reader).config };
 }
@@ -43,7 +43,7 @@ impl<A: Allocator + Copy> Desk<A> {
     /// The desk that reads so, and was told nothing.
     pub(crate) fn new(reader: Reader<Held<A>, Knows, Published, A>) -> Desk<A>
         requires { IsSome (known_by reader.place).config }
-        ensures { let f = follower_of (known_by reader.place) in result ≡ record { config = f.config; seen = events_in f; told = 0 } }
+        ensures { let p = past_of (known_by reader.place) in result ≡ record { config = p.config; seen = events_in p; told = 0 } }
     {
         Desk {
             reader: Some(reader),
@@ -138,9 +138,9 @@ fn enter<A: Allocator + Copy>(
 /// How many events there are, where they are at least so many.
 fn front_of<A: Allocator + Copy>(follower: &Follower<A>, told: usize) -> Result<usize, DeskError>
     requires { IsOfLog follower.now }
-    ensures front { IfOk result (λ front. front ≡ length (events_in follower.now)) }
-    ensures enough { OnOk result (told ≤ length (events_in follower.now)) }
-    ensures behind { IfErr result (λ e. length (events_in follower.now) < told) }
+    ensures front { IfOk result (λ front. front ≡ length (events_in follower.now.past)) }
+    ensures enough { OnOk result (told ≤ length (events_in follower.now.past)) }
+    ensures behind { IfErr result (λ e. length (events_in follower.now.past) < told) }
 {
     if follower.front() < told {
         return Err(DeskError::Behind);
@@ -155,9 +155,9 @@ fn client_of<A: Allocator + Copy>(
     told: usize,
 ) -> Result<JobView<A>, DeskError>
     requires { IsOfLog follower.now }
-    ensures enough { OnOk result (told ≤ length (events_in follower.now)) }
-    ensures view { IfOk result (λ view. client_view (state_after follower.now) client ≡ Some view) }
-    ensures refused { IfErr result (λ e. IsUnseen e (record { config = follower.now.config; seen = events_in follower.now; told = told }) (client_view_refusal (state_after follower.now) client)) }
+    ensures enough { OnOk result (told ≤ length (events_in follower.now.past)) }
+    ensures view { IfOk result (λ view. client_view (state_after follower.now.past) client ≡ Some view) }
+    ensures refused { IfErr result (λ e. IsUnseen e (record { config = follower.now.past.config; seen = events_in follower.now.past; told = told }) (client_view_refusal (state_after follower.now.past) client)) }
 {
     if follower.front() < told {
         return Err(DeskError::Behind);
@@ -172,9 +172,9 @@ fn path_of<A: Allocator + Copy>(
     told: usize,
 ) -> Result<PathView<A>, DeskError>
     requires { IsOfLog follower.now }
-    ensures enough { OnOk result (told ≤ length (events_in follower.now)) }
-    ensures view { IfOk result (λ view. path_view (state_after follower.now).standing path ≡ Some view) }
-    ensures refused { IfErr result (λ e. IsUnseen e (record { config = follower.now.config; seen = events_in follower.now; told = told }) (path_view_refusal (state_after follower.now) path)) }
+    ensures enough { OnOk result (told ≤ length (events_in follower.now.past)) }
+    ensures view { IfOk result (λ view. path_view (state_after follower.now.past).standing path ≡ Some view) }
+    ensures refused { IfErr result (λ e. IsUnseen e (record { config = follower.now.past.config; seen = events_in follower.now.past; told = told }) (path_view_refusal (state_after follower.now.past) path)) }
 {
     if follower.front() < told {
         return Err(DeskError::Behind);

@@ -1,36 +1,37 @@
 //! The two copies of the board.
-ghost use Rattle.rb_board.specs.Knowledge.{with_entry};
-ghost use Rattle.rb_board.specs.Kept.{knowledge_of};
+ghost use Rattle.rb_core.specs.Follower.{follows};
 
-use crate::rule::Knows;
 use left_right::Absorb;
 use rb_core::{Follower, Told};
 use std::alloc::{AllocError, Allocator, Global};
 
-/// One of the two copies: a follower of the entries that were appended.
+/// One of the two copies: a follower of what was appended.
 #[derive(Drop)]
 pub(crate) struct Held<A: Allocator = Global> {
     pub(crate) follower: Follower<A>,
 }
 
 impl<A: Allocator + Copy> Absorb<Told<A>> for Held<A> {
-    type State = Knows;
+    type State = Follower<A>;
 
-    ghost state = { knowledge_of };
+    ghost state = { λ h. h.follower };
 
-    ghost applied = { with_entry };
+    ghost applied = { follows };
 
-    /// Follows the entry, which the other copy is to follow, too. Where that is refused, this copy is as
-    /// it was.
+    /// Follows what is told, which the other copy is to follow, too. Where that is refused, this copy is
+    /// as it was.
     fn absorb_first(&mut self, told: &Told<A>, _other: &Held<A>) -> Result<(), AllocError> {
-        match self.follower.follow(told.share()?) {
+        match self.follower.follow(told) {
             Ok(()) => Ok(()),
-            Err(_told) => Err(AllocError),
+            Err(_error) => Err(AllocError),
         }
     }
 
-    /// Follows the entry itself. Where that is refused, it comes back, and this copy is as it was.
+    /// Follows what is told. Where that is refused, it comes back, and this copy is as it was.
     fn absorb_second(&mut self, told: Told<A>, _other: &Held<A>) -> Result<(), Told<A>> {
-        self.follower.follow(told)
+        match self.follower.follow(&told) {
+            Ok(()) => Ok(()),
+            Err(_error) => Err(told),
+        }
     }
 }

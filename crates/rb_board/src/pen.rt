@@ -16,7 +16,7 @@ use crate::note::Note;
 use crate::rule::{Knows, Looks, Published, Tells};
 use left_right::Absorb;
 use left_right::writer::Writer;
-use rb_core::{Core, CoreError, Event, Reply, Told};
+use rb_core::{Core, CoreError, Event, Follower, Reply, Told};
 use std::alloc::{AllocError, Allocator, Global};
 use std::marker::Model;
 use std::sync::Wait;
@@ -26,7 +26,7 @@ use std::sync::Wait;
 /// `close`.
 pub struct Pen<A: Allocator + Copy = Global>
 where
-    Held<A>: Absorb<Told<A>, State = Knows>,
+    Held<A>: Absorb<Told<A>, State = Follower<A>>,
 {
     writer: Writer<Held<A>, Told<A>, Knows, Published, A>,
     head: Core<A>,
@@ -34,7 +34,7 @@ where
 
 impl<A: Allocator + Copy> Model for Pen<A>
 where
-    Held<A>: Absorb<Told<A>, State = Knows>,
+    Held<A>: Absorb<Told<A>, State = Follower<A>>,
 {
     ghost use Rattle.rb_core.specs.Follower.{events_in};
     ghost use Rattle.rb_board.specs.Ends as ends;
@@ -42,7 +42,7 @@ where
 
     ghost Value = { ends.Pen };
 
-    ghost view = { λ p. record { config = p.head.config; log = p.head.log; published = events_in p.writer.desk.shown.value.follower } };
+    ghost view = { λ p. record { config = p.head.config; log = p.head.log; published = events_in p.writer.desk.shown.value.follower.past } };
 
     ghost invariant = { λ p. IsKnown p.writer.desk.shown.value (known_by p.writer.desk.place) (pending p.writer) p.head.config p.head.log };
 }
@@ -156,7 +156,7 @@ fn know<A: Allocator + Copy>(core: &Core<A>)
     core.front();
 }
 
-/// Puts an entry behind those that are to be published.
+/// Puts what followers are told behind what is to be published.
 fn keep<A: Allocator + Copy>(
     writer: &mut Writer<Held<A>, Told<A>, Knows, Published, A>,
     told: Told<A>,

@@ -5,7 +5,7 @@ ghost use Rattle.rb_board.specs.Kept.{Known, Sees};
 use crate::held::Held;
 use atomic_table::{Join, Split};
 use crossbeam_utils::rule::{Outcome, Protocol};
-use rb_core::Told;
+use rb_core::SharedEntry;
 use rb_events::Config;
 use std::alloc::Allocator;
 use std::collections::LinkedList;
@@ -15,7 +15,7 @@ use std::marker::Model;
 /// entries of a beginning of the board's log. No value of it is made.
 pub(crate) struct Knows {
     config: Option<Config>,
-    entries: LinkedList<Told>,
+    entries: LinkedList<SharedEntry>,
 }
 
 impl Model for Knows {

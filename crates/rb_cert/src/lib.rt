@@ -17,4 +17,4 @@ mod verdict;
 mod voters;
 
 pub use judgement::{certify, certify_par};
-pub use verdict::{Reason, Verdict2};
+pub use verdict::{Judgement, Reason};

@@ -220,8 +220,8 @@ client-within key clients s i h =
     needs-field key (reference (client_ids clients)) s i h
     (λ f r. let within = reference-within (client_ids clients) f i r in omega (arith, length-map clients (λ (x : ClientConfig). x.id)))
 
-pub chain-within : (key : List ℕ) (chains : List (List ℕ)) (s : Section) (i : ℕ) → needs key (reference chains) s ≡ Ok i → i < length chains
-chain-within key chains s i h = needs-field key (reference chains) s i h (λ f r. reference-within chains f i r)
+pub place-within : (key : List ℕ) (chains : List (List ℕ)) (s : Section) (i : ℕ) → needs key (reference chains) s ≡ Ok i → i < length chains
+place-within key chains s i h = needs-field key (reference chains) s i h (λ f r. reference-within chains f i r)
 
 -- ---- paths
 
@@ -248,8 +248,8 @@ path-form chains clients before s p h =
     let fits = and_parts (connects clients forward destination source) (connects clients back source destination) (check-passed _ WrongClient s.path w fit) in
     subst (λ x. IsPathConfig (length chains) clients x × All (λ i. i ≢ x.id) (path_ids before)) (same_ok _ p same) (
       record {
-        source = chain-within (codes "source") chains s source e2;
-        destination = chain-within (codes "dest") chains s destination e3;
+        source = place-within (codes "source") chains s source e2;
+        destination = place-within (codes "dest") chains s destination e3;
         different = different source destination (check-passed _ SameChain s.path v apart);
         forward = connected (slice_get clients forward) destination source fits.0;
         back = connected (slice_get clients back) source destination fits.1;

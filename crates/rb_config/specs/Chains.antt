@@ -2,7 +2,7 @@
 use Rattle.std.specs.Prelude.{ℕ, List, [], ◌∷◌, map, codes, Option, Some, None, Result, Ok}
 use Rattle.rb_base.specs.Fraction.{one_third}
 use Rattle.rb_fields.specs.Faults.{Fault, ◌>>=◌}
-use Rattle.rb_fields.specs.Fields.{Field, Section, section_at, only, needs, optional, or_default, number, fee_table, trust, max_number}
+use Rattle.rb_fields.specs.Fields.{Field, Section, section_at, only, needs, optional, or_default, maybe, number, fee_table, trust, max_number}
 use Rattle.rb_fields.specs.declared.fault.FaultName.TheVariants.{OutOfRange}
 use Rattle.rb_config.specs.declared.version.Version.{Version}
 use Rattle.rb_config.specs.declared.version.Version.TheVariants.{One, Two}
@@ -13,11 +13,6 @@ use Rattle.rb_config.specs.Named.{new_identifier}
 -- nothing is shared; without a key of its own a client is never refreshed, and its trust level is a third
 abbrev pub no_defaults : Defaults
 no_defaults = record { period = None; drift = None; refresh = 0; fees = None; gas = None; trust = one_third }
-
--- what a key holds, read so, if it is there
-abbrev pub maybe : {A : Type 0} → (Field → Result A Fault) → Option Field → Result (Option A) Fault
-maybe read None = Ok None
-maybe read (Some f) = read f >>= λ x. Ok (Some x)
 
 abbrev pub default_keys : List (List ℕ)
 default_keys = codes "period_ns" ∷ codes "drift_ns" ∷ codes "refresh_ns" ∷ codes "fee" ∷ codes "gas" ∷ codes "trust" ∷ []

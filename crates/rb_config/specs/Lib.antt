@@ -6,6 +6,7 @@ pub mod Directories
 pub mod Chains
 pub mod Clients
 pub mod Paths
+pub mod Goals
 pub mod Setups
 pub mod Tables
 pub mod Laws

@@ -7,9 +7,8 @@ use Rattle.rb_events.specs.Gas.{PathGas}
 use Rattle.rb_events.specs.declared.config.ClientConfig.{ClientConfig}
 use Rattle.rb_events.specs.declared.config.PathConfig.{PathConfig}
 use Rattle.rb_fields.specs.Faults.{Fault, ◌>>=◌, fault, check}
-use Rattle.rb_fields.specs.Places.{element}
-use Rattle.rb_fields.specs.Fields.{Field, Section, text, only, needs, optional, or_default, number, within, three_integers, max_number}
-use Rattle.rb_fields.specs.declared.fault.FaultName.TheVariants.{OutOfRange, BadOrder, BadFee, SameChain, WrongClient}
+use Rattle.rb_fields.specs.Fields.{Field, Section, text, only, needs, optional, or_default, number, fees, max_number}
+use Rattle.rb_fields.specs.declared.fault.FaultName.TheVariants.{OutOfRange, BadOrder, SameChain, WrongClient}
 use Rattle.rb_config.specs.Named.{reference, new_identifier}
 use Rattle.rb_config.specs.Clients.{client_ids}
 
@@ -33,14 +32,11 @@ order f = do
 abbrev pub sequence : Field → Result ℕ Fault
 sequence f = number 1 max_number OutOfRange f
 
--- receive, acknowledge and timeout, each at most 10^9
+-- of a receive, an acknowledgement and a timeout
 unfoldable pub path_gas : Field → Result PathGas Fault
 path_gas f = do
-  n ← three_integers f
-  receive ← within 0 1000000000 BadFee (element f.path 0) n.0
-  acknowledge ← within 0 1000000000 BadFee (element f.path 1) n.1
-  timeout ← within 0 1000000000 BadFee (element f.path 2) n.2
-  Ok (record { receive = receive; acknowledge = acknowledge; timeout = timeout })
+  n ← fees f
+  Ok (record { receive = n.0; acknowledge = n.1; timeout = n.2 })
 
 -- whether the client at a place is hosted on the one chain and tracks the other
 abbrev pub connects : List ClientConfig → ℕ → ℕ → ℕ → Bool

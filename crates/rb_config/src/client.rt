@@ -35,8 +35,9 @@ fn limits(field: &Field<'_>) -> Result<Limits, RunError>
     Ok(Limits::new(gas, count as usize, transaction))
 }
 
+/// What a transaction may carry.
 #[tactic(auto, using(rb_fields::proofs::Steps::steps))]
-fn needed_limits(section: &Section<'_>) -> Result<Limits, RunError>
+pub fn needed_limits(section: &Section<'_>) -> Result<Limits, RunError>
     ensures { Gives (λ l. l) result (needs (codes "limits") limits (section_view section.now)) }
 {
     limits(&section.required("limits")?)
@@ -93,7 +94,8 @@ fn own_fees<'a>(
     }
 }
 
-fn only_client_keys(section: &Section<'_>) -> Result<(), RunError>
+/// Refuses other keys than those of a client.
+pub fn only_client_keys(section: &Section<'_>) -> Result<(), RunError>
     ensures { Gives (λ u. u) result (only client_keys (section_view section.now)) }
 {
     section.only(&[

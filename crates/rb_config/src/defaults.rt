@@ -2,9 +2,9 @@
 ghost use Rattle.std.specs.Prelude.{◌≡◌, codes};
 ghost use Rattle.rb_base.specs.Fraction.{one_third};
 ghost use Rattle.rb_fields.specs.Faults.{Gives};
-ghost use Rattle.rb_fields.specs.Fields.{field_view, section_view, only, optional, or_default, number, fee_table, trust, max_number};
+ghost use Rattle.rb_fields.specs.Fields.{field_view, section_view, only, optional, or_default, maybe, number, fee_table, trust, max_number};
 ghost use Rattle.rb_fields.specs.declared.fault.FaultName.TheVariants.{OutOfRange};
-ghost use Rattle.rb_config.specs.Chains.{no_defaults, maybe, default_keys, defaults, defaults_at};
+ghost use Rattle.rb_config.specs.Chains.{no_defaults, default_keys, defaults, defaults_at};
 
 use crate::drift::Drift;
 use rb_base::{FeeTable, Fraction, Period};
@@ -55,8 +55,9 @@ pub fn read_drift(field: &Field<'_>) -> Result<Drift, RunError>
     Ok(Drift::new(number))
 }
 
+/// The trusting period, if it is there.
 #[tactic(auto, using(rb_fields::proofs::Steps::steps))]
-fn maybe_period(section: &Section<'_>) -> Result<Option<Period>, RunError>
+pub fn maybe_period(section: &Section<'_>) -> Result<Option<Period>, RunError>
     ensures { Gives (λ p. p) result (maybe (number 1 max_number OutOfRange) (optional (codes "period_ns") (section_view section.now))) }
 {
     match section.optional("period_ns") {

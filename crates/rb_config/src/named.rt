@@ -13,7 +13,7 @@ use rb_events::{ClientConfig, PathConfig};
 use rb_fields::{FaultName, Field, RunError, Section};
 
 /// What has an identifier (ICS 24): a chain, a client and a path of a script.
-pub trait Named: Copy {
+pub trait Named: Drop {
     /// The characters of the identifier.
     ghost name: { Self → List ℕ };
 

@@ -25,8 +25,9 @@ fn order(field: &Field<'_>) -> Result<Order, RunError>
     }
 }
 
+/// In which order a path's packets are received.
 #[tactic(auto, using(rb_fields::proofs::Steps::steps))]
-fn needed_order(section: &Section<'_>) -> Result<Order, RunError>
+pub fn needed_order(section: &Section<'_>) -> Result<Order, RunError>
     ensures { Gives (λ o. o) result (needs (codes "order") order (section_view section.now)) }
 {
     order(&section.required("order")?)
@@ -62,10 +63,7 @@ fn first_or_one(section: &Section<'_>) -> Result<Sequence, RunError>
 fn path_gas(field: &Field<'_>) -> Result<PathGas, RunError>
     ensures { Gives (λ g. g) result (path_gas (field_view field.now)) }
 {
-    let (receive, acknowledge, timeout) = field.three_integers()?;
-    let receive = field.within(0, receive, 0, PathGas::MAX, FaultName::BadFee)?;
-    let acknowledge = field.within(1, acknowledge, 0, PathGas::MAX, FaultName::BadFee)?;
-    let timeout = field.within(2, timeout, 0, PathGas::MAX, FaultName::BadFee)?;
+    let (receive, acknowledge, timeout) = field.fees()?;
     Ok(PathGas::new(receive, acknowledge, timeout).unwrap())
 }
 

@@ -24,7 +24,8 @@ pub struct Tables<'a> {
     pub turns: &'a [Value],
 }
 
-fn only_top_keys(section: &Section<'_>) -> Result<(), RunError>
+/// Refuses other keys than those of a script.
+pub fn only_top_keys(section: &Section<'_>) -> Result<(), RunError>
     ensures { Gives (λ u. u) result (only top_keys (section_view section.now)) }
 {
     section.only(&["version", "chain", "client", "path", "turn"])

@@ -1,83 +1,76 @@
--- A follower knows what the fold of its log makes out.
-use Rattle.std.proofs.Common.{◌≡◌, ◌≤◌, Bool, true, false, cond, List, [], ◌∷◌, ◌++◌, Option, Some, None, is_some, length, drop, refl, sym, ap, ◌∙◌, subst, arith}
-use Rattle.std.specs.List.{fold}
+-- What is followed is what the core takes in.
+use Rattle.std.proofs.Common.{◌≡◌, ℕ, List, [], ◌∷◌, ◌++◌, Option, Some, None, Result, Ok, Err, MatchResult, length, refl, sym, ap, ◌∙◌, subst}
 use Rattle.std.specs.Option.{option_map_or}
-use Rattle.std.proofs.lemmas.List.Sums.{fold-append}
 use Rattle.rb_events.specs.Config.{Config}
-use Rattle.rb_events.specs.declared.refusal.Refusal.{Refusal}
-use Rattle.rb_core.specs.Core.{IsFold}
-use Rattle.rb_core.specs.Follower.{Follower, IsOfLog, events_in, followed, followed_by, state_after}
-use Rattle.rb_machine.specs.Config.{IsSetUp}
-use Rattle.rb_machine.specs.Entry.{Logged, event_of, events_of}
-use Rattle.rb_machine.specs.Event.{Event}
+use Rattle.rb_core.specs.Follower.{Past, Follower, IsOfLog, after_entry, events_in, follows, followed, state_after, told_entry, told_of}
+use Rattle.rb_core.specs.declared.told.Told.{Told}
+use Rattle.rb_core.specs.declared.told.Told.TheVariants as told
+use Rattle.rb_machine.specs.Entry.{Logged, event_of, logged_of}
+use Rattle.rb_machine.specs.Event.{Event, Window, Asked, SetSeen, HeaderSeen, StoredSeen, Sent, Received, AckWritten, Cleared, Closed, Scanned, Planned, Settled}
 use Rattle.rb_machine.specs.Kept.{IsKept}
-use Rattle.rb_machine.specs.Log.{accepted_from}
-use Rattle.rb_machine.specs.Machine.{State, opening, refusal_of, accepted, after}
-use Rattle.rb_machine.proofs.Keeping.{IsTended, accepted_tended, opening_tended, kept}
-use Rattle.rb_core.proofs.Entries.{after_free, next}
+use Rattle.rb_machine.specs.Machine.{State, refusal_of, accepted}
+use Rattle.rb_machine.proofs.Keeping.{accepted_kept}
+use Rattle.rb_core.proofs.Entries.{event_back, free}
 use Rattle.rb_core.proofs.Rooms.{long}
 
 -- ---- whatever is followed
 
-entries_tended : (s : State) (xs : List Logged) → IsTended s → IsTended (fold followed s xs)
-entries_tended s [] is = is
-entries_tended s (x ∷ xs) is = entries_tended (followed s x) xs (go (event_of s x))
+entry_kept : (s : State) (x : Logged) → IsKept s → IsKept (after_entry s x)
+entry_kept s x is = go (event_of s x)
   where
-    go : (o : Option Event) → IsTended (option_map_or (accepted s) o s)
+    go : (o : Option Event) → IsKept (option_map_or (accepted s) o s)
     go None = is
-    go (Some e) = accepted_tended s e is
+    go (Some e) = accepted_kept s e is
 
-pub kept_of_entries : (config : Config) (xs : List Logged) → IsSetUp config → IsKept (followed_by config xs)
-kept_of_entries config xs is = kept (followed_by config xs) (entries_tended (opening config) xs (opening_tended config is))
+pub followed_kept : {A : Type 0} (s : State) (x : Told A) → IsKept s → IsKept (followed s x)
+followed_kept s (told.Entry x) is = entry_kept s x is
+followed_kept s (told.Scan entry path scan) is = accepted_kept s (Scanned path scan) is
 
--- ---- the entries of a log
+-- ---- a follower of a log
 
-few : (s : State) (es : List Event) → length (accepted_from s es) ≤ length es
-few s [] = omega arith
-few s (e ∷ es) = go (is_some (refusal_of s e)) (few (after s e) es)
-  where
-    go : (b : Bool) → length (accepted_from (after s e) es) ≤ length es → length (cond b (accepted_from (after s e) es) (e ∷ accepted_from (after s e) es)) ≤ length (e ∷ es)
-    go true le = omega (arith, le)
-    go false le = omega (arith, le)
-
--- the first event of a log is accepted, and the others are a log after it
-first_accepted : (s : State) (e : Event) (es : List Event) → accepted_from s (e ∷ es) ≡ e ∷ es → (refusal_of s e ≡ None) × (accepted_from (after s e) es ≡ es)
-first_accepted s e es is = go (refusal_of s e) is
-  where
-    go : (o : Option Refusal) → cond (is_some o) (accepted_from (after s e) es) (e ∷ accepted_from (after s e) es) ≡ e ∷ es → (o ≡ None) × (accepted_from (after s e) es ≡ es)
-    go None all = (refl, ap (drop 1) all)
-    go (Some r) all =
-        let long : length (accepted_from (after s e) es) ≡ length (e ∷ es) = ap (λ (l : List Event). length l) all in
-        absurd (omega (arith, long, few (after s e) es))
-
-follows : (s : State) (xs : List Logged) → accepted_from s (events_of s xs) ≡ events_of s xs → fold followed s xs ≡ fold after s (events_of s xs)
-follows s [] is = refl
-follows s (x ∷ xs) is = go (event_of s x) is (follows s xs) (λ t. follows t xs)
-  where
-    go : (o : Option Event) → accepted_from s (next s xs o) ≡ next s xs o
-        → (accepted_from s (events_of s xs) ≡ events_of s xs → fold followed s xs ≡ fold after s (events_of s xs))
-        → ((t : State) → accepted_from t (events_of t xs) ≡ events_of t xs → fold followed t xs ≡ fold after t (events_of t xs))
-        → fold followed (option_map_or (accepted s) o s) xs ≡ fold after s (next s xs o)
-    go None all here there = here all
-    go (Some e) all here there =
-        let first = first_accepted s e (events_of (after s e) xs) all in
-        ap (λ t. fold followed t xs) (sym (after_free s e first.0)) ∙ there (after s e) first.1
-
--- a follower of a log knows the fold of it
-pub known_after : (f seen : Follower) (s : State) → f ≡ seen → IsOfLog seen → s ≡ followed_by f.config f.entries → s ≡ state_after seen
-known_after f seen s same is known =
-    subst (λ (x : Follower). s ≡ state_after x) same (known ∙ follows (opening f.config) f.entries (subst IsOfLog (sym same) is).accepted)
-
--- what a core knows is what a follower of its log knows
-pub core_known : (config : Config) (xs : List Logged) (s : State) → IsFold config (events_of (opening config) xs) s → s ≡ followed_by config xs
-core_known config xs s is = is.state ∙ sym (follows (opening config) xs is.accepted)
-
--- one entry more is followed
-pub follows_on : (config : Config) (xs ys : List Logged) (x : Logged) (old new : State) → old ≡ followed_by config xs → new ≡ followed old x → ys ≡ xs ++ x ∷ [] → new ≡ followed_by config ys
-follows_on config xs ys x old new is to more =
-    to ∙ ap (λ s. followed s x) is ∙ sym (fold-append followed (opening config) xs (x ∷ [])) ∙ sym (ap (followed_by config) more)
+-- it knows what is known after the log
+pub known_after : (f seen : Follower) → f ≡ seen → IsOfLog seen → f.state ≡ state_after seen.past
+known_after f seen same is = ap (λ (x : Follower). x.state) same ∙ is.state
 
 -- there are as many events as were taken in
-pub as_many : (f seen : Follower) (s : State) → f ≡ seen → IsOfLog seen → s ≡ followed_by f.config f.entries → s.front ≡ length (events_in seen)
-as_many f seen s same is known =
-    long seen.config (events_in seen) s (record { state = known_after f seen s same is known; set_up = is.set_up; events = is.events; accepted = is.accepted })
+pub as_many : (f seen : Follower) → f ≡ seen → IsOfLog seen → f.state.front ≡ length (events_in seen.past)
+as_many f seen same is =
+    long seen.past.config (events_in seen.past) f.state (record { state = known_after f seen same is; set_up = is.set_up; events = is.events; accepted = is.accepted })
+
+-- ---- what is told
+
+-- a log's entry of an event that isn't refused leaves what the event leaves
+entry_back : (s : State) (e : Event) → refusal_of s e ≡ None → after_entry s (logged_of e) ≡ accepted s e
+entry_back s e none = ap (λ (o : Option Event). option_map_or (accepted s) o s) (event_back s e (free s e none).beside)
+
+-- so does what is told of it
+pub told_back : (A : Type 0) (s : State) (e : Event) → refusal_of s e ≡ None → followed {A = A} s (told_of e) ≡ accepted s e
+told_back A s (Window window) none = entry_back s (Window window) none
+told_back A s (Asked client goal) none = entry_back s (Asked client goal) none
+told_back A s (SetSeen chain x) none = entry_back s (SetSeen chain x) none
+told_back A s (HeaderSeen chain header) none = entry_back s (HeaderSeen chain header) none
+told_back A s (StoredSeen client height r) none = entry_back s (StoredSeen client height r) none
+told_back A s (Sent path sequence block timeout_height timeout_time) none = entry_back s (Sent path sequence block timeout_height timeout_time) none
+told_back A s (Received path sequence block) none = entry_back s (Received path sequence block) none
+told_back A s (AckWritten path sequence block) none = entry_back s (AckWritten path sequence block) none
+told_back A s (Cleared path sequence) none = entry_back s (Cleared path sequence) none
+told_back A s (Closed path) none = entry_back s (Closed path) none
+told_back A s (Scanned path scan) none = refl
+told_back A s (Planned d) none = entry_back s (Planned d) none
+told_back A s (Settled client number done) none = entry_back s (Settled client number done) none
+
+-- the log keeps of what is told what it keeps of the event
+pub entry_told : (A : Type 0) (e : Event) → told_entry {A = A} (told_of e) ≡ logged_of e
+entry_told A (Window window) = refl
+entry_told A (Asked client goal) = refl
+entry_told A (SetSeen chain x) = refl
+entry_told A (HeaderSeen chain header) = refl
+entry_told A (StoredSeen client height r) = refl
+entry_told A (Sent path sequence block timeout_height timeout_time) = refl
+entry_told A (Received path sequence block) = refl
+entry_told A (AckWritten path sequence block) = refl
+entry_told A (Cleared path sequence) = refl
+entry_told A (Closed path) = refl
+entry_told A (Scanned path scan) = refl
+entry_told A (Planned d) = refl
+entry_told A (Settled client number done) = refl

@@ -4,12 +4,13 @@ ghost use Rattle.std.specs.Option.{option_and_then};
 ghost use Rattle.rb_machine.specs.Event as events;
 ghost use Rattle.rb_machine.specs.Event.{Event};
 ghost use Rattle.rb_known.specs.Held.{HasSettleRoom};
+ghost use Rattle.rb_known.specs.Marked.{mark_by};
 ghost use Rattle.rb_core.specs.Known.{standing_view, state_view, HasRoom};
 ghost use Rattle.rb_machine.specs.Machine.{is_known, max_events, no_scans, plan_number, reply_for, with_scan};
 ghost use Rattle.rb_machine.specs.Replied.{reply_view};
 ghost use Rattle.rb_machine.specs.Seen.{observed};
 ghost use Rattle.rb_machine.specs.Standing as standings;
-ghost use Rattle.rb_machine.specs.Standing.{AreTracked, goes_back, judged, changed, with_client, after_answer, batch_opened};
+ghost use Rattle.rb_machine.specs.Standing.{AreTracked, goes_back, judged, changed, with_client, with_mark, with_path, after_answer, batch_opened};
 
 use rb_base::Window;
 use rb_book::SharedBook;
@@ -27,7 +28,7 @@ use rb_known::paths::{
 };
 use rb_known::{KnownClient, KnownPath, Mark, settled_messages};
 use rb_machine::{Reply, Scan, Scans};
-use rb_scan::Packet;
+use rb_scan::{Packet, Sequence};
 use rb_task::Planned;
 use std::alloc::{AllocError, Allocator, Global};
 
@@ -171,22 +172,25 @@ impl<A: Allocator + Copy> Known<A> {
                 path,
                 sequence,
                 block,
-            } => put_mark(
-                &mut self.paths,
-                path,
-                sequence,
-                Mark::Received(block.height()),
-            ),
+            } => self.put_mark(path, sequence, Mark::Received(block.height())),
             Observation::AckWritten {
                 path,
                 sequence,
                 block,
-            } => put_mark(&mut self.paths, path, sequence, Mark::Written(block)),
+            } => self.put_mark(path, sequence, Mark::Written(block)),
             Observation::Cleared { path, sequence } => {
-                put_mark(&mut self.paths, path, sequence, Mark::Cleared);
+                self.put_mark(path, sequence, Mark::Cleared);
             }
             Observation::Closed { path } => close(&mut self.paths, path),
         }
+    }
+
+    /// Puts a mark on a packet of a path, if there is one with this sequence. Takes no memory.
+    pub(crate) fn put_mark(&mut self, path: usize, sequence: Sequence, mark: Mark)
+        requires { path < length self.old.paths.items }
+        ensures { state_view self.new ≡ record (state_view self.old) { standing = with_path (standing_view self.old) path (with_mark (mark_by mark) sequence) } }
+    {
+        put_mark(&mut self.paths, path, sequence, mark);
     }
 
     /// Why a window would be refused. Takes no memory.

@@ -1,5 +1,5 @@
 //! The relayer machine: `Core`, which judges events and takes them in, and shows clients and paths;
-//! and `Follower`, which takes in the entries of a core's log and judges nothing again.
+//! and `Follower`, which takes in what it is told of them (`Told`) and judges nothing again.
 //!
 //! A core is the fold of its log: its state is what the definitions of `rb_machine` make of the events
 //! that it has taken in, from which its views, replies and refusals follow.
@@ -15,11 +15,13 @@ mod machine;
 mod path_views;
 mod refusing;
 mod taking;
+mod told;
 
 pub use follower::Follower;
 pub use machine::Core;
 pub use rb_known::OpenBatch;
-pub use rb_machine::{CoreError, Entry, Event, Ready, Reply, Scan, SharedEntry, Told, scan};
+pub use rb_machine::{CoreError, Entry, Event, Ready, Reply, Scan, SharedEntry, scan};
 pub use rb_task::{
     Batch, Draft, JobView, Message, PathTask, Plan, Planned, Sending, Task, answer, draft,
 };
+pub use told::Told;

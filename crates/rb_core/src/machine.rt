@@ -92,8 +92,8 @@ impl<A: Allocator + Copy> Core<A> {
 
     /// A follower that has followed this core's log. An error comes only where a growth is refused.
     pub fn follower(&self) -> Result<Follower<A>, AllocError>
-        ensures config { IfOk result (λ follower. follower.config ≡ self.now.config) }
-        ensures events { IfOk result (λ follower. events_in follower ≡ self.now.log) }
+        ensures config { IfOk result (λ follower. follower.past.config ≡ self.now.config) }
+        ensures events { IfOk result (λ follower. events_in follower.past ≡ self.now.log) }
         ensures log { IfOk result IsOfLog }
     {
         Ok(Follower::new(

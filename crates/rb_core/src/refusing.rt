@@ -142,6 +142,21 @@ pub(crate) fn refuse_unseen<A: Allocator + Copy>(
     refuse_standing(known, event)
 }
 
+/// Why a mark on a packet of a path can't be taken in, whether or not it could be refused. Takes no
+/// memory.
+pub(crate) fn refuse_mark<A: Allocator>(known: &Known<A>, path: usize) -> Option<Refusal>
+    ensures within { IfNone result (path < length known.now.paths.items) }
+    ensures few { IfNone result (known.now.front < max_events) }
+{
+    if known.paths.len() <= path {
+        return Some(Refusal::UnknownObject);
+    }
+    if MAX_EVENTS <= known.front {
+        return Some(Refusal::LogFull);
+    }
+    None
+}
+
 /// Why an answer for a client can't be taken in even where what it was made for isn't compared.
 /// Takes no memory.
 pub(crate) fn refuse_answer<A: Allocator>(known: &Known<A>, client: usize) -> Option<Refusal>

@@ -205,7 +205,7 @@ fn table_of<A: Allocator + Copy>(alloc: A, book: &ChainBook<A>) -> Result<Graph<
 }
 
 /// What is planned for a client as it is seen.
-fn draft_of<A: Allocator + Copy>(alloc: A, job: &JobView<A>) -> Result<Draft<A>, AllocError> {
+fn draft_of<A: Allocator + Copy>(alloc: A, job: JobView<A>) -> Result<Draft<A>, AllocError> {
     let graph = table_of(alloc, job.view().book())?;
     let draft = draft(job, &graph)?;
     Ok(draft)
@@ -240,7 +240,7 @@ impl<A: Allocator + Copy> Run<A> {
             Ok(job) => job,
             Err(refusal) => return reply_text(texts, Err(refusal)).ok(),
         };
-        let draft = draft_of(self.alloc, &job).ok()?;
+        let draft = draft_of(self.alloc, job).ok()?;
         let text = answer_text(texts, draft.answer()).ok()?;
         self.kept.push(Event::Planned(draft)).ok()?;
         Some(text)

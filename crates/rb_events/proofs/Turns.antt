@@ -7,7 +7,7 @@ use Rattle.rb_events.specs.declared.script.Script.{Script as CodeScript}
 use Rattle.rb_events.specs.declared.script.Turn.{Turn as CodeTurn}
 use Rattle.rb_events.specs.Config.{IsConfig, config_view}
 use Rattle.rb_events.specs.Limits.{max_turns, max_entries}
-use Rattle.rb_events.specs.Script.{turn_view, script_view, IsTurn, IsTurnOf, IsScript, IsOfUpdates, entry_count}
+use Rattle.rb_events.specs.Script.{turn_view, script_view, IsTurn, IsTurnOf, IsScript, entry_count}
 
 sum_by-map : {X Y : Type 0} (f : Y → ℕ) (g : X → Y) (xs : List X) → sum_by f (map g xs) ≡ sum_by (λ x. f (g x)) xs
 sum_by-map f g [] = refl
@@ -35,13 +35,3 @@ module _ {A : Type 0} (s : CodeScript A) (turns : List (CodeTurn A)) (same : tur
   its_turns is = subst (All (IsTurnOf s.config)) (sym same) (λ k d lt.
       subst (IsTurn (length s.config.chains.items) (length s.config.clients.items) (length s.config.paths.items)) (get_or-map turn_view s.turns.items k d (turn_view d) lt)
       (is.turns k (turn_view d) (omega (arith, lt, length-map s.turns.items turn_view))))
-
--- a script without paths and settlements
-module _ {A : Type 0} (s : CodeScript A) where
-  pub of_updates : length s.config.paths.items ≡ 0 → All (λ (t : CodeTurn A). length t.settlements.items ≡ 0) s.turns.items → IsOfUpdates (script_view s)
-  of_updates none all = record { paths = none; settlements = All-map (λ t. length t.settlements ≡ 0) turn_view s.turns.items all }
-
-  pub no_settlements : IsOfUpdates (script_view s) → All (λ (t : CodeTurn A). length t.settlements.items ≡ 0) s.turns.items
-  no_settlements is = λ k d lt.
-      subst (λ t. length t.settlements ≡ 0) (get_or-map turn_view s.turns.items k d (turn_view d) lt)
-      (is.settlements k (turn_view d) (omega (arith, lt, length-map s.turns.items turn_view)))

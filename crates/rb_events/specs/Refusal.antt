@@ -1,6 +1,5 @@
 -- why something is refused: numbers and names (own choice)
 use Rattle.std.specs.Prelude.{ℕ, List, Option, Some, None, codes}
-use Rattle.std.specs.Option.{option_and_then}
 use Rattle.rb_book.specs.declared.error.BookError.{BookError}
 use Rattle.rb_book.specs.declared.error.BookError.TheVariants as book
 use Rattle.rb_events.specs.declared.refusal.Refusal.{Refusal}
@@ -50,7 +49,3 @@ of_book (book.TimeOrder height) = Some (TimeOrder height)
 of_book book.Full = Some Full
 of_book book.HashClash = Some HashClash
 of_book book.NoMemory = None
-
--- why a book refuses, if it does
-abbrev pub book_refusal : Option BookError → Option Refusal
-book_refusal refusal = option_and_then of_book refusal

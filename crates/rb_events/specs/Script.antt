@@ -62,8 +62,3 @@ pub record IsScript {A : Type 0} (s : Script A) : Type 0 where
 -- the turn as it lies in memory, of a script that is set up so
 abbrev pub IsTurnOf : {A : Type 0} → CodeConfig A → CodeTurn A → Type 0
 IsTurnOf c t = IsTurn (length c.chains.items) (length c.clients.items) (length c.paths.items) (turn_view t)
-
--- it has no paths, and nothing is settled
-pub record IsOfUpdates {A : Type 0} (s : Script A) : Type 0 where
-  pub paths : length s.config.paths ≡ 0
-  pub settlements : All (λ (t : Turn A). length t.settlements ≡ 0) s.turns

@@ -19,4 +19,4 @@ pub use goal::Goal;
 pub use limits::{MAX_CHAINS, MAX_CLIENTS, MAX_ENTRIES, MAX_PATHS, MAX_TURNS};
 pub use observation::Observation;
 pub use refusal::Refusal;
-pub use script::{Asked, Script, Settlement, Turn, is_of_updates, is_script};
+pub use script::{Asked, Script, Settlement, Turn, is_script};

@@ -1,7 +1,7 @@
 //! Scripts: what is run, turn by turn.
 ghost use Rattle.std.specs.Prelude.{◌≡◌, ◌↔◌, ◌≤◌, ◌-◌, ◌<◌, IsTrue, SomeIff, All, AllPairs, length, sum_by};
 ghost use Rattle.rb_events.specs.Limits.{max_entries};
-ghost use Rattle.rb_events.specs.Script.{script_view, turn_view, IsSeen, IsTurn, IsTurnOf, IsScript, IsOfUpdates, entry_count};
+ghost use Rattle.rb_events.specs.Script.{script_view, turn_view, IsSeen, IsTurn, IsTurnOf, IsScript, entry_count};
 
 use crate::config::{Config, is_config};
 use crate::differing::all_differ;
@@ -146,18 +146,4 @@ pub fn is_script<A: Allocator>(script: &Script<A>) -> bool
         return false;
     }
     are_turns(&script.config, turns)
-}
-
-fn settle_nothing<A: Allocator>(turns: &[Turn<A>]) -> bool
-    ensures { IsTrue result ↔ All (λ t. length (turn_view t).settlements ≡ 0) turns.now }
-{
-    turns.iter().all(|turn| turn.settlements.is_empty())
-}
-
-/// Whether a script has no paths and no settlements. Takes no memory.
-#[tactic(auto, using(crate::proofs::Turns::of_updates, crate::proofs::Turns::no_settlements))]
-pub fn is_of_updates<A: Allocator>(script: &Script<A>) -> bool
-    ensures { IsTrue result ↔ IsOfUpdates (script_view script.now) }
-{
-    script.config.paths.is_empty() && settle_nothing(script.turns.as_slice())
 }

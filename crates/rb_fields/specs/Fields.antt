@@ -1,5 +1,5 @@
 -- What a key of a table holds, read by its type and its range.
-use Rattle.std.specs.Prelude.{ℕ, suc, ◌*◌, List, [], ◌∷◌, ◌++◌, length, Option, Some, None, option_map, Result, Ok, Err, ℤ, pos, negsuc, ◌&&◌, nat_le, nat_lt, if◌then◌else◌, replicate}
+use Rattle.std.specs.Prelude.{ℕ, suc, ◌*◌, ◌≤◌, List, [], ◌∷◌, ◌++◌, length, Option, Some, None, option_map, Result, Ok, Err, ℤ, pos, negsuc, ◌&&◌, nat_le, nat_lt, if◌then◌else◌, replicate}
 use Rattle.std.specs.List.{list_any}
 use Rattle.std.specs.Str.{bytes_eq}
 use Rattle.toml.specs.Data.{Data, Items, no_items, item, Members, no_members, member, get_member, as_str, as_integer, as_array, as_table}
@@ -94,14 +94,26 @@ two_integers f = do
   ds ← items f
   two f.path ds
 
--- base, signature and validator, each at most 10^9
+-- three numbers of fees or of gas, each at most 10^9
+abbrev pub AreFees : ℕ × ℕ × ℕ → Type 0
+AreFees n = (n.0 ≤ 1000000000) × (n.1 ≤ 1000000000) × (n.2 ≤ 1000000000)
+
+unfoldable pub fees : Field → Result (ℕ × ℕ × ℕ) Fault
+fees f = do
+  n ← three_integers f
+  first ← within 0 1000000000 BadFee (element f.path 0) n.0
+  second ← within 0 1000000000 BadFee (element f.path 1) n.1
+  third ← within 0 1000000000 BadFee (element f.path 2) n.2
+  Ok (first, second, third)
+
+-- a base, and so much for each signature and for each validator
 unfoldable pub fee_table : Field → Result Fees Fault
 fee_table f = do
-  n ← three_integers f
-  base ← within 0 1000000000 BadFee (element f.path 0) n.0
-  signature ← within 0 1000000000 BadFee (element f.path 1) n.1
-  validator ← within 0 1000000000 BadFee (element f.path 2) n.2
-  Ok (record { base = base; signature = signature; validator = validator })
+  n ← fees f
+  Ok (record { base = n.0; signature = n.1; validator = n.2 })
+
+abbrev pub ratio_of : ℕ × ℕ → Ratio
+ratio_of n = record { numerator = n.0; denominator = n.1 }
 
 -- a numerator and a denominator, which make a third at least and one at most
 unfoldable pub trust : Field → Result Ratio Fault
@@ -110,7 +122,7 @@ trust f = do
   numerator ← within 0 max_number OutOfRange (element f.path 0) n.0
   denominator ← within 0 max_number OutOfRange (element f.path 1) n.1
   _ ← check (nat_lt 0 denominator && nat_le denominator (3 * numerator) && nat_le numerator denominator) BadTrust f.path
-  Ok (record { numerator = numerator; denominator = denominator })
+  Ok (ratio_of (numerator, denominator))
 
 -- ---- texts
 
@@ -185,6 +197,11 @@ needs key read s = required key s >>= read
 abbrev pub or_default : {A : Type 0} → A → (Field → Result A Fault) → Option Field → Result A Fault
 or_default x read None = Ok x
 or_default x read (Some f) = read f
+
+-- what a key holds, read so, if it is there
+abbrev pub maybe : {A : Type 0} → (Field → Result A Fault) → Option Field → Result (Option A) Fault
+maybe read None = Ok None
+maybe read (Some f) = read f >>= λ x. Ok (Some x)
 
 -- 32 zeros
 abbrev pub zero_hash : List ℕ

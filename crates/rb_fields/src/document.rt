@@ -24,6 +24,7 @@ fn not_toml(alloc: Global, error: &Error) -> RunError
         name: FaultName::NotToml,
         path,
         reason: format!(in alloc; "{error}").ok(),
+        found: None,
     })
 }
 

@@ -129,6 +129,8 @@ pub struct Fault {
     pub path: String,
     /// Of a text that isn't TOML: where and why, in lines for a person, if memory sufficed for them.
     pub reason: Option<String>,
+    /// Of a value of another type: the type that it has, as TOML names it.
+    pub found: Option<&'static str>,
 }
 
 impl Fault {
@@ -143,6 +145,19 @@ impl Fault {
             name,
             path,
             reason: None,
+            found: None,
+        }
+    }
+
+    /// The fault that a value of this type stands at a path where one of another belongs.
+    pub fn wrong_type(path: String, found: &'static str) -> Fault
+        ensures { fault_view result ≡ record { name = FaultName.WrongType; path = string_bytes path } }
+    {
+        Fault {
+            name: FaultName::WrongType,
+            path,
+            reason: None,
+            found: Some(found),
         }
     }
 }

@@ -26,8 +26,9 @@ pub struct Field<'a> {
 }
 
 impl<'a> Field<'a> {
+    ghost use Rattle.rb_base.specs.Fraction.{IsTrustLevel};
     ghost use Rattle.rb_base.specs.Identifier.{IsIdentifier};
-    ghost use Rattle.rb_fields.specs.Fields.{field_view, typed, text, number, height, identifier, three_integers, two_integers, fee_table, trust, within, time, hash, items, array};
+    ghost use Rattle.rb_fields.specs.Fields.{field_view, typed, text, number, height, identifier, three_integers, two_integers, fees, AreFees, fee_table, ratio_of, trust, within, time, hash, items, array};
 
     /// The fault of this name at this value.
     pub fn fault(&self, name: FaultName) -> RunError
@@ -43,6 +44,20 @@ impl<'a> Field<'a> {
         self.place.fault_at(self.alloc, indices, name)
     }
 
+    /// The fault that this value has another type than belongs there.
+    pub fn wrong_type(&self) -> RunError
+        ensures { IsFault result FaultName.WrongType (place_path self.now.place) }
+    {
+        self.wrong_type_at(&[], self.value)
+    }
+
+    /// The fault that an element below this value, by its indices, has another type.
+    pub fn wrong_type_at(&self, indices: &[usize], value: &Value) -> RunError
+        ensures { IsFault result FaultName.WrongType (below (place_path self.now.place) indices.now) }
+    {
+        self.place.wrong_type(self.alloc, indices, value.type_str())
+    }
+
     /// The text that it holds.
     #[tactic(auto, using(crate::proofs::Steps::steps), unfolding(crate::specs::Fields::text))]
     pub fn text(&self) -> Result<&'a str, RunError>
@@ -50,7 +65,7 @@ impl<'a> Field<'a> {
     {
         match self.value.as_str() {
             Some(text) => Ok(text),
-            None => Err(self.fault(FaultName::WrongType)),
+            None => Err(self.wrong_type()),
         }
     }
 
@@ -61,7 +76,7 @@ impl<'a> Field<'a> {
         ensures range { IfOk result (λ n. (low ≤ n) × (n ≤ high)) }
     {
         let Some(value) = self.value.as_integer() else {
-            return Err(self.fault(FaultName::WrongType));
+            return Err(self.wrong_type());
         };
         match u64::try_from(value) {
             Ok(value) if low <= value && value <= high => Ok(value),
@@ -120,30 +135,51 @@ impl<'a> Field<'a> {
         }
     }
 
-    /// The three numbers of fees or gas that it holds.
+    /// The three numbers of fees or of gas that it holds, each at most 10^9.
+    #[tactic(auto, using(crate::proofs::Steps::steps), unfolding(crate::specs::Fields::fees))]
+    pub fn fees(&self) -> Result<(u64, u64, u64), RunError>
+        ensures read { Gives (λ n. n) result (fees (field_view self.now)) }
+        ensures range { IfOk result AreFees }
+    {
+        let (first, second, third) = self.three_integers()?;
+        let first = self.within(0, first, 0, FeeTable::MAX, FaultName::BadFee)?;
+        let second = self.within(1, second, 0, FeeTable::MAX, FaultName::BadFee)?;
+        let third = self.within(2, third, 0, FeeTable::MAX, FaultName::BadFee)?;
+        Ok((first, second, third))
+    }
+
+    /// What an update costs, in fees or in gas: a base, and so much for each signature and for each
+    /// validator.
     #[tactic(auto, using(crate::proofs::Steps::steps), unfolding(crate::specs::Fields::fee_table))]
     pub fn fee_table(&self) -> Result<FeeTable, RunError>
         ensures { Gives (λ t. t) result (fee_table (field_view self.now)) }
     {
-        let (base, signature, validator) = self.three_integers()?;
-        let base = self.within(0, base, 0, FeeTable::MAX, FaultName::BadFee)?;
-        let signature = self.within(1, signature, 0, FeeTable::MAX, FaultName::BadFee)?;
-        let validator = self.within(2, validator, 0, FeeTable::MAX, FaultName::BadFee)?;
+        let (base, signature, validator) = self.fees()?;
         Ok(FeeTable::new(base, signature, validator).unwrap())
     }
 
-    /// The trust level that it holds, as a numerator and a denominator.
+    /// The numerator and the denominator of the trust level that it holds: from a third to one.
     #[tactic(auto, using(crate::proofs::Steps::steps), unfolding(crate::specs::Fields::trust))]
-    pub fn trust(&self) -> Result<Fraction, RunError>
-        ensures { Gives (λ t. t) result (trust (field_view self.now)) }
+    pub fn level(&self) -> Result<(u64, u64), RunError>
+        ensures read { Gives ratio_of result (trust (field_view self.now)) }
+        ensures range { IfOk result (λ n. IsTrustLevel n.0 n.1) }
     {
         let (numerator, denominator) = self.two_integers()?;
         let numerator = self.within(0, numerator, 0, MAX_NUMBER, FaultName::OutOfRange)?;
         let denominator = self.within(1, denominator, 0, MAX_NUMBER, FaultName::OutOfRange)?;
         match Fraction::new(numerator, denominator) {
-            Ok(fraction) => Ok(fraction),
+            Ok(_) => Ok((numerator, denominator)),
             Err(_) => Err(self.fault(FaultName::BadTrust)),
         }
+    }
+
+    /// The trust level that it holds.
+    #[tactic(auto, using(crate::proofs::Steps::steps))]
+    pub fn trust(&self) -> Result<Fraction, RunError>
+        ensures { Gives (λ t. t) result (trust (field_view self.now)) }
+    {
+        let (numerator, denominator) = self.level()?;
+        Ok(Fraction::new(numerator, denominator).unwrap())
     }
 
     /// The three integers that it holds.
@@ -182,7 +218,7 @@ impl<'a> Field<'a> {
     {
         match self.value.as_array() {
             Some(array) => Ok(array.as_slice()),
-            None => Err(self.fault(FaultName::WrongType)),
+            None => Err(self.wrong_type()),
         }
     }
 
@@ -225,7 +261,7 @@ impl<'a> Field<'a> {
     {
         match value.as_integer() {
             Some(number) => Ok(number),
-            None => Err(self.fault_at(&[index], FaultName::WrongType)),
+            None => Err(self.wrong_type_at(&[index], value)),
         }
     }
 }

@@ -35,6 +35,17 @@ impl Place<'_> {
         }
     }
 
+    /// The fault that a value of this type stands at an element below this key, by its indices, where
+    /// one of another type belongs.
+    pub fn wrong_type(&self, alloc: Global, indices: &[usize], found: &'static str) -> RunError
+        ensures { IsFault result FaultName.WrongType (below (place_path self.now) indices.now) }
+    {
+        match self.path(alloc, indices) {
+            Ok(path) => RunError::Fault(Fault::wrong_type(path, found)),
+            Err(_) => RunError::NoMemory,
+        }
+    }
+
     fn path(&self, alloc: Global, indices: &[usize]) -> Result<String, AllocError>
         ensures { IfOk result (λ text. string_bytes text ≡ below (place_path self.now) indices.now) }
     {

@@ -26,7 +26,7 @@ pub struct Section<'a> {
 impl<'a> Section<'a> {
     ghost use Rattle.toml.specs.Data.{no_items};
     ghost use Rattle.rb_fields.specs.Places.{place_path};
-    ghost use Rattle.rb_fields.specs.Fields.{field_view, only, optional, required, needs, or_default, number, height, fee_table, time, hash, zero_hash, array, items};
+    ghost use Rattle.rb_fields.specs.Fields.{field_view, only, optional, required, needs, or_default, maybe, number, height, fee_table, time, hash, zero_hash, array, items};
 
     /// The place of a key of this table.
     pub fn place(&self, key: &'a str) -> Place<'a>
@@ -144,6 +144,17 @@ impl<'a> Section<'a> {
         }
     }
 
+    /// A height, if it is there.
+    #[tactic(auto, using(crate::proofs::Steps::steps))]
+    pub fn maybe_height(&self, key: &'a str) -> Result<Option<Height>, RunError>
+        ensures { Gives (λ h. h) result (maybe height (optional key.entry.now (section_view self.now))) }
+    {
+        match self.optional(key) {
+            Some(field) => Ok(Some(field.height()?)),
+            None => Ok(None),
+        }
+    }
+
     /// A table of fees or gas, which has to be there.
     #[tactic(auto, using(crate::proofs::Steps::steps))]
     pub fn fee_table(&self, key: &'a str) -> Result<FeeTable, RunError>
@@ -186,7 +197,17 @@ pub fn section_at<'a>(
 {
     match value.as_table() {
         Some(table) => Ok(Section { alloc, path, table }),
-        None => Err(fault_at(alloc, path, FaultName::WrongType)),
+        None => Err(wrong_type_at(alloc, path, value.type_str())),
+    }
+}
+
+/// The fault that a value of this type stands at a path where one of another type belongs.
+fn wrong_type_at(alloc: Global, path: &str, found: &'static str) -> RunError
+    ensures { IsFault result FaultName.WrongType path.now }
+{
+    match String::from_str(alloc, path) {
+        Ok(path) => RunError::Fault(Fault::wrong_type(path, found)),
+        Err(_) => RunError::NoMemory,
     }
 }
 

@@ -1,9 +1,9 @@
 //! Tables that are kept: additions give what a table made anew of the same book has.
-use crate::make::{Members, assert_same, height, make_set, second};
+use crate::same::assert_same;
 use rb_base::refusing::Refusing;
 use rb_book::{BookError, ChainBook, Header, Record, Vote};
+use rb_case_values::{Members, height, make_set, second};
 use rb_graph::{Graph, SharedGraph};
-use rb_valset::ValidatorSet;
 use std::alloc::{Allocator, Global};
 use std::process::Abort;
 use std::test::Fail;

@@ -1,8 +1,13 @@
-//! What no contract of the kept step table says, by its public calls: additions in any order beside
-//! tables that are made anew, as tables of cases, and each growth of memory refused in turn.
+//! What no contract of step tables says, by their public calls: tables as they are made, by one thread and by many,
+//! additions in any order beside tables that are made anew, as tables of cases, and each growth of memory
+//! refused in turn.
 #![tactic(auto)]
 
 #[cfg(test)]
+mod gang;
+#[cfg(test)]
+mod graph;
+#[cfg(test)]
 mod kept;
 #[cfg(test)]
-mod make;
+mod same;

@@ -1,15 +1,16 @@
 -- The end of a rising list.
-use Rattle.std.proofs.Common.{◌≡◌, ℕ, ◌<◌, ◌≤◌, ◌+◌, ◌-◌, ◌==◌, ◌⊎◌, List, length, get_or, drop, inl, inr, sym, subst, arith, All}
+use Rattle.std.proofs.Common.{◌≡◌, ℕ, ◌<◌, ◌≤◌, ◌+◌, ◌-◌, ◌==◌, ◌⊎◌, List, length, get_or, drop, map, inl, inr, ap, sym, subst, ◌∙◌, arith, All}
 use Rattle.std.specs.Prelude.{Contains}
 use Rattle.std.specs.List.Sorted.{IsStrictlyIncreasing, IsPermutation}
 use Rattle.std.specs.List.{dedup}
 use Rattle.std.proofs.lemmas.Bool.{cases_lt}
 use Rattle.std.proofs.lemmas.Grind.{common_steps}
-use Rattle.std.proofs.lemmas.List.{get_or-drop, length-drop}
-use Rattle.std.proofs.lemmas.List.Elements.{All-from_get_or, All-drop, All-weaker, All-contains, All-contains_itself, Contains-get_or}
+use Rattle.std.proofs.lemmas.List.{drop-map, get_or-drop, length-drop}
+use Rattle.std.proofs.lemmas.List.Elements.{All-from_get_or, All-drop, All-weaker, All-contains, All-contains_itself, All-push, Contains-get_or}
 use Rattle.std.proofs.lemmas.List.Kept.{AllPairs-from_increasing, Contains-dedup_nat, Contains-from_dedup}
 use Rattle.std.proofs.lemmas.List.Sorted.{Contains-permutation, IsPermutation-sym}
-use Rattle.rb_import.specs.Room.{HasNoRoom}
+use Rattle.rb_seen.specs.declared.chain.Commit.{Commit}
+use Rattle.rb_import.specs.Room.{FitsHeaders, HasNoRoom}
 
 pub end_rises : (n : ℕ) (xs : List ℕ) → IsStrictlyIncreasing xs → IsStrictlyIncreasing (drop n xs)
 end_rises n xs rises k small = grind (arith, common_steps, rises (n + k), get_or-drop, length-drop)
@@ -42,3 +43,24 @@ pub end_given : (n : ℕ) (given sorted : List ℕ) → IsPermutation given sort
 end_given n given sorted moved =
     All-weaker (Contains (dedup (λ (x y : ℕ). x == y) sorted)) (Contains given) (λ h there. Contains-permutation sorted given h (IsPermutation-sym given sorted moved) (Contains-from_dedup (λ (x y : ℕ). x == y) sorted h there))
     (drop n (dedup (λ (x y : ℕ). x == y) sorted)) (All-drop (Contains (dedup (λ (x y : ℕ). x == y) sorted)) n (dedup (λ (x y : ℕ). x == y) sorted) (All-contains_itself (dedup (λ (x y : ℕ). x == y) sorted)))
+
+pub all_given : (given sorted some : List ℕ) → IsPermutation given sorted → All (Contains (dedup (λ (x y : ℕ). x == y) sorted)) some → All (Contains given) some
+all_given given sorted some moved all =
+    All-weaker (Contains (dedup (λ (x y : ℕ). x == y) sorted)) (Contains given) (λ h there. Contains-permutation sorted given h (IsPermutation-sym given sorted moved) (Contains-from_dedup (λ (x y : ℕ). x == y) sorted h there)) some all
+
+-- ---- headers
+
+abbrev header_height : Commit → ℕ
+header_height c = c.header.now.height
+
+pub headers_fit : (seen kept : List Commit) (n : ℕ) → n ≡ length seen - 4096 → kept ≡ drop n seen → FitsHeaders seen kept
+headers_fit seen kept n is end =
+    let long : length (drop n seen) ≡ length seen - n = length-drop n seen in
+    let same : length kept ≡ length (drop n seen) = ap length end in
+    (omega (arith, long, same, is), end ∙ ap (λ m. drop m seen) is)
+
+pub headers_rise : (seen kept : List Commit) (n : ℕ) → IsStrictlyIncreasing (map header_height seen) → kept ≡ drop n seen → IsStrictlyIncreasing (map header_height kept)
+headers_rise seen kept n rises end =
+    subst IsStrictlyIncreasing (drop-map header_height n seen ∙ ap (map header_height) (sym end)) (end_rises n (map header_height seen) rises)
+
+pub ruleset fitting = (headers_fit, headers_rise, All-push)

@@ -7,6 +7,8 @@ use Rattle.rb_seen.specs.declared.chain.SeenChain.{SeenChain}
 use Rattle.rb_seen.specs.declared.client.SeenClient.{SeenClient}
 use Rattle.rb_seen.specs.declared.client.Stored.{Stored}
 use Rattle.rb_seen.specs.Sets.{WasSeen}
+use Rattle.rb_import.specs.declared.excess.TooManyHeaders.{TooManyHeaders}
+use Rattle.rb_import.specs.declared.excess.TooManySets.{TooManySets}
 use Rattle.rb_import.specs.declared.notice.MissingHeaders.{MissingHeaders}
 use Rattle.rb_import.specs.declared.notice.MissingNextSet.{MissingNextSet}
 use Rattle.rb_import.specs.declared.notice.TooManyRecords.{TooManyRecords}
@@ -48,3 +50,11 @@ IsClientOf setup many = Any (λ (c : ClientSetup). c.id ≡ many.client.now) set
 unfoldable pub IsRecordOf : Setup → MissingNextSet → Type 0
 IsRecordOf setup missing =
     Any (λ (c : ClientSetup). (c.id ≡ missing.client.now) × (slice_get setup.chains.items c.tracks ≡ Some missing.chain.now)) setup.clients.items
+
+-- it is told of a chain of the setup, of whose headers some are left out
+unfoldable pub TellsHeaders : Setup → TooManyHeaders → Type 0
+TellsHeaders setup many = Contains setup.chains.items many.chain.now × (0 < many.left_out)
+
+-- it is told of a chain of the setup, of whose sets some are left out
+unfoldable pub TellsSets : Setup → TooManySets → Type 0
+TellsSets setup many = Contains setup.chains.items many.chain.now × (0 < many.left_out)

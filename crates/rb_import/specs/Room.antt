@@ -1,5 +1,5 @@
 -- Which stored records a chain's book has room for.
-use Rattle.std.specs.Prelude.{◌≡◌, ◌≤◌, ◌<◌, ◌-◌, ◌⊎◌, ℕ, List, Vec, All, Any, Contains, length, Some, slice_get}
+use Rattle.std.specs.Prelude.{◌≡◌, ◌≤◌, ◌<◌, ◌-◌, ◌⊎◌, ℕ, List, Vec, All, Any, Contains, drop, length, Some, slice_get}
 use Rattle.std.specs.Global.{Global}
 use Rattle.std.specs.List.Sorted.{IsStrictlyIncreasing}
 use Rattle.rb_setup.specs.declared.setup.ClientSetup.{ClientSetup}
@@ -8,6 +8,7 @@ use Rattle.rb_seen.specs.declared.chain.Commit.{Commit}
 use Rattle.rb_seen.specs.declared.chain.SeenChain.{SeenChain}
 use Rattle.rb_seen.specs.declared.client.SeenClient.{SeenClient}
 use Rattle.rb_seen.specs.declared.client.Stored.{Stored}
+use Rattle.rb_import.specs.declared.sets.KeptSets.{KeptSets}
 
 -- there is a header of this height
 unfoldable pub HasHeader : SeenChain → ℕ → Type 0
@@ -66,3 +67,13 @@ AreKept setup chains clients books records = AtEachPlace (λ number c kept. AreK
 -- each chain has a book, and each client those of its records that there is room for
 abbrev pub FitBooks : Setup → List SeenChain → List SeenClient → List (Vec Stored Global) → Type 0
 FitBooks setup chains clients records = (books : List (Vec ℕ Global)) × AreBooks setup chains clients books × AreKept setup chains clients books records
+
+-- ---- headers and sets
+
+-- a book has room for these headers of a chain: of those that were seen the highest
+abbrev pub FitsHeaders : List Commit → List Commit → Type 0
+FitsHeaders seen kept = (length kept ≤ 4096) × (kept ≡ drop (length seen - 4096) seen)
+
+-- a book has room for so many sets, each once, by rising places
+abbrev pub FitsSets : KeptSets → Type 0
+FitsSets kept = (length kept.places.items ≤ 1024) × IsStrictlyIncreasing kept.places.items

@@ -1,16 +1,17 @@
 //! The script of a setup and of answers.
 ghost use Rattle.std.specs.Prelude.{◌≡◌, ◌≤◌, ◌++◌, ℕ, List, length, All, IfOk, IfErr, string_bytes};
-ghost use Rattle.rb_setup.specs.Limits.{max_bytes};
-ghost use Rattle.rb_import.specs.Notices.{IsChainOf, IsClientOf, IsRecordOf};
+ghost use Rattle.rb_setup.specs.Documents.{max_bytes};
+ghost use Rattle.rb_import.specs.Notices.{IsChainOf, IsClientOf, IsRecordOf, TellsHeaders, TellsSets};
 ghost use Rattle.rb_import.specs.Problems.{IsToldIn};
 ghost use Rattle.rb_import.specs.Texts.{warning};
 
 use crate::notice::{Notices, notices_of};
-use crate::room::kept_records;
+use crate::room::{kept_records, surplus_of, with_room};
+use crate::sets::{KeptSets, kept_sets};
 use crate::text::push_script;
 use rb_seen::{
     ImportError, ProblemName, Saved, SavedAnswers, SeenChain, SeenClient, SeenPacket, Stored,
-    seen_chain, seen_client, seen_packets,
+    judge_records, seen_chain, seen_client, seen_packets,
 };
 use rb_setup::{MAX_BYTES, Setup};
 use std::alloc::{AllocError, Global};
@@ -19,11 +20,14 @@ use std::alloc::{AllocError, Global};
 const WARNING: &str =
     "# Signatures were not verified: headers and votes stand as the nodes gave them.\n";
 
-/// What was seen of the chains, clients and paths of a setup, in its order; and of each client the stored
-/// records that the book of the chain that it tracks has room for.
+/// What was seen of the chains, clients and paths of a setup, in its order. Of each chain there are the headers and
+/// the sets that its book has room for, and how many headers it hasn't; of each client the stored records that the
+/// book of the chain that it tracks has room for.
 #[derive(Drop)]
 pub struct Seen<'a> {
     pub chains: Vec<SeenChain<'a>>,
+    pub surplus: Vec<usize>,
+    pub sets: Vec<KeptSets>,
     pub clients: Vec<SeenClient<'a>>,
     pub records: Vec<Vec<Stored<'a>>>,
     pub paths: Vec<Vec<SeenPacket<'a>>>,
@@ -50,6 +54,30 @@ impl Seen<'_> {
         match self.chains.get(place) {
             Some(chain) => chain.sets.with_hash(hash).is_some(),
             None => false,
+        }
+    }
+
+    /// Whether the set of this hash is written of the chain at a place.
+    pub fn is_written(&self, place: usize, hash: &[u8; 32]) -> bool {
+        let (Some(chain), Some(kept)) = (self.chains.get(place), self.sets.get(place)) else {
+            return false;
+        };
+        match chain.sets.place_of(hash) {
+            Some(number) => kept.places.binary_search(&(number as u64)).is_ok(),
+            None => false,
+        }
+    }
+
+    /// How many headers of the chain at a place its book has no room for.
+    pub fn headers_left_out(&self, place: usize) -> usize {
+        self.surplus.get(place).copied().unwrap_or(0)
+    }
+
+    /// How many sets of the chain at a place its book has no room for.
+    pub fn sets_left_out(&self, place: usize) -> usize {
+        match self.sets.get(place) {
+            Some(kept) => kept.left_out,
+            None => 0,
         }
     }
 
@@ -84,16 +112,21 @@ pub fn compose<'a>(
     ensures size { IfOk result (λ script. length (string_bytes script.text) ≤ max_bytes) }
     ensures warning { IfOk result (λ script. (rest : List ℕ) × (string_bytes script.text ≡ warning ++ rest)) }
     ensures headers { IfOk result (λ script. All (IsChainOf setup.entry.now) script.notices.headers.items) }
+    ensures too_many_headers { IfOk result (λ script. All (TellsHeaders setup.entry.now) script.notices.too_many_headers.items) }
+    ensures too_many_sets { IfOk result (λ script. All (TellsSets setup.entry.now) script.notices.too_many_sets.items) }
     ensures too_many { IfOk result (λ script. All (IsClientOf setup.entry.now) script.notices.too_many.items) }
     ensures records { IfOk result (λ script. All (IsRecordOf setup.entry.now) script.notices.next_sets.items) }
     ensures told { IfErr result (IsToldIn setup.entry.now) }
 {
-    let chains = seen_chains(alloc, setup, answers)?;
-    let clients = seen_clients(alloc, setup, answers)?;
+    let (chains, surplus) = seen_chains(alloc, setup, answers)?;
+    let clients = seen_clients(alloc, setup, answers, chains.as_slice())?;
     let paths = seen_paths(alloc, setup, answers)?;
     let records = kept_records(alloc, setup, chains.as_slice(), clients.as_slice())?;
+    let sets = kept_sets(alloc, setup, chains.as_slice(), records.as_slice())?;
     let seen = Seen {
         chains,
+        surplus,
+        sets,
         clients,
         records,
         paths,
@@ -104,7 +137,7 @@ pub fn compose<'a>(
     if text.len() > MAX_BYTES {
         return Err(ImportError::of(ProblemName::ScriptTooBig, "-"));
     }
-    let notices = notices_of(alloc, setup, &seen)?;
+    let notices = notices_of(alloc, setup, answers, &seen)?;
     Ok(Composed { text, notices })
 }
 
@@ -117,20 +150,25 @@ fn with_warning(alloc: Global, body: &str) -> Result<String, AllocError>
     Ok(text)
 }
 
+/// What was seen of each chain, with the headers that its book has room for; and how many of each it hasn't.
 #[tactic(auto, using(crate::proofs::Told::naming))]
 fn seen_chains<'a>(
     alloc: Global,
     setup: &'a Setup,
     answers: &'a SavedAnswers,
-) -> Result<Vec<SeenChain<'a>>, ImportError<'a>>
-    ensures { IfErr result (IsToldIn setup.entry.now) }
+) -> Result<(Vec<SeenChain<'a>>, Vec<usize>), ImportError<'a>>
+    ensures fit { IfOk result (λ seen. All (λ c. length c.commits.items ≤ 4096) seen.0.items) }
+    ensures told { IfErr result (IsToldIn setup.entry.now) }
 {
     let mut chains = Vec::with_capacity(alloc, setup.chains.len())?;
+    let mut surplus = Vec::with_capacity(alloc, setup.chains.len())?;
     for (place, id) in setup.chains.iter().enumerate() {
         let chain = seen_chain(alloc, id.as_str(), answers_at(&answers.chains, place))?;
-        chains.push(chain)?;
+        surplus.push(surplus_of(&chain))?;
+        let fitting = with_room(alloc, chain)?;
+        chains.push(fitting)?;
     }
-    Ok(chains)
+    Ok((chains, surplus))
 }
 
 #[tactic(auto, using(crate::proofs::Told::naming))]
@@ -138,6 +176,7 @@ fn seen_clients<'a>(
     alloc: Global,
     setup: &'a Setup,
     answers: &'a SavedAnswers,
+    chains: &[SeenChain<'a>],
 ) -> Result<Vec<SeenClient<'a>>, ImportError<'a>>
     ensures { IfErr result (IsToldIn setup.entry.now) }
 {
@@ -146,6 +185,9 @@ fn seen_clients<'a>(
         if let Some(tracked) = setup.chains.get(client.tracks) {
             let saved = answers_at(&answers.clients, place);
             let seen = seen_client(alloc, client, tracked, saved)?;
+            if let Some(chain) = chains.get(client.tracks) {
+                judge_records(alloc, client.id.as_str(), chain, seen.stored.as_slice())?;
+            }
             clients.push(seen)?;
         }
     }

@@ -3,10 +3,17 @@
 
 mod composing;
 mod event_text;
+mod excess;
 mod notice;
 mod room;
+mod sets;
 mod text;
+mod unsearched;
+mod unusable;
 
 pub use composing::{Composed, compose};
+pub use excess::{TooManyHeaders, TooManySets};
 pub use notice::{MissingHeaders, MissingNextSet, Notices, TooManyRecords};
 pub use rb_seen::{ImportError, Problem, ProblemName, Saved, SavedAnswers, SavedError, read_saved};
+pub use unsearched::MissingSearches;
+pub use unusable::{FutureHeaders, NothingTrusted, UnseenGoal};

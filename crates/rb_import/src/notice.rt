@@ -1,10 +1,15 @@
-//! What isn't among answers that make a script, and what isn't written of them: the script is written all the same,
-//! but updates may be missed.
+//! What isn't among answers that make a script, what isn't written of them, and what can't be used: the script is
+//! written all the same, but updates may be missed.
 ghost use Rattle.std.specs.Prelude.{◌≡◌, ◌↔◌, All, IsTrue, IsNone, IfSome, IfOk};
-ghost use Rattle.rb_import.specs.Notices.{IsChainOf, IsClientOf, IsRecordOf, IsTracked, TellsRecord, WasSeenOf};
+ghost use Rattle.rb_import.specs.Notices.{IsChainOf, IsClientOf, IsRecordOf, IsTracked, TellsHeaders, TellsRecord, TellsSets, WasSeenOf};
 
 use crate::composing::Seen;
-use rb_seen::Stored;
+use crate::excess::{TooManyHeaders, TooManySets, too_many_headers, too_many_sets};
+use crate::unsearched::{MissingSearches, missing_searches};
+use crate::unusable::{
+    FutureHeaders, NothingTrusted, UnseenGoal, future_headers, nothing_trusted, unseen_goals,
+};
+use rb_seen::{SavedAnswers, Stored};
 use rb_setup::{ClientSetup, Setup};
 use std::alloc::{AllocError, Global};
 use std::fmt;
@@ -67,47 +72,78 @@ impl fmt::Display for MissingNextSet<'_> {
     }
 }
 
-/// What isn't among the answers or isn't written: of chains in the setup's order, then of clients which have too
-/// many records, then of each client's written records by rising height. Shown as a line each.
+/// What isn't among the answers, isn't written or can't be used, each kind in the setup's order, of one client's
+/// written records by rising height. Shown as a line each.
 #[derive(Drop)]
 pub struct Notices<'a> {
     pub headers: Vec<MissingHeaders<'a>>,
+    pub too_many_headers: Vec<TooManyHeaders<'a>>,
+    pub too_many_sets: Vec<TooManySets<'a>>,
     pub too_many: Vec<TooManyRecords<'a>>,
+    pub untrusted: Vec<NothingTrusted<'a>>,
+    pub future: Vec<FutureHeaders<'a>>,
+    pub goals: Vec<UnseenGoal<'a>>,
     pub next_sets: Vec<MissingNextSet<'a>>,
+    pub searches: Vec<MissingSearches<'a>>,
 }
 
 impl fmt::Display for Notices<'_> {
     fn fmt<W: fmt::Write>(&self, f: &mut fmt::Formatter<W>) -> fmt::Result {
-        for missing in &self.headers {
-            writeln!(f, "{missing}")?;
-        }
-        for many in &self.too_many {
-            writeln!(f, "{many}")?;
-        }
-        for missing in &self.next_sets {
-            writeln!(f, "{missing}")?;
-        }
-        Ok(())
+        write_lines(f, self.headers.as_slice())?;
+        write_lines(f, self.too_many_headers.as_slice())?;
+        write_lines(f, self.too_many_sets.as_slice())?;
+        write_lines(f, self.too_many.as_slice())?;
+        write_lines(f, self.untrusted.as_slice())?;
+        write_lines(f, self.future.as_slice())?;
+        write_lines(f, self.goals.as_slice())?;
+        write_lines(f, self.next_sets.as_slice())?;
+        write_lines(f, self.searches.as_slice())
     }
 }
 
-/// What isn't among the answers of which this was seen, and what isn't written of it.
+/// Writes a line for each of these.
+fn write_lines<T: fmt::Display, W: fmt::Write>(
+    f: &mut fmt::Formatter<W>,
+    notices: &[T],
+) -> fmt::Result {
+    for notice in notices {
+        writeln!(f, "{notice}")?;
+    }
+    Ok(())
+}
+
+/// What isn't among the answers of which this was seen, what isn't written of it, and what can't be used.
 pub fn notices_of<'a>(
     alloc: Global,
     setup: &'a Setup,
+    answers: &SavedAnswers,
     seen: &Seen<'a>,
 ) -> Result<Notices<'a>, AllocError>
     ensures headers { IfOk result (λ n. All (IsChainOf setup.entry.now) n.headers.items) }
+    ensures too_many_headers { IfOk result (λ n. All (TellsHeaders setup.entry.now) n.too_many_headers.items) }
+    ensures too_many_sets { IfOk result (λ n. All (TellsSets setup.entry.now) n.too_many_sets.items) }
     ensures too_many { IfOk result (λ n. All (IsClientOf setup.entry.now) n.too_many.items) }
     ensures records { IfOk result (λ n. All (IsRecordOf setup.entry.now) n.next_sets.items) }
 {
     let headers = missing_headers(alloc, setup, seen)?;
+    let too_many_headers = too_many_headers(alloc, setup, seen)?;
+    let too_many_sets = too_many_sets(alloc, setup, seen)?;
     let too_many = too_many_records(alloc, setup, seen)?;
+    let untrusted = nothing_trusted(alloc, setup, seen)?;
+    let future = future_headers(alloc, setup, seen)?;
+    let goals = unseen_goals(alloc, setup, seen)?;
     let next_sets = missing_next_sets(alloc, setup, seen)?;
+    let searches = missing_searches(alloc, setup, answers.paths.as_slice())?;
     Ok(Notices {
         headers,
+        too_many_headers,
+        too_many_sets,
         too_many,
+        untrusted,
+        future,
+        goals,
         next_sets,
+        searches,
     })
 }
 

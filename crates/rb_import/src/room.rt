@@ -1,7 +1,7 @@
-//! Which stored records a chain's book has room for: where there are more, the lowest are left out.
-ghost use Rattle.std.specs.Prelude.{◌≡◌, ◌≤◌, ◌⊎◌, ◌↔◌, ◌++◌, ℕ, length, map, All, Contains, IfOk, OnOk, IsTrue};
+//! Which headers and stored records a chain's book has room for: where there are more, the lowest are left out.
+ghost use Rattle.std.specs.Prelude.{◌≡◌, ◌≤◌, ◌-◌, ◌⊎◌, ◌↔◌, ◌++◌, ℕ, length, map, All, Contains, IfOk, OnOk, IsTrue};
 ghost use Rattle.std.specs.List.Sorted.{IsStrictlyIncreasing};
-ghost use Rattle.rb_import.specs.Room.{AreBooks, AreKept, AreKeptOf, AreThose, FitBooks, HasHeader, HasNoRoom, IsBookOf, IsKept, IsStored};
+ghost use Rattle.rb_import.specs.Room.{AreBooks, AreKept, AreKeptOf, AreThose, FitBooks, FitsHeaders, HasHeader, HasNoRoom, IsBookOf, IsKept, IsStored};
 
 use rb_seen::{SeenChain, SeenClient, Stored};
 use rb_setup::{ClientSetup, Setup};
@@ -10,6 +10,25 @@ use std::alloc::{AllocError, Global};
 /// How many records a chain's book holds in a script of version 2, of headers and of what clients have
 /// stored: one a height.
 const BOOK_RECORDS: usize = 4096;
+
+/// How many headers of a chain its book has no room for.
+pub fn surplus_of(chain: &SeenChain<'_>) -> usize
+    ensures { result ≡ length chain.now.commits.items - 4096 }
+{
+    chain.commits.len().saturating_sub(BOOK_RECORDS)
+}
+
+/// A chain with as many of its headers as its book has room for: where there are more, the lowest are left out.
+#[tactic(auto, using(crate::proofs::Highest::fitting))]
+pub fn with_room<'a>(alloc: Global, chain: SeenChain<'a>) -> Result<SeenChain<'a>, AllocError>
+    ensures { IfOk result (λ fitting. FitsHeaders chain.entry.commits.items fitting.commits.items) }
+{
+    let left_out = surplus_of(&chain);
+    let SeenChain { commits, sets } = chain;
+    let (_, highest) = commits.split_at(left_out);
+    let commits = Vec::from_slice(alloc, highest)?;
+    Ok(SeenChain { commits, sets })
+}
 
 /// Of each client the stored records that the book of the chain that it tracks has room for.
 pub fn kept_records<'a>(
@@ -120,7 +139,7 @@ fn has_header(chain: &SeenChain<'_>, height: u64) -> bool
 }
 
 /// The highest of these heights, so many at most, each once, by rising height.
-fn highest(alloc: Global, heights: Vec<u64>, room: usize) -> Result<Vec<u64>, AllocError>
+pub fn highest(alloc: Global, heights: Vec<u64>, room: usize) -> Result<Vec<u64>, AllocError>
     ensures room { IfOk result (λ highest. length highest.items ≤ room) }
     ensures rising { IfOk result (λ highest. IsStrictlyIncreasing highest.items) }
     ensures same { IfOk result (λ highest. All (Contains heights.items) highest.items) }

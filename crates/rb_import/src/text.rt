@@ -4,7 +4,7 @@ use crate::event_text::{push_header, push_packet, push_set, push_stored};
 use jiff::Timestamp;
 use rb_base::Moment;
 use rb_seen::{SeenChain, SeenClient, Stored};
-use rb_setup::{ClientSetup, GoalSetup, PathSetup, Settlement, Setup, TurnSetup};
+use rb_setup::{Asked, ClientSetup, Goal, PathSetup, Settlement, Setup, TurnSetup};
 use std::alloc::AllocError;
 
 const HEAD: &str = "# Written by ibcplan import.
@@ -115,8 +115,8 @@ fn push_turn(
     text.push_str("\"\nuntil = \"")?;
     push_time(text, turn.window.until())?;
     text.push_str("\"\ngoal = [\n")?;
-    for goal in &turn.goals {
-        push_goal(text, setup, goal)?;
+    for asked in &turn.goals {
+        push_goal(text, setup, asked)?;
     }
     text.push_str("]\n")?;
     if let Some(seen) = seen {
@@ -125,10 +125,12 @@ fn push_turn(
     push_settlements(text, setup, turn.settlements.as_slice())
 }
 
-fn push_goal(text: &mut String, setup: &Setup, goal: &GoalSetup) -> Result<(), AllocError> {
-    let client = client_at(setup, goal.client);
-    let key = if goal.is_exact { "exactly" } else { "at_least" };
-    let height = goal.height;
+fn push_goal(text: &mut String, setup: &Setup, asked: &Asked) -> Result<(), AllocError> {
+    let client = client_at(setup, asked.client);
+    let (key, height) = match asked.goal {
+        Goal::Exactly(height) => ("exactly", height),
+        Goal::AtLeast(height) => ("at_least", height),
+    };
     writeln!(text, "  {{ client = \"{client}\", {key} = {height} }},")
 }
 
@@ -171,7 +173,8 @@ fn push_events(text: &mut String, setup: &Setup, seen: &Seen<'_>) -> Result<(), 
     text.push_str("]\n")
 }
 
-/// Adds the sets that are named, those of the highest heights first, and the headers of a chain.
+/// Adds the sets of a chain that its book has room for, those of the highest heights first, and the headers with such
+/// a set.
 fn push_chain(
     text: &mut String,
     setup: &Setup,
@@ -180,36 +183,20 @@ fn push_chain(
     chain: &SeenChain<'_>,
 ) -> Result<(), AllocError> {
     let id = chain_at(setup, place);
-    for set in chain.sets.sets.iter().rev() {
-        if is_named(setup, seen, place, chain, set.set.hash()) {
-            push_set(text, id, &set.set)?;
+    if let Some(kept) = seen.sets.get(place) {
+        for number in kept.places.iter().rev() {
+            if let Some(set) = chain.sets.sets.get(*number as usize) {
+                push_set(text, id, &set.set)?;
+            }
         }
     }
     for commit in &chain.commits {
-        let is_next_known = chain.sets.with_hash(&commit.header.next).is_some();
-        push_header(text, id, commit, is_next_known)?;
+        if seen.is_written(place, &commit.header.set) {
+            let is_next_known = seen.is_written(place, &commit.header.next);
+            push_header(text, id, commit, is_next_known)?;
+        }
     }
     Ok(())
-}
-
-/// Whether a header of a chain, or a written record of a client that tracks it, names a set.
-fn is_named(
-    setup: &Setup,
-    seen: &Seen<'_>,
-    place: usize,
-    chain: &SeenChain<'_>,
-    hash: &[u8; 32],
-) -> bool {
-    let by_header = chain.commits.iter().any(|commit| commit.header.set == *hash
-        || commit.header.next == *hash);
-    by_header
-        || setup.clients.iter().zip(&seen.records).any(|(client, records)| client.tracks == place
-            && is_stored(records.as_slice(), hash))
-}
-
-/// Whether one of a client's records names a set.
-fn is_stored(records: &[Stored<'_>], hash: &[u8; 32]) -> bool {
-    records.iter().any(|record| record.state.next == *hash)
 }
 
 /// Adds records that a client has stored.
@@ -220,7 +207,7 @@ fn push_records(
     records: &[Stored<'_>],
 ) -> Result<(), AllocError> {
     for record in records {
-        let is_next_known = seen.has_set(client.tracks, &record.state.next);
+        let is_next_known = seen.is_written(client.tracks, &record.state.next);
         push_stored(text, client.id.as_str(), record, is_next_known)?;
     }
     Ok(())

@@ -38,7 +38,7 @@ in_range (Ok (pos n)) = if nat_le n (10 ^ 20) then Some n else None
 in_range (Ok (negsuc n)) = None
 in_range (Err e) = None
 
--- nanoseconds since 1970, of a time in RFC 3339
+-- nanoseconds since 1970, of a time that `jiff` reads as a timestamp (RFC 3339, as CometBFT writes times, or ISO 8601 with an offset)
 unfoldable pub moment_of : List ℕ → Option ℕ
 moment_of text = in_range (parse_timestamp text)
 

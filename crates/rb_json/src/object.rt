@@ -148,7 +148,8 @@ impl<'a> Object<'a> {
         }
     }
 
-    /// The moment that a field holds in RFC 3339, else `BadTime`.
+    /// The moment that a field holds as a timestamp that `jiff` reads (RFC 3339, as CometBFT writes
+    /// times, or ISO 8601 with an offset), else `BadTime`.
     #[tactic(auto, using(crate::proofs::Steps::steps), unfolding(crate::specs::Fields::time))]
     pub fn time(&self, key: Key) -> Result<Moment, Flaw>
         ensures { Reads (λ x. x) result (time key (object_view self.now)) }

@@ -30,7 +30,8 @@ pub fn chain_of(text: &str) -> Option<ChainId>
     ChainId::new(text)
 }
 
-/// The moment of a time in RFC 3339.
+/// The moment of a time that `jiff` reads as a timestamp (RFC 3339, as CometBFT writes times, or ISO
+/// 8601 with an offset).
 #[tactic(auto, unfolding(crate::specs::Values::moment_of))]
 pub fn moment_of(text: &str) -> Option<Moment>
     ensures { result ≡ moment_of text.now }

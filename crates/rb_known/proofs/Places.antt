@@ -1,5 +1,5 @@
 -- Lists by their places, seen through a view of their elements.
-use Rattle.std.proofs.Common.{◌≡◌, ℕ, zero, suc, ◌<◌, ◌==◌, List, [], ◌∷◌, Some, Ok, IsSomeAnd, length, map, get_or, set, refl, sym, ap, ◌∙◌, subst, arith}
+use Rattle.std.proofs.Common.{◌≡◌, ℕ, zero, suc, ◌<◌, ◌-◌, ◌==◌, nat_lt, List, [], ◌∷◌, Some, Ok, Err, IsSomeAnd, length, map, get_or, set, refl, sym, ap, ◌∙◌, subst, inl, inr, arith}
 use Rattle.std.specs.List.{slice_get}
 use Rattle.std.specs.Option.{option_map_or}
 use Rattle.std.proofs.lemmas.List.{get_or-set_same, map-set, length-set, length-map, get_or-map, get_or_default}
@@ -7,10 +7,12 @@ use Rattle.std.proofs.Math.Seq.{map-set_same}
 use Rattle.std.specs.Cmp.{nat_cmp_is}
 use Rattle.std.specs.List.Sorted.{IsStrictlyIncreasing}
 use Rattle.std.specs.Ordering.{nat_cmp}
-use Rattle.std.specs.declared.cmp.Ordering.TheVariants.{Equal}
+use Rattle.std.specs.declared.cmp.Ordering.TheVariants.{Less, Equal}
+use Rattle.std.proofs.lemmas.Bool.{cases_lt}
 use Rattle.std.proofs.lemmas.Option.{none-some, same_Some, slice_get-get_or}
-use Rattle.rb_book.specs.Search.{IsKnownPlace}
+use Rattle.rb_book.specs.Search.{IsKnownPlace, IsPlace}
 use Rattle.rb_book.proofs.Places.{IsPlace-from_number_search}
+use Rattle.rb_book.proofs.Rising.{pairs_from_up, Up-from_increasing}
 use Rattle.rb_machine.specs.Standing.{changed_at}
 
 -- what is at a place is there, whatever stands for one past the end
@@ -73,3 +75,19 @@ pub known_here : {X : Type 0} (key : X → ℕ) (k : ℕ) (xs : List X) (i : ℕ
 known_here {X} key k xs i x up at same =
     let p = at_place xs i x at in
     IsPlace-from_number_search key k xs (Ok i) up p.0 (λ d. ap (λ (y : X). nat_cmp (key y) k) (p.1 d) ∙ ap (λ n. nat_cmp n k) same ∙ sym (nat_cmp_is k k Equal refl))
+
+-- where keys rise, and the last one is lower than a number, the number belongs at the end
+pub new_last : {X : Type 0} (key : X → ℕ) (h : ℕ) (xs : List X) (x : X) → IsStrictlyIncreasing (map key xs) → slice_get xs (length xs - 1) ≡ Some x → key x < h
+    → IsPlace (λ y. key y == h) (λ y. nat_lt (key y) h) xs (Err (length xs))
+new_last {X} key h xs x up at low =
+    IsPlace-from_number_search key h xs (Err (length xs)) up (omega arith) (λ rise. (λ k d le lt. sym (nat_cmp_is (key (get_or xs k d)) h Less (below k d lt)), λ k d le lt. absurd (omega arith)))
+  where
+    last : (d : X) → key (get_or xs (length xs - 1) d) ≡ key x
+    last d = ap key ((at_place xs (length xs - 1) x at).1 d)
+
+    below : (k : ℕ) (d : X) → k < length xs → key (get_or xs k d) < h
+    below k d lt =
+        elim (cases_lt k (length xs - 1)) [
+          | inl less ↦ (let next = pairs_from_up (λ (y z : X). key y < key z) xs (Up-from_increasing key xs up) k (length xs - 1) d less (omega (arith, lt)) in omega (arith, next, last d, low))
+          | inr more ↦ (let e : k ≡ length xs - 1 = omega (arith, more, lt) in let same = ap (λ (n : ℕ). key (get_or xs n d)) e in omega (arith, same, last d, low))
+        ]

@@ -7,7 +7,7 @@ use Rattle.std.proofs.lemmas.Option.{none-some, same_Some}
 use Rattle.rb_scan.specs.Packet.{Packet}
 use Rattle.rb_scan.specs.Path.{sequences_of}
 use Rattle.rb_machine.specs.Standing.{marked}
-use Rattle.rb_machine.proofs.Ascending.{Up, Up-from_increasing}
+use Rattle.rb_book.proofs.Rising.{Up, Up-from_increasing}
 use Rattle.rb_machine.proofs.Marks.{has, all_at}
 use Rattle.rb_machine.proofs.Owed.{found_sequence}
 

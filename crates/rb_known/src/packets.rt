@@ -35,6 +35,11 @@ pub(crate) fn place(packets: &[Packet], sequence: u64) -> Result<usize, usize>
     if let Some(place) = place_in_turn(packets, sequence) {
         return Ok(place);
     }
+    if let Some(last) = packets.last() {
+        if last.sequence().get() < sequence {
+            return Err(packets.len());
+        }
+    }
     packets.binary_search_by_key(
         &sequence,
         |packet: &Packet| -> u64

@@ -5,4 +5,3 @@ pub mod Room
 pub mod Cases
 pub mod OneVerdict
 pub mod Viewed
-pub mod Told

@@ -5,8 +5,8 @@ use Rattle.std.proofs.lemmas.Option.{same_Some}
 use Rattle.rb_batch.specs.Laws.{LeastCutIsOne}
 use Rattle.rb_cert.specs.declared.verdict.Reason.{Reason}
 use Rattle.rb_cert.specs.declared.verdict.Reason.TheVariants.{SourceLabel, LabelTooHigh, PlanNotAccepted, GoalMissed, PlanNotTight, NotTheTie, GoalLabelled}
-use Rattle.rb_cert.specs.declared.verdict.Verdict2.{Verdict2}
-use Rattle.rb_cert.specs.declared.verdict.Verdict2.TheVariants.{Yes, No}
+use Rattle.rb_cert.specs.declared.verdict.Judgement.{Judgement}
+use Rattle.rb_cert.specs.declared.verdict.Judgement.TheVariants.{Yes, No}
 use Rattle.rb_cert.specs.Judgement.{Judges}
 use Rattle.rb_cert.specs.Refusal.{check_of, IsEarlierPlace, IsJudgedBefore, IsFirst}
 use Rattle.rb_events.specs.declared.goal.Goal.{Goal}
@@ -81,13 +81,13 @@ module _ (client : Client) (labels : Labels) (goal : Goal) (claim : Option (List
     | inr (inr after) ↦ absurd (a.first s after b.holds)
   ]
 
-  one_judgement : (v w : Verdict2) → Judges client labels goal claim v → Judges client labels goal claim w → v ≡ w
+  one_judgement : (v w : Judgement) → Judges client labels goal claim v → Judges client labels goal claim w → v ≡ w
   one_judgement Yes Yes a b = refl
   one_judgement Yes (No s) a b = absurd (a s b.holds)
   one_judgement (No r) Yes a b = absurd (b r a.holds)
   one_judgement (No r) (No s) a b = ap (λ x. No x) (one_reason r s a b)
 
-one_for_goal : (view : View) (goal : Option Goal) (labels : Labels) (claim : Option (List Update)) (v w : Option Verdict2)
+one_for_goal : (view : View) (goal : Option Goal) (labels : Labels) (claim : Option (List Update)) (v w : Option Judgement)
     → IsVerdictFor view goal labels claim v → IsVerdictFor view goal labels claim w → v ≡ w
 one_for_goal view None labels claim v w a b = a ∙ sym b
 one_for_goal view (Some goal) labels claim None w a b = absurd a

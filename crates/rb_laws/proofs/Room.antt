@@ -1,14 +1,18 @@
--- The log of a script within the limits is never full.
+-- The log of a script that was read is never full.
 use Rattle.std.proofs.Common.{◌≡◌, ℕ, suc, ◌+◌, ◌*◌, ◌≤◌, List, [], ◌∷◌, ◌++◌, length, map, refl, ap, arith}
 use Rattle.std.specs.List.{flat_map, range_with_len, sum_by}
 use Rattle.std.proofs.lemmas.List.{length-append, length-map}
 use Rattle.std.proofs.lemmas.List.FromFn.{length-range_with_len}
 use Rattle.std.proofs.lemmas.List.Sums.{sum_by-cons}
 use Rattle.rb_events.specs.Config.{Config}
+use Rattle.rb_events.specs.Limits.{max_clients, max_paths}
+use Rattle.rb_events.specs.Script.{Turn as SeenTurn, Script as SeenScript, IsScript as IsReadScript, entry_count}
 use Rattle.rb_machine.specs.Event.{Event}
+use Rattle.rb_machine.specs.Seen.{observed}
 use Rattle.rb_phases.specs.Agenda.{Item, ask, plan, settle, observations, both_parts, agenda}
-use Rattle.rb_laws.specs.Schedule.{appends_in, inputs_of, LimitsFitLog}
 use Rattle.rb_phases.specs.Script.{Turn}
+use Rattle.rb_super.specs.Told.{told, told_turn}
+use Rattle.rb_laws.specs.Schedule.{appends_in, FitsLog}
 
 length-observations : (events : List Event) (number : ℕ) → length (observations number events) ≡ length events
 length-observations [] number = refl
@@ -19,7 +23,8 @@ length-parts [] = refl
 length-parts (p ∷ paths) = let rest = length-parts paths in omega arith
 
 -- how much a turn has to do
-length-agenda : (c : Config) (t : Turn) → length (agenda c t) ≡ inputs_of t + (1 + (2 * length c.paths + length c.clients))
+length-agenda : (c : Config) (t : Turn)
+    → length (agenda c t) ≡ length t.goals + length t.events + length t.settlements + (1 + (2 * length c.paths + length c.clients))
 length-agenda c t =
     let paths = range_with_len 0 (length c.paths) in
     let clients = range_with_len 0 (length c.clients) in
@@ -41,11 +46,23 @@ length-agenda c t =
       length-range_with_len 0 (length c.clients),
     )
 
-turns_fit : (c : Config) → length c.clients ≤ 256 → length c.paths ≤ 256 → (ts : List Turn) → appends_in c ts ≤ sum_by inputs_of ts + 769 * length ts
-turns_fit c clients paths [] = omega arith
-turns_fit c clients paths (t ∷ ts) =
-    let rest = turns_fit c clients paths ts in
-    omega (arith, rest, length-agenda c t, sum_by-cons (λ (x : Turn). length (agenda c x)) t ts, sum_by-cons inputs_of t ts, clients, paths)
+module _ {A : Type 0} where
+  turns_fit : (c : Config) → length c.clients ≤ max_clients → length c.paths ≤ max_paths → (ts : List (SeenTurn A))
+      → appends_in c (map told_turn ts) ≤ sum_by entry_count ts + 769 * length ts
+  turns_fit c clients paths [] = omega arith
+  turns_fit c clients paths (t ∷ ts) =
+      let rest = turns_fit c clients paths ts in
+      let this = told_turn t in
+      omega (
+        arith,
+        rest,
+        length-agenda c this,
+        length-map t.events observed,
+        sum_by-cons (λ (x : Turn). length (agenda c x)) this (map told_turn ts),
+        sum_by-cons entry_count t ts,
+        clients,
+        paths,
+      )
 
-pub limits_fit : LimitsFitLog
-limits_fit s is = let all = turns_fit s.config is.clients is.paths s.turns in omega (arith, all, is.turns, is.inputs)
+  pub read_fits : (s : SeenScript A) → IsReadScript s → FitsLog (told s)
+  read_fits s is = let all = turns_fit s.config is.config.few_clients is.config.few_paths s.turns in omega (arith, all, is.few_turns, is.few_entries)

@@ -1,7 +1,7 @@
 -- Every schedule gives the script's report.
 use Rattle.std.proofs.Common.{◌≡◌, ℕ, suc, ◌+◌, ◌<◌, ◌≤◌, Bool, true, false, cond, not, List, [], ◌∷◌, ◌++◌, length, take, drop, get_or, set, Option, Some, None, is_some, refl, sym, ap, ◌∙◌, subst, inl, inr, arith, if◌then◌else◌}
 use Rattle.std.specs.List.{slice_get, fold, AllByRecursion}
-use Rattle.std.specs.Option.{option_map, option_map_or, option_or, option_and_then, option_to_list}
+use Rattle.std.specs.Option.{option_map, option_map_or, option_or, option_and_then}
 use Rattle.std.proofs.lemmas.Bool.{false≢true, eqb-true, and_parts, not-true}
 use Rattle.std.proofs.lemmas.List.Elements.{recursion_from_All}
 use Rattle.std.proofs.lemmas.List.Sums.{sum_by-cons}
@@ -24,11 +24,11 @@ use Rattle.rb_machine.proofs.Options.{none_from, some_from}
 use Rattle.rb_machine.proofs.Owed.{append_all}
 use Rattle.rb_phases.specs.Agenda.{Item, enter, ask, observe, scan, plan, settle, agenda, Finishes, OrderGivesReport}
 use Rattle.rb_phases.specs.Report.{held, ClientReport, TurnReport, Report}
-use Rattle.rb_laws.specs.Schedule.{Progress, World, RightDraft, Step, acts, publishes, tells, learns, scans, plans, first_world, own_scan, appended, next, same_part, if_fits, fits_scan, fits_draft, with_client_report, refused_as, draft_given, scan_taken, draft_taken, plan_done, item_done, begun, due_done, acted, step, after_steps, appends_in, FitsLog, world_after, Schedules, OwnDraftsServe}
+use Rattle.rb_laws.specs.Schedule.{Progress, World, RightDraft, Step, acts, publishes, tells, learns, scans, plans, first_world, own_scan, appended, next, same_part, if_fits, fits_scan, fits_draft, with_client_report, draft_given, scan_taken, draft_taken, plan_done, item_done, begun, due_done, acted, step, after_steps, appends_in, FitsLog, world_after, Schedules, OwnDraftsServe}
 use Rattle.rb_events.specs.declared.script.Asked.{Asked as Question}
 use Rattle.rb_events.specs.declared.script.Settlement.{Settlement}
 use Rattle.rb_phases.specs.Script.{Turn, Script, IsTurn, IsScript}
-use Rattle.rb_phases.specs.Turns.{outcome_of, after_outcome, settlement_event, id_of, IsTurnReport, after_turn, AreTurnReports}
+use Rattle.rb_phases.specs.Turns.{refused_as, outcome_of, after_outcome, settlement_event, id_of, IsTurnReport, after_turn, AreTurnReports}
 use Rattle.rb_laws.proofs.Covering.{Covers, Nothing, Plus, more, agenda_covers, IsItem, agenda_items, Entered, entered}
 use Rattle.rb_machine.proofs.Accepted.{open_to, standing_of, front_of, scan_ok, now_scanned, still_scanned, draft_ok, plan_scanned, window_stays, window_entered}
 use Rattle.rb_phases.proofs.Reported.{changed_by, set_same, right_outcome, same_client}
@@ -210,8 +210,8 @@ module _ (script : Script) where
       let u = under_way w fine (observe number e) items r due in
       let known = seen_known script.config w.core e fine.is_core.sizes u.items.0.0 in
       let same : refusal_of w.core e ≡ judged w.core.standing e = open_to w.core e known.0 (has_room w fine (observe number e) items r due) ∙ known.1 in
-      one_event w fine (observe number e) items r due e (record r { refused = r.refused ++ refused_as number w.core e }) (standing_after w.core.standing e) u.items.0.1 (standing_of w.core e same)
-      (subst (λ o. Finishes u.start u.turn (standing_after w.core.standing e) (record r { refused = r.refused ++ option_to_list (option_map (λ refusal. record { event = number; refusal = refusal }) o) }) items) (sym same) u.finishes)
+      one_event w fine (observe number e) items r due e (record r { refused = r.refused ++ refused_as number (refusal_of w.core e) }) (standing_after w.core.standing e) u.items.0.1 (standing_of w.core e same)
+      (subst (λ o. Finishes u.start u.turn (standing_after w.core.standing e) (record r { refused = r.refused ++ refused_as number o }) items) (sym same) u.finishes)
       (none_scanned (after w.core e) items u.covers) u.items.1 (entered (standing_after w.core.standing e) items (window_stays w.core.standing e u.windowed))
 
   settle_fine : (w : World) → IsFine w → (k : ℕ) (own : Option RightDraft) (r : TurnReport) (items : List Item) (x : Settlement) → Due w (settle x) items r → IsFine (item_done w k own items r (settle x))

@@ -1,6 +1,6 @@
 -- Laws of reports and of verdicts.
 use Rattle.std.specs.Prelude.{◌≡◌, ℕ, List, Option}
-use Rattle.rb_cert.specs.declared.verdict.Verdict2.{Verdict2}
+use Rattle.rb_cert.specs.declared.verdict.Judgement.{Judgement}
 use Rattle.rb_plan.specs.Labelling.{Labels}
 use Rattle.rb_machine.specs.Standing.{KnownClient, Standing}
 use Rattle.rb_step.specs.LightClient.{Update}
@@ -18,7 +18,7 @@ ReportIsOne = (s : Script) (r q : Report) → IsReportOf s r → IsReportOf s q 
 -- two verdicts on one answer for a script's client in a turn are one: a yes, a no with its reason, or none
 abbrev pub VerdictIsOne : Type 0
 VerdictIsOne =
-    (s : Script) (turn client : ℕ) (labels : Labels) (claim : Option (List Update)) (v w : Option Verdict2)
+    (s : Script) (turn client : ℕ) (labels : Labels) (claim : Option (List Update)) (v w : Option Judgement)
     → IsVerdictOn s turn client labels claim v → IsVerdictOn s turn client labels claim w → v ≡ w
 
 -- what a script's client is planned by in a turn keeps what every view keeps: so the laws of views hold of it

@@ -12,9 +12,9 @@ use Rattle.rb_machine.specs.Scan.{Scan}
 use Rattle.rb_machine.specs.Machine.{State, opening, is_scanned, is_job, client_view, max_events, refusal_of, after, state_of}
 use Rattle.rb_machine.specs.Standing.{OpenBatch, KnownClient, opening_standing, path_view}
 use Rattle.rb_phases.specs.Agenda.{Item, enter, ask, observe, scan, plan, settle, agenda, empty_report}
-use Rattle.rb_phases.specs.Report.{RefusedEvent, Outcome, held, TurnReport, Report}
+use Rattle.rb_phases.specs.Report.{Outcome, held, TurnReport, Report}
 use Rattle.rb_phases.specs.Script.{Turn, Script, IsScript}
-use Rattle.rb_phases.specs.Turns.{outcome_of, settlement_event, id_of, AreTurnReports}
+use Rattle.rb_phases.specs.Turns.{refused_as, outcome_of, settlement_event, id_of, AreTurnReports}
 
 -- a turn under way: what is still due, and its report so far
 pub record Progress : Type 0 where
@@ -109,9 +109,6 @@ fits_draft s client d = (d.job.client == client) && is_accepted s (Planned d)
 abbrev pub with_client_report : TurnReport → KnownClient → Outcome → TurnReport
 with_client_report r c o = record r { clients = r.clients ++ record { id = c.config.id; outcome = o } ∷ [] }
 
-abbrev pub refused_as : ℕ → State → Event → List RefusedEvent
-refused_as number s e = option_to_list (option_map (λ refusal. record { event = number; refusal = refusal }) (refusal_of s e))
-
 abbrev pub draft_given : Option RightDraft → Option Draft
 draft_given given = option_map (λ (x : RightDraft). x.draft) given
 
@@ -137,7 +134,7 @@ plan_done w k own items r client c None =
 abbrev pub item_done : World → ℕ → Option RightDraft → List Item → TurnReport → Item → World
 item_done w k own items r (enter window) = next (appended w (Window window)) items (record r { window_back = is_some (refusal_of w.core (Window window)) })
 item_done w k own items r (ask q) = next (appended w (Asked q.client q.goal)) items r
-item_done w k own items r (observe number event) = next (appended w event) items (record r { refused = r.refused ++ refused_as number w.core event })
+item_done w k own items r (observe number event) = next (appended w event) items (record r { refused = r.refused ++ refused_as number (refusal_of w.core event) })
 item_done w k own items r (scan path part) = next (scanned w k path part) items r
 item_done w k own items r (plan client) =
     option_map_or (λ (c : KnownClient). plan_done w k own items r client c c.batch) (slice_get w.core.standing.clients client) w
@@ -186,26 +183,13 @@ module _ (config : Config) where
 
 -- ---- the laws
 
--- all that can be appended has room in the log
+-- the most events that can be appended for turns
 abbrev pub appends_in : Config → List Turn → ℕ
 appends_in config turns = sum_by (λ t. length (agenda config t)) turns
 
+-- all that can be appended for a script has room in the log
 abbrev pub FitsLog : Script → Type 0
 FitsLog script = appends_in script.config script.turns ≤ max_events
-
--- so many clients, paths, turns, and goals, events and settlements at most (own choice)
-abbrev pub inputs_of : Turn → ℕ
-inputs_of t = length t.goals + length t.events + length t.settlements
-
-pub record IsWithinLimits (s : Script) : Type 0 where
-  pub clients : length s.config.clients ≤ 256
-  pub paths : length s.config.paths ≤ 256
-  pub turns : length s.turns ≤ 500
-  pub inputs : sum_by inputs_of s.turns ≤ 200000
-
--- the log of a script within these limits is never full
-abbrev pub LimitsFitLog : Type 0
-LimitsFitLog = (s : Script) → IsWithinLimits s → FitsLog s
 
 -- the world that steps lead to
 abbrev pub world_after : Script → List Step → World

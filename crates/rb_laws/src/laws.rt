@@ -3,7 +3,7 @@ ghost use Rattle.rb_phases.specs.Agenda.{OrderGivesReport};
 ghost use Rattle.rb_laws.specs.Examples.{Examples};
 ghost use Rattle.rb_phases.specs.Accepted.{AcceptedDraftsAreReported};
 ghost use Rattle.rb_laws.specs.Laws.{PlannedViewsAreViews, ReportIsOne, VerdictIsOne};
-ghost use Rattle.rb_laws.specs.Schedule.{LimitsFitLog, Schedules, OwnDraftsServe};
+ghost use Rattle.rb_laws.specs.Schedule.{Schedules, OwnDraftsServe};
 
 use rb_batch::laws::least_cut_is_one;
 use rb_book::laws::{finds_what_was_added, stays_a_book};
@@ -46,13 +46,8 @@ pub fn order_gives_report()
     ensures { OrderGivesReport }
 {}
 
-/// All that can be appended for a script within the limits has room in the log.
-pub fn limits_fit_log()
-    ensures { LimitsFitLog }
-{}
-
-/// In every schedule of a supervisor and its workers, of a script whose log has room, the reports of the turns
-/// that are over are the script's.
+/// In every schedule of a supervisor and its workers, of a script whose log has room (each that is read has:
+/// `scripts::laws_hold_of_read_scripts`), the reports of the turns that are over are the script's.
 pub fn schedules()
     ensures { Schedules }
 {

@@ -1,6 +1,6 @@
 //! Scripts that were read are scripts that the laws speak of.
 ghost use Rattle.rb_events.specs.Script.{script_view, IsScript as IsReadScript};
-ghost use Rattle.rb_laws.specs.Schedule.{IsWithinLimits};
+ghost use Rattle.rb_laws.specs.Schedule.{FitsLog};
 ghost use Rattle.rb_phases.specs.Script.{IsScript};
 ghost use Rattle.rb_super.specs.Told.{told};
 
@@ -9,11 +9,11 @@ use rb_super::read_scripts_are_scripts;
 use std::alloc::Allocator;
 
 /// A script that keeps what `rb_script::read_script` promises of each that it reads keeps what the laws of reports, of verdicts
-/// and of schedules ask of a script, and is within the limits by which its log has room: so they hold of it.
+/// and of schedules ask of a script, and all that can be appended for it has room in the log: so they hold of it.
 pub fn laws_hold_of_read_scripts<A: Allocator>(script: &Script<A>)
     requires { IsReadScript (script_view script.now) }
     ensures script { IsScript (told (script_view script.now)) }
-    ensures limits { IsWithinLimits (told (script_view script.now)) }
+    ensures room { FitsLog (told (script_view script.now)) }
 {
     read_scripts_are_scripts(script);
 }

@@ -18,7 +18,7 @@ use Rattle.rb_machine.specs.Batches.{AreApart}
 use Rattle.rb_machine.specs.Config.{part_for}
 use Rattle.rb_machine.specs.Standing.{KnownPath, Standing, view_of_path, owed_at, path_task, path_tasks}
 use Rattle.rb_task.specs.Task.{PathTask, Message, message_on, ready_on}
-use Rattle.rb_machine.proofs.Ascending.{Up}
+use Rattle.rb_book.proofs.Rising.{Up}
 use Rattle.rb_machine.proofs.Options.{mapped}
 use Rattle.rb_machine.proofs.Owed.{append_all, found_sequence, kept_all}
 

@@ -2,9 +2,10 @@
 use Rattle.std.proofs.Common.{◌≡◌, ℕ, zero, suc, ◌+◌, ◌<◌, ◌≤◌, Bool, true, false, cond, List, [], ◌∷◌, length, map, get_or, set, replicate, Option, Some, None, is_some, refl, sym, ap, ◌∙◌, subst, inl, inr, arith, if◌then◌else◌}
 use Rattle.std.specs.Prelude.{IfSome}
 use Rattle.std.specs.List.{fold, slice_get}
-use Rattle.std.specs.Option.{option_map, option_and_then}
+use Rattle.std.specs.Option.{option_map, option_map_or, option_and_then}
 use Rattle.std.proofs.lemmas.List.{length-set, length-map, length-replicate}
 use Rattle.std.proofs.lemmas.List.Elements.{recursion_from_All}
+use Rattle.std.proofs.lemmas.Option.{none-some}
 use Rattle.rb_events.specs.Config.{Config, IsClient}
 use Rattle.rb_events.specs.declared.config.ClientConfig.{ClientConfig}
 use Rattle.rb_machine.specs.Config.{IsSetUp}
@@ -235,3 +236,25 @@ kept s is = record {
 
 pub kept_of_events : (config : Config) (events : List Event) → IsSetUp config → IsKept (state_of config events)
 kept_of_events config events is = kept (state_of config events) (events_tended (opening config) events (opening_tended config is))
+
+-- ---- one event more
+
+some_within : {X : Type 0} (xs : List X) (i : ℕ) (x : X) → slice_get xs i ≡ Some x → i < length xs
+some_within [] i x e = absurd (none-some x e)
+some_within (y ∷ xs) zero x e = omega arith
+some_within (y ∷ xs) (suc i) x e = omega (arith, some_within xs i x e)
+
+tended : (s : State) → IsKept s → IsTended s
+tended s is = record {
+  tracks = λ place c at.
+      let there : tracked s.standing.clients place ≡ c.config.tracks = ap (λ (o : Option KnownClient). option_map_or (λ (d : KnownClient). d.config.tracks) o 0) at in
+      subst (λ n. n < length s.standing.books) there (is.tracked place (some_within s.standing.clients place c at));
+  plans = is.plans;
+  scans = is.scans;
+  batches = λ place c at. subst (λ (o : Option KnownClient). IfSome o (λ (d : KnownClient). d.batches ≤ s.front)) at (is.batches place);
+  numbers = is.numbers;
+}
+
+-- what is kept is kept by whatever is taken in, judged or not
+pub accepted_kept : (s : State) (e : Event) → IsKept s → IsKept (accepted s e)
+accepted_kept s e is = kept (accepted s e) (accepted_tended s e (tended s is))

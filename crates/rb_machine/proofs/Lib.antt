@@ -7,7 +7,6 @@ pub mod Right
 pub mod Marks
 pub mod Open
 pub mod Intake
-pub mod Ascending
 pub mod Rising
 pub mod Sound
 pub mod Lengths

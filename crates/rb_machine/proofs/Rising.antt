@@ -7,7 +7,7 @@ use Rattle.std.proofs.lemmas.List.{map-id}
 use Rattle.std.proofs.lemmas.List.Sums.{sum_by-cons}
 use Rattle.std.proofs.lemmas.Option.{none-some}
 use Rattle.rb_book.specs.Intake.{placed}
-use Rattle.rb_machine.proofs.Ascending.{Up, Up-from_increasing, increasing_from_up}
+use Rattle.rb_book.proofs.Rising.{Up, Up-from_increasing, increasing_from_up}
 use Rattle.rb_machine.specs.Standing.{with_height}
 
 -- what holds of all holds with one more

@@ -38,7 +38,7 @@ use Rattle.rb_task.specs.Task.{Message, messages_of}
 use Rattle.rb_machine.specs.Views.{ClientViewsAreViews, PathViewsArePaths}
 use Rattle.rb_machine.specs.Batches.{AreApart, MessagesStandOnce}
 use Rattle.rb_machine.proofs.Apart.{messages_apart}
-use Rattle.rb_machine.proofs.Ascending.{Up, Up-from_increasing, pairs_from_up}
+use Rattle.rb_book.proofs.Rising.{Up, Up-from_increasing, pairs_from_up}
 use Rattle.rb_machine.proofs.Drafted.{IsDrafted, drafted}
 use Rattle.rb_machine.proofs.Intake.{set_accepted, header_accepted, record_accepted}
 use Rattle.rb_machine.proofs.Marks.{all_at, all_take, all_weaker}

@@ -14,7 +14,6 @@ mod scanning;
 mod scans;
 mod seen;
 mod shared_entry;
-mod told;
 
 pub use entry::{Entry, copy_answer};
 pub use error::CoreError;
@@ -25,4 +24,3 @@ pub use scanning::scan;
 pub use scans::Scans;
 pub use seen::Scan;
 pub use shared_entry::{SharedEntry, share_entries};
-pub use told::Told;

@@ -1,23 +1,89 @@
 //! The commands that a relayer (Hermes) runs for a report.
-use rb_events::{ClientConfig, Config, Refusal};
+use jiff::Timestamp;
+use rb_base::{Moment, Window};
+use rb_events::{ClientConfig, Config, Refusal, Script};
 use rb_phases::{
     ClientReport, Outcome, Plan, PricedUpdate, RefusedEvent, Report, Sending, TurnReport,
 };
 use std::alloc::{AllocError, Global};
 
-/// The commands for a report of a script with this configuration: for each turn a comment line for each
-/// of its events that is refused, and for its window if that is; then for each client a comment line of
-/// what came of it, and after it a line for each update, in the order in which they are
-/// submitted; none where a message is over the gas limit alone. Of the packet messages that follow them the comment tells the number: a script doesn't
-/// have the ports and channels that commands for packets name.
-pub fn commands_of(alloc: Global, config: &Config, report: &Report) -> Result<String, AllocError> {
+/// What commands say that a script's report doesn't: where its clients are hosted, and the windows
+/// of its turns.
+#[derive(Debug, Drop)]
+pub struct Setting {
+    config: Config,
+    windows: Vec<Window>,
+}
+
+impl Setting {
+    /// That of a script.
+    pub fn of(alloc: Global, script: &Script) -> Result<Setting, AllocError> {
+        let mut windows = Vec::new(alloc);
+        for turn in &script.turns {
+            windows.push(turn.window)?;
+        }
+        let config = script.config.copy()?;
+        Ok(Setting { config, windows })
+    }
+}
+
+/// The commands for a report of the script with this setting, those of every turn or of the one with this
+/// number, from 1: for each turn a comment line that says in which window its updates are valid, which is
+/// the one in force, one for each of its events that is refused, and one for its window if that is; then for
+/// each client a comment line of what came of it, and after it a line for each update, in the order in
+/// which they are submitted; none where a message is over the gas limit alone. Of the packet messages that
+/// follow them the comment tells the number: a script doesn't have the ports and channels that commands
+/// for packets name.
+pub fn commands_of(
+    alloc: Global,
+    setting: &Setting,
+    report: &Report,
+    wanted: Option<u64>,
+) -> Result<String, AllocError> {
     let mut text = String::new(alloc);
+    let mut in_force = None;
     let mut number: u64 = 0;
-    for turn in &report.turns {
+    for (turn, window) in report.turns.iter().zip(&setting.windows) {
         number = number.saturating_add(1);
-        push_turn(&mut text, number, config, turn)?;
+        in_force = window_in_force(in_force, turn, window);
+        if is_wanted(wanted, number) {
+            push_window(&mut text, number, in_force.as_ref())?;
+            push_turn(&mut text, number, &setting.config, turn)?;
+        }
     }
     Ok(text)
+}
+
+/// The window in force in a turn: its own, or the one before it where that is refused.
+fn window_in_force(before: Option<Window>, turn: &TurnReport, own: &Window) -> Option<Window> {
+    if turn.window_back { before } else { Some(*own) }
+}
+
+/// Whether the commands of the turn with this number are wanted.
+fn is_wanted(wanted: Option<u64>, number: u64) -> bool {
+    match wanted {
+        Some(wanted) => wanted == number,
+        None => true,
+    }
+}
+
+/// Adds in which window a turn's updates are valid.
+fn push_window(text: &mut String, turn: u64, window: Option<&Window>) -> Result<(), AllocError> {
+    let Some(window) = window else {
+        return Ok(());
+    };
+    match (timestamp_of(window.from()), timestamp_of(window.until())) {
+        (Some(from), Some(until)) => {
+            writeln!(text, "# turn {turn}: valid from {from} until {until}")
+        }
+        _ => Ok(()),
+    }
+}
+
+/// A moment as a timestamp, which is written as RFC 3339 has it.
+fn timestamp_of(moment: Moment) -> Option<Timestamp> {
+    let nanoseconds = i128::try_from(moment.nanoseconds()).ok()?;
+    Timestamp::from_nanosecond(nanoseconds).ok()
 }
 
 fn push_turn(

@@ -4,5 +4,5 @@
 mod commands;
 mod json;
 
-pub use commands::commands_of;
+pub use commands::{Setting, commands_of};
 pub use json::json_of;

@@ -11,7 +11,7 @@ use Rattle.rb_phases.specs.Report.{ClientReport, TurnReport}
 use Rattle.rb_events.specs.declared.script.Asked.{Asked as Question}
 use Rattle.rb_events.specs.declared.script.Settlement.{Settlement}
 use Rattle.rb_phases.specs.Script.{Turn}
-use Rattle.rb_phases.specs.Turns.{after_window, after_question, refusal_at, refusals, before_events, before_plans, IsClientReport, after_outcome, after_reports, after_settlement, settlement_report, settlement_reports}
+use Rattle.rb_phases.specs.Turns.{after_window, after_question, refusal_at, refusals, before_events, before_plans, refusals_in, IsClientReport, after_outcome, after_reports, after_settlement, settlement_report, settlement_reports}
 use Rattle.rb_machine.proofs.Lengths.{lengths_after, lengths_fold}
 
 -- ---- lists with one element more
@@ -102,7 +102,7 @@ order config turn s long =
     let asked = lengths_fold after_question (λ t q. lengths_after t (Asked q.client q.goal)) turn.goals (after_window s turn.window) in
     let observed = lengths_fold standing_after lengths_after turn.events e in
     let count : length p.clients ≡ length config.clients = observed.clients ∙ asked.clients ∙ (lengths_after s (Window turn.window)).clients ∙ long in
-    let r = record empty_report { window_back = goes_back s.window turn.window; refused = refusals 0 e turn.events } in
+    let r = record empty_report { window_back = goes_back s.window turn.window; refused = refusals_in s turn } in
     asks s turn turn.goals (after_window s turn.window) _ _ (seen_all s turn turn.events 0 e _ _ (scanned_all s turn (range_with_len 0 (length config.paths)) p r _
     (subst (λ n. Finishes s turn p r (map plan (range_with_len 0 n) ++ map settle turn.settlements)) count
     (planned_all s turn p r (map settle turn.settlements) (λ rs all. settled_all s turn turn.settlements (record p { clients = after_reports p.clients rs }) (record r { clients = rs })

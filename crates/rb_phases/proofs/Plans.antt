@@ -16,11 +16,11 @@ use Rattle.rb_task.specs.Task.{Task}
 use Rattle.rb_machine.proofs.Options.{mapped, chained, some_from}
 use Rattle.rb_machine.proofs.Steps.{present_drafts, of_the_moment}
 use Rattle.rb_phases.specs.Report.{Outcome, held, idle, planned}
-use Rattle.rb_phases.specs.Turns.{priced, numbered, reported_plan, reported, outcome_of, IsClientReport, after_outcome, id_of}
+use Rattle.rb_phases.specs.Turns.{priced, numbered, reported_plan, reported, outcome_numbered, outcome_of, IsClientReport, after_outcome, id_of}
 use Rattle.rb_phases.proofs.Reported.{accepted_reported, set_same}
 use Rattle.rb_phases.proofs.Sizes.{at_place}
-use Rattle.rb_phases.specs.Phases.{standing_in, HasLogRoom, IsPlannable, IsReportedOf}
-use Rattle.rb_phases.specs.Views.{number_of, outcome_numbered}
+use Rattle.rb_phases.specs.Phases.{standing_in, HasLogRoom, IsPlannable, IsReportedOf, IsOutcomeOf}
+use Rattle.rb_phases.specs.Views.{number_of}
 use Rattle.rb_phases.proofs.Configs.{known_config}
 use Rattle.rb_phases.proofs.Steps.{sizes_in}
 
@@ -78,8 +78,7 @@ outcome_is s c d reply at e =
 -- a draft that is accepted, whoever made it
 pub taken_reported : (old new : Core) (client : ℕ) (d : Draft) (reply : Reply) → d.job.client ≡ client → IsDraft d → refusal_in old (Planned d) ≡ None
     → reply ≡ reply_of (state_in old) (Planned d) → state_in new ≡ after (state_in old) (Planned d)
-    → (known : KnownClient) → slice_get (standing_in old).clients client ≡ Some known
-    → IsReportedOf (standing_in old) (standing_in new) client (record { id = known.config.id; outcome = outcome_numbered (number_of reply) d })
+    → IsOutcomeOf (standing_in old) (standing_in new) client (outcome_numbered (number_of reply) d)
 taken_reported old new client d reply place right ok reply_is state known at =
     let s = state_in old in
     let here : slice_get s.standing.clients d.job.client ≡ Some known = ap (slice_get s.standing.clients) place ∙ at in
@@ -96,8 +95,7 @@ taken_reported old new client d reply place right ok reply_is state known at =
 pub draft_reported : (old new : Core) (client : ℕ) (d : Draft) (reply : Reply) → client < length old.config.clients → IsDraft d → HasLogRoom old 1 → IsPlannable old
     → batch_open (standing_in old) client ≡ None → client_view (state_in old) client ≡ Some d.job
     → reply ≡ reply_of (state_in old) (Planned d) → state_in new ≡ after (state_in old) (Planned d)
-    → (known : KnownClient) → slice_get (standing_in old).clients client ≡ Some known
-    → IsReportedOf (standing_in old) (standing_in new) client (record { id = known.config.id; outcome = outcome_numbered (number_of reply) d })
+    → IsOutcomeOf (standing_in old) (standing_in new) client (outcome_numbered (number_of reply) d)
 draft_reported old new client d reply lt right room ready none_open view reply_is state =
     taken_reported old new client d reply (client_of_view (state_in old) client d view) right (draft_accepted old client d lt room ready none_open view) reply_is state
 
@@ -154,8 +152,7 @@ id_there core client c lt at =
 
 -- a report of a client by its identifier in the configuration
 pub reported_by_id : (core : Core) (t : Standing) (client : ℕ) (c : ClientConfig) (o : Outcome) → client < length core.config.clients → c ≡ get_or core.config.clients client c
-    → ((known : KnownClient) → slice_get (standing_in core).clients client ≡ Some known → IsReportedOf (standing_in core) t client (record { id = known.config.id; outcome = o }))
-    → IsReportedOf (standing_in core) t client (record { id = c.id; outcome = o })
+    → IsOutcomeOf (standing_in core) t client o → IsReportedOf (standing_in core) t client (record { id = c.id; outcome = o })
 reported_by_id core t client c o lt at report =
     let k = known_at core client lt in
     subst (λ id. IsReportedOf (standing_in core) t client (record { id = id; outcome = o })) (ap (λ (x : ClientConfig). x.id) (known_config core client c lt at k.0 k.1)) (report k.0 k.1)

@@ -1,12 +1,14 @@
 -- What the phases of a turn keep of a relayer.
-use Rattle.std.specs.Prelude.{◌≡◌, ℕ, ◌+◌, ◌<◌, ◌≤◌, true, length, Some, is_some, slice_get, List, ◌++◌, map}
-use Rattle.std.specs.List.{range_with_len}
+use Rattle.std.specs.Prelude.{◌≡◌, ℕ, ◌+◌, ◌<◌, ◌≤◌, true, length, Some, is_some, slice_get, List, [], ◌∷◌, map}
+use Rattle.rb_base.specs.Window.{Span}
 use Rattle.rb_scan.specs.declared.scan.Part.{Part}
+use Rattle.rb_events.specs.declared.observation.Observation.{Observation}
+use Rattle.rb_events.specs.declared.script.Asked.{Asked as Question}
 use Rattle.rb_core.specs.Core.{Core, state_in}
 use Rattle.rb_machine.specs.Machine.{is_scanned, max_events}
+use Rattle.rb_machine.specs.Seen.{observed}
 use Rattle.rb_machine.specs.Standing.{KnownClient, Standing, with_client}
-use Rattle.rb_phases.specs.Agenda.{Item, plan, Finishes}
-use Rattle.rb_phases.specs.Report.{ClientReport, TurnReport}
+use Rattle.rb_phases.specs.Report.{Outcome, ClientReport}
 use Rattle.rb_phases.specs.Script.{Turn}
 use Rattle.rb_phases.specs.Turns.{IsClientReport, after_outcome}
 
@@ -21,6 +23,10 @@ HasLogRoom core count = (state_in core).front + count ≤ max_events
 pub record IsLater (count : ℕ) (old new : Core) : Type 0 where
   pub config : new.config ≡ old.config
   pub front : (state_in new).front ≤ (state_in old).front + count
+
+-- a turn that was heard up to its plans: its window, what is asked, and what was observed
+abbrev pub turn_heard : {A : Type 0} → Span → List Question → List (Observation A) → Turn
+turn_heard window goals observations = record { window = window; goals = goals; events = map observed observations; settlements = [] }
 
 -- each part of each path has a valid scan
 abbrev pub IsAllScanned : Core → Type 0
@@ -42,9 +48,13 @@ pub record IsReportedOf (s t : Standing) (client : ℕ) (report : ClientReport) 
   pub right : IsClientReport s (client, known) report
   pub after : t ≡ with_client s client (after_outcome report.outcome)
 
--- so many clients, from a place on, are reported so: wherever a turn has come so far, it goes on behind them
-abbrev pub AreReported : Standing → Standing → ℕ → ℕ → List ClientReport → Type 0
-AreReported s t first count reports =
-    (start : Standing) (turn : Turn) (r : TurnReport) (rest : List Item)
-    → Finishes start turn s r (map plan (range_with_len first count) ++ rest)
-    → Finishes start turn t (record r { clients = r.clients ++ reports }) rest
+-- the same of an outcome, under the identifier of the client that is known there
+abbrev pub IsOutcomeOf : Standing → Standing → ℕ → Outcome → Type 0
+IsOutcomeOf s t client outcome =
+    (known : KnownClient) → slice_get s.clients client ≡ Some known → IsReportedOf s t client (record { id = known.config.id; outcome = outcome })
+
+-- The reports are one of each client from this one on, in their order. Each is right as those before it leave things, and all
+-- of them lead to how things stand then.
+abbrev pub AreReported : Standing → Standing → ℕ → List ClientReport → Type 0
+AreReported s t client [] = t ≡ s
+AreReported s t client (report ∷ reports) = (next : Standing) × IsReportedOf s next client report × AreReported next t (client + 1) reports

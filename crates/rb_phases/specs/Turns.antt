@@ -11,6 +11,7 @@ use Rattle.rb_machine.specs.Event.{Event, Window, Asked, Settled}
 use Rattle.rb_machine.specs.Standing.{OpenBatch, KnownClient, Standing, opening_standing, task_in, with_batch, goes_back, judged, standing_after}
 use Rattle.rb_task.specs.Task.{Task}
 use Rattle.rb_phases.specs.Report.{RefusedEvent, PricedUpdate, Sending, nothing, too_big, batched, Plan, Planned, Outcome, held, idle, planned, ClientReport, SettlementReport, TurnReport, Report}
+use Rattle.rb_events.specs.declared.refusal.Refusal.{Refusal}
 use Rattle.rb_events.specs.declared.script.Asked.{Asked as Question}
 use Rattle.rb_events.specs.declared.script.Settlement.{Settlement}
 use Rattle.rb_phases.specs.Script.{Turn, Script}
@@ -23,9 +24,13 @@ after_window s window = standing_after s (Window window)
 abbrev pub after_question : Standing → Question → Standing
 after_question s q = standing_after s (Asked q.client q.goal)
 
--- what is reported of an event
+-- what is reported of an event, by its number and why it was refused, if it was
+abbrev pub refused_as : ℕ → Option Refusal → List RefusedEvent
+refused_as number refusal = option_to_list (option_map (λ r. record { event = number; refusal = r }) refusal)
+
+-- the same as things stand
 abbrev pub refusal_at : ℕ → Standing → Event → List RefusedEvent
-refusal_at number s event = option_to_list (option_map (λ r. record { event = number; refusal = r }) (judged s event))
+refusal_at number s event = refused_as number (judged s event)
 
 -- the refused ones of a turn's events, from a number on, each with its number
 abbrev pub refusals : ℕ → Standing → List Event → List RefusedEvent
@@ -38,6 +43,10 @@ before_events s turn = fold after_question (after_window s turn.window) turn.goa
 
 abbrev pub before_plans : Standing → Turn → Standing
 before_plans s turn = fold standing_after (before_events s turn) turn.events
+
+-- the refused ones of a turn's events, each with its number from 0
+abbrev pub refusals_in : Standing → Turn → List RefusedEvent
+refusals_in s turn = refusals 0 (before_events s turn) turn.events
 
 -- ---- a client
 
@@ -61,9 +70,13 @@ reported_plan t number p = record {
 abbrev pub reported : Task → ℕ → Answer → Planned
 reported t number a = record { goal = a.goal; labels = a.labels; plan = option_map (reported_plan t number) a.plan }
 
+-- what is reported of a draft whose batch has this number
+abbrev pub outcome_numbered : ℕ → Draft → Outcome
+outcome_numbered number d = option_map_or (λ a. planned (reported d.job.task number a)) d.answer idle
+
 -- what is reported of a client's draft; batches are numbered from 1
 abbrev pub outcome_of : KnownClient → Draft → Outcome
-outcome_of c d = option_map_or (λ a. planned (reported d.job.task (c.batches + 1) a)) d.answer idle
+outcome_of c d = outcome_numbered (c.batches + 1) d
 
 -- a plan is right for a task, and its batch has this number if it opens one
 pub record IsPlanFor (t : Task) (number : ℕ) (p : Planned) : Type 0 where
@@ -140,7 +153,7 @@ settlement_reports s (x ∷ xs) = settlement_report s x ∷ settlement_reports (
 
 pub record IsTurnReport (s : Standing) (turn : Turn) (r : TurnReport) : Type 0 where
   pub window : r.window_back ≡ goes_back s.window turn.window
-  pub refused : r.refused ≡ refusals 0 (before_events s turn) turn.events
+  pub refused : r.refused ≡ refusals_in s turn
   pub clients : AllZip (IsClientReport (before_plans s turn)) (enumerate_from 0 (before_plans s turn).clients) r.clients
   pub settlements : r.settlements ≡ settlement_reports (after_plans s turn r) turn.settlements
 

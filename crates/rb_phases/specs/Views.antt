@@ -1,11 +1,8 @@
 -- Reports as they lie in memory, without that.
-use Rattle.std.specs.Prelude.{ℕ, List, map, Option}
-use Rattle.std.specs.Option.{option_map, option_map_or, option_to_list}
-use Rattle.rb_task.specs.Draft.{Draft}
+use Rattle.std.specs.Prelude.{ℕ, map}
+use Rattle.std.specs.Option.{option_map}
 use Rattle.rb_machine.specs.Machine.{Reply, Noted, Opened}
-use Rattle.rb_events.specs.declared.refusal.Refusal.{Refusal}
 use Rattle.rb_phases.specs.Report.{RefusedEvent, PricedUpdate, Batch, Sending, nothing, too_big, batched, Plan, Planned, Outcome, held, idle, planned, ClientReport, SettlementReport, TurnReport, Report}
-use Rattle.rb_phases.specs.Turns.{reported}
 use Rattle.rb_phases.specs.declared.report.Batch.{Batch as CodeBatch}
 use Rattle.rb_phases.specs.declared.report.ClientReport.{ClientReport as CodeClientReport}
 use Rattle.rb_phases.specs.declared.report.Outcome.{Outcome as CodeOutcome}
@@ -64,15 +61,7 @@ report_view r = map turn_report_view r.turns.items
 
 -- ---- how a report is made
 
--- what is reported of an event, by its number
-abbrev pub refused_as : ℕ → Option Refusal → List RefusedEvent
-refused_as number refusal = option_to_list (option_map (λ r. record { event = number; refusal = r }) refusal)
-
 -- the number of the batch that a draft opened; 0 where it opened none
 abbrev pub number_of : Reply → ℕ
 number_of Noted = 0
 number_of (Opened number) = number
-
--- what is reported of a draft whose batch has this number
-abbrev pub outcome_numbered : ℕ → Draft → Outcome
-outcome_numbered number d = option_map_or (λ a. planned (reported d.job.task number a)) d.answer idle

@@ -3,9 +3,9 @@ ghost use Rattle.std.specs.Prelude.{◌≡◌, ◌<◌, ◌+◌, ◌++◌, true,
 ghost use Rattle.rb_machine.specs.Seen.{observed};
 ghost use Rattle.rb_machine.specs.Standing.{goes_back, judged, standing_after};
 ghost use Rattle.rb_events.specs.Script.{IsSeen};
-ghost use Rattle.rb_phases.specs.Turns.{after_window, after_question, refusals};
-ghost use Rattle.rb_phases.specs.Phases.{standing_in, HasLogRoom, IsLater};
-ghost use Rattle.rb_phases.specs.Views.{refused_view, refused_as};
+ghost use Rattle.rb_phases.specs.Turns.{refused_as, after_window, after_question, refusals, before_plans, refusals_in};
+ghost use Rattle.rb_phases.specs.Phases.{standing_in, HasLogRoom, IsLater, turn_heard};
+ghost use Rattle.rb_phases.specs.Views.{refused_view};
 
 use crate::machine::Machine;
 use crate::relayer::Relayer;
@@ -124,10 +124,8 @@ pub fn hear_all<A: Allocator + Copy, M: Machine<A>>(
     requires events { All (IsSeen (length relayer.old.config.chains) (length relayer.old.config.clients) (length relayer.old.config.paths)) events.items }
     requires room { HasLogRoom relayer.old (1 + length goals.now + length events.items) }
     ensures back { IfOk result (λ r. r.0 ≡ goes_back (standing_in relayer.old).window window) }
-    ensures refused { IfOk result (λ r. map refused_view r.1.items
-        ≡ refusals 0 (fold after_question (after_window (standing_in relayer.old) window) goals.now) (map observed events.items)) }
-    ensures standing { OnOk result (standing_in relayer.new
-        ≡ fold standing_after (fold after_question (after_window (standing_in relayer.old) window) goals.now) (map observed events.items)) }
+    ensures refused { IfOk result (λ r. map refused_view r.1.items ≡ refusals_in (standing_in relayer.old) (turn_heard window goals.now events.items)) }
+    ensures standing { OnOk result (standing_in relayer.new ≡ before_plans (standing_in relayer.old) (turn_heard window goals.now events.items)) }
     ensures entered { OnOk result (is_some (standing_in relayer.new).window ≡ true) }
     ensures later { OnOk result (IsLater (1 + length goals.now + length events.items) relayer.old relayer.new) }
 {

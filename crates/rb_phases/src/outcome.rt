@@ -6,8 +6,8 @@ ghost use Rattle.rb_machine.specs.Replied.{reply_view};
 ghost use Rattle.rb_task.specs.Sent.{sending_view as sent_view};
 ghost use Rattle.rb_step.specs.LightClient.{total_fee};
 ghost use Rattle.rb_step.specs.View.{client_of};
-ghost use Rattle.rb_phases.specs.Turns.{priced, numbered, reported_plan, reported};
-ghost use Rattle.rb_phases.specs.Views.{priced_view, sending_view, plan_view, planned_view, outcome_view, number_of, outcome_numbered};
+ghost use Rattle.rb_phases.specs.Turns.{priced, numbered, reported_plan, reported, outcome_numbered};
+ghost use Rattle.rb_phases.specs.Views.{priced_view, sending_view, plan_view, planned_view, outcome_view, number_of};
 
 use crate::report::{Batch, Outcome, Plan, Planned, PricedUpdate, Sending};
 use rb_core::{Draft, JobView, Reply};

@@ -1,13 +1,12 @@
 //! Plans for clients.
-ghost use Rattle.std.specs.Prelude.{◌≡◌, ◌<◌, true, Some, None, length, is_some, slice_get, IfOk, OnOk, map};
+ghost use Rattle.std.specs.Prelude.{◌≡◌, ◌<◌, true, Some, None, length, is_some, IfOk, OnOk, map};
 ghost use denote.Param.Send.{Frees};
 ghost use Rattle.rb_machine.specs.Batches.{batch_open};
 ghost use Rattle.rb_core.specs.Core.{state_in};
 ghost use Rattle.rb_task.specs.Draft.{IsDraft, Job};
 ghost use Rattle.rb_machine.specs.Machine.{client_view};
-ghost use Rattle.rb_machine.specs.Standing.{KnownClient};
 ghost use Rattle.rb_phases.specs.Drafts.{AreDrafts};
-ghost use Rattle.rb_phases.specs.Phases.{standing_in, HasLogRoom, IsLater, IsPlannable, IsReportedOf, AreReported};
+ghost use Rattle.rb_phases.specs.Phases.{standing_in, HasLogRoom, IsLater, IsPlannable, IsReportedOf, IsOutcomeOf, AreReported};
 ghost use Rattle.rb_phases.specs.Views.{outcome_view, client_report_view};
 ghost use Rattle.rb_phases.specs.declared.report.Outcome as outcomes;
 
@@ -79,12 +78,12 @@ pub fn draft_of<
     alloc: A,
     relayer: &mut Relayer<A, M>,
     client: usize,
-    job: &JobView<A>,
+    job: JobView<A>,
 ) -> Result<Draft<A>, AllocError>
     requires client { client < length relayer.old.config.clients }
-    requires view { client_view (state_in relayer.old) client ≡ Some job.now }
+    requires view { client_view (state_in relayer.old) client ≡ Some job }
     requires alloc { Frees A.Allocator A.dealloc_token }
-    ensures job { IfOk result (λ draft. draft.job ≡ job.now) }
+    ensures job { IfOk result (λ draft. draft.job ≡ job) }
     ensures right { IfOk result IsDraft }
     ensures same { relayer.new ≡ relayer.old }
 {
@@ -109,7 +108,7 @@ fn planned_for<R: Threads + Sync, G: Gate + Sync, A: Allocator + Copy + Send + S
 {
     let job = view_of(relayer, client)?;
     crew.before(Place::Plan(client));
-    let draft = draft_of(crew, alloc, relayer, client, &job)?;
+    let draft = draft_of(crew, alloc, relayer, client, job)?;
     crew.after(Place::Plan(client));
     Ok(draft)
 }
@@ -124,8 +123,7 @@ fn plan_found<A: Allocator + Copy, M: Machine<A>, F: Found<A>>(
 ) -> Result<Option<Outcome<A>>, AllocError>
     requires ready { IsPlannable relayer.old }
     ensures report { IfOk result (λ found. (o : outcomes.Outcome A) → found ≡ Some o
-        → (known : KnownClient) → slice_get (standing_in relayer.old).clients client ≡ Some known
-        → IsReportedOf (standing_in relayer.old) (standing_in relayer.new) client (record { id = known.config.id; outcome = outcome_view o })) }
+        → IsOutcomeOf (standing_in relayer.old) (standing_in relayer.new) client (outcome_view o)) }
     ensures nothing { IfOk result (λ found. found ≡ None → state_in relayer.new ≡ state_in relayer.old) }
     ensures ready { OnOk result (IsPlannable relayer.new) }
     ensures later { OnOk result (IsLater 1 relayer.old relayer.new) }
@@ -152,8 +150,7 @@ fn plan_here<R: Threads + Sync, G: Gate + Sync, A: Allocator + Copy + Send + Syn
     requires ready { IsPlannable relayer.old }
     requires room { HasLogRoom relayer.old 1 }
     requires alloc { Frees A.Allocator A.dealloc_token }
-    ensures report { IfOk result (λ o. (known : KnownClient) → slice_get (standing_in relayer.old).clients client ≡ Some known
-        → IsReportedOf (standing_in relayer.old) (standing_in relayer.new) client (record { id = known.config.id; outcome = outcome_view o })) }
+    ensures report { IfOk result (λ o. IsOutcomeOf (standing_in relayer.old) (standing_in relayer.new) client (outcome_view o)) }
     ensures ready { OnOk result (IsPlannable relayer.new) }
     ensures later { OnOk result (IsLater 1 relayer.old relayer.new) }
 {
@@ -184,8 +181,7 @@ fn plan_open<
     requires ready { IsPlannable relayer.old }
     requires room { HasLogRoom relayer.old 1 }
     requires alloc { Frees A.Allocator A.dealloc_token }
-    ensures report { IfOk result (λ o. (known : KnownClient) → slice_get (standing_in relayer.old).clients client ≡ Some known
-        → IsReportedOf (standing_in relayer.old) (standing_in relayer.new) client (record { id = known.config.id; outcome = outcome_view o })) }
+    ensures report { IfOk result (λ o. IsOutcomeOf (standing_in relayer.old) (standing_in relayer.new) client (outcome_view o)) }
     ensures ready { OnOk result (IsPlannable relayer.new) }
     ensures later { OnOk result (IsLater 1 relayer.old relayer.new) }
 {
@@ -250,8 +246,8 @@ pub fn plan_all<
     requires ready { IsPlannable relayer.old }
     requires room { HasLogRoom relayer.old (length relayer.old.config.clients) }
     requires alloc { Frees A.Allocator A.dealloc_token }
-    ensures reports { IfOk result (λ reports. AreReported (standing_in relayer.old) (standing_in relayer.new) 0 (length relayer.old.config.clients)
-        (map client_report_view reports.items)) }
+    ensures count { IfOk result (λ reports. length reports.items ≡ length relayer.old.config.clients) }
+    ensures reports { IfOk result (λ reports. AreReported (standing_in relayer.old) (standing_in relayer.new) 0 (map client_report_view reports.items)) }
     ensures later { OnOk result (IsLater (length relayer.old.config.clients) relayer.old relayer.new) }
 {
     let clients = relayer.config().clients.len();

@@ -1,8 +1,6 @@
 //! What the planner looks up.
-ghost use Rattle.std.specs.Prelude.{◌≡◌, ◌↔◌, ◌<◌, IfSome, IsTrue, map};
-ghost use Rattle.std.specs.List.Sorted.{IsStrictlyIncreasing};
-ghost use Rattle.rb_book.specs.Book.{height_of, heights_of, is_at, is_below};
-ghost use Rattle.rb_book.specs.Search.{IsPlace};
+ghost use Rattle.std.specs.Prelude.{◌≡◌, ◌↔◌, ◌<◌, IfSome, IsTrue};
+ghost use Rattle.rb_book.specs.Book.{heights_of};
 ghost use Rattle.rb_graph.specs.StepTable.{IsStepFee};
 ghost use Rattle.rb_step.specs.Fee.{fee_limit};
 ghost use Rattle.rb_step.specs.LightClient.{IsOrderly};
@@ -12,7 +10,7 @@ ghost use Rattle.rb_plan.specs.Lookups.{AreAllKnown};
 ghost use Rattle.rb_plan.specs.Offers.{target_of};
 
 use rb_base::Height;
-use rb_book::{ChainBook, Known};
+use rb_book::{ChainBook, Known, record_place};
 use rb_graph::{Graph, Target};
 use rb_step::ClientView;
 use rb_step::laws::views_are_orderly;
@@ -103,17 +101,4 @@ impl<'a, A: Allocator + Copy> Planner<'a, A> {
             Err(_) => None,
         }
     }
-}
-
-/// The place of the record at a height, or else the place where one belongs.
-fn record_place(records: &[Known], height: Height) -> Result<usize, usize>
-    requires { IsStrictlyIncreasing (map height_of records.now) }
-    ensures { IsPlace (is_at height) (is_below height) records.now result }
-{
-    records.binary_search_by_key(
-        &height,
-        |known: &Known| -> Height
-            ensures { result ≡ height_of known.now }
-        { known.height() },
-    )
 }

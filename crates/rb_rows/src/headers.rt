@@ -1,6 +1,6 @@
 use crate::planning::{ASKED, LABELS, PLAN, answer_to, report_of};
 use rb_row_scripts::{CHAINS, CLIENT, GOAL, HEADERS, SET, STORED, TURN, joined};
-use std::alloc::Global;
+use std::alloc::AllocError;
 use std::test::Fail;
 
 /// Scripts in pieces, by what their headers are refused or not trusted for, and the lines of their turn.
@@ -356,6 +356,46 @@ fn judges_headers(rt: HostRuntime) -> Result<(), Fail> {
         let report = report_of(alloc, lines)?;
         let answer = answer_to(&rt, alloc, script.as_bytes())?;
         assert_eq!(rt; answer.as_str(), report.as_str(), "{name}");
+    }
+    Ok(())
+}
+
+/// Headers at the heights from 1 on, a second after one another.
+fn push_headers(text: &mut String, last: u64) -> Result<(), AllocError> {
+    for height in 1..=last {
+        let (hours, minutes, seconds) = (height / 3600, height / 60 % 60, height % 60);
+        write!(
+            text,
+            "  {{ kind = 'header', chain = 'alpha', height = {height}, "
+        )?;
+        write!(
+            text,
+            "time = '1970-01-01T{hours:02}:{minutes:02}:{seconds:02}Z', "
+        )?;
+        writeln!(text, "set = 'A', next = 'A', votes = 'CCCA' }},")?;
+    }
+    Ok(())
+}
+
+/// The version of a script, how many headers it has, and what is told of them.
+const BOOKS: &[(&str, u64, &str)] = &[
+    ("version = 1\n", 1025, "refused event 1025 406 Full\n"),
+    ("version = 2\n", 1025, ""),
+    ("version = 2\n", 4096, ""),
+    ("version = 2\n", 4097, "refused event 4097 406 Full\n"),
+];
+
+/// How many records a book keeps.
+#[test]
+fn tells_that_a_book_of_its_version_is_full(rt: HostRuntime) -> Result<(), Fail> {
+    let alloc = rt.alloc();
+    for (version, last, lines) in BOOKS {
+        let mut script = joined(alloc, &[version, "chain = [{ id = 'alpha' }]\n", TURN, SET])?;
+        push_headers(&mut script, *last)?;
+        script.push_str("]")?;
+        let report = report_of(alloc, &[lines])?;
+        let answer = answer_to(&rt, alloc, script.as_bytes())?;
+        assert_eq!(rt; answer.as_str(), report.as_str(), "{version}{last}");
     }
     Ok(())
 }

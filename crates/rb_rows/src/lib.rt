@@ -1,14 +1,12 @@
-//! What no contract of the layers that read and write bytes says, by their public calls: the report that
-//! `run_over` writes for a script, and each fault with the path of what is wrong.
+//! What no contract of `run_over` says: the report that it writes for a script, by so many workers, that it tells a
+//! fault before anything is written, and that it tells where the writer fails.
 #![tactic(auto)]
 
-#[cfg(test)]
-mod faults;
 #[cfg(test)]
 mod headers;
 #[cfg(test)]
 mod planning;
 #[cfg(test)]
-mod version2;
+mod texts;
 #[cfg(test)]
 mod whole;

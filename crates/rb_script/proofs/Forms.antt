@@ -19,7 +19,7 @@ use Rattle.rb_events.specs.declared.observation.Observation.{Observation}
 use Rattle.rb_fields.specs.Faults.{Fault, check, Gives}
 use Rattle.rb_fields.specs.declared.fault.RunError.{RunError}
 use Rattle.rb_fields.specs.declared.fault.FaultName.TheVariants.{OutOfRange, TwoGoals, TooManyEvents, BadWindow}
-use Rattle.rb_fields.specs.Fields.{Section, section_at, elements, next_in_sequence, in_sequence, needs, optional, or_default, only, number, max_number, height, time, hash, zero_hash, items, items_count}
+use Rattle.rb_fields.specs.Fields.{Section, section_at, elements, next_in_sequence, in_sequence, needs, optional, or_default, only, maybe, number, max_number, height, time, hash, zero_hash, items, items_count}
 use Rattle.rb_fields.specs.Places.{child, element}
 use Rattle.rb_config.specs.Named.{reference}
 use Rattle.rb_config.specs.Chains.{chain}
@@ -31,10 +31,11 @@ use Rattle.rb_script.specs.Sets.{validators}
 use Rattle.rb_config.specs.Paths.{path, path_ids, sequence}
 use Rattle.rb_script.specs.Packets.{block, height_or_none, time_or_none, sent, sent_keys, received, ack_written, packet_keys, cleared, cleared_keys, closed, closed_keys}
 use Rattle.rb_script.specs.Events.{kind, votes, set_seen, set_keys, header_seen, header_keys, stored_seen, stored_keys, tracked_by, unnamed, event_of_kind, event}
-use Rattle.rb_script.specs.Turns.{Frame, Reading, asked, goal_keys, goal_of, one_goal, maybe_height, is_asked, settlement, settlement_keys, taken, frame, turn_keys, turn}
+use Rattle.rb_config.specs.Goals.{asked, goal_keys, goal_of, one_goal, is_asked, settlement, settlement_keys}
+use Rattle.rb_script.specs.Turns.{Frame, Reading, taken, frame, turn_keys, turn}
 use Rattle.rb_config.specs.Tables.{tables, config}
 use Rattle.rb_script.specs.Scripts.{opening, script}
-use Rattle.rb_config.proofs.ConfigForms.{pass, same_ok, check-passed, needs-field, elements-keep, elements-count, reference-within, client-within, chain-within, tables-few, config-form}
+use Rattle.rb_config.proofs.ConfigForms.{pass, same_ok, check-passed, needs-field, elements-keep, elements-count, reference-within, client-within, place-within, tables-few, config-form}
 
 -- ---- tables in sequence
 
@@ -77,23 +78,23 @@ not_asked : (client : ℕ) (before : List Asked) → not (is_asked client before
 not_asked client [] h = λ k d lt. absurd (omega arith)
 not_asked client (g ∷ gs) h = not_asked-next client g gs (g.client == client) refl h (not_asked client gs)
 
-asked-form : (clients : List ClientConfig) (before : List Asked) (s : Section) (g : Asked) → asked clients before s ≡ Ok g
+asked-form : (clients : List (List ℕ)) (before : List Asked) (s : Section) (g : Asked) → asked clients before s ≡ Ok g
     → (g.client < length clients) × All (λ x. x.client ≢ g.client) before
 unfolding asked
 asked-form clients before s g h =
     pass (only goal_keys s) _ g h (λ u e0 h0.
-    pass (needs (codes "client") (reference (client_ids clients)) s) _ g h0 (λ i e1 h1.
-    pass (maybe_height (optional (codes "at_least") s)) _ g h1 (λ least e2 h2.
-    pass (maybe_height (optional (codes "exactly") s)) _ g h2 (λ exact e3 h3.
+    pass (needs (codes "client") (reference clients) s) _ g h0 (λ i e1 h1.
+    pass (maybe height (optional (codes "at_least") s)) _ g h1 (λ least e2 h2.
+    pass (maybe height (optional (codes "exactly") s)) _ g h2 (λ exact e3 h3.
     pass (one_goal s.path (goal_of least exact)) _ g h3 (λ goal e4 h4.
     pass (check (not (is_asked i before)) TwoGoals s.path) _ g h4 (λ v passed same.
     subst (λ x. (x.client < length clients) × All (λ y. y.client ≢ x.client) before) (same_ok _ g same)
-    (client-within (codes "client") clients s i e1, not_asked i before (check-passed _ TwoGoals s.path v passed))))))))
+    (place-within (codes "client") clients s i e1, not_asked i before (check-passed _ TwoGoals s.path v passed))))))))
 
 abbrev AreGoals : ℕ → List Asked → Type 0
 AreGoals clients gs = All (λ g. g.client < clients) gs × AllPairs (λ g h. g.client ≢ h.client) gs
 
-goals-form : (clients : List ClientConfig) (path : List ℕ) (ds : Items) (goals : List Asked) → elements (asked clients) path [] ds ≡ Ok goals → AreGoals (length clients) goals
+goals-form : (clients : List (List ℕ)) (path : List ℕ) (ds : Items) (goals : List Asked) → elements (asked clients) path [] ds ≡ Ok goals → AreGoals (length clients) goals
 goals-form clients path ds goals h =
     elements-keep (asked clients) (AreGoals (length clients)) (λ before s g kept read.
     let one = asked-form clients before s g read in (
@@ -101,16 +102,16 @@ goals-form clients path ds goals h =
       all_pairs_push (λ a b. a.client ≢ b.client) before g kept.1 (λ k d lt. one.1 k d lt),
     )) path [] ds goals ((λ k d lt. absurd (omega arith)), (λ i j d lt end. absurd (omega arith))) h
 
-settlement-form : (clients : List ClientConfig) (before : List Settlement) (s : Section) (x : Settlement) → settlement clients before s ≡ Ok x → x.client < length clients
+settlement-form : (clients : List (List ℕ)) (before : List Settlement) (s : Section) (x : Settlement) → settlement clients before s ≡ Ok x → x.client < length clients
 unfolding settlement
 settlement-form clients before s x h =
     pass (only settlement_keys s) _ x h (λ u e0 h0.
-    pass (needs (codes "client") (reference (client_ids clients)) s) _ x h0 (λ i e1 h1.
+    pass (needs (codes "client") (reference clients) s) _ x h0 (λ i e1 h1.
     pass (needs (codes "batch") (number 1 max_number OutOfRange) s) _ x h1 (λ batch e2 h2.
     pass (needs (codes "done") (number 0 max_number OutOfRange) s) _ x h2 (λ done e3 same.
-    subst (λ (y : Settlement). y.client < length clients) (same_ok _ x same) (client-within (codes "client") clients s i e1)))))
+    subst (λ (y : Settlement). y.client < length clients) (same_ok _ x same) (place-within (codes "client") clients s i e1)))))
 
-settlements-form : (clients : List ClientConfig) (path : List ℕ) (ds : Items) (settlements : List Settlement) → elements (settlement clients) path [] ds ≡ Ok settlements
+settlements-form : (clients : List (List ℕ)) (path : List ℕ) (ds : Items) (settlements : List Settlement) → elements (settlement clients) path [] ds ≡ Ok settlements
     → All (λ (x : Settlement). x.client < length clients) settlements
 settlements-form clients path ds settlements h =
     elements-keep (settlement clients) (All (λ (x : Settlement). x.client < length clients))
@@ -142,7 +143,7 @@ set_seen-form chains clients paths names s x h =
     pass (needs (codes "chain") (reference chains) s) _ x h0 (λ chain e1 h1.
     pass (needs (codes "name") (new_set_name (names chain)) s) _ x h1 (λ name e2 h2.
     pass (needs (codes "validators") validators s) _ x h2 (λ set e3 same.
-    subst (λ (y : Observation Global × Names). IsSeen (length chains) clients paths y.0) (same_ok _ x same) (chain-within (codes "chain") chains s chain e1)))))
+    subst (λ (y : Observation Global × Names). IsSeen (length chains) clients paths y.0) (same_ok _ x same) (place-within (codes "chain") chains s chain e1)))))
 
 header_seen-form : (chains : List (List ℕ)) (clients paths : ℕ) (names : Names) (s : Section) (x : Observation Global) → header_seen chains names s ≡ Ok x
     → IsSeen (length chains) clients paths x
@@ -156,7 +157,7 @@ header_seen-form chains clients paths names s x h =
     pass (needs (codes "set") (set_reference (names chain)) s) _ x h4 (λ set e5 h5.
     pass (needs (codes "next") (set_reference (names chain)) s) _ x h5 (λ next e6 h6.
     pass (needs (codes "votes") votes s) _ x h6 (λ vs e7 same.
-    subst (IsSeen (length chains) clients paths) (same_ok _ x same) (chain-within (codes "chain") chains s chain e1)))))))))
+    subst (IsSeen (length chains) clients paths) (same_ok _ x same) (place-within (codes "chain") chains s chain e1)))))))))
 
 stored_seen-form : (chains paths : ℕ) (clients : List ClientConfig) (names : Names) (s : Section) (x : Observation Global) → stored_seen clients names s ≡ Ok x
     → IsSeen chains (length clients) paths x
@@ -280,22 +281,25 @@ record IsTaken (c : Config) (reading : Reading) (x : Turn Global × Reading) : T
 turn-form : (c : Config) (reading : Reading) (s : Section) (x : Turn Global × Reading) → turn c reading s ≡ Ok x → IsTaken c reading x
 unfolding turn
 turn-form c reading s x h =
+    let ids = client_ids c.clients in
+    let count = length-map c.clients (λ (k : ClientConfig). k.id) in
     pass (frame reading.room s) _ x h (λ f e0 h0.
-    pass (elements (asked c.clients) (child s.path (codes "goal")) [] f.goals) _ x h0 (λ goals e1 h1.
+    pass (elements (asked ids) (child s.path (codes "goal")) [] f.goals) _ x h0 (λ goals e1 h1.
     pass (in_sequence (event c) (child s.path (codes "event")) reading.names [] f.events) _ x h1 (λ events e2 h2.
-    pass (elements (settlement c.clients) (child s.path (codes "settle")) [] f.settlements) _ x h2 (λ settlements e3 same.
+    pass (elements (settlement ids) (child s.path (codes "settle")) [] f.settlements) _ x h2 (λ settlements e3 same.
     let framed = frame-form reading.room s f e0 in
-    let asked_well = goals-form c.clients (child s.path (codes "goal")) f.goals goals e1 in
-    let asked_count = elements-count (asked c.clients) (child s.path (codes "goal")) [] f.goals goals e1 in
+    let asked_well = subst (λ n. AreGoals n goals) count (goals-form ids (child s.path (codes "goal")) f.goals goals e1) in
+    let settled_well = subst (λ n. All (λ (y : Settlement). y.client < n) settlements) count (settlements-form ids (child s.path (codes "settle")) f.settlements settlements e3) in
+    let asked_count = elements-count (asked ids) (child s.path (codes "goal")) [] f.goals goals e1 in
     let seen_count = in_sequence-count (event c) (child s.path (codes "event")) reading.names [] f.events events e2 in
-    let settled_count = elements-count (settlement c.clients) (child s.path (codes "settle")) [] f.settlements settlements e3 in
+    let settled_count = elements-count (settlement ids) (child s.path (codes "settle")) [] f.settlements settlements e3 in
     subst (IsTaken c reading) (same_ok _ x same) (record {
       turn = record {
         window = framed.window;
         goals = asked_well.0;
         once = asked_well.1;
         events = events-form c (child s.path (codes "event")) reading.names f.events events e2;
-        settlements = settlements-form c.clients (child s.path (codes "settle")) f.settlements settlements e3;
+        settlements = settled_well;
       };
       room = omega (arith, framed.left, asked_count, seen_count, settled_count);
     })))))

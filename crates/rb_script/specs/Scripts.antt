@@ -1,13 +1,13 @@
 -- The script of a text.
-use Rattle.std.specs.Prelude.{ℕ, List, [], codes, Result, Ok}
+use Rattle.std.specs.Prelude.{ℕ, List, Result, Ok}
 use Rattle.std.specs.declared.alloc.Global.{Global}
 use Rattle.rb_events.specs.Limits.{max_entries}
 use Rattle.rb_events.specs.Script.{Script}
 use Rattle.rb_fields.specs.Faults.{Fault, ◌>>=◌}
-use Rattle.rb_fields.specs.Fields.{Section, in_sequence}
+use Rattle.rb_fields.specs.Fields.{Section}
 use Rattle.rb_fields.specs.Documents.{document}
 use Rattle.rb_script.specs.Names.{no_names}
-use Rattle.rb_script.specs.Turns.{Reading, turn}
+use Rattle.rb_script.specs.Turns.{Reading, turns_of}
 use Rattle.rb_config.specs.Tables.{tables, config}
 
 -- before the first turn no set has a name
@@ -18,7 +18,7 @@ unfoldable pub script : Section → Result (Script Global) Fault
 script s = do
   t ← tables s
   c ← config t
-  turns ← in_sequence (turn c) (codes "turn") opening [] t.turns
+  turns ← turns_of c opening t.turns
   Ok (record { config = c; turns = turns.0 })
 
 -- the script of a text, or its first fault

@@ -1,78 +1,21 @@
--- The tables of goals, settlements and turns.
-use Rattle.std.specs.Prelude.{ℕ, ◌+◌, ◌-◌, List, [], ◌∷◌, codes, Option, Some, None, Result, Ok, Bool, not, ◌==◌, nat_le}
+-- The tables of turns.
+use Rattle.std.specs.Prelude.{ℕ, ◌+◌, ◌-◌, List, [], ◌∷◌, codes, Result, Ok, nat_le}
 use Rattle.std.specs.declared.alloc.Global.{Global}
-use Rattle.std.specs.List.{list_any}
-use Rattle.toml.specs.Data.{Items, no_items}
+use Rattle.toml.specs.Data.{Data, Items, no_items}
 use Rattle.toml.specs.View.{items_view}
 use Rattle.rb_base.specs.Window.{Span}
-use Rattle.rb_events.specs.declared.goal.Goal.{Goal}
-use Rattle.rb_events.specs.declared.goal.Goal.TheVariants.{Exactly, AtLeast}
 use Rattle.rb_events.specs.Config.{Config}
-use Rattle.rb_events.specs.declared.config.ClientConfig.{ClientConfig}
-use Rattle.rb_events.specs.declared.script.Asked.{Asked}
-use Rattle.rb_events.specs.declared.script.Settlement.{Settlement}
 use Rattle.rb_events.specs.Script.{Turn}
-use Rattle.rb_fields.specs.Faults.{Fault, ◌>>=◌, fault, check}
+use Rattle.rb_fields.specs.Faults.{Fault, ◌>>=◌, check}
 use Rattle.rb_fields.specs.Places.{child}
-use Rattle.rb_fields.specs.Fields.{Field, Section, items, items_count, only, needs, optional, or_default, number, height, time, elements, in_sequence, max_number}
-use Rattle.rb_fields.specs.declared.fault.FaultName.TheVariants.{OutOfRange, TwoGoals, TooManyEvents, BadWindow}
+use Rattle.rb_fields.specs.Fields.{Section, items, items_count, only, needs, optional, or_default, time, elements, in_sequence, next_in_sequence}
+use Rattle.rb_fields.specs.declared.fault.FaultName.TheVariants.{TooManyEvents, BadWindow}
 use Rattle.rb_script.specs.declared.turn.Reading.{Reading as CodeReading}
 use Rattle.rb_script.specs.declared.turn.Frame.{Frame as CodeFrame}
-use Rattle.rb_config.specs.Named.{reference}
 use Rattle.rb_script.specs.Names.{Names, names_of}
 use Rattle.rb_config.specs.Clients.{client_ids}
+use Rattle.rb_config.specs.Goals.{asked, settlement}
 use Rattle.rb_script.specs.Events.{event}
-
--- ---- goals
-
--- exactly one of the two
-abbrev pub goal_of : Option ℕ → Option ℕ → Option Goal
-goal_of (Some h) None = Some (AtLeast h)
-goal_of None (Some h) = Some (Exactly h)
-goal_of (Some h) (Some k) = None
-goal_of None None = None
-
-abbrev pub one_goal : List ℕ → Option Goal → Result Goal Fault
-one_goal path (Some goal) = Ok goal
-one_goal path None = fault TwoGoals path
-
--- a height, if the key is there
-abbrev pub maybe_height : Option Field → Result (Option ℕ) Fault
-maybe_height None = Ok None
-maybe_height (Some f) = height f >>= λ h. Ok (Some h)
-
-abbrev pub goal_keys : List (List ℕ)
-goal_keys = codes "client" ∷ codes "at_least" ∷ codes "exactly" ∷ []
-
-abbrev pub is_asked : ℕ → List Asked → Bool
-is_asked client before = list_any (λ g. g.client == client) before
-
--- a goal, beside those before it in the turn
-unfoldable pub asked : List ClientConfig → List Asked → Section → Result Asked Fault
-asked clients before s = do
-  _ ← only goal_keys s
-  client ← needs (codes "client") (reference (client_ids clients)) s
-  least ← maybe_height (optional (codes "at_least") s)
-  exact ← maybe_height (optional (codes "exactly") s)
-  goal ← one_goal s.path (goal_of least exact)
-  _ ← check (not (is_asked client before)) TwoGoals s.path
-  Ok (record { client = client; goal = goal })
-
--- ---- settlements
-
-abbrev pub settlement_keys : List (List ℕ)
-settlement_keys = codes "client" ∷ codes "batch" ∷ codes "done" ∷ []
-
--- how many transactions of a client's batch were taken; those before it in the turn don't matter
-unfoldable pub settlement : List ClientConfig → List Settlement → Section → Result Settlement Fault
-settlement clients before s = do
-  _ ← only settlement_keys s
-  client ← needs (codes "client") (reference (client_ids clients)) s
-  batch ← needs (codes "batch") (number 1 max_number OutOfRange) s
-  done ← needs (codes "done") (number 0 max_number OutOfRange) s
-  Ok (record { client = client; batch = batch; done = done })
-
--- ---- turns
 
 abbrev pub turn_keys : List (List ℕ)
 turn_keys = codes "from" ∷ codes "until" ∷ codes "goal" ∷ codes "event" ∷ codes "settle" ∷ []
@@ -128,10 +71,18 @@ reading_view r = record { names = names_of r.names; room = r.room }
 unfoldable pub turn : Config → Reading → Section → Result (Turn Global × Reading) Fault
 turn c reading s = do
   f ← frame reading.room s
-  goals ← elements (asked c.clients) (child s.path (codes "goal")) [] f.goals
+  goals ← elements (asked (client_ids c.clients)) (child s.path (codes "goal")) [] f.goals
   events ← in_sequence (event c) (child s.path (codes "event")) reading.names [] f.events
-  settlements ← elements (settlement c.clients) (child s.path (codes "settle")) [] f.settlements
+  settlements ← elements (settlement (client_ids c.clients)) (child s.path (codes "settle")) [] f.settlements
   Ok (
     record { window = f.window; goals = goals; events = events.0; settlements = settlements },
     record { names = events.1; room = f.room },
   )
+
+-- the turn of this number, after those before it
+abbrev pub turn_at : Config → ℕ → Reading → Data → Result (Turn Global × Reading) Fault
+turn_at c index reading d = next_in_sequence (turn c) (codes "turn") index reading d
+
+-- all turns, in their order
+abbrev pub turns_of : Config → Reading → Items → Result (List (Turn Global) × Reading) Fault
+turns_of c reading ds = in_sequence (turn c) (codes "turn") reading [] ds

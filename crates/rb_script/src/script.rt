@@ -1,11 +1,10 @@
 //! The script of a text.
-ghost use Rattle.std.specs.Prelude.{◌≡◌, [], IfOk, codes, map};
+ghost use Rattle.std.specs.Prelude.{◌≡◌, IfOk, map};
 ghost use Rattle.toml.specs.View.{items_view, table_view};
 ghost use Rattle.rb_events.specs.Script.{IsScript, script_view, turn_view};
 ghost use Rattle.rb_fields.specs.Faults.{Gives};
-ghost use Rattle.rb_fields.specs.Fields.{in_sequence};
 ghost use Rattle.rb_fields.specs.Documents.{whole};
-ghost use Rattle.rb_script.specs.Turns.{turn, reading_view};
+ghost use Rattle.rb_script.specs.Turns.{turns_of, reading_view};
 ghost use Rattle.rb_config.specs.Setups.{setup_view};
 ghost use Rattle.rb_script.specs.Scripts.{script, script_of, opening};
 
@@ -32,7 +31,7 @@ fn read_turns(
     setup: &Setup,
     reading: &mut Reading,
 ) -> Result<Vec<Turn>, RunError>
-    ensures { Gives (λ v. (map turn_view v.items, reading_view reading.new)) result (in_sequence (turn (setup_view setup.now)) (codes "turn") (reading_view reading.old) [] (items_view items.now)) }
+    ensures { Gives (λ v. (map turn_view v.items, reading_view reading.new)) result (turns_of (setup_view setup.now) (reading_view reading.old) (items_view items.now)) }
 {
     let mut turns = Vec::with_capacity(alloc, items.len())?;
     for value in items {

@@ -1,3 +1,4 @@
 pub mod Sorting
 pub mod SetsLemmas
 pub mod ReasonsLemmas
+pub mod Accords

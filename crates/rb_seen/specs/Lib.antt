@@ -5,3 +5,4 @@ pub mod Sets
 pub mod Chains
 pub mod Clients
 pub mod Packets
+pub mod Accord

@@ -33,6 +33,7 @@ struct Page<'a> {
 pub struct SeenChain<'a> {
     pub commits: Vec<Commit<'a>>,
     pub sets: SeenSets<'a>,
+    ghost rising: { IsStrictlyIncreasing (map (λ c. c.header.now.height) commits.items) },
 }
 
 /// What the answers of a chain tell, by its identifier: each header once, by rising heights, and the
@@ -135,7 +136,8 @@ fn judge_heights<'a>(
     }
 }
 
-fn heights_of(alloc: Global, commits: &[Commit]) -> Result<Vec<Height>, AllocError>
+/// The heights of commits.
+pub(crate) fn heights_of(alloc: Global, commits: &[Commit]) -> Result<Vec<Height>, AllocError>
     ensures { IfOk result (λ heights. heights.items ≡ map (λ c. c.header.now.height) commits.now) }
 {
     commits

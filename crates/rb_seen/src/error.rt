@@ -36,6 +36,8 @@ pub enum ProblemName {
     MissingClientState,
     /// Consensus states of a client are missing.
     MissingConsensusStates,
+    /// A record isn't as the header of its height.
+    OtherRecord,
     /// Transactions of a search are missing.
     MissingTransactions,
     /// Packets of two channels, and none is named.
@@ -70,6 +72,7 @@ impl ProblemName {
             ProblemName::OtherSigner => "OtherSigner",
             ProblemName::MissingClientState => "MissingClientState",
             ProblemName::MissingConsensusStates => "MissingConsensusStates",
+            ProblemName::OtherRecord => "OtherRecord",
             ProblemName::MissingTransactions => "MissingTransactions",
             ProblemName::TwoChannels => "TwoChannels",
             ProblemName::MissingSend => "MissingSend",
@@ -108,7 +111,10 @@ impl ProblemName {
                 "the client's state isn't there, and the setup leaves out period_ns, drift_ns or trust; fetch /ibc/core/client/v1/client_states/ID"
             }
             ProblemName::MissingConsensusStates => {
-                "consensus states are missing; fetch /ibc/core/client/v1/consensus_states/ID, all of its pages"
+                "consensus states are missing; fetch /ibc/core/client/v1/consensus_states/ID, all of its pages,"
+            }
+            ProblemName::OtherRecord => {
+                "the client's record has another time, root or next set than the chain's header of this height, so that one of the two isn't the chain's; fetch both again"
             }
             ProblemName::MissingTransactions =>
                 "transactions are missing; fetch all pages of /tx_search",
@@ -137,19 +143,36 @@ pub struct Problem<'a> {
 }
 
 impl Problem<'_> {
-    /// Writes which answers of a height are to be fetched, where such are wrong or missing, and into which
-    /// folder: a chain's has its identifier. Height 0 is none: an answer on another chain is then a client's.
+    /// Writes into which folder the answer belongs that isn't there: a chain's, a client's and a path's have
+    /// its identifier.
+    fn write_folder<W: fmt::Write>(&self, f: &mut fmt::Formatter<W>) -> fmt::Result {
+        let object = self.object;
+        match self.name {
+            ProblemName::MissingPage
+            | ProblemName::MissingSet
+            | ProblemName::MissingClientState
+            | ProblemName::MissingConsensusStates
+            | ProblemName::MissingTransactions
+            | ProblemName::MissingSend
+            | ProblemName::MissingReceive => write!(f, " into files *.json of the folder {object}"),
+            _ => Ok(()),
+        }
+    }
+
+    /// Writes which answers of a height are to be fetched, where such are wrong or missing. Height 0 is none:
+    /// an answer on another chain is then a client's.
     fn write_request<W: fmt::Write>(&self, f: &mut fmt::Formatter<W>, height: u64) -> fmt::Result {
-        let chain = self.object;
         match self.name {
             ProblemName::OtherTotal | ProblemName::BadSet => write!(
                 f,
                 "; fetch all pages of /validators?height={height}&per_page=100 again"
             ),
-            ProblemName::MissingPage | ProblemName::MissingSet => write!(
-                f,
-                "; fetch all pages of /validators?height={height}&per_page=100 into files *.json of the folder {chain}"
-            ),
+            ProblemName::MissingPage | ProblemName::MissingSet => {
+                write!(
+                    f,
+                    "; fetch all pages of /validators?height={height}&per_page=100"
+                )
+            }
             ProblemName::SignatureCount | ProblemName::OtherSigner => {
                 write!(f, "; fetch /commit?height={height} again")
             }
@@ -176,10 +199,10 @@ impl fmt::Display for Problem<'_> {
             _ => {}
         }
         f.write_str(self.name.advice())?;
-        match self.number {
-            Some(height) => self.write_request(f, height),
-            None => Ok(()),
+        if let Some(height) = self.number {
+            self.write_request(f, height)?;
         }
+        self.write_folder(f)
     }
 }
 

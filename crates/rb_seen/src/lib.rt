@@ -2,6 +2,7 @@
 //! others and put in order, or the first that doesn't hold is told.
 #![tactic(auto)]
 
+mod accord;
 mod chain;
 mod client;
 mod error;
@@ -10,9 +11,10 @@ mod repeat;
 mod saved;
 mod sets;
 
+pub use accord::judge_records;
 pub use chain::{Commit, SeenChain, seen_chain};
 pub use client::{SeenClient, Stored, seen_client};
 pub use error::{ImportError, Problem, ProblemName};
-pub use packets::{SeenPacket, seen_packets};
+pub use packets::{Searches, SeenPacket, searches_of, seen_packets};
 pub use saved::{Saved, SavedAnswers, SavedError, read_saved};
 pub use sets::{SeenSet, SeenSets};

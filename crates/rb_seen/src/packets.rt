@@ -1,8 +1,8 @@
 //! What was seen of a path's packets.
-ghost use Rattle.std.specs.Prelude.{◌≡◌, ◌≤◌, [], ◌∷◌, ◌++◌, if◌then◌else◌, All, IfOk, IfErr, OnOk, IfSome, IsTrue, filter, string_bytes};
-ghost use Rattle.std.specs.List.{flat_map};
+ghost use Rattle.std.specs.Prelude.{◌≡◌, ◌≤◌, [], ◌∷◌, ◌++◌, if◌then◌else◌, All, IfOk, IfErr, OnOk, IfSome, IsTrue, count_by, filter, string_bytes};
+ghost use Rattle.std.specs.List.{flat_map, list_any};
 ghost use Rattle.rb_seen.specs.Problems.{IsToldOf};
-ghost use Rattle.rb_seen.specs.Packets.{IsOfPath, HaveEvents, is_source, is_wanted, events_of, seen_events};
+ghost use Rattle.rb_seen.specs.Packets.{IsOfPath, HaveEvents, is_source, is_wanted, is_empty, lacks, one_if, same_kind, tells_of, events_of, seen_events};
 
 use crate::error::{ImportError, ProblemName};
 use crate::saved::Saved;
@@ -16,6 +16,37 @@ use std::alloc::Global;
 pub struct SeenPacket<'a> {
     pub file: &'a str,
     pub event: &'a PacketEvent,
+}
+
+/// Of what a path's answers tell nothing: that packets were sent, that they were received, that they were cleared;
+/// and how many answers tell of no packet at all, as those of a search that found nothing.
+#[derive(Clone, Copy, Debug)]
+pub struct Searches {
+    pub lacks_sent: bool,
+    pub lacks_received: bool,
+    pub lacks_cleared: bool,
+    pub empty: usize,
+}
+
+impl Searches {
+    ghost use Rattle.std.specs.Prelude.{◌<◌, ◌↔◌, IsTrue};
+    ghost use Rattle.rb_seen.specs.Packets.{lacking};
+
+    /// Whether a search isn't there: fewer answers are empty than kinds of events are lacking.
+    pub fn are_missing(&self) -> bool
+        ensures { IsTrue result ↔ (self.now.empty < lacking self.now) }
+    {
+        let lacking = one_if(self.lacks_sent)
+            + one_if(self.lacks_received)
+            + one_if(self.lacks_cleared);
+        self.empty < lacking
+    }
+}
+
+fn one_if(holds: bool) -> usize
+    ensures { result ≡ one_if holds }
+{
+    if holds { 1 } else { 0 }
 }
 
 /// A page of transactions, and its file.
@@ -46,6 +77,77 @@ pub fn seen_packets<'a>(
     judge_packets(id, dest, packets.as_slice())?;
     packets.sort_by_key(|seen: &SeenPacket| (seen.event.kind, seen.event.block))?;
     Ok(packets)
+}
+
+/// Of what a path's answers tell nothing.
+pub fn searches_of(answers: &[Saved]) -> Searches
+    ensures sent { result.lacks_sent ≡ lacks PacketKind.Sent answers.now }
+    ensures received { result.lacks_received ≡ lacks PacketKind.Received answers.now }
+    ensures cleared { result.lacks_cleared ≡ lacks PacketKind.Cleared answers.now }
+    ensures empty { result.empty ≡ count_by (λ s. is_empty s.answer) answers.now }
+{
+    Searches {
+        lacks_sent: lacks(answers, PacketKind::Sent),
+        lacks_received: lacks(answers, PacketKind::Received),
+        lacks_cleared: lacks(answers, PacketKind::Cleared),
+        empty: answers
+            .iter()
+            .filter(|saved| is_empty(&saved.answer))
+            .count(),
+    }
+}
+
+/// Whether no answer tells of an event of this kind.
+fn lacks(answers: &[Saved], kind: PacketKind) -> bool
+    ensures { result ≡ lacks kind answers.now }
+{
+    !tell_of(answers, kind)
+}
+
+/// Whether some answer tells of an event of this kind.
+fn tell_of(answers: &[Saved], kind: PacketKind) -> bool
+    ensures { result ≡ list_any (λ s. tells_of kind s.answer) answers.now }
+{
+    answers.iter().any(|saved| tells_of(&saved.answer, kind))
+}
+
+/// Whether an answer tells of an event of this kind.
+fn tells_of(answer: &Answer, kind: PacketKind) -> bool
+    ensures { result ≡ tells_of kind answer.now }
+{
+    match answer {
+        Answer::Transactions(page) => has_kind(page.events.as_slice(), kind),
+        _ => false,
+    }
+}
+
+/// Whether one of these events is of this kind.
+fn has_kind(events: &[PacketEvent], kind: PacketKind) -> bool
+    ensures { result ≡ list_any (λ e. same_kind e.kind kind) events.now }
+{
+    events.iter().any(|event| is_same_kind(event.kind, kind))
+}
+
+fn is_same_kind(kind: PacketKind, other: PacketKind) -> bool
+    ensures { result ≡ same_kind kind other }
+{
+    match (kind, other) {
+        (PacketKind::Sent, PacketKind::Sent)
+        | (PacketKind::Received, PacketKind::Received)
+        | (PacketKind::AckWritten, PacketKind::AckWritten)
+        | (PacketKind::Cleared, PacketKind::Cleared) => true,
+        _ => false,
+    }
+}
+
+/// Whether an answer tells of no packet.
+fn is_empty(answer: &Answer) -> bool
+    ensures { result ≡ is_empty answer.now }
+{
+    match answer {
+        Answer::Transactions(page) => page.events.is_empty(),
+        _ => false,
+    }
 }
 
 #[tactic(auto, using(crate::proofs::Sorting::taking))]

@@ -1,10 +1,11 @@
 //! The answers that were saved, by what they are of.
-ghost use Rattle.std.specs.Prelude.{◌≡◌, Ok, IfOk, IfErr};
+ghost use Rattle.std.specs.Prelude.{◌≡◌, ◌≤◌, Ok, Err, length, All, IfOk, IfErr, string_bytes};
 ghost use Rattle.rb_answers.specs.Answers.{answer_view, told};
+ghost use Rattle.rb_answers.specs.Said.{IsPlain};
 ghost use Rattle.rb_seen.specs.Saved.{IsFlawOf};
 
-use rb_answers::{Answer, AnswerError, Flaw, read_answer};
-use std::alloc::Global;
+use rb_answers::{Answer, AnswerError, Flaw, FlawName, read_answer, said_in};
+use std::alloc::{AllocError, Global};
 
 /// An answer, and the name of the file that it was saved in.
 #[derive(Drop)]
@@ -24,8 +25,12 @@ pub struct SavedAnswers {
 /// Why a saved answer isn't taken.
 #[derive(Drop)]
 pub enum SavedError {
-    /// The file's content has a flaw.
-    Flaw { file: String, flaw: Flaw },
+    /// The file's content has a flaw; where that is an error that the node answered, what the node said of it.
+    Flaw {
+        file: String,
+        flaw: Flaw,
+        said: String,
+    },
     /// A growth was refused.
     NoMemory,
 }
@@ -38,7 +43,29 @@ pub fn read_saved(alloc: Global, file: String, bytes: &[u8]) -> Result<Saved, Sa
 {
     match read_answer(alloc, bytes) {
         Ok(answer) => Ok(Saved { file, answer }),
-        Err(AnswerError::Flaw(flaw)) => Err(SavedError::Flaw { file, flaw }),
+        Err(AnswerError::Flaw(flaw)) => Err(flawed(alloc, file, bytes, flaw)),
         Err(AnswerError::NoMemory) => Err(SavedError::NoMemory),
+    }
+}
+
+/// The flaw that a file's content has.
+fn flawed(alloc: Global, file: String, bytes: &[u8], flaw: Flaw) -> SavedError
+    requires { told bytes.now ≡ Err flaw }
+    ensures { IsFlawOf file bytes.now result }
+{
+    match said_of(alloc, bytes, flaw) {
+        Ok(said) => SavedError::Flaw { file, flaw, said },
+        Err(_) => SavedError::NoMemory,
+    }
+}
+
+/// What a node said, where the flaw is an error that it answered; else nothing.
+fn said_of(alloc: Global, bytes: &[u8], flaw: Flaw) -> Result<String, AllocError>
+    ensures plain { IfOk result (λ said. All IsPlain (string_bytes said)) }
+    ensures short { IfOk result (λ said. length (string_bytes said) ≤ 200) }
+{
+    match flaw.name {
+        FlawName::NodeError => said_in(alloc, bytes),
+        _ => Ok(String::new(alloc)),
     }
 }

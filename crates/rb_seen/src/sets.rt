@@ -1,5 +1,5 @@
 //! The sets that were seen of a chain, each found by its hash.
-ghost use Rattle.std.specs.Prelude.{◌≡◌, ◌++◌, ◌∷◌, [], ◌↔◌, Contains, IsSome, IfSome, OnOk};
+ghost use Rattle.std.specs.Prelude.{◌≡◌, ◌++◌, ◌∷◌, [], ◌↔◌, Contains, IsSome, IsSomeAnd, IfSome, OnOk, slice_get};
 ghost use Rattle.rb_valset.specs.ValidatorSet.{set_hash};
 ghost use Rattle.rb_seen.specs.Sets.{AreIndexed, WasSeen};
 
@@ -49,6 +49,19 @@ impl<'a> SeenSets<'a> {
             Some(seen)
         } else {
             None
+        }
+    }
+
+    /// The place of the set of this hash among those that were seen.
+    pub fn place_of(&self, hash: &[u8; 32]) -> Option<usize>
+        ensures { IfSome result (λ place. IsSomeAnd (slice_get self.now.sets.items place) (λ seen. set_hash seen.set ≡ hash.now)) }
+    {
+        let Some(place) = self.places.get(hash).copied() else {
+            return None;
+        };
+        match self.sets.get(place) {
+            Some(seen) if *seen.set.hash() == *hash => Some(place),
+            _ => None,
         }
     }
 

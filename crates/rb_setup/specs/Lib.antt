@@ -1,6 +1,5 @@
+pub use Rattle.rb_fields.specs.Documents
 pub use Rattle.rb_fields.specs.Faults
-pub mod Limits
-pub mod Named
 pub mod Clients
 pub mod Paths
 pub mod Turns

@@ -1,12 +1,14 @@
 -- The tables of paths (ICS 4: one direction of a channel).
-use Rattle.std.specs.Prelude.{ℕ, List, [], ◌∷◌, ◌++◌, map, codes, string_bytes, Option, Some, None, option_map, unwrap_or, is_none, slice_get, Bool, true, false, not, ◌&&◌, ◌||◌, ◌==◌, Result, Ok, if◌then◌else◌}
-use Rattle.std.specs.Str.{bytes_eq}
-use Rattle.rb_fields.specs.Faults.{Fault, ◌>>=◌, fault, check}
-use Rattle.rb_fields.specs.Fields.{Field, Section, text, only, needs, optional, or_default, number, max_number}
-use Rattle.rb_fields.specs.declared.fault.FaultName.TheVariants.{OutOfRange, BadOrder, SameChain, WrongClient}
+use Rattle.std.specs.Prelude.{ℕ, List, [], ◌∷◌, ◌++◌, map, codes, string_bytes, Option, Some, None, option_map, unwrap_or, is_none, slice_get, Bool, true, false, not, ◌&&◌, ◌==◌, Result, Ok, if◌then◌else◌}
+use Rattle.rb_scan.specs.declared.path.Order.{Order}
+use Rattle.rb_scan.specs.declared.path.Order.TheVariants.{Ordered, Unordered}
+use Rattle.rb_fields.specs.Faults.{Fault, ◌>>=◌, check}
+use Rattle.rb_fields.specs.Fields.{Section, text, only, needs, optional, or_default, number, max_number}
+use Rattle.rb_fields.specs.declared.fault.FaultName.TheVariants.{OutOfRange, SameChain, WrongClient}
+use Rattle.rb_config.specs.Named.{reference, new_identifier}
+use Rattle.rb_config.specs.Paths.{order}
 use Rattle.rb_setup.specs.declared.setup.ClientSetup.{ClientSetup}
 use Rattle.rb_setup.specs.declared.setup.PathSetup.{PathSetup}
-use Rattle.rb_setup.specs.Named.{reference, new_identifier}
 use Rattle.rb_setup.specs.Clients.{client_ids, three}
 
 -- a path: its chains and clients by their places, and the port and the channel of its source
@@ -36,21 +38,10 @@ path_view p = record {
 
 -- ---- values of their own
 
-abbrev pub order_of : List ℕ → Option Bool
-order_of word =
-    if bytes_eq word (codes "ordered") then Some true
-    else if bytes_eq word (codes "unordered") then Some false
-    else None
-
-abbrev pub known_order : List ℕ → Option Bool → Result Bool Fault
-known_order path (Some ordered) = Ok ordered
-known_order path None = fault BadOrder path
-
--- whether the word says that packets go in order
-unfoldable pub is_ordered : Field → Result Bool Fault
-is_ordered f = do
-  word ← text f
-  known_order f.path (order_of word)
+-- whether packets go in order
+abbrev pub is_ordered : Order → Bool
+is_ordered Ordered = true
+is_ordered Unordered = false
 
 -- `port/channel`, where one of the two keys is there
 unfoldable pub source_channel : Section → Result (Option (List ℕ)) Fault
@@ -83,7 +74,7 @@ path chains clients before s = do
   id ← needs (codes "id") (new_identifier (path_ids before)) s
   source ← needs (codes "source") (reference chains) s
   dest ← needs (codes "dest") (reference chains) s
-  ordered ← needs (codes "order") is_ordered s
+  o ← needs (codes "order") order s
   first ← or_default 1 (number 1 max_number OutOfRange) (optional (codes "first") s)
   forward ← needs (codes "forward") (reference (client_ids clients)) s
   back ← needs (codes "back") (reference (client_ids clients)) s
@@ -95,7 +86,7 @@ path chains clients before s = do
     id = id;
     source = source;
     dest = dest;
-    is_ordered = ordered;
+    is_ordered = is_ordered o;
     first = first;
     forward = forward;
     back = back;

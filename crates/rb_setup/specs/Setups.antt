@@ -1,16 +1,19 @@
 -- The setup of a text: a script without events.
-use Rattle.std.specs.Prelude.{ℕ, List, [], ◌∷◌, map, codes, Result, Ok, nat_lt}
+use Rattle.std.specs.Prelude.{ℕ, List, [], map, codes, Result, Ok, nat_lt}
 use Rattle.toml.specs.Data.{Items, no_items}
 use Rattle.toml.specs.View.{items_view}
 use Rattle.rb_fields.specs.Faults.{Fault, ◌>>=◌, check}
 use Rattle.rb_fields.specs.Fields.{Section, only, needs, required, optional, or_default, number, array, items_count, elements}
 use Rattle.rb_fields.specs.declared.fault.FaultName.TheVariants.{BadVersion, MissingKey}
+use Rattle.rb_fields.specs.Documents.{document}
+use Rattle.rb_config.specs.declared.version.Version.TheVariants.{One}
+use Rattle.rb_config.specs.Chains.{chain, chain_ids}
+use Rattle.rb_config.specs.Tables.{top_keys}
+use Rattle.rb_events.specs.Limits.{max_chains, max_clients, max_paths, max_turns}
 use Rattle.rb_setup.specs.declared.setup.ClientSetup.{ClientSetup}
 use Rattle.rb_setup.specs.declared.setup.Setup.{Setup as CodeSetup}
 use Rattle.rb_setup.specs.declared.reading.Tables.{Tables as CodeTables}
-use Rattle.rb_setup.specs.Limits.{max_chains, max_clients, max_paths, max_turns}
-use Rattle.rb_fields.specs.Documents.{document}
-use Rattle.rb_setup.specs.Clients.{chain, client}
+use Rattle.rb_setup.specs.Clients.{client}
 use Rattle.rb_setup.specs.Paths.{Path, path, path_view}
 use Rattle.rb_setup.specs.Turns.{Turn, turn, turn_view}
 
@@ -23,9 +26,6 @@ pub record Setup : Type 0 where
 
 abbrev pub setup_view : CodeSetup → Setup
 setup_view s = record { chains = s.chains.items; clients = s.clients.items; paths = map path_view s.paths.items; turns = map turn_view s.turns.items }
-
-abbrev pub top_keys : List (List ℕ)
-top_keys = codes "version" ∷ codes "chain" ∷ codes "client" ∷ codes "path" ∷ codes "turn" ∷ []
 
 -- what the keys of the whole text hold
 pub record Tables : Type 0 where
@@ -55,11 +55,12 @@ tables s = do
   turns ← some_turns s
   Ok (record { chains = chains; clients = clients; paths = paths; turns = turns })
 
--- each table beside those before it
+-- each table beside those before it; chains have no key but their identifier, as in version 1 of a script
 unfoldable pub setup : Section → Result Setup Fault
 setup s = do
   t ← tables s
-  chains ← elements chain (codes "chain") [] t.chains
+  shared ← elements (chain One) (codes "chain") [] t.chains
+  let chains = chain_ids shared
   clients ← elements (client chains) (codes "client") [] t.clients
   paths ← elements (path chains clients) (codes "path") [] t.paths
   turns ← elements (turn clients) (codes "turn") [] t.turns

@@ -2,15 +2,16 @@
 ghost use Rattle.std.specs.Prelude.{◌≡◌, [], codes};
 ghost use Rattle.toml.specs.View.{view, items_view};
 ghost use Rattle.rb_fields.specs.Faults.{Gives};
-ghost use Rattle.rb_fields.specs.Fields.{field_view, section_view, only, needs, optional, number, max_number, at_element, elements};
+ghost use Rattle.rb_fields.specs.Fields.{field_view, section_view, needs, optional, maybe, number, max_number, at_element, elements};
 ghost use Rattle.rb_fields.specs.declared.fault.FaultName.TheVariants.{OutOfRange};
-ghost use Rattle.rb_setup.specs.Clients.{three, limits, level, maybe, client, client_keys};
+ghost use Rattle.rb_setup.specs.Clients.{three, level, client};
 
-use crate::limits::{MAX_COUNT, MAX_FEE, MAX_GAS};
-use crate::named::{new_identifier, reference};
 use crate::setup::ClientSetup;
 use rb_answers::TrustLevel;
-use rb_base::{ChainId, ClientId, Fraction, Period};
+use rb_base::{ChainId, ClientId};
+use rb_config::{
+    Directory, maybe_period, needed_limits, new_identifier, only_client_keys, reference,
+};
 use rb_fields::{FaultName, Field, MAX_NUMBER, RunError, Section, element_path, section_at};
 use std::alloc::Global;
 use toml::Value;
@@ -19,10 +20,7 @@ use toml::Value;
 fn three(field: &Field<'_>) -> Result<[u64; 3], RunError>
     ensures { Gives (λ n. n) result (three (field_view field.now)) }
 {
-    let (first, second, third) = field.three_integers()?;
-    let first = field.within(0, first, 0, MAX_FEE, FaultName::BadFee)?;
-    let second = field.within(1, second, 0, MAX_FEE, FaultName::BadFee)?;
-    let third = field.within(2, third, 0, MAX_FEE, FaultName::BadFee)?;
+    let (first, second, third) = field.fees()?;
     Ok([first, second, third])
 }
 
@@ -32,37 +30,6 @@ pub fn needed_three<'a>(section: &Section<'a>, key: &'a str) -> Result<[u64; 3],
     ensures { Gives (λ n. n) result (needs key.entry.now three (section_view section.now)) }
 {
     three(&section.required(key)?)
-}
-
-#[tactic(auto, using(rb_fields::proofs::Steps::steps), unfolding(crate::specs::Clients::limits))]
-fn limits(field: &Field<'_>) -> Result<[u64; 3], RunError>
-    ensures { Gives (λ n. n) result (limits (field_view field.now)) }
-{
-    let (gas, count, transaction) = field.three_integers()?;
-    let gas = field.within(0, gas, 1, MAX_GAS, FaultName::BadLimit)?;
-    let count = field.within(1, count, 1, MAX_COUNT, FaultName::BadLimit)?;
-    let transaction = field.within(2, transaction, 0, MAX_FEE, FaultName::BadLimit)?;
-    Ok([gas, count, transaction])
-}
-
-#[tactic(auto, using(rb_fields::proofs::Steps::steps))]
-fn needed_limits(section: &Section<'_>) -> Result<[u64; 3], RunError>
-    ensures { Gives (λ n. n) result (needs (codes "limits") limits (section_view section.now)) }
-{
-    limits(&section.required("limits")?)
-}
-
-#[tactic(auto, using(rb_fields::proofs::Steps::steps))]
-fn maybe_period(section: &Section<'_>) -> Result<Option<Period>, RunError>
-    ensures { Gives (λ p. p) result (maybe (number 1 max_number OutOfRange) (optional (codes "period_ns") (section_view section.now))) }
-{
-    match section.optional("period_ns") {
-        Some(field) => {
-            let number = field.number(1, Period::MAX, FaultName::OutOfRange)?;
-            Ok(Some(Period::new(number).unwrap()))
-        }
-        None => Ok(None),
-    }
 }
 
 #[tactic(auto, using(rb_fields::proofs::Steps::steps))]
@@ -79,16 +46,11 @@ fn maybe_drift(section: &Section<'_>) -> Result<Option<u64>, RunError>
 fn level(field: &Field<'_>) -> Result<TrustLevel, RunError>
     ensures { Gives (λ t. t) result (level (field_view field.now)) }
 {
-    let (numerator, denominator) = field.two_integers()?;
-    let numerator = field.within(0, numerator, 0, MAX_NUMBER, FaultName::OutOfRange)?;
-    let denominator = field.within(1, denominator, 0, MAX_NUMBER, FaultName::OutOfRange)?;
-    match Fraction::new(numerator, denominator) {
-        Ok(_) => Ok(TrustLevel {
-            numerator,
-            denominator,
-        }),
-        Err(_) => Err(field.fault(FaultName::BadTrust)),
-    }
+    let (numerator, denominator) = field.level()?;
+    Ok(TrustLevel {
+        numerator,
+        denominator,
+    })
 }
 
 #[tactic(auto, using(rb_fields::proofs::Steps::steps))]
@@ -101,28 +63,11 @@ fn maybe_level(section: &Section<'_>) -> Result<Option<TrustLevel>, RunError>
     }
 }
 
-fn only_client_keys(section: &Section<'_>) -> Result<(), RunError>
-    ensures { Gives (λ u. u) result (only client_keys (section_view section.now)) }
-{
-    section.only(&[
-        "id",
-        "host",
-        "of",
-        "period_ns",
-        "drift_ns",
-        "refresh_ns",
-        "fee",
-        "gas",
-        "limits",
-        "trust",
-    ])
-}
-
 #[tactic(auto, using(rb_fields::proofs::Steps::steps), unfolding(crate::specs::Clients::client))]
 fn read_client(
     section: &Section<'_>,
-    chains: &[ChainId],
-    before: &[ClientSetup],
+    chains: &Directory<ChainId>,
+    before: &Directory<ClientSetup>,
 ) -> Result<ClientSetup, RunError>
     ensures { Gives (λ c. c) result (client chains.now before.now (section_view section.now)) }
 {
@@ -149,7 +94,11 @@ fn read_client(
         refresh,
         fees,
         gas,
-        limits,
+        limits: [
+            limits.gas(),
+            limits.count() as u64,
+            limits.transaction_gas(),
+        ],
         trust,
     })
 }
@@ -158,12 +107,12 @@ fn read_client(
 fn read_client_at(
     alloc: Global,
     value: &Value,
-    chains: &[ChainId],
-    before: &[ClientSetup],
+    chains: &Directory<ChainId>,
+    before: &Directory<ClientSetup>,
 ) -> Result<ClientSetup, RunError>
     ensures { Gives (λ c. c) result (at_element (client chains.now) (codes "client") before.now (view value.now)) }
 {
-    let path = element_path(alloc, "client", before.len())?;
+    let path = element_path(alloc, "client", before.as_slice().len())?;
     let section = section_at(alloc, path.as_str(), value)?;
     read_client(&section, chains, before)
 }
@@ -172,14 +121,14 @@ fn read_client_at(
 pub fn read_clients(
     alloc: Global,
     items: &[Value],
-    chains: &[ChainId],
-) -> Result<Vec<ClientSetup>, RunError>
-    ensures { Gives (λ v. v.items) result (elements (client chains.now) (codes "client") [] (items_view items.now)) }
+    chains: &Directory<ChainId>,
+) -> Result<Directory<ClientSetup>, RunError>
+    ensures { Gives (λ d. d) result (elements (client chains.now) (codes "client") [] (items_view items.now)) }
 {
-    let mut clients = Vec::with_capacity(alloc, items.len())?;
+    let mut clients = Directory::new(alloc);
     for value in items {
-        let client = read_client_at(alloc, value, chains, clients.as_slice())?;
-        clients.push(client)?;
+        let client = read_client_at(alloc, value, chains, &clients)?;
+        clients = clients.with(client)?;
     }
     Ok(clients)
 }

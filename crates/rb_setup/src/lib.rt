@@ -1,16 +1,15 @@
 //! Setups: what `import` is told of a relayer, as a script without events whose clients may leave
-//! out how they judge headers; or the first fault of such a text.
+//! out how they judge headers; or the first fault of such a text. What a setup has as a script has
+//! it is read as `rb_config` reads it.
 #![tactic(auto)]
 
-mod chain;
 mod client;
-mod limits;
-mod named;
 mod path;
 mod reading;
 mod setup;
 mod turn;
 
+pub use rb_events::{Asked, Goal, Settlement};
 pub use rb_fields::MAX_BYTES;
 pub use reading::read_setup;
-pub use setup::{ClientSetup, GoalSetup, PathSetup, Settlement, Setup, TurnSetup};
+pub use setup::{ClientSetup, PathSetup, Setup, TurnSetup};

@@ -2,35 +2,28 @@
 ghost use Rattle.std.specs.Prelude.{◌≡◌, ◌<◌, [], IfOk, codes, length, map, option_map, string_bytes};
 ghost use Rattle.toml.specs.View.{view, items_view};
 ghost use Rattle.rb_fields.specs.Faults.{Gives};
-ghost use Rattle.rb_fields.specs.Fields.{field_view, section_view, only, needs, text, at_element, elements};
+ghost use Rattle.rb_fields.specs.Fields.{section_view, only, needs, text, at_element, elements};
 ghost use Rattle.rb_base.specs.Identifier.{IsIdentifier};
-ghost use Rattle.rb_setup.specs.Named.{new_identifier};
+ghost use Rattle.rb_config.specs.Named.{new_identifier};
 ghost use Rattle.rb_setup.specs.Paths.{is_ordered, source_channel, connects, path, path_ids, path_keys, path_view};
 
 use crate::client::needed_three;
-use crate::named::{new_identifier, reference};
 use crate::setup::{ClientSetup, PathSetup};
 use rb_base::{ChainId, PathId};
+use rb_config::{Directory, needed_order, new_identifier, reference};
 use rb_fields::{FaultName, Field, MAX_NUMBER, RunError, Section, element_path, section_at};
+use rb_scan::Order;
 use std::alloc::Global;
 use toml::Value;
 
-#[tactic(auto, using(rb_fields::proofs::Steps::steps), unfolding(crate::specs::Paths::is_ordered))]
-fn is_ordered(field: &Field<'_>) -> Result<bool, RunError>
-    ensures { Gives (λ o. o) result (is_ordered (field_view field.now)) }
+/// Whether packets go in order.
+fn is_ordered(order: Order) -> bool
+    ensures { result ≡ is_ordered order }
 {
-    match field.text()? {
-        "ordered" => Ok(true),
-        "unordered" => Ok(false),
-        _ => Err(field.fault(FaultName::BadOrder)),
+    match order {
+        Order::Ordered => true,
+        Order::Unordered => false,
     }
-}
-
-#[tactic(auto, using(rb_fields::proofs::Steps::steps))]
-fn needed_order(section: &Section<'_>) -> Result<bool, RunError>
-    ensures { Gives (λ o. o) result (needs (codes "order") is_ordered (section_view section.now)) }
-{
-    is_ordered(&section.required("order")?)
 }
 
 #[tactic(auto, using(rb_fields::proofs::Steps::steps))]
@@ -54,17 +47,20 @@ fn source_channel(section: &Section<'_>) -> Result<Option<String>, RunError>
 }
 
 /// Whether a client is hosted on the one chain and tracks the other.
-fn connects(clients: &[ClientSetup], place: usize, host: usize, tracks: usize) -> bool
+fn connects(clients: &Directory<ClientSetup>, place: usize, host: usize, tracks: usize) -> bool
     requires { place < length clients.now }
     ensures { result ≡ connects clients.now place host tracks }
 {
-    let client = &clients[place];
+    let client = &clients.as_slice()[place];
     client.host == host && client.tracks == tracks
 }
 
 /// The identifier of a new path, which none of these has.
 #[tactic(auto, using(rb_fields::proofs::Steps::steps, crate::proofs::PathsLemmas::views))]
-fn path_identifier<'a>(section: &Section<'a>, before: &[PathSetup]) -> Result<&'a str, RunError>
+fn path_identifier<'a>(
+    section: &Section<'a>,
+    before: &Directory<PathSetup>,
+) -> Result<&'a str, RunError>
     ensures read { Gives (λ t. t.now) result (needs (codes "id") (new_identifier (path_ids (map path_view before.now))) (section_view section.now)) }
     ensures form { IfOk result (λ t. IsIdentifier t.now) }
 {
@@ -82,9 +78,9 @@ fn only_path_keys(section: &Section<'_>) -> Result<(), RunError>
 #[tactic(auto, using(rb_fields::proofs::Steps::steps), unfolding(crate::specs::Paths::path))]
 fn read_path(
     section: &Section<'_>,
-    chains: &[ChainId],
-    clients: &[ClientSetup],
-    before: &[PathSetup],
+    chains: &Directory<ChainId>,
+    clients: &Directory<ClientSetup>,
+    before: &Directory<PathSetup>,
 ) -> Result<PathSetup, RunError>
     ensures { Gives path_view result (path chains.now clients.now (map path_view before.now) (section_view section.now)) }
 {
@@ -92,7 +88,7 @@ fn read_path(
     let id = path_identifier(section, before)?;
     let source = reference(section, "source", chains)?;
     let dest = reference(section, "dest", chains)?;
-    let is_ordered = needed_order(section)?;
+    let order = needed_order(section)?;
     let first = section.number_or("first", 1, 1, MAX_NUMBER)?;
     let forward = reference(section, "forward", clients)?;
     let back = reference(section, "back", clients)?;
@@ -108,7 +104,7 @@ fn read_path(
         id: PathId::new(id).unwrap(),
         source,
         dest,
-        is_ordered,
+        is_ordered: is_ordered(order),
         first,
         forward,
         back,
@@ -121,13 +117,13 @@ fn read_path(
 fn read_path_at(
     alloc: Global,
     value: &Value,
-    chains: &[ChainId],
-    clients: &[ClientSetup],
-    before: &[PathSetup],
+    chains: &Directory<ChainId>,
+    clients: &Directory<ClientSetup>,
+    before: &Directory<PathSetup>,
 ) -> Result<PathSetup, RunError>
     ensures { Gives path_view result (at_element (path chains.now clients.now) (codes "path") (map path_view before.now) (view value.now)) }
 {
-    let path = element_path(alloc, "path", before.len())?;
+    let path = element_path(alloc, "path", before.as_slice().len())?;
     let section = section_at(alloc, path.as_str(), value)?;
     read_path(&section, chains, clients, before)
 }
@@ -136,15 +132,15 @@ fn read_path_at(
 pub fn read_paths(
     alloc: Global,
     items: &[Value],
-    chains: &[ChainId],
-    clients: &[ClientSetup],
-) -> Result<Vec<PathSetup>, RunError>
-    ensures { Gives (λ v. map path_view v.items) result (elements (path chains.now clients.now) (codes "path") [] (items_view items.now)) }
+    chains: &Directory<ChainId>,
+    clients: &Directory<ClientSetup>,
+) -> Result<Directory<PathSetup>, RunError>
+    ensures { Gives (map path_view) result (elements (path chains.now clients.now) (codes "path") [] (items_view items.now)) }
 {
-    let mut paths = Vec::with_capacity(alloc, items.len())?;
+    let mut paths = Directory::new(alloc);
     for value in items {
-        let path = read_path_at(alloc, value, chains, clients, paths.as_slice())?;
-        paths.push(path)?;
+        let path = read_path_at(alloc, value, chains, clients, &paths)?;
+        paths = paths.with(path)?;
     }
     Ok(paths)
 }

@@ -2,16 +2,16 @@
 ghost use Rattle.std.specs.Prelude.{◌≡◌, codes};
 ghost use Rattle.toml.specs.View.{items_view, table_view};
 ghost use Rattle.rb_fields.specs.Faults.{Gives};
-ghost use Rattle.rb_fields.specs.Fields.{section_view, only};
+ghost use Rattle.rb_fields.specs.Fields.{section_view};
 ghost use Rattle.rb_fields.specs.Documents.{whole};
-ghost use Rattle.rb_setup.specs.Setups.{some_turns, setup, setup_of, setup_view, tables, tables_view, top_keys};
+ghost use Rattle.rb_setup.specs.Setups.{some_turns, setup, setup_of, setup_view, tables, tables_view};
 
-use crate::chain::read_chains;
 use crate::client::read_clients;
-use crate::limits::{MAX_CHAINS, MAX_CLIENTS, MAX_PATHS, MAX_TURNS};
 use crate::path::read_paths;
 use crate::setup::Setup;
 use crate::turn::read_turns;
+use rb_config::{Version, ids_of, only_top_keys, read_chains};
+use rb_events::{MAX_CHAINS, MAX_CLIENTS, MAX_PATHS, MAX_TURNS};
 use rb_fields::{FaultName, RunError, Section, read_table};
 use std::alloc::Global;
 use toml::{Table, Value};
@@ -23,12 +23,6 @@ struct Tables<'a> {
     clients: &'a [Value],
     paths: &'a [Value],
     turns: &'a [Value],
-}
-
-fn only_top_keys(section: &Section<'_>) -> Result<(), RunError>
-    ensures { Gives (λ u. u) result (only top_keys (section_view section.now)) }
-{
-    section.only(&["version", "chain", "client", "path", "turn"])
 }
 
 /// The turns, of which there has to be one.
@@ -72,14 +66,15 @@ fn read_document(alloc: Global, table: &Table) -> Result<Setup, RunError>
         table,
     };
     let tables = read_tables(section)?;
-    let chains = read_chains(alloc, tables.chains)?;
-    let clients = read_clients(alloc, tables.clients, chains.as_slice())?;
-    let paths = read_paths(alloc, tables.paths, chains.as_slice(), clients.as_slice())?;
-    let turns = read_turns(alloc, tables.turns, clients.as_slice())?;
+    let chains = read_chains(alloc, Version::One, tables.chains)?;
+    let chains = ids_of(alloc, &chains)?;
+    let clients = read_clients(alloc, tables.clients, &chains)?;
+    let paths = read_paths(alloc, tables.paths, &chains, &clients)?;
+    let turns = read_turns(alloc, tables.turns, &clients)?;
     Ok(Setup {
-        chains,
-        clients,
-        paths,
+        chains: chains.into_vec(),
+        clients: clients.into_vec(),
+        paths: paths.into_vec(),
         turns,
     })
 }

@@ -1,6 +1,8 @@
 //! What a setup says: a script without events.
 use rb_answers::TrustLevel;
-use rb_base::{ChainId, ClientId, Height, PathId, Period, Window};
+use rb_base::{ChainId, ClientId, PathId, Period, Window};
+use rb_config::Named;
+use rb_events::{Asked, Settlement};
 
 /// The chains, clients and paths of a script, and its turns, of which there is at least one. Chains
 /// and clients are named by their places.
@@ -30,6 +32,14 @@ pub struct ClientSetup {
     pub trust: Option<TrustLevel>,
 }
 
+impl Named for ClientSetup {
+    ghost name = { λ c. c.id };
+
+    fn id(&self) -> &str {
+        self.id.as_str()
+    }
+}
+
 /// A path: one direction of a channel. Its packets are those of `source_channel`, a port and a
 /// channel as `port/channel`, where that is there, else all that the answers tell of.
 #[derive(Drop)]
@@ -45,26 +55,18 @@ pub struct PathSetup {
     pub source_channel: Option<String>,
 }
 
+impl Named for PathSetup {
+    ghost name = { λ p. p.id };
+
+    fn id(&self) -> &str {
+        self.id.as_str()
+    }
+}
+
 /// A turn without what was seen.
 #[derive(Drop)]
 pub struct TurnSetup {
     pub window: Window,
-    pub goals: Vec<GoalSetup>,
+    pub goals: Vec<Asked>,
     pub settlements: Vec<Settlement>,
-}
-
-/// A height that a client is to have stored, or one from it on.
-#[derive(Clone, Copy)]
-pub struct GoalSetup {
-    pub client: usize,
-    pub is_exact: bool,
-    pub height: Height,
-}
-
-/// A client's batch, of which so many transactions were done.
-#[derive(Clone, Copy)]
-pub struct Settlement {
-    pub client: usize,
-    pub batch: u64,
-    pub done: u64,
 }

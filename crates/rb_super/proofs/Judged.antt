@@ -5,8 +5,8 @@ use Rattle.std.specs.Option.{option_and_then, unwrap_or}
 use Rattle.std.specs.Result.{result_ok}
 use Rattle.std.specs.declared.alloc.AllocError.{AllocError}
 use Rattle.std.proofs.lemmas.Option.{none-some, same_Some}
-use Rattle.rb_cert.specs.declared.verdict.Verdict2.{Verdict2}
-use Rattle.rb_cert.specs.declared.verdict.Verdict2.TheVariants.{Yes}
+use Rattle.rb_cert.specs.declared.verdict.Judgement.{Judgement}
+use Rattle.rb_cert.specs.declared.verdict.Judgement.TheVariants.{Yes}
 use Rattle.rb_machine.specs.Batches.{batch_open}
 use Rattle.rb_core.specs.Core.{Core, state_in}
 use Rattle.rb_task.specs.Draft.{Job, Draft}
@@ -20,7 +20,7 @@ use Rattle.rb_plan.specs.Answer.{Shows}
 use Rattle.rb_plan.specs.Labelling.{Labels, IsSound, IsExact}
 use Rattle.rb_step.specs.LightClient.{Update}
 use Rattle.rb_step.specs.View.{client_of}
-use Rattle.rb_super.specs.Judging.{IsClientIn, IsWanted, IsPlannedGoal, IsVerdictFor, IsVerdictIn, IsRightAs}
+use Rattle.rb_super.specs.Judging.{IsClientIn, IsWanted, IsPlannedGoal, IsVerdictFor, IsVerdictIn, IsRightAs, IsExactAs}
 use Rattle.rb_phases.specs.Phases.{standing_in, HasLogRoom, IsPlannable}
 use Rattle.rb_super.proofs.OneReport.{one_reach}
 use Rattle.rb_phases.proofs.Plans.{known_at, client_of_view, draft_accepted}
@@ -86,16 +86,16 @@ wanted_free k t goal free wanted = subst (λ o. MatchOption o (IsWanted t goal) 
 
 module _ (core : Core) (client : ℕ) (job : Job) (lt : client < length core.config.clients) (room : HasLogRoom core 1) (ready : IsPlannable core)
     (none_open : batch_open (standing_in core) client ≡ None) (view : client_view (state_in core) client ≡ Some job)
-    (goal : Option Goal) (wanted : IsWanted job.task goal) (labels : Labels) (claim : Option (List Update)) (verdict : Option Verdict2) where
+    (goal : Option Goal) (wanted : IsWanted job.task goal) (labels : Labels) (claim : Option (List Update)) (verdict : Option Judgement) where
   pub judged_there : IsVerdictFor job.task.view goal labels claim verdict → IsVerdictIn (standing_in core) client labels claim verdict
   judged_there judged =
       let x = job_there core client job lt room ready none_open view in
       record { known = x.0; task = job.task; is = x.1; goal = goal; is_planned = wanted_free x.0 job.task goal x.2 wanted; judged = judged }
 
   pub right_there : (verdict ≡ Some Yes → (g : Goal) × (goal ≡ Some g) × IsSound (client_of job.task.view) labels × Shows (client_of job.task.view) g claim)
-      → ◌≡◌ {A = Result (Option Verdict2) AllocError} (Ok verdict) (Ok (Some Yes)) → IsRightAs (standing_in core) client labels claim
+      → ◌≡◌ {A = Result (Option Judgement) AllocError} (Ok verdict) (Ok (Some Yes)) → IsRightAs (standing_in core) client labels claim
   right_there right answered =
-      let said : verdict ≡ Some Yes = ap (λ (r : Result (Option Verdict2) AllocError). unwrap_or (result_ok r) verdict) answered in
+      let said : verdict ≡ Some Yes = ap (λ (r : Result (Option Judgement) AllocError). unwrap_or (result_ok r) verdict) answered in
       let x = job_there core client job lt room ready none_open view in
       let r = right said in
       record {
@@ -109,15 +109,15 @@ module _ (core : Core) (client : ℕ) (job : Job) (lt : client < length core.con
       }
 
   pub accepts_there : ((g : Goal) → goal ≡ Some g → IsExact (client_of job.task.view) labels → Shows (client_of job.task.view) g claim → verdict ≡ Some Yes)
-      → (known : KnownClient) (task : Task) (g : Goal) → IsClientIn (standing_in core) client known task → IsPlannedGoal known task (Some g)
-      → IsExact (client_of task.view) labels → Shows (client_of task.view) g claim → verdict ≡ Some Yes
-  accepts_there accepts known task g is planned exact shows =
+      → IsExactAs (standing_in core) client labels claim → verdict ≡ Some Yes
+  accepts_there accepts own =
       let x = job_there core client job lt room ready none_open view in
-      let knowns : known ≡ x.0 = one_known (standing_in core) client known x.0 task job.task is x.1 in
-      let tasks : task ≡ job.task = one_task (standing_in core) client known x.0 task job.task is x.1 in
-      let mine : IsPlannedGoal x.0 job.task (Some g) = subst (λ (p : KnownClient × Task). IsPlannedGoal p.0 p.1 (Some g)) (λ i. (knowns i, tasks i)) planned in
+      let g = own.goal in
+      let knowns : own.known ≡ x.0 = one_known (standing_in core) client own.known x.0 own.task job.task own.is x.1 in
+      let tasks : own.task ≡ job.task = one_task (standing_in core) client own.known x.0 own.task job.task own.is x.1 in
+      let mine : IsPlannedGoal x.0 job.task (Some g) = subst (λ (p : KnownClient × Task). IsPlannedGoal p.0 p.1 (Some g)) (λ i. (knowns i, tasks i)) own.is_planned in
       let goals : goal ≡ Some g = one_goal x.0 job.task goal (Some g) (wanted_free x.0 job.task goal x.2 wanted) mine in
-      accepts g goals (subst (λ (t : Task). IsExact (client_of t.view) labels) tasks exact) (subst (λ (t : Task). Shows (client_of t.view) g claim) tasks shows)
+      accepts g goals (subst (λ (t : Task). IsExact (client_of t.view) labels) tasks own.exact) (subst (λ (t : Task). Shows (client_of t.view) g claim) tasks own.shows)
 
 -- one that is held has no answer
 pub held_alone : (core : Core) (client : ℕ) (b : OpenBatch) → client < length core.config.clients → IsPlannable core → Some b ≡ batch_open (standing_in core) client

@@ -5,7 +5,7 @@ use Rattle.std.specs.Option.{option_map}
 use Rattle.std.proofs.lemmas.Option.{same_Some}
 use Rattle.rb_batch.specs.Laws.{LeastCutIsOne}
 use Rattle.rb_task.specs.Draft.{Plan as SentPlan, Planned as Answer, IsPlan}
-use Rattle.rb_machine.specs.Standing.{KnownClient, Standing, opening_standing, task_in}
+use Rattle.rb_machine.specs.Standing.{Standing, opening_standing, task_in}
 use Rattle.rb_task.specs.Task.{Task, messages_of}
 use Rattle.rb_events.specs.declared.goal.Goal.{Goal}
 use Rattle.rb_plan.specs.Answer.{Shows}
@@ -14,7 +14,7 @@ use Rattle.rb_plan.specs.Laws.{AnswersAreOne}
 use Rattle.rb_plan.specs.Least.{IsUnreachable}
 use Rattle.rb_step.specs.LightClient.{Update}
 use Rattle.rb_step.specs.View.{client_of}
-use Rattle.rb_super.specs.Judging.{Leads, IsPlanPhase, IsClientIn, IsWanted, IsPlannedGoal, claim_in, IsReported}
+use Rattle.rb_super.specs.Judging.{Leads, IsPlanPhase, IsWanted, IsPlannedGoal, IsExactAs, claim_in, IsReported}
 use Rattle.rb_phases.specs.Report.{Plan, Planned, planned, TurnReport, Report}
 use Rattle.rb_phases.specs.Script.{Turn, Script}
 use Rattle.rb_phases.specs.Turns.{update_of, reported, reported_plan, IsOutcome, IsClientReport, IsTurnReport, AreTurnReports, IsReportOf, after_turn}
@@ -62,8 +62,7 @@ shown t reach goal (Some p) is = is.least
 
 pub own_answer : AnswersAreOne → LeastCutIsOne → (script : Script) (turn client : ℕ) (labels : Labels) (claim : Option (List Update)) (s : Standing) (Accepted : Type 0)
     → IsPlanPhase script turn s
-    → ((known : KnownClient) (task : Task) (goal : Goal) → IsClientIn s client known task → IsPlannedGoal known task (Some goal)
-    → IsExact (client_of task.view) labels → Shows (client_of task.view) goal claim → Accepted)
+    → (IsExactAs s client labels claim → Accepted)
     → (report : Report) → IsReportOf script report → IsReported report turn client labels claim → Accepted
 own_answer one cuts script turn client labels claim s Accepted phase accepts report all own =
     let of_turn : IsTurnReport phase.begun phase.this own.of_turn =
@@ -80,6 +79,12 @@ own_answer one cuts script turn client labels claim s Accepted phase accepts rep
     let is : own.answer ≡ reported t (c.batches + 1) a = outcome.1.is in
     let goal : IsPlannedGoal c t (Some a.goal) =
     subst (λ o. MatchOption o (IsWanted t (Some a.goal)) (λ b. Some a.goal ≡ None)) (sym outcome.0) (record { reach = right.reach; is_reach = right.is_reach; is_goal = sym right.goal }) in
-    accepts c t a.goal (record { window = mine.window; is_window = mine.is_window; is_known = at.1; is_task = refl }) goal
-    (subst (λ (l : Labels). IsExact (client_of t.view) l) (sym (own.labels_are ∙ ap (λ (p : Planned). label_of p.labels) is)) right.exact)
-    (subst (λ (x : Option (List Update)). Shows (client_of t.view) a.goal x) (sym (own.claim_is ∙ ap claim_in is ∙ claimed t (c.batches + 1) a)) (shown t right.reach a.goal a.plan right.plan))
+    accepts (record {
+      known = c;
+      task = t;
+      is = record { window = mine.window; is_window = mine.is_window; is_known = at.1; is_task = refl };
+      goal = a.goal;
+      is_planned = goal;
+      exact = subst (λ (l : Labels). IsExact (client_of t.view) l) (sym (own.labels_are ∙ ap (λ (p : Planned). label_of p.labels) is)) right.exact;
+      shows = subst (λ (x : Option (List Update)). Shows (client_of t.view) a.goal x) (sym (own.claim_is ∙ ap claim_in is ∙ claimed t (c.batches + 1) a)) (shown t right.reach a.goal a.plan right.plan);
+    })

@@ -2,14 +2,14 @@
 use Rattle.std.specs.Option.{option_map}
 use Rattle.std.specs.Prelude.{◌≡◌, ℕ, List, [], ◌∷◌, take, map, slice_get, Option, Some, None, MatchOption}
 use Rattle.rb_base.specs.Window.{Span}
-use Rattle.rb_cert.specs.declared.verdict.Verdict2.{Verdict2}
+use Rattle.rb_cert.specs.declared.verdict.Judgement.{Judgement}
 use Rattle.rb_cert.specs.Judgement.{Judges}
 use Rattle.rb_task.specs.Reach.{IsReach}
 use Rattle.rb_machine.specs.Standing.{KnownClient, Standing, opening_standing, task_in}
 use Rattle.rb_task.specs.Task.{Task, goal_of}
 use Rattle.rb_events.specs.declared.goal.Goal.{Goal}
 use Rattle.rb_plan.specs.Answer.{Shows}
-use Rattle.rb_plan.specs.Labelling.{Labels, IsSound, label_of}
+use Rattle.rb_plan.specs.Labelling.{Labels, IsSound, IsExact, label_of}
 use Rattle.rb_step.specs.LightClient.{Update}
 use Rattle.rb_step.specs.View.{View, client_of}
 use Rattle.rb_phases.specs.Report.{Plan, Planned, planned, ClientReport, TurnReport, Report}
@@ -51,13 +51,13 @@ IsPlannedGoal known task goal = MatchOption known.batch (IsWanted task goal) (λ
 -- ---- what is said
 
 -- the certifier's verdict, where there is a goal
-abbrev pub IsVerdictFor : View → Option Goal → Labels → Option (List Update) → Option Verdict2 → Type 0
+abbrev pub IsVerdictFor : View → Option Goal → Labels → Option (List Update) → Option Judgement → Type 0
 IsVerdictFor v None labels claim verdict = verdict ≡ None
 IsVerdictFor v (Some goal) labels claim None = ⊥
 IsVerdictFor v (Some goal) labels claim (Some verdict) = Judges (client_of v) labels goal claim verdict
 
 -- the verdict on an answer for a client as things stand
-pub record IsVerdictIn (s : Standing) (client : ℕ) (labels : Labels) (claim : Option (List Update)) (verdict : Option Verdict2) : Type 0 where
+pub record IsVerdictIn (s : Standing) (client : ℕ) (labels : Labels) (claim : Option (List Update)) (verdict : Option Judgement) : Type 0 where
   pub known : KnownClient
   pub task : Task
   pub is : IsClientIn s client known task
@@ -75,8 +75,18 @@ pub record IsRightAs (s : Standing) (client : ℕ) (labels : Labels) (claim : Op
   pub sound : IsSound (client_of task.view) labels
   pub shows : Shows (client_of task.view) goal claim
 
+-- the same of an exact labelling
+pub record IsExactAs (s : Standing) (client : ℕ) (labels : Labels) (claim : Option (List Update)) : Type 0 where
+  pub known : KnownClient
+  pub task : Task
+  pub is : IsClientIn s client known task
+  pub goal : Goal
+  pub is_planned : IsPlannedGoal known task (Some goal)
+  pub exact : IsExact (client_of task.view) labels
+  pub shows : Shows (client_of task.view) goal claim
+
 -- the verdict on an answer for a script's client in a turn
-pub record IsVerdictOn (script : Script) (turn client : ℕ) (labels : Labels) (claim : Option (List Update)) (verdict : Option Verdict2) : Type 0 where
+pub record IsVerdictOn (script : Script) (turn client : ℕ) (labels : Labels) (claim : Option (List Update)) (verdict : Option Judgement) : Type 0 where
   pub standing : Standing
   pub phase : IsPlanPhase script turn standing
   pub judged : IsVerdictIn standing client labels claim verdict

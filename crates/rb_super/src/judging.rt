@@ -4,14 +4,12 @@ ghost use denote.Param.Send.{Frees};
 ghost use Rattle.rb_machine.specs.Batches.{batch_open};
 ghost use Rattle.rb_core.specs.Core.{state_in};
 ghost use Rattle.rb_machine.specs.Machine.{client_view};
-ghost use Rattle.rb_machine.specs.Standing.{KnownClient};
-ghost use Rattle.rb_task.specs.Task.{Task};
 ghost use Rattle.rb_events.specs.declared.goal.Goal.{Goal as AnyGoal};
 ghost use Rattle.rb_events.specs.Script.{script_view, IsScript};
 ghost use Rattle.rb_plan.specs.Answer.{labels_of, claim_of, Shows};
 ghost use Rattle.rb_plan.specs.Labelling.{IsSound, IsExact};
 ghost use Rattle.rb_step.specs.View.{client_of};
-ghost use Rattle.rb_super.specs.Judging.{IsPlanPhase, IsClientIn, IsWanted, IsPlannedGoal, IsVerdictFor, IsVerdictIn, IsRightAs, IsVerdictOn, IsRightIn, IsReported};
+ghost use Rattle.rb_super.specs.Judging.{IsPlanPhase, IsWanted, IsVerdictFor, IsVerdictIn, IsRightAs, IsExactAs, IsVerdictOn, IsRightIn, IsReported};
 ghost use Rattle.rb_phases.specs.Phases.{standing_in, HasLogRoom, IsPlannable};
 ghost use Rattle.rb_phases.specs.Report.{Report};
 ghost use Rattle.rb_super.specs.Told.{told};
@@ -20,7 +18,7 @@ ghost use Rattle.rb_phases.specs.Turns.{IsReportOf};
 use crate::run::run_turns;
 use crate::supervisor::Supervisor;
 use rb_batch::laws::least_cut_is_one;
-use rb_cert::{Verdict2, certify_par};
+use rb_cert::{Judgement, certify_par};
 use rb_core::JobView;
 use rb_events::{Script, Turn};
 use rb_gang::{Gate, OpenGate};
@@ -79,7 +77,7 @@ fn wanted<R: Threads + Sync, G: Gate + Sync, A: Allocator + Copy + Send + Sync>(
     requires alloc { Frees A.Allocator A.dealloc_token }
     ensures { IfOk result (IsWanted job.now.task) }
 {
-    let draft = draft_of(crew, alloc, relayer, client, job)?;
+    let draft = draft_of(crew, alloc, relayer, client, job.copy()?)?;
     match draft.answer() {
         Some(planned) => Ok(Some(planned.goal())),
         None => Ok(None),
@@ -92,13 +90,13 @@ fn verdict_for<R: Threads + Sync, G: Gate + Sync, A: Allocator + Copy + Send + S
     view: &ClientView<'_, A>,
     goal: Option<Goal>,
     answer: &Answer<A>,
-) -> Option<Verdict2>
+) -> Option<Judgement>
     ensures judged { IsVerdictFor view.now goal (labels_of answer.now) (claim_of answer.now) result }
-    ensures right { result ≡ Some Verdict2.Yes
+    ensures right { result ≡ Some Judgement.Yes
         → (g : AnyGoal) × (goal ≡ Some g) × IsSound (client_of view.now) (labels_of answer.now) × Shows (client_of view.now) g (claim_of answer.now) }
     ensures accepts { (g : AnyGoal) → goal ≡ Some g → IsExact (client_of view.now) (labels_of answer.now)
         → Shows (client_of view.now) g (claim_of answer.now)
-        → result ≡ Some Verdict2.Yes }
+        → result ≡ Some Judgement.Yes }
 {
     match goal {
         Some(goal) => Some(certify_par(crew.rt(), view, goal, answer)),
@@ -113,19 +111,16 @@ fn verdict_unheld<R: Threads + Sync, G: Gate + Sync, A: Allocator + Copy + Send 
     relayer: &mut Relayer<A>,
     client: usize,
     answer: &Answer<A>,
-) -> Result<Option<Verdict2>, AllocError>
+) -> Result<Option<Judgement>, AllocError>
     requires client { client < length relayer.old.config.clients }
     requires none_open { batch_open (standing_in relayer.old) client ≡ None }
     requires ready { IsPlannable relayer.old }
     requires room { HasLogRoom relayer.old 1 }
     requires alloc { Frees A.Allocator A.dealloc_token }
     ensures judged { IfOk result (λ verdict. IsVerdictIn (standing_in relayer.old) client (labels_of answer.now) (claim_of answer.now) verdict) }
-    ensures right { result ≡ Ok (Some Verdict2.Yes) → IsRightAs (standing_in relayer.old) client (labels_of answer.now) (claim_of answer.now) }
-    ensures accepts { (known : KnownClient) (task : Task) (goal : AnyGoal) → IsClientIn (standing_in relayer.old) client known task
-        → IsPlannedGoal known task (Some goal)
-        → IsExact (client_of task.view) (labels_of answer.now)
-        → Shows (client_of task.view) goal (claim_of answer.now)
-        → IfOk result (λ verdict. verdict ≡ Some Verdict2.Yes) }
+    ensures right { result ≡ Ok (Some Judgement.Yes) → IsRightAs (standing_in relayer.old) client (labels_of answer.now) (claim_of answer.now) }
+    ensures accepts { IsExactAs (standing_in relayer.old) client (labels_of answer.now) (claim_of answer.now)
+        → IfOk result (λ verdict. verdict ≡ Some Judgement.Yes) }
 {
     let job = view_of(relayer, client)?;
     let goal = wanted(crew, alloc, relayer, client, &job)?;
@@ -141,18 +136,15 @@ fn verdict_on<R: Threads + Sync, G: Gate + Sync, A: Allocator + Copy + Send + Sy
     relayer: &mut Relayer<A>,
     client: usize,
     answer: &Answer<A>,
-) -> Result<Option<Verdict2>, AllocError>
+) -> Result<Option<Judgement>, AllocError>
     requires client { client < length relayer.old.config.clients }
     requires ready { IsPlannable relayer.old }
     requires room { HasLogRoom relayer.old 1 }
     requires alloc { Frees A.Allocator A.dealloc_token }
     ensures judged { IfOk result (λ verdict. IsVerdictIn (standing_in relayer.old) client (labels_of answer.now) (claim_of answer.now) verdict) }
-    ensures right { result ≡ Ok (Some Verdict2.Yes) → IsRightAs (standing_in relayer.old) client (labels_of answer.now) (claim_of answer.now) }
-    ensures accepts { (known : KnownClient) (task : Task) (goal : AnyGoal) → IsClientIn (standing_in relayer.old) client known task
-        → IsPlannedGoal known task (Some goal)
-        → IsExact (client_of task.view) (labels_of answer.now)
-        → Shows (client_of task.view) goal (claim_of answer.now)
-        → IfOk result (λ verdict. verdict ≡ Some Verdict2.Yes) }
+    ensures right { result ≡ Ok (Some Judgement.Yes) → IsRightAs (standing_in relayer.old) client (labels_of answer.now) (claim_of answer.now) }
+    ensures accepts { IsExactAs (standing_in relayer.old) client (labels_of answer.now) (claim_of answer.now)
+        → IfOk result (λ verdict. verdict ≡ Some Judgement.Yes) }
 {
     if let Some(_) = relayer.open_batch(client) {
         return Ok(None);
@@ -173,16 +165,16 @@ pub fn judge<R: Threads + Sync, A: Allocator + Copy + Send + Sync>(
     turn: usize,
     client: usize,
     answer: &Answer<A>,
-) -> Result<Option<Verdict2>, AllocError>
+) -> Result<Option<Judgement>, AllocError>
     requires script { IsScript (script_view script) }
     requires turn { turn < length script.turns.items }
     requires client { client < length script.config.clients.items }
     requires alloc { Frees A.Allocator A.dealloc_token }
     ensures judged { IfOk result (λ verdict. IsVerdictOn (told (script_view script)) turn client (labels_of answer.now) (claim_of answer.now) verdict) }
-    ensures right { result ≡ Ok (Some Verdict2.Yes) → IsRightIn (told (script_view script)) turn client (labels_of answer.now) (claim_of answer.now) }
+    ensures right { result ≡ Ok (Some Judgement.Yes) → IsRightIn (told (script_view script)) turn client (labels_of answer.now) (claim_of answer.now) }
     ensures accepts { (report : Report) → IsReportOf (told (script_view script)) report
         → IsReported report turn client (labels_of answer.now) (claim_of answer.now)
-        → IfOk result (λ verdict. verdict ≡ Some Verdict2.Yes) }
+        → IfOk result (λ verdict. verdict ≡ Some Judgement.Yes) }
 {
     answers_are_one();
     least_cut_is_one();

@@ -1,5 +1,5 @@
 //! The supervisor: a relayer that is led through turns.
-ghost use Rattle.std.specs.Prelude.{◌≡◌, ◌<◌, ◌+◌, ◌*◌, ◌++◌, ◌∷◌, [], true, length, None, is_some, IfOk, IfErr, OnOk, OnErr, All, map, fold};
+ghost use Rattle.std.specs.Prelude.{◌≡◌, ◌<◌, ◌+◌, ◌*◌, ◌++◌, ◌∷◌, [], true, length, None, is_some, IfOk, IfErr, OnOk, OnErr, All, map};
 ghost use denote.Param.Send.{Frees};
 ghost use Rattle.rb_events.specs.Config.{config_view, IsConfig};
 ghost use Rattle.rb_events.specs.Script.{IsSeen};
@@ -7,11 +7,11 @@ ghost use Rattle.rb_core.specs.Core.{refusal_in, state_in};
 ghost use Rattle.rb_machine.specs.Machine.{reply_of};
 ghost use Rattle.rb_machine.specs.Refused.{IsRefusal};
 ghost use Rattle.rb_machine.specs.Replied.{reply_view};
-ghost use Rattle.rb_machine.specs.Seen.{event_view, observed};
-ghost use Rattle.rb_machine.specs.Standing.{goes_back, standing_after};
+ghost use Rattle.rb_machine.specs.Seen.{event_view};
+ghost use Rattle.rb_machine.specs.Standing.{goes_back};
 ghost use Rattle.rb_phases.specs.Drafts.{AreDrafts};
-ghost use Rattle.rb_phases.specs.Turns.{after_window, after_question, refusals, before_plans, IsTurnReport, after_turn};
-ghost use Rattle.rb_phases.specs.Phases.{standing_in, HasLogRoom, IsLater, IsPlannable};
+ghost use Rattle.rb_phases.specs.Turns.{before_plans, refusals_in, IsTurnReport, after_turn};
+ghost use Rattle.rb_phases.specs.Phases.{standing_in, HasLogRoom, IsLater, turn_heard, IsPlannable};
 ghost use Rattle.rb_phases.specs.Views.{refused_view, turn_report_view};
 ghost use Rattle.rb_super.specs.Told.{told_as, IsTurnFor, most_events};
 
@@ -57,10 +57,8 @@ pub(crate) fn prepare<R: Threads + Sync, G: Gate + Sync, A: Allocator + Copy>(
     requires events { All (IsSeen (length relayer.old.config.chains) (length relayer.old.config.clients) (length relayer.old.config.paths)) events.items }
     requires room { HasLogRoom relayer.old (1 + length goals.now + length events.items + 2 * length relayer.old.config.paths) }
     ensures back { IfOk result (λ r. r.0 ≡ goes_back (standing_in relayer.old).window window) }
-    ensures refused { IfOk result (λ r. map refused_view r.1.items
-        ≡ refusals 0 (fold after_question (after_window (standing_in relayer.old) window) goals.now) (map observed events.items)) }
-    ensures standing { OnOk result (standing_in relayer.new
-        ≡ fold standing_after (fold after_question (after_window (standing_in relayer.old) window) goals.now) (map observed events.items)) }
+    ensures refused { IfOk result (λ r. map refused_view r.1.items ≡ refusals_in (standing_in relayer.old) (turn_heard window goals.now events.items)) }
+    ensures standing { OnOk result (standing_in relayer.new ≡ before_plans (standing_in relayer.old) (turn_heard window goals.now events.items)) }
     ensures ready { OnOk result (IsPlannable relayer.new) }
     ensures later { OnOk result (IsLater (1 + length goals.now + length events.items + 2 * length relayer.old.config.paths) relayer.old relayer.new) }
 {

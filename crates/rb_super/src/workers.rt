@@ -1,11 +1,10 @@
 //! The supervisor with workers.
-ghost use Rattle.std.specs.Prelude.{◌≡◌, ◌<◌, ◌≤◌, ◌+◌, ◌*◌, [], Ok, length, IfOk, OnOk, All, map, fold};
+ghost use Rattle.std.specs.Prelude.{◌≡◌, ◌<◌, ◌≤◌, ◌+◌, ◌*◌, [], Ok, length, IfOk, OnOk, All, map};
 ghost use Rattle.rb_events.specs.Config.{config_view, IsConfig};
 ghost use Rattle.rb_events.specs.Script.{IsSeen};
-ghost use Rattle.rb_machine.specs.Seen.{observed};
-ghost use Rattle.rb_machine.specs.Standing.{goes_back, standing_after};
-ghost use Rattle.rb_phases.specs.Turns.{after_window, after_question, refusals, IsTurnReport, after_turn};
-ghost use Rattle.rb_phases.specs.Phases.{standing_in, HasLogRoom, IsLater, IsAllScanned, IsPlannable, AreReported};
+ghost use Rattle.rb_machine.specs.Standing.{goes_back};
+ghost use Rattle.rb_phases.specs.Turns.{before_plans, refusals_in, IsTurnReport, after_turn};
+ghost use Rattle.rb_phases.specs.Phases.{standing_in, HasLogRoom, IsLater, turn_heard, IsAllScanned, IsPlannable, AreReported};
 ghost use Rattle.rb_phases.specs.Views.{refused_view, client_report_view, turn_report_view};
 ghost use Rattle.rb_super.specs.Told.{told_as, IsTurnFor, most_events};
 
@@ -170,10 +169,8 @@ fn prepare<R: Threads + Sync + Wait, G: Gate + Send + Sync + Drop + 'static>(
     requires events { All (IsSeen (length relayer.config.chains) (length relayer.config.clients) (length relayer.config.paths)) events.items }
     requires room { HasLogRoom relayer (1 + length goals.now + length events.items + 2 * length relayer.config.paths) }
     ensures back { IfOk result (λ r. r.2.0 ≡ goes_back (standing_in relayer).window window) }
-    ensures refused { IfOk result (λ r. map refused_view r.2.1.items
-        ≡ refusals 0 (fold after_question (after_window (standing_in relayer) window) goals.now) (map observed events.items)) }
-    ensures standing { IfOk result (λ r. standing_in r.0
-        ≡ fold standing_after (fold after_question (after_window (standing_in relayer) window) goals.now) (map observed events.items)) }
+    ensures refused { IfOk result (λ r. map refused_view r.2.1.items ≡ refusals_in (standing_in relayer) (turn_heard window goals.now events.items)) }
+    ensures standing { IfOk result (λ r. standing_in r.0 ≡ before_plans (standing_in relayer) (turn_heard window goals.now events.items)) }
     ensures ready { IfOk result (λ r. IsPlannable r.0) }
     ensures later { IfOk result (λ r. IsLater (1 + length goals.now + length events.items + 2 * length relayer.config.paths) relayer r.0) }
 {
@@ -195,8 +192,8 @@ fn plan<R: Threads + Sync + Wait, G: Gate + Send + Sync + Drop + 'static>(
 ) -> Result<(Relayer<Global, Head>, Team<G>, Vec<ClientReport>), AllocError>
     requires ready { IsPlannable relayer }
     requires room { HasLogRoom relayer (length relayer.config.clients) }
-    ensures reports { IfOk result (λ r. AreReported (standing_in relayer) (standing_in r.0) 0 (length relayer.config.clients)
-        (map client_report_view r.2.items)) }
+    ensures count { IfOk result (λ r. length r.2.items ≡ length relayer.config.clients) }
+    ensures reports { IfOk result (λ r. AreReported (standing_in relayer) (standing_in r.0) 0 (map client_report_view r.2.items)) }
     ensures later { IfOk result (λ r. IsLater (length relayer.config.clients) relayer r.0) }
 {
     let (mut relayer, mut found) = begin_plans(crew, alloc, relayer, team)?;

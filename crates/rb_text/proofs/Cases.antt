@@ -6,8 +6,8 @@ use Rattle.std.specs.Option.{unwrap_or}
 use Rattle.std.specs.Result.{result_ok}
 use Rattle.std.specs.Str.{bytes_eq}
 use Rattle.std.proofs.lemmas.Bool.{lt-ltb, false≢true}
-use Rattle.rb_cert.specs.declared.verdict.Verdict2.{Verdict2}
-use Rattle.rb_cert.specs.declared.verdict.Verdict2.TheVariants.{Yes, No}
+use Rattle.rb_cert.specs.declared.verdict.Judgement.{Judgement}
+use Rattle.rb_cert.specs.declared.verdict.Judgement.TheVariants.{Yes, No}
 use Rattle.rb_fields.specs.Faults.{Fault, ◌>>=◌, fault, check}
 use Rattle.rb_fields.specs.declared.fault.FaultName.TheVariants.{NoSuchTurn, UnknownIdentifier}
 use Rattle.rb_fields.specs.declared.fault.RunError.{RunError}
@@ -40,13 +40,13 @@ pub case-unknown : (s : Script Global) (k : Certificate) (turn : ℕ) → turn �
     → case_in s k ≡ fault UnknownIdentifier (codes "client")
 case-unknown s k turn named within at = looked_up_in s k turn None named within at
 
-yes_from : (v : Verdict2) → is_yes v ≡ true → v ≡ Yes
+yes_from : (v : Judgement) → is_yes v ≡ true → v ≡ Yes
 yes_from Yes e = refl
 yes_from (No r) e = absurd (false≢true e)
 
 -- an answer of true says that the certificate's answer is right
-pub certified : (script certificate : List ℕ) (case : Case) (answer : Bool) (v : Verdict2) → case_of script certificate ≡ Ok case → answer ≡ is_yes v
-    → (◌≡◌ {A = Result Verdict2 RunError} (Ok v) (Ok Yes) → IsRightCase case)
+pub certified : (script certificate : List ℕ) (case : Case) (answer : Bool) (v : Judgement) → case_of script certificate ≡ Ok case → answer ≡ is_yes v
+    → (◌≡◌ {A = Result Judgement RunError} (Ok v) (Ok Yes) → IsRightCase case)
     → ◌≡◌ {A = Result Bool RunError} (Ok answer) (Ok true) → IsCertified script certificate
 certified script certificate case answer v read told right is_true =
     let said : answer ≡ true = ap (λ (r : Result Bool RunError). unwrap_or (result_ok r) answer) is_true in

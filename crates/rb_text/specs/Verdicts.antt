@@ -9,8 +9,8 @@ use Rattle.rb_base.specs.Sink.{AppendsBeginning}
 use Rattle.rb_cert.specs.Reasons.{number_of, name_of}
 use Rattle.rb_cert.specs.declared.verdict.Reason.{Reason}
 use Rattle.rb_cert.specs.declared.verdict.Reason.TheVariants.{SourceLabel, LabelTooHigh, PlanNotAccepted, PlanNotTight, NotTheTie, GoalLabelled, GoalMissed}
-use Rattle.rb_cert.specs.declared.verdict.Verdict2.{Verdict2}
-use Rattle.rb_cert.specs.declared.verdict.Verdict2.TheVariants.{Yes, No}
+use Rattle.rb_cert.specs.declared.verdict.Judgement.{Judgement}
+use Rattle.rb_cert.specs.declared.verdict.Judgement.TheVariants.{Yes, No}
 use Rattle.rb_fields.specs.Faults.{Fault, ◌>>=◌, check}
 use Rattle.rb_fields.specs.declared.fault.FaultName.TheVariants.{NoSuchTurn, NoGoal}
 use Rattle.rb_plan.specs.Labelling.{label_of}
@@ -38,11 +38,11 @@ numbers_text (NotTheTie i) = codes " " ++ decimal i
 numbers_text (GoalLabelled h) = codes " " ++ decimal h
 numbers_text GoalMissed = []
 
-abbrev pub verdict_line : Verdict2 → List ℕ
+abbrev pub verdict_line : Judgement → List ℕ
 verdict_line Yes = codes "yes\n"
 verdict_line (No reason) = codes "no " ++ decimal (number_of reason) ++ codes " " ++ name_of reason ++ numbers_text reason ++ codes "\n"
 
-abbrev pub is_yes : Verdict2 → Bool
+abbrev pub is_yes : Judgement → Bool
 is_yes Yes = true
 is_yes (No reason) = false
 
@@ -72,7 +72,7 @@ case_of script certificate = do
   case_in s c
 
 -- the verdict on the certificate's answer, for its client in its turn; none where the client is held or idle there
-abbrev pub IsVerdictOf : Case → Option Verdict2 → Type 0
+abbrev pub IsVerdictOf : Case → Option Judgement → Type 0
 IsVerdictOf c verdict = IsVerdictOn (told c.script) c.turn c.client (label_of c.certificate.labels) c.certificate.claim verdict
 
 -- the labelling is sound, and the answer right
@@ -94,7 +94,7 @@ plain (Ok x) = Ok x
 plain (Err e) = Err e.error
 
 -- the texts hold a case, and this is the verdict on it
-pub record IsVerdictFor (script certificate : List ℕ) (verdict : Option Verdict2) : Type 0 where
+pub record IsVerdictFor (script certificate : List ℕ) (verdict : Option Judgement) : Type 0 where
   pub case : Case
   pub read : case_of script certificate ≡ Ok case
   pub judged : IsVerdictOf case verdict
@@ -105,14 +105,14 @@ IsFaultFor script certificate f = (case_of script certificate ≡ Err f) ⊎ ((f
 
 -- the writer took the verdict's line; the answer tells whether it is yes
 pub record WritesVerdict (script certificate : List ℕ) (yes : Bool) (old new : Option (List ℕ)) : Type 0 where
-  pub verdict : Verdict2
+  pub verdict : Judgement
   pub judged : IsVerdictFor script certificate (Some verdict)
   pub answer : yes ≡ is_yes verdict
   pub written : Appends old new (verdict_line verdict)
 
 -- the writer took a beginning of it
 pub record BeginsVerdict (script certificate : List ℕ) (old new : Option (List ℕ)) : Type 0 where
-  pub verdict : Verdict2
+  pub verdict : Judgement
   pub judged : IsVerdictFor script certificate (Some verdict)
   pub begun : AppendsBeginning old new (verdict_line verdict)
 

@@ -11,7 +11,7 @@ ghost use Rattle.rb_text.specs.Verdicts.{case_view, case_in, case_of, plain, IsV
 
 use crate::certificate::{Certificate, read_certificate};
 use crate::refusal::{CertifyError, Source};
-use rb_cert::Verdict2;
+use rb_cert::Judgement;
 use rb_events::Script;
 use rb_fields::{FaultName, RunError, fault_at};
 use rb_script::{place_of, read_script};
@@ -95,15 +95,15 @@ pub(crate) fn judge_case<R: Threads + Sync>(
     rt: &R,
     alloc: Global,
     case: Case,
-) -> Result<Verdict2, RunError>
+) -> Result<Judgement, RunError>
     requires script { IsScript (script_view case.script) }
     requires turn { case.turn < length case.script.turns.items }
     requires client { case.client < length case.script.config.clients.items }
     ensures judged { IfOk result (λ verdict. IsVerdictOf (case_view case) (Some verdict)) }
-    ensures right { result ≡ Ok Verdict2.Yes → IsRightCase (case_view case) }
+    ensures right { result ≡ Ok Judgement.Yes → IsRightCase (case_view case) }
     ensures accepts { (report : Report) → IsReportOf (told (script_view case.script)) report
         → IsReportedCase report (case_view case)
-        → IfOk result (λ verdict. verdict ≡ Verdict2.Yes) }
+        → IfOk result (λ verdict. verdict ≡ Judgement.Yes) }
     ensures fault { (f : CodeFault) → IsErrOf result (RunError.Fault f) → fault_view f ≡ no_goal }
     ensures no_goal { (f : CodeFault) → IsErrOf result (RunError.Fault f) → IsVerdictOf (case_view case) None }
     ensures works { ¬ IsErrOf result RunError.Device }

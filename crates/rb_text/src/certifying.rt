@@ -15,14 +15,14 @@ use crate::refusal::{CertifyError, Source};
 use crate::verdict::{is_yes, push_verdict};
 use crate::write::put;
 use rb_base::Sink;
-use rb_cert::Verdict2;
+use rb_cert::Judgement;
 use rb_fields::RunError;
 use std::alloc::Global;
 use std::thread::Threads;
 
 /// Writes the line of a verdict.
 #[tactic(auto, using(crate::proofs::Beginnings::beginnings))]
-fn put_verdict<W: Sink>(alloc: Global, verdict: &Verdict2, writer: &mut W) -> Result<(), RunError>
+fn put_verdict<W: Sink>(alloc: Global, verdict: &Judgement, writer: &mut W) -> Result<(), RunError>
     requires { W.is_broken writer.old ≡ false }
     ensures written { OnOk result (Appends (W.taken writer.old) (W.taken writer.new) (verdict_line verdict.now)) }
     ensures works { OnOk result (W.is_broken writer.new ≡ false) }

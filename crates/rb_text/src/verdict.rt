@@ -2,21 +2,21 @@
 ghost use Rattle.std.specs.Prelude.{◌≡◌, ◌++◌, OnOk, string_bytes};
 ghost use Rattle.rb_text.specs.Verdicts.{verdict_line, is_yes};
 
-use rb_cert::{Reason, Verdict2};
+use rb_cert::{Judgement, Reason};
 use std::alloc::AllocError;
 
 /// Whether a verdict is yes.
-pub(crate) fn is_yes(verdict: &Verdict2) -> bool
+pub(crate) fn is_yes(verdict: &Judgement) -> bool
     ensures { result ≡ is_yes verdict.now }
 {
     match verdict {
-        Verdict2::Yes => true,
-        Verdict2::No(_) => false,
+        Judgement::Yes => true,
+        Judgement::No(_) => false,
     }
 }
 
 fn push_reason(text: &mut String, reason: &Reason) -> Result<(), AllocError>
-    ensures { OnOk result (string_bytes text.new ≡ string_bytes text.old ++ verdict_line (Verdict2.No reason.now)) }
+    ensures { OnOk result (string_bytes text.new ≡ string_bytes text.old ++ verdict_line (Judgement.No reason.now)) }
 {
     let number = reason.number();
     let name = reason.name();
@@ -34,11 +34,11 @@ fn push_reason(text: &mut String, reason: &Reason) -> Result<(), AllocError>
 }
 
 /// Adds the line of a verdict.
-pub(crate) fn push_verdict(text: &mut String, verdict: &Verdict2) -> Result<(), AllocError>
+pub(crate) fn push_verdict(text: &mut String, verdict: &Judgement) -> Result<(), AllocError>
     ensures { OnOk result (string_bytes text.new ≡ string_bytes text.old ++ verdict_line verdict.now) }
 {
     match verdict {
-        Verdict2::Yes => text.push_str("yes\n"),
-        Verdict2::No(reason) => push_reason(text, reason),
+        Judgement::Yes => text.push_str("yes\n"),
+        Judgement::No(reason) => push_reason(text, reason),
     }
 }

@@ -37,10 +37,10 @@ pub(crate) fn scan_seen<A: Allocator + Copy>(
 /// where a growth is refused.
 fn draft_by<A: Allocator + Copy>(
     alloc: A,
-    job: &JobView<A>,
+    job: JobView<A>,
     graph: &Graph<A>,
 ) -> Result<Draft<A>, AllocError>
-    ensures job { IfOk result (λ draft. draft.job ≡ job.now) }
+    ensures job { IfOk result (λ draft. draft.job ≡ job) }
     ensures right { IfOk result IsDraft }
 {
     if graph.is_of(job.view().book()) {
@@ -67,7 +67,7 @@ pub(crate) fn plan_seen<A: Allocator + Copy>(
     ensures refused { IfErr result (λ e. IsUnseen e desk.new (client_view_refusal (state_of desk.new.config desk.new.seen) client)) }
 {
     let job = desk.view_client(client)?;
-    match draft_by(alloc, &job, graph) {
+    match draft_by(alloc, job, graph) {
         Ok(draft) => Ok(draft),
         Err(AllocError) => Err(DeskError::NoMemory),
     }

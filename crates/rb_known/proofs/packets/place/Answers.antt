@@ -1,8 +1,15 @@
-use Rattle.std.proofs.Common.{rules}
+use Rattle.std.proofs.Common.{rules, sym, ◌∙◌, arith}
 use Rattle.std.proofs.lemmas.List.Sorted.{answers_always}
 use Rattle.rb_book.proofs.Places.{IsPlace-from_number_search}
 use Rattle.rb_scan.specs.Packet.{Packet}
+use Rattle.rb_known.proofs.Places.{new_last}
 use Rattle.rb_known.proofs.packets.place.Goals as goal
+
+pub returns-then-get-sequence : goal.returns-then-get-sequence
+returns-then-get-sequence c =
+    let same = sym c.sequence.ensures ∙ sym c.get.ensures.value in
+    new_last (λ (p : Packet). p.sequence) c.args.sequence c.args.packets.now c.in-Some-last.last.now c.requires (sym c.in-Some-last.ensures.value)
+    (omega (arith, same, c.if-get-sequence.true))
 
 pub returns : goal.returns
 returns c =

@@ -1,5 +1,6 @@
-use Rattle.rb_laws.proofs.Told.{limits}
+use Rattle.rb_events.specs.Script.{script_view}
+use Rattle.rb_laws.proofs.Room.{read_fits}
 use Rattle.rb_laws.proofs.scripts.laws_hold_of_read_scripts.Goals as goal
 
-pub returns-clause-limits : goal.returns-clause-limits
-returns-clause-limits g c = limits c.args.script.now c.requires
+pub returns-clause-room : goal.returns-clause-room
+returns-clause-room g c = read_fits (script_view c.args.script.now) c.requires

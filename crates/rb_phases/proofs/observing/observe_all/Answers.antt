@@ -8,8 +8,7 @@ use Rattle.rb_machine.specs.Standing.{standing_after, judged}
 use Rattle.rb_events.specs.Config.{Config}
 use Rattle.rb_events.specs.Script.{IsSeen}
 use Rattle.rb_phases.specs.Phases.{standing_in, IsLater}
-use Rattle.rb_phases.specs.Turns.{refusals}
-use Rattle.rb_phases.specs.Views.{refused_as}
+use Rattle.rb_phases.specs.Turns.{refused_as, refusals}
 use Rattle.rb_phases.proofs.Loops.{seen_more, fold_seen, refusals_push}
 use Rattle.rb_phases.proofs.Steps.{later_trans}
 use Rattle.rb_phases.proofs.observing.observe_all.Goals as goal

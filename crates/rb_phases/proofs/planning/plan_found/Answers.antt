@@ -5,14 +5,13 @@ use Rattle.rb_task.specs.Draft.{Draft}
 use Rattle.rb_machine.specs.Event.{Planned}
 use Rattle.rb_machine.specs.Machine.{reply_of, after}
 use Rattle.rb_machine.specs.Replied.{reply_view}
-use Rattle.rb_phases.specs.Phases.{standing_in, IsReportedOf}
-use Rattle.rb_phases.specs.Report.{Outcome}
+use Rattle.rb_phases.specs.Phases.{standing_in, IsOutcomeOf}
 use Rattle.rb_phases.specs.Views.{outcome_view}
 use Rattle.rb_phases.proofs.Plans.{taken_reported, ready_then, ready_still}
 use Rattle.rb_phases.proofs.planning.plan_found.Goals as goal
 
 pub returns-in-Some-2-clause-report : goal.returns-in-Some-2-clause-report
-returns-in-Some-2-clause-report g c = λ o same known at.
+returns-in-Some-2-clause-report g c = λ o same.
     let core = c.args.relayer.now in
     let d = c.in-Some.draft in
     let copied = c.in_ok-copy.ensures in
@@ -21,11 +20,9 @@ returns-in-Some-2-clause-report g c = λ o same known at.
     let reply = subst (λ r. IfSome r (λ x. reply_view x ≡ reply_of (state_in core) (Planned c.in_ok-copy.copy))) c.in-Some-2.is c.in_ok-reply.ensures.reply
     ∙ ap (λ (x : Draft). reply_of (state_in core) (Planned x)) copied in
     let state = c.in_ok-reply.ensures.state ∙ ap (λ (x : Draft). after (state_in core) (Planned x)) copied in
-    subst (λ x. IsReportedOf (standing_in core) (standing_in c.offer.new.relayer) c.args.client (record { id = known.config.id; outcome = outcome_view x }))
-    (same_Some c.in_ok-outcome_of-in-Some-2.field-0 o same)
-    (subst (λ (x : Outcome). IsReportedOf (standing_in core) (standing_in c.offer.new.relayer) c.args.client (record { id = known.config.id; outcome = x }))
-    (sym c.in_ok-outcome_of-in-Some-2.ensures)
-    (taken_reported core c.offer.new.relayer c.args.client d (reply_view c.in-Some-2.reply) c.in-Some.ensures.client c.in-Some.ensures.right ok reply state known at))
+    subst (λ x. IsOutcomeOf (standing_in core) (standing_in c.offer.new.relayer) c.args.client (outcome_view x)) (same_Some c.in_ok-outcome_of-in-Some-2.field-0 o same)
+    (subst (IsOutcomeOf (standing_in core) (standing_in c.offer.new.relayer) c.args.client) (sym c.in_ok-outcome_of-in-Some-2.ensures)
+    (taken_reported core c.offer.new.relayer c.args.client d (reply_view c.in-Some-2.reply) c.in-Some.ensures.client c.in-Some.ensures.right ok reply state))
 
 pub returns-in-Some-2-clause-ready : goal.returns-in-Some-2-clause-ready
 returns-in-Some-2-clause-ready g c =

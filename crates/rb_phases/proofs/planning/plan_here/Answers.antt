@@ -4,8 +4,7 @@ use Rattle.rb_task.specs.Draft.{Draft}
 use Rattle.rb_machine.specs.Event.{Planned}
 use Rattle.rb_machine.specs.Machine.{reply_of, after}
 use Rattle.rb_machine.specs.Replied.{reply_view}
-use Rattle.rb_phases.specs.Phases.{standing_in, IsLater, IsReportedOf}
-use Rattle.rb_phases.specs.Report.{Outcome}
+use Rattle.rb_phases.specs.Phases.{standing_in, IsLater, IsOutcomeOf}
 use Rattle.rb_phases.proofs.Plans.{draft_accepted, draft_reported, ready_after}
 use Rattle.rb_phases.proofs.planning.plan_here.Goals as goal
 
@@ -17,15 +16,14 @@ note-requires g c =
     ∙ draft_accepted core c.args.client c.in_ok-draft.draft c.requires.client c.requires.room c.requires.ready c.requires.none_open c.in_ok-draft.ensures.view)
 
 pub returns-clause-report : goal.returns-clause-report
-returns-clause-report g c = λ known at.
+returns-clause-report g c =
     let core = c.args.relayer.now in
     let same = c.planned_for.ensures.same in
-    subst (λ (o : Outcome). IsReportedOf (standing_in core) (standing_in c.note.new.relayer) c.args.client (record { id = known.config.id; outcome = o }))
-    (sym c.in_ok-outcome.ensures)
+    subst (IsOutcomeOf (standing_in core) (standing_in c.note.new.relayer) c.args.client) (sym c.in_ok-outcome.ensures)
     (draft_reported core c.note.new.relayer c.args.client c.in_ok-draft.draft (reply_view c.in_ok-reply.reply) c.requires.client c.in_ok-draft.ensures.right c.requires.room c.requires.ready
     c.requires.none_open c.in_ok-draft.ensures.view
     (c.in_ok-reply.ensures.reply ∙ ap (λ (k : Core). reply_of (state_in k) (Planned c.in_ok-copy.copy)) same ∙ ap (λ (d : Draft). reply_of (state_in core) (Planned d)) c.in_ok-copy.ensures)
-    (c.in_ok-reply.ensures.state ∙ ap (λ (k : Core). after (state_in k) (Planned c.in_ok-copy.copy)) same ∙ ap (λ (d : Draft). after (state_in core) (Planned d)) c.in_ok-copy.ensures) known at)
+    (c.in_ok-reply.ensures.state ∙ ap (λ (k : Core). after (state_in k) (Planned c.in_ok-copy.copy)) same ∙ ap (λ (d : Draft). after (state_in core) (Planned d)) c.in_ok-copy.ensures))
 
 pub returns-clause-ready : goal.returns-clause-ready
 returns-clause-ready g c =

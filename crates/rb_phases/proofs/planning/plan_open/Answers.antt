@@ -1,11 +1,10 @@
-use Rattle.std.proofs.Common.{◌≡◌, ◌<◌, ◌≤◌, ◌+◌, Some, IfOk, length, sym, ap, ◌∙◌, subst}
-use Rattle.std.specs.List.{slice_get}
+use Rattle.std.proofs.Common.{◌≡◌, ◌<◌, ◌≤◌, ◌+◌, IfOk, length, sym, ap, ◌∙◌, subst}
 use Rattle.std.proofs.lemmas.Result.{on_ok_weaker}
 use Rattle.rb_events.specs.Config.{Config}
 use Rattle.rb_machine.specs.Batches.{batch_open}
 use Rattle.rb_machine.specs.Machine.{State, max_events}
-use Rattle.rb_machine.specs.Standing.{KnownClient, Standing}
-use Rattle.rb_phases.specs.Phases.{standing_in, IsReportedOf}
+use Rattle.rb_machine.specs.Standing.{Standing}
+use Rattle.rb_phases.specs.Phases.{standing_in, IsOutcomeOf}
 use Rattle.rb_phases.specs.Views.{outcome_view}
 use Rattle.rb_phases.proofs.Steps.{later_from}
 use Rattle.rb_phases.proofs.planning.plan_open.Goals as goal
@@ -25,8 +24,7 @@ plan_here-requires-clause-room g c = λ ks _. subst (λ (s : State). s.front + 1
 pub returns-in-None-clause-report : goal.returns-in-None-clause-report
 returns-in-None-clause-report g c =
     let new = standing_in c.plan_here.new.relayer in
-    subst (λ (s : Standing). IfOk c.plan_here.result (λ o. (known : KnownClient) → slice_get s.clients c.args.client ≡ Some known
-    → IsReportedOf s new c.args.client (record { id = known.config.id; outcome = outcome_view o })))
+    subst (λ (s : Standing). IfOk c.plan_here.result (λ o. IsOutcomeOf s new c.args.client (outcome_view o)))
     (ap (λ (s : State). s.standing) (c.in_ok-outcome.ensures.nothing c.in-None.is)) c.plan_here.ensures.report
 
 pub returns-in-None-clause-later : goal.returns-in-None-clause-later

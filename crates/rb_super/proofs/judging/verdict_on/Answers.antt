@@ -8,5 +8,5 @@ returns-in-Some-clause-judged g c =
     record { known = x.0; task = x.1; is = x.2; goal = None; is_planned = x.3; judged = refl }
 
 pub returns-in-Some-clause-accepts : goal.returns-in-Some-clause-accepts
-returns-in-Some-clause-accepts g c = λ known task goal is planned exact shows.
-    absurd (held_alone c.args.relayer.now c.args.client _ c.requires.client c.requires.ready c.in-Some.ensures known task goal is planned)
+returns-in-Some-clause-accepts g c = λ own.
+    absurd (held_alone c.args.relayer.now c.args.client _ c.requires.client c.requires.ready c.in-Some.ensures own.known own.task own.goal own.is own.is_planned)

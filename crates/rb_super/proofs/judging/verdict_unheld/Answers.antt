@@ -1,5 +1,5 @@
 use Rattle.std.proofs.Common.{◌≡◌, Some, subst}
-use Rattle.rb_cert.specs.declared.verdict.Verdict2.TheVariants.{Yes}
+use Rattle.rb_cert.specs.declared.verdict.Judgement.TheVariants.{Yes}
 use Rattle.rb_events.specs.declared.goal.Goal.{Goal}
 use Rattle.rb_plan.specs.Answer.{labels_of, claim_of, Shows}
 use Rattle.rb_plan.specs.Labelling.{IsSound, IsExact}

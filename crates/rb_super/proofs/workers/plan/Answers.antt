@@ -17,15 +17,23 @@ plan_all-clients-requires-clause-room g c = λ ks _.
 pub plan_all-clients-requires-clause-alloc : goal.plan_all-clients-requires-clause-alloc
 plan_all-clients-requires-clause-alloc g c κs within = frees
 
+pub returns-clause-count : goal.returns-clause-count
+returns-clause-count g c =
+    let mid = c.in_ok-relayer.ensures.same in
+    let clients = length c.args.relayer.config.clients in
+    ended c.finish.result c.plan_all-clients.result c.plan_all-clients.new.relayer (λ x. x.0) (λ x. x.2) (λ k reports. length reports.items ≡ clients)
+    c.finish.ensures.same c.finish.ensures.given
+    (subst (λ (k : Core). IfOk c.plan_all-clients.result (λ reports. length reports.items ≡ length k.config.clients)) mid c.plan_all-clients.ensures.count)
+
 pub returns-clause-reports : goal.returns-clause-reports
 returns-clause-reports g c =
     let mid = c.in_ok-relayer.ensures.same in
     let core = c.args.relayer in
     let new = c.plan_all-clients.new.relayer in
     ended c.finish.result c.plan_all-clients.result new (λ x. x.0) (λ x. x.2)
-    (λ k clients. AreReported (standing_in core) (standing_in k) 0 (length core.config.clients) (map client_report_view clients.items))
+    (λ k clients. AreReported (standing_in core) (standing_in k) 0 (map client_report_view clients.items))
     c.finish.ensures.same c.finish.ensures.given
-    (subst (λ (k : Core). IfOk c.plan_all-clients.result (λ clients. AreReported (standing_in k) (standing_in new) 0 (length k.config.clients) (map client_report_view clients.items))) mid
+    (subst (λ (k : Core). IfOk c.plan_all-clients.result (λ clients. AreReported (standing_in k) (standing_in new) 0 (map client_report_view clients.items))) mid
     c.plan_all-clients.ensures.reports)
 
 pub returns-clause-later : goal.returns-clause-later

@@ -1,12 +1,10 @@
 use Rattle.std.proofs.Common.{◌≡◌, ◌+◌, ◌*◌, true, is_some, length, map, sym, ap, ◌∙◌, subst, arith, IfOk}
-use Rattle.std.specs.List.{fold}
 use Rattle.std.specs.Result.{OnOk}
 use Rattle.rb_core.specs.Core.{Core}
-use Rattle.rb_machine.specs.Seen.{observed}
-use Rattle.rb_machine.specs.Standing.{Standing, goes_back, standing_after}
+use Rattle.rb_machine.specs.Standing.{Standing, goes_back}
 use Rattle.rb_events.specs.Config.{Config}
-use Rattle.rb_phases.specs.Phases.{standing_in, HasLogRoom, IsLater, IsAllScanned, IsPlannable}
-use Rattle.rb_phases.specs.Turns.{after_window, after_question, refusals}
+use Rattle.rb_phases.specs.Phases.{standing_in, HasLogRoom, IsLater, turn_heard, IsAllScanned, IsPlannable}
+use Rattle.rb_phases.specs.Turns.{before_plans, refusals_in}
 use Rattle.rb_phases.specs.Views.{refused_view}
 use Rattle.rb_super.proofs.workers.prepare.Goals as goal
 
@@ -26,8 +24,7 @@ returns-clause-back g c = subst (λ r. IfOk r (λ x. x.0 ≡ goes_back (standing
 
 pub returns-clause-refused : goal.returns-clause-refused
 returns-clause-refused g c =
-    subst (λ r. IfOk r (λ x. map refused_view x.1.items
-    ≡ refusals 0 (fold after_question (after_window (standing_in c.args.relayer) c.args.window) c.args.goals.now) (map observed c.args.events.items)))
+    subst (λ r. IfOk r (λ x. map refused_view x.1.items ≡ refusals_in (standing_in c.args.relayer) (turn_heard c.args.window c.args.goals.now c.args.events.items)))
     c.in_ok-relayer.ensures.given c.hear_all-heard.ensures.refused
 
 pub returns-clause-standing : goal.returns-clause-standing
@@ -36,8 +33,7 @@ returns-clause-standing g c =
     ap standing_in c.in_ok-relayer-3.ensures.same
     ∙ subst (λ r. OnOk r (standing_in c.scan_all-scanned.new.relayer ≡ standing_in c.in_ok-relayer-2.relayer)) c.in_ok-relayer-3.ensures.given c.scan_all-scanned.ensures.standing
     ∙ ap standing_in mid
-    ∙ subst (λ r. OnOk r (standing_in c.hear_all-heard.new.relayer
-    ≡ fold standing_after (fold after_question (after_window (standing_in c.args.relayer) c.args.window) c.args.goals.now) (map observed c.args.events.items)))
+    ∙ subst (λ r. OnOk r (standing_in c.hear_all-heard.new.relayer ≡ before_plans (standing_in c.args.relayer) (turn_heard c.args.window c.args.goals.now c.args.events.items)))
     c.in_ok-relayer.ensures.given c.hear_all-heard.ensures.standing
 
 pub returns-clause-ready : goal.returns-clause-ready

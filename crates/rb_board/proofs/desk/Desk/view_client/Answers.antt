@@ -2,7 +2,7 @@ use Rattle.std.proofs.Common.{◌≡◌, ◌∙◌, sym, subst}
 use Rattle.std.specs.Prelude.{Some, IfOk, IfErr}
 use Rattle.rb_machine.specs.Machine.{client_view, client_view_refusal}
 use Rattle.left_right.specs.Sides.{view}
-use Rattle.rb_core.specs.Follower.{Follower, IsOfLog, events_in, state_after}
+use Rattle.rb_core.specs.Follower.{Past, IsOfLog, events_in, state_after}
 use Rattle.rb_board.specs.Kept.{known_of}
 use Rattle.rb_board.specs.declared.held.Held.{Held}
 use Rattle.rb_board.specs.Unseen.{IsUnseen}
@@ -25,12 +25,12 @@ returns-clause-begins g c =
 
 pub returns-clause-view : goal.returns-clause-view
 returns-clause-view g c =
-    known_then (λ (f : Follower). IfOk c.client_of-view.result (λ job. client_view (state_after f) c.args.client ≡ Some job))
+    known_then (λ (f : Past). IfOk c.client_of-view.result (λ job. client_view (state_after f) c.args.client ≡ Some job))
     (view c.leave.result.place) c.in-Some.reading.part.value c.get.result.now (c.leave.ensures.1 ∙ c.in-Some.ensures.seen.1) c.get.ensures c.client_of-view.ensures.view
 
 pub returns-clause-refused : goal.returns-clause-refused
 returns-clause-refused g c =
-    known_then (λ (f : Follower). IfErr c.client_of-view.result (λ e. IsUnseen e (record { config = f.config; seen = events_in f; told = c.self.inside.told }) (client_view_refusal (state_after f) c.args.client)))
+    known_then (λ (f : Past). IfErr c.client_of-view.result (λ e. IsUnseen e (record { config = f.config; seen = events_in f; told = c.self.inside.told }) (client_view_refusal (state_after f) c.args.client)))
     (view c.leave.result.place) c.in-Some.reading.part.value c.get.result.now (c.leave.ensures.1 ∙ c.in-Some.ensures.seen.1) c.get.ensures c.client_of-view.ensures.refused
 
 pub client_of-view-requires : goal.client_of-view-requires

@@ -15,15 +15,16 @@ invariant_of-self-2 g c =
     let log : c.judge.new.self.log ≡ c.self.inside.head.log = search rules in
     let config : c.judge.new.self.config ≡ c.self.inside.head.config = search rules in
     let after : c.settle.new.self.config ≡ c.self.inside.head.config = search rules in
+    let grown = appends old.desk.shown.value.follower c.self.inside.head.config c.self.inside.head.log c.settle.new.self.log (pending old) (pending new)
+    c.in_ok-told.told c.in_ok-ready.ready.event i.config_same i.leads i.knows
+    ((λ j. refusal_of (state_of (sym config j) (sym log j)) c.in_ok-ready.ready.event) ∙ c.in_ok-ready.ensures.ready.accepted)
+    (search rules) (search rules) (search rules) in
     record {
       all = (λ j. view (desk j).place) ∙ i.all ∙ (λ j. knowledge_of (sym desk j).shown.value);
-      config_same = (λ j. (desk j).shown.value.follower.config) ∙ i.config_same ∙ sym after;
+      config_same = (λ j. (desk j).shown.value.follower.past.config) ∙ i.config_same ∙ sym after;
       published = subst (λ d. IsOfLog d.shown.value.follower) (sym desk) i.published;
-      leads = appends old.desk.shown.value.follower c.self.inside.head.config c.self.inside.head.log c.settle.new.self.log (pending old) (pending new)
-          c.in_ok-told.told c.in_ok-ready.ready.event i.config_same i.leads
-          ((λ j. refusal_of (state_of (sym config j) (sym log j)) c.in_ok-ready.ready.event) ∙ c.in_ok-ready.ensures.ready.accepted)
-          (search rules) (search rules) (search rules)
-          ∙ (λ j. events_in (followed_on (sym desk j).shown.value.follower (pending new)));
+      leads = grown.0 ∙ (λ j. events_in (followed_on (sym desk j).shown.value.follower (pending new)).past);
+      knows = (λ j. (followed_on (desk j).shown.value.follower (pending new)).state) ∙ grown.1 ∙ (λ j. state_of (sym after j) c.settle.new.self.log);
     }
 
 pub returns-clause-reply : goal.returns-clause-reply

@@ -10,16 +10,16 @@ use Rattle.rb_core.proofs.follower.Follower.client_view.Goals as goal
 pub client_view-requires : goal.client_view-requires
 client_view-requires g c = λ job is.
     let seen = c.args.self.now in
-    let known : state_view c.self.inside.known ≡ state_after seen = known_after _ seen (state_view c.self.inside.known) c.self.view_is c.requires c.self.invariant.1 in
-    c.client_views_are_views.ensures seen.config (events_in seen) c.requires.set_up c.requires.events c.args.client job
+    let known : state_view c.self.inside.known ≡ state_after seen.past = known_after _ seen c.self.view_is c.requires in
+    c.client_views_are_views.ensures seen.past.config (events_in seen.past) c.requires.set_up c.requires.events c.args.client job
     (subst (λ (s : State). client_view s c.args.client ≡ Some job) known is)
 
 pub returns-clause-view : goal.returns-clause-view
 returns-clause-view g c =
-    let known = known_after _ c.args.self.now (state_view c.self.inside.known) c.self.view_is c.requires c.self.invariant.1 in
+    let known = known_after _ c.args.self.now c.self.view_is c.requires in
     subst (λ (s : State). IfOk c.client_view.result (λ view. client_view s c.args.client ≡ Some view)) known c.client_view.ensures.view
 
 pub returns-clause-refused : goal.returns-clause-refused
 returns-clause-refused g c =
-    let known = known_after _ c.args.self.now (state_view c.self.inside.known) c.self.view_is c.requires c.self.invariant.1 in
+    let known = known_after _ c.args.self.now c.self.view_is c.requires in
     subst (λ (s : State). IfErr c.client_view.result (λ e. IsRefusal e (client_view_refusal s c.args.client))) known c.client_view.ensures.refused

@@ -1,6 +1,5 @@
-use Rattle.rb_core.specs.Known.{state_view}
 use Rattle.rb_core.proofs.Unjudged.{as_many}
 use Rattle.rb_core.proofs.follower.Follower.front.Goals as goal
 
 pub returns : goal.returns
-returns g c = as_many _ c.args.self.now (state_view c.self.inside.known) c.self.view_is c.requires c.self.invariant.1
+returns g c = as_many _ c.args.self.now c.self.view_is c.requires

@@ -1,13 +1,11 @@
-use Rattle.std.proofs.Common.{◌≡◌, ◌<◌, List, length, map, sym, ap, ◌∙◌, subst, arith}
-use Rattle.std.specs.List.{All, fold}
+use Rattle.std.proofs.Common.{◌≡◌, ◌<◌, List, length, sym, ap, ◌∙◌, subst, arith}
+use Rattle.std.specs.List.{All}
 use Rattle.rb_core.specs.Core.{Core}
-use Rattle.rb_machine.specs.Seen.{observed}
-use Rattle.rb_machine.specs.Standing.{standing_after}
 use Rattle.rb_events.specs.Script.{IsSeen}
 use Rattle.rb_events.specs.declared.script.Asked.{Asked}
-use Rattle.rb_phases.specs.Phases.{standing_in, HasLogRoom}
+use Rattle.rb_phases.specs.Phases.{standing_in, HasLogRoom, turn_heard}
 use Rattle.rb_super.specs.Told.{told_as, most_events}
-use Rattle.rb_phases.specs.Turns.{after_window, after_question, before_plans}
+use Rattle.rb_phases.specs.Turns.{before_plans}
 use Rattle.rb_super.proofs.supervisor.Supervisor.plan_phase.Goals as goal
 
 pub prepare-requires-clause-goals : goal.prepare-requires-clause-goals
@@ -27,10 +25,9 @@ prepare-requires-clause-room g c = λ ks _.
 
 pub returns-clause-standing : goal.returns-clause-standing
 returns-clause-standing g c =
-    let events = map observed c.args.turn.events.items in
     let same : standing_in c.prepare.new.relayer ≡ before_plans (standing_in c.self.inside.relayer) (told_as c.args.turn) =
     c.in_ok-prepare.ensures.standing
-    ∙ ap (λ (gs : List Asked). fold standing_after (fold after_question (after_window (standing_in c.self.inside.relayer) c.args.turn.window) gs) events) c.as_slice.ensures.value in
+    ∙ ap (λ (gs : List Asked). before_plans (standing_in c.self.inside.relayer) (turn_heard c.args.turn.window gs c.args.turn.events.items)) c.as_slice.ensures.value in
     subst (λ (k : Core). standing_in c.prepare.new.relayer ≡ before_plans (standing_in k) (told_as c.args.turn)) c.self.view_is same
 
 pub returns-clause-config : goal.returns-clause-config

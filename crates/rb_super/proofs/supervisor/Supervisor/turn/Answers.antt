@@ -1,5 +1,6 @@
 use Rattle.std.proofs.Common.{◌≡◌, ◌<◌, List, length, map, sym, ap, ◌∙◌, subst, arith}
 use Rattle.std.specs.List.{All}
+use Rattle.std.proofs.lemmas.List.{length-map}
 use Rattle.rb_events.specs.Script.{IsSeen}
 use Rattle.rb_events.specs.declared.script.Asked.{Asked}
 use Rattle.rb_events.specs.declared.script.Settlement.{Settlement}
@@ -14,19 +15,19 @@ use Rattle.rb_super.proofs.supervisor.Supervisor.turn.Goals as goal
 pub returns-clause-report : goal.returns-clause-report
 returns-clause-report g c =
     rw (sym c.self.view_is) ((turn_done c.self.inside.relayer c.prepare.new.relayer c.plan_all.new.relayer c.settle_all.new.relayer c.args.turn c.as_slice.result.now c.as_slice-2.result.now
-    (length c.prepare.new.relayer.config.clients)
     c.in_ok-window_back.window_back (map refused_view c.in_ok-window_back.refused.items) (map client_report_view c.in_ok-clients.clients.items) (map settlement_view c.in_ok-settlements.settlements.items)
-    c.as_slice.ensures.value c.as_slice-2.ensures.value (ap (λ (k : Config). length k.clients) c.in_ok-window_back.ensures.later.config)
-    c.in_ok-window_back.ensures.back c.in_ok-window_back.ensures.refused c.in_ok-window_back.ensures.standing c.in_ok-clients.ensures.reports
+    c.as_slice.ensures.value c.as_slice-2.ensures.value c.in_ok-window_back.ensures.back c.in_ok-window_back.ensures.refused c.in_ok-window_back.ensures.standing
+    (length-map c.in_ok-clients.clients.items client_report_view ∙ c.in_ok-clients.ensures.count ∙ ap (λ (k : Config). length k.clients) c.in_ok-window_back.ensures.later.config)
+    c.in_ok-clients.ensures.reports
     c.in_ok-settlements.ensures.reports c.in_ok-settlements.ensures.standing).0)
 
 pub returns-clause-standing : goal.returns-clause-standing
 returns-clause-standing g c =
     rw (sym c.self.view_is) ((turn_done c.self.inside.relayer c.prepare.new.relayer c.plan_all.new.relayer c.settle_all.new.relayer c.args.turn c.as_slice.result.now c.as_slice-2.result.now
-    (length c.prepare.new.relayer.config.clients)
     c.in_ok-window_back.window_back (map refused_view c.in_ok-window_back.refused.items) (map client_report_view c.in_ok-clients.clients.items) (map settlement_view c.in_ok-settlements.settlements.items)
-    c.as_slice.ensures.value c.as_slice-2.ensures.value (ap (λ (k : Config). length k.clients) c.in_ok-window_back.ensures.later.config)
-    c.in_ok-window_back.ensures.back c.in_ok-window_back.ensures.refused c.in_ok-window_back.ensures.standing c.in_ok-clients.ensures.reports
+    c.as_slice.ensures.value c.as_slice-2.ensures.value c.in_ok-window_back.ensures.back c.in_ok-window_back.ensures.refused c.in_ok-window_back.ensures.standing
+    (length-map c.in_ok-clients.clients.items client_report_view ∙ c.in_ok-clients.ensures.count ∙ ap (λ (k : Config). length k.clients) c.in_ok-window_back.ensures.later.config)
+    c.in_ok-clients.ensures.reports
     c.in_ok-settlements.ensures.reports c.in_ok-settlements.ensures.standing).1)
 
 pub prepare-requires-clause-goals : goal.prepare-requires-clause-goals

@@ -1,6 +1,7 @@
 use Rattle.std.proofs.Common.{◌≡◌, ◌<◌, IfOk, List, length, map, sym, ap, ◌∙◌, subst, arith}
 use Rattle.std.specs.List.{All, fold}
 use Rattle.std.specs.Result.{OnOk}
+use Rattle.std.proofs.lemmas.List.{length-map}
 use Rattle.rb_events.specs.Script.{IsSeen}
 use Rattle.rb_events.specs.declared.script.Asked.{Asked}
 use Rattle.rb_events.specs.declared.script.Settlement.{Settlement}
@@ -52,10 +53,10 @@ returns-clause-report g c =
     let d = c.in_ok-relayer-2.relayer in
     let e = c.settle_all-settled.new.relayer in
     rw (sym c.self.view_is) ((turn_done c.self.inside.relayer c.in_ok-relayer.relayer d e c.args.turn c.as_slice.result.now c.as_slice-2.result.now
-    (length c.in_ok-relayer.relayer.config.clients)
     c.in_ok-relayer.window_back (map refused_view c.in_ok-relayer.refused.items) (map client_report_view c.in_ok-relayer-2.clients.items) (map settlement_view c.in_ok-relayer-3.settlements.items)
-    c.as_slice.ensures.value c.as_slice-2.ensures.value (ap (λ (k : Config). length k.clients) c.in_ok-relayer.ensures.later.config)
-    c.in_ok-relayer.ensures.back c.in_ok-relayer.ensures.refused c.in_ok-relayer.ensures.standing c.in_ok-relayer-2.ensures.reports
+    c.as_slice.ensures.value c.as_slice-2.ensures.value c.in_ok-relayer.ensures.back c.in_ok-relayer.ensures.refused c.in_ok-relayer.ensures.standing
+    (length-map c.in_ok-relayer-2.clients.items client_report_view ∙ c.in_ok-relayer-2.ensures.count ∙ ap (λ (k : Config). length k.clients) c.in_ok-relayer.ensures.later.config)
+    c.in_ok-relayer-2.ensures.reports
     (subst (λ r. IfOk r (λ xs. map settlement_view xs.items ≡ settlement_reports (standing_in d) c.as_slice-2.result.now)) given c.settle_all-settled.ensures.reports)
     (subst (λ r. OnOk r (standing_in e ≡ fold after_settlement (standing_in d) c.as_slice-2.result.now)) given c.settle_all-settled.ensures.standing)).0)
 
@@ -66,10 +67,10 @@ returns-clause-standing g c =
     let e = c.settle_all-settled.new.relayer in
     ap standing_in c.in_ok-relayer-3.ensures.same
     ∙ rw (sym c.self.view_is) ((turn_done c.self.inside.relayer c.in_ok-relayer.relayer d e c.args.turn c.as_slice.result.now c.as_slice-2.result.now
-    (length c.in_ok-relayer.relayer.config.clients)
     c.in_ok-relayer.window_back (map refused_view c.in_ok-relayer.refused.items) (map client_report_view c.in_ok-relayer-2.clients.items) (map settlement_view c.in_ok-relayer-3.settlements.items)
-    c.as_slice.ensures.value c.as_slice-2.ensures.value (ap (λ (k : Config). length k.clients) c.in_ok-relayer.ensures.later.config)
-    c.in_ok-relayer.ensures.back c.in_ok-relayer.ensures.refused c.in_ok-relayer.ensures.standing c.in_ok-relayer-2.ensures.reports
+    c.as_slice.ensures.value c.as_slice-2.ensures.value c.in_ok-relayer.ensures.back c.in_ok-relayer.ensures.refused c.in_ok-relayer.ensures.standing
+    (length-map c.in_ok-relayer-2.clients.items client_report_view ∙ c.in_ok-relayer-2.ensures.count ∙ ap (λ (k : Config). length k.clients) c.in_ok-relayer.ensures.later.config)
+    c.in_ok-relayer-2.ensures.reports
     (subst (λ r. IfOk r (λ xs. map settlement_view xs.items ≡ settlement_reports (standing_in d) c.as_slice-2.result.now)) given c.settle_all-settled.ensures.reports)
     (subst (λ r. OnOk r (standing_in e ≡ fold after_settlement (standing_in d) c.as_slice-2.result.now)) given c.settle_all-settled.ensures.standing)).1)
 

@@ -1,0 +1,20 @@
+-- What is refused, told by the report as it lies in memory.
+use Rattle.std.specs.Prelude.{◌≡◌, ℕ, Bool, true, false, List, [], ◌∷◌, ◌||◌, map, length, is_some}
+use Rattle.std.specs.List.{list_any}
+use Rattle.std.proofs.Common.{refl, ap, sym}
+use Rattle.std.proofs.lemmas.List.{length-map}
+use Rattle.rb_phases.specs.Views.{refused_view, settlement_view, turn_report_view}
+use Rattle.ibcplan.specs.Status.{has_refusal}
+use Rattle.rb_phases.specs.declared.report.TurnReport.{TurnReport as CodeTurnReport}
+
+pub any-map : {X Y : Type 0} (p : Y → Bool) (f : X → Y) (xs : List X) → list_any p (map f xs) ≡ list_any (λ x. p (f x)) xs
+any-map p f [] = refl
+any-map p f (x ∷ xs) = ap (λ b. p (f x) || b) (any-map p f xs)
+
+-- a turn whose window and events are taken refuses what its settlements do
+pub turn-by-settlements : {A : Type 0} (t : CodeTurnReport A) → t.window_back ≡ false → length t.refused.items ≡ 0 →
+    list_any (λ x. is_some (settlement_view x).refusal) t.settlements.items ≡ has_refusal (turn_report_view t)
+turn-by-settlements t window events =
+    rw (window, length-map t.refused.items refused_view, events) (sym (any-map (λ x. is_some x.refusal) settlement_view t.settlements.items))
+
+pub ruleset refusals = (any-map, turn-by-settlements)

@@ -1,0 +1,87 @@
+//! The report of a script in other forms than its own: JSON, and the commands that submit its updates.
+ghost use Rattle.rb_events.specs.Script.{script_view, IsScript};
+
+use crate::failure::Failure;
+use crate::input::Input;
+use crate::reporting::{report_has_refusal, report_of};
+use rb_events::Script;
+use rb_fields::RunError;
+use rb_gang::OpenGate;
+use rb_output::{Setting, commands_of, json_of};
+use rb_text::read_script;
+use std::alloc::{AllocError, Global};
+use std::sync::{Arc, Wait};
+use std::thread::Threads;
+
+/// A report as JSON, and whether something in it is refused.
+#[derive(Drop)]
+pub struct JsonText {
+    pub text: String,
+    pub has_refusal: bool,
+}
+
+/// The report of the script that a file holds, as JSON.
+pub fn json_of_script<'a, R: Threads + Wait + Copy + Send + Sync + 'static>(
+    rt: &R,
+    alloc: Global,
+    input: &Input<'a>,
+) -> Result<JsonText, Failure<'a>> {
+    match json_of_bytes(rt, alloc, input.bytes()) {
+        Ok(json) => Ok(json),
+        Err(error) => Err(Failure::of_run(error, input)),
+    }
+}
+
+fn json_of_bytes<R: Threads + Wait + Copy + Send + Sync + 'static>(
+    rt: &R,
+    alloc: Global,
+    bytes: &[u8],
+) -> Result<JsonText, RunError> {
+    let script = read_script(alloc, bytes)?;
+    let gate = Arc::new(alloc, OpenGate)?;
+    let report = report_of(rt, alloc, script, 0, &gate)?;
+    Ok(JsonText {
+        text: json_of(alloc, &report)?,
+        has_refusal: report_has_refusal(&report),
+    })
+}
+
+/// The commands for the plans of the script that a file holds, of every turn or of the one with this
+/// number, which it has to have.
+pub fn commands_of_script<'a, R: Threads + Wait + Copy + Send + Sync + 'static>(
+    rt: &R,
+    alloc: Global,
+    input: &Input<'a>,
+    turn: Option<u64>,
+) -> Result<String, Failure<'a>> {
+    let script = match read_script(alloc, input.bytes()) {
+        Ok(script) => script,
+        Err(error) => return Err(Failure::of_run(error, input)),
+    };
+    let turns = script.turns.len();
+    match turn {
+        Some(turn) if turn > turns as u64 => Err(Failure::NoSuchTurn {
+            file: input.name(),
+            turn,
+            turns,
+        }),
+        _ => match commands_by(rt, alloc, script, turn) {
+            Ok(text) => Ok(text),
+            Err(_) => Err(Failure::NoMemory),
+        },
+    }
+}
+
+fn commands_by<R: Threads + Wait + Copy + Send + Sync + 'static>(
+    rt: &R,
+    alloc: Global,
+    script: Script,
+    turn: Option<u64>,
+) -> Result<String, AllocError>
+    requires { IsScript (script_view script) }
+{
+    let setting = Setting::of(alloc, &script)?;
+    let gate = Arc::new(alloc, OpenGate)?;
+    let report = report_of(rt, alloc, script, 0, &gate)?;
+    commands_of(alloc, &setting, &report, turn)
+}

@@ -1,0 +1,17 @@
+//! What no contract of the layers from the tree hash up to the step rule says, by their public calls: sets of
+//! validators, books, alone and shared, and steps, as tables of cases with values from outside, and each
+//! growth of memory refused in turn.
+#![tactic(auto)]
+
+#[cfg(test)]
+mod book;
+#[cfg(test)]
+mod merkle;
+#[cfg(test)]
+mod same;
+#[cfg(test)]
+mod shared;
+#[cfg(test)]
+mod step;
+#[cfg(test)]
+mod valset;

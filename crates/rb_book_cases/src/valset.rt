@@ -1,0 +1,195 @@
+use crate::merkle::to_hex;
+use crate::same::assert_same;
+use rb_base::refusing::Refusing;
+use rb_valset::{Validator, ValidatorSet, ValsetError};
+use std::alloc::{Allocator, Global};
+use std::fmt::Display;
+use std::process::Abort;
+use std::test::Fail;
+
+const TOP: u64 = Validator::MAX_POWER;
+
+/// The set of the validators with these powers, whose keys are one byte 32 times.
+fn make_set<A: Allocator + Copy>(
+    alloc: A,
+    members: &[(u8, u64)],
+) -> Result<ValidatorSet<A>, ValsetError> {
+    let mut validators = Vec::new(alloc);
+    for (byte, power) in members {
+        let validator = Validator::new([*byte; 32], *power)?;
+        validators
+            .push(validator)
+            .map_err(|_| ValsetError::NoMemory)?;
+    }
+    ValidatorSet::new(alloc, validators)
+}
+
+/// The bytes before the power in a leaf of the key.
+const FRAME: &str = "0a220a20a1a1a1a1a1a1a1a1a1a1a1a1a1a1a1a1a1a1a1a1a1a1a1a1a1a1a1a1a1a1a1a1";
+
+/// The bytes after the key in a leaf, by the power.
+const LEAVES: &[(u64, &str)] = &[
+    (1, "1001"),
+    (10, "100a"),
+    (127, "107f"),
+    (128, "108001"),
+    (300, "10ac02"),
+    (16_384, "10808001"),
+    (TOP, "10ffffffffffffffff0f"),
+];
+
+fn check_leaf(rt: &impl Abort, alloc: Global, power: u64, tail: &str) -> Result<(), Fail> {
+    let validator = Validator::new([0xa1; 32], power)?;
+    assert_same(rt, &"power", &validator.power(), &power);
+    let leaf = to_hex(alloc, validator.leaf().as_slice())?;
+    let wanted = format!(in alloc; "{FRAME}{tail}")?;
+    assert_same(rt, &power, &leaf.as_str(), &wanted.as_str());
+    let address = to_hex(alloc, validator.address())?;
+    assert_same(
+        rt,
+        &power,
+        &address.as_str(),
+        &"52fe6094743bfd4f9be4321d98adc7e23c1ab622",
+    );
+    Ok(())
+}
+
+#[test]
+fn writes_leaves(rt: HostRuntime) -> Result<(), Fail> {
+    for (power, tail) in LEAVES {
+        check_leaf(&rt, rt.alloc(), *power, tail)?;
+    }
+    Ok(())
+}
+
+/// A set with its total, the keys in set order and the hash.
+type Ordered = (&'static [(u8, u64)], u64, &'static [u8], &'static str);
+
+/// The hashes are those of the planner in Python, `bench/reference.py`: its `tree_hash` and `varint` over
+/// SHA-256 of Python's hashlib. No part of them was made by this code.
+const SETS: &[Ordered] = &[
+    (
+        &[(0xa1, 10), (0xa2, 10), (0xa3, 30), (0xa4, 10)],
+        60,
+        &[0xa3, 0xa1, 0xa4, 0xa2],
+        "f9669392e0624b4eff200f28daba7f1874d58b2004f5685633caa176b803fedf",
+    ),
+    (
+        &[(1, 1), (2, 2), (3, 3), (4, 4), (5, 5), (6, 6), (7, 7)],
+        28,
+        &[7, 6, 5, 4, 3, 2, 1],
+        "0af09471b037547110fef90f8882681c100f0ea7380ab3689e2f9ccfa2b3d083",
+    ),
+    (
+        &[(1, TOP)],
+        TOP,
+        &[1],
+        "c53f5b6e62c4eb27a306c7df54bea38a36f0e5fafbbe25caa0d8c94b44bb744c",
+    ),
+];
+
+/// The addresses of no set.
+const UNKNOWN: &[[u8; 20]] = &[[0; 20], [0x73; 20], [255; 20]];
+
+fn check_places(rt: &impl Abort, set: &ValidatorSet, order: &[u8]) -> Result<(), Fail> {
+    for (place, byte) in order.iter().enumerate() {
+        let member = Validator::new([*byte; 32], 1)?;
+        assert_same(rt, byte, &set.position(member.address()), &Some(place));
+        let found = set.find(member.address()).ok_or("absent")?;
+        assert_same(rt, byte, found.key(), member.key());
+    }
+    for unknown in UNKNOWN {
+        assert!(rt; set.position(unknown).is_none() && set.find(unknown).is_none());
+    }
+    Ok(())
+}
+
+fn check_set(
+    rt: &impl Abort,
+    alloc: Global,
+    set: &ValidatorSet,
+    wanted: &Ordered,
+) -> Result<(), Fail> {
+    let (_, total, order, hash) = *wanted;
+    assert_same(rt, &hash, &(set.total(), set.size()), &(total, order.len()));
+    assert_same(rt, &hash, &to_hex(alloc, set.hash())?.as_str(), &hash);
+    check_places(rt, set, order)
+}
+
+#[test]
+fn orders_and_hashes(rt: HostRuntime) -> Result<(), Fail> {
+    let other = make_set(rt.alloc(), &[(1, 9)])?;
+    for wanted in SETS {
+        let set = make_set(rt.alloc(), wanted.0)?;
+        check_set(&rt, rt.alloc(), &set, wanted)?;
+        assert!(rt; set.copy()? == set && set != other);
+    }
+    Ok(())
+}
+
+/// Members, and what is printed of the refusal that they get.
+const REFUSED: &[(&[(u8, u64)], &str)] = &[
+    (&[(1, TOP), (2, 0)], "201 ZeroPower"),
+    (&[(1, TOP + 1)], "202 PowerTooBig"),
+    (&[], "203 Empty"),
+    (&[(1, TOP), (2, 5), (1, 2)], "205 DuplicateAddress"),
+    (&[(1, TOP), (2, 1)], "206 TotalTooBig"),
+];
+
+#[test]
+fn refuses(rt: HostRuntime) -> Result<(), Fail> {
+    for (members, text) in REFUSED {
+        let refusal = make_set(rt.alloc(), members).err().ok_or("accepted")?;
+        let printed = format!(in rt.alloc(); "{refusal}")?;
+        assert_same(&rt, &"text", &printed.as_str(), text);
+    }
+    Ok(())
+}
+
+/// What so many equal validators are refused for.
+fn refusal_of(alloc: Global, count: usize) -> Result<Option<ValsetError>, Fail> {
+    let members = vec![in alloc; Validator::new([1; 32], 1)?; count]?;
+    Ok(ValidatorSet::new(alloc, members).err())
+}
+
+#[test]
+fn refuses_too_many(rt: HostRuntime) -> Result<(), Fail> {
+    let most = refusal_of(rt.alloc(), 10_000)?;
+    assert_same(&rt, &"most", &most, &Some(ValsetError::DuplicateAddress));
+    let above = refusal_of(rt.alloc(), 10_001)?;
+    assert_same(&rt, &"above", &above, &Some(ValsetError::TooMany));
+    Ok(())
+}
+
+/// Whether a set is made and then copied on this heap, and the growths of the making.
+fn make_and_copy(rt: &impl Abort, heap: &Refusing<Global>) -> (bool, u64) {
+    match make_set(heap, &[(0xa1, 10), (0xa2, 10), (0xa3, 30), (0xa4, 10)]) {
+        Ok(set) => {
+            let made = heap.growths();
+            assert_same(rt, &"total", &set.total(), &60);
+            (set.copy().is_ok(), made)
+        }
+        Err(error) => {
+            assert_same(rt, &"new", &error, &ValsetError::NoMemory);
+            (false, heap.growths())
+        }
+    }
+}
+
+/// Refuses each growth of `new` and then `copy` in turn, until a run meets no refusal.
+#[test]
+fn survives_each_refused_growth(rt: HostRuntime) -> Result<(), Fail> {
+    let ample = Refusing::new(rt.alloc(), 0);
+    let (is_made, made) = make_and_copy(&rt, &ample);
+    assert!(rt; is_made && made > 0);
+    for before in 0..=ample.growths() {
+        let heap = Refusing::new(rt.alloc(), before.saturating_add(1));
+        let is_made = make_and_copy(&rt, &heap);
+        let wanted = (
+            before == ample.growths(),
+            made.min(before.saturating_add(1)),
+        );
+        assert_same(&rt, &before, &is_made, &wanted);
+    }
+    Ok(())
+}

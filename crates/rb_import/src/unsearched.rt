@@ -1,0 +1,72 @@
+//! Notices of searches for a path's packets that aren't there.
+use rb_seen::{Saved, Searches, searches_of};
+use rb_setup::Setup;
+use std::alloc::{AllocError, Global};
+use std::fmt;
+
+/// A path, and what its answers tell nothing of; fewer answers are empty than searches for that.
+#[derive(Clone, Copy, Debug)]
+pub struct MissingSearches<'a> {
+    pub path: &'a str,
+    pub searches: Searches,
+}
+
+impl fmt::Display for MissingSearches<'_> {
+    fn fmt<W: fmt::Write>(&self, f: &mut fmt::Formatter<W>) -> fmt::Result {
+        let path = self.path;
+        write!(
+            f,
+            "notice MissingSearches at {path}: no answer of /tx_search tells of"
+        )?;
+        let Searches {
+            lacks_sent,
+            lacks_received,
+            lacks_cleared,
+            ..
+        } = self.searches;
+        let is_second = lacks_sent || lacks_received;
+        write_names(f, lacks_sent, false, "send_packet")?;
+        write_names(f, lacks_received, lacks_sent, "recv_packet")?;
+        write_names(
+            f,
+            lacks_cleared,
+            is_second,
+            "acknowledge_packet or timeout_packet",
+        )?;
+        write!(
+            f,
+            ", and there isn't an empty one for each; nothing is planned for packets that aren't seen as sent, and what isn't seen as received or cleared is planned again; fetch all pages of /tx_search into files *.json of the folder {path}"
+        )
+    }
+}
+
+/// Writes the names of events of a kind that is lacking, behind such as stand before.
+fn write_names<W: fmt::Write>(
+    f: &mut fmt::Formatter<W>,
+    is_lacking: bool,
+    is_later: bool,
+    names: &str,
+) -> fmt::Result {
+    if !is_lacking {
+        return Ok(());
+    }
+    f.write_str(if is_later { ", " } else { " " })?;
+    f.write_str(names)
+}
+
+/// The paths of which searches aren't there, by the answers of each.
+pub fn missing_searches<'a>(
+    alloc: Global,
+    setup: &'a Setup,
+    answers: &[Vec<Saved>],
+) -> Result<Vec<MissingSearches<'a>>, AllocError> {
+    let mut found = Vec::new(alloc);
+    for (path, saved) in setup.paths.iter().zip(answers) {
+        let searches = searches_of(saved.as_slice());
+        if searches.are_missing() {
+            let path = path.id.as_str();
+            found.push(MissingSearches { path, searches })?;
+        }
+    }
+    Ok(found)
+}
