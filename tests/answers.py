@@ -136,20 +136,35 @@ def consensus_states(chain, heights):
     return {"consensus_states": states, "pagination": {"next_key": None, "total": "0"}}
 
 
-def packet_event(kind, sequence, timeout, encoded):
-    values = {"packet_data": "{}", "packet_timeout_height": "0-0" if sequence % 2 else "1-4000", "packet_timeout_timestamp": str(timeout),
-              "packet_sequence": str(sequence), "packet_src_port": "transfer", "packet_src_channel": "channel-0",
-              "packet_dst_port": "transfer", "packet_dst_channel": "channel-7"}
+def packet_event(kind, sequence, timeout, encoded=False, limit=None, ends=("channel-0", "channel-7")):
+    values = {"packet_data": "{}", "packet_timeout_height": limit or ("0-0" if sequence % 2 else "1-4000"), "packet_timeout_timestamp": str(timeout),
+              "packet_sequence": str(sequence), "packet_src_port": "transfer", "packet_src_channel": ends[0],
+              "packet_dst_port": "transfer", "packet_dst_channel": ends[1]}
     if encoded:
         values = {base64.b64encode(k.encode()).decode(): base64.b64encode(v.encode()).decode() for k, v in values.items()}
     return {"type": kind, "attributes": [{"key": k, "value": v, "index": True} for k, v in values.items()]}
 
 
+def client_packet_event(sequence):
+    """The event of a packet that was sent between clients (IBC v2)."""
+    values = {"packet_source_client": "07-tendermint-0", "packet_dest_client": "07-tendermint-5", "packet_sequence": str(sequence),
+              "packet_timeout_timestamp": "1793541600", "encoded_packet_hex": "00"}
+    return {"type": "send_packet", "attributes": [{"key": k, "value": v, "index": True} for k, v in values.items()]}
+
+
+def transaction(height, *events):
+    return {"hash": "00", "height": str(height), "index": 0, "tx_result": {"code": 0, "events": [
+        {"type": "tx", "attributes": [{"key": "fee", "value": "500uosmo", "index": True}]}, *events]}}
+
+
+def search(*txs):
+    return {"jsonrpc": "2.0", "id": -1, "result": {"txs": list(txs), "total_count": str(len(txs))}}
+
+
 def tx_search(found, encoded=False):
-    txs = [{"hash": "00", "height": str(height), "index": 0, "tx_result": {"code": 0, "events": [
-        {"type": "tx", "attributes": [{"key": "fee", "value": "500uosmo", "index": True}]}, packet_event(kind, sequence, timeout, encoded)]}}
-        for height, kind, sequence, timeout in found]
-    return {"jsonrpc": "2.0", "id": -1, "result": {"txs": txs, "total_count": str(len(txs))}}
+    """An answer with a transaction for each block, its kinds of events (joined by +), a sequence and a timeout."""
+    return search(*(transaction(height, *(packet_event(kind, sequence, timeout, encoded) for kind in kinds.split("+")))
+                    for height, kinds, sequence, timeout in found))
 
 
 def make(folder, seed, between=6):
@@ -170,7 +185,7 @@ def make(folder, seed, between=6):
     encoded = chance.random() < 0.5
     sent = [(30 + s, "send_packet", s, later if s != 3 else 0) for s in range(1, chance.randint(4, 7))]
     write(folder / "transfers" / "sent.json", tx_search(sent, encoded))
-    write(folder / "transfers" / "received.json", tx_search([(35, "recv_packet", 2, later), (35, "write_acknowledgement", 2, later)]))
+    write(folder / "transfers" / "received.json", tx_search([(35, "recv_packet+write_acknowledgement", 2, later)]))
     write(folder / "transfers" / "cleared.json", tx_search([(50, "acknowledge_packet", 2, later), (51, "timeout_packet", 1, later)], encoded))
 
 
@@ -283,24 +298,40 @@ KINDS = {"send_packet": "sent", "recv_packet": "received", "write_acknowledgemen
          "timeout_packet": "cleared"}
 
 
+LAST = 2**63 - 1
+
+
 def packet_events(folder, path):
-    found = []
+    """The packets of a path: of those that go to the first sent one's destination the one of the lowest block by kind and sequence."""
+    found, dest_revision = [], int(path["dest"].rsplit("-", 1)[1])
     for answer in answers_in(folder / path["id"]):
         for tx in answer["result"]["txs"]:
-            for event in tx["tx_result"]["events"]:
+            for event in tx["tx_result"]["events"] if tx["tx_result"]["code"] == 0 else []:
                 values = {a["key"]: a["value"] for a in event["attributes"]}
                 if "cGFja2V0X3NlcXVlbmNl" in values:
                     values = {base64.b64decode(k).decode(): base64.b64decode(v).decode() for k, v in values.items()}
-                if event["type"] in KINDS:
+                if event["type"] in KINDS and "packet_source_client" not in values:
                     found.append((list(KINDS.values()).index(KINDS[event["type"]]), int(tx["height"]), int(values["packet_sequence"]), event["type"], values))
-    for _, height, sequence, kind, values in sorted(found, key=lambda f: f[:3]):
-        if path.get("port", values["packet_src_port"]) != values["packet_src_port"] or sequence < path.get("first", 1):
-            continue
+    source, dest = ([f"packet_{end}_{part}" for part in ("port", "channel")] for end in ("src", "dst"))
+    if "port" in path:
+        found = [f for f in found if [f[4][name] for name in source] == [path["port"], path["channel"]]]
+    ends = [[f[4][name] for name in dest] for f in found if f[3] == "send_packet"][:1]
+    found = [f for f in found if f[2] >= path.get("first", 1) and [f[4][name] for name in dest] in (ends or [[f[4][name] for name in dest]])]
+    lowest = {}
+    for kind, height, sequence, name, values in found:
+        key = kind, sequence
+        if key not in lowest or height < lowest[key][1]:
+            lowest[key] = kind, height, sequence, name, values
+    for _, height, sequence, kind, values in sorted(lowest.values(), key=lambda f: f[:3]):
         event = {"kind": KINDS[kind], "path": path["id"], "seq": sequence}
         if KINDS[kind] != "cleared":
             event["height"] = height
         if kind == "send_packet":
-            limit = int(values["packet_timeout_height"].split("-")[1])
+            revision, limit = map(int, values["packet_timeout_height"].split("-"))
+            if revision > dest_revision or (revision, limit) == (0, 0):
+                limit = 0
+            else:
+                limit = 1 if revision < dest_revision else min(max(limit, 1), LAST)
             event |= {"timeout_height": limit} if limit else {}
             time = int(values["packet_timeout_timestamp"])
             event |= {"timeout_time": time} if time else {}
@@ -333,7 +364,8 @@ def script_of(setup, folder):
         client.setdefault("drift_ns", duration(given["max_clock_drift"]))
         client.setdefault("trust", [int(given["trust_level"][k]) for k in ("numerator", "denominator")])
         client.setdefault("refresh_ns", 0)
-        stored = [s for a in states for s in a.get("consensus_states", [])]
+        revision = int(client["of"].rsplit("-", 1)[1])
+        stored = [s for a in states for s in a.get("consensus_states", []) if int(s["height"]["revision_number"]) >= revision]
         records += [(client, state) for state in sorted(stored, key=height_of)]
         by_chain.setdefault(client["of"], set())
     records = kept(records, folder)

@@ -189,6 +189,8 @@ DAMAGES = [
     (PAGE_FILE, put(f"{FIRST}.pub_key", True), f"MissingField at {FIRST}.type"),
     (STATE_FILE, gone(STATE), "UnknownShape at -"),
     (STATE_FILE, put(STATE, True), f"WrongType at {STATE}"),
+    (STATE_FILE, put(f"{STATE}.trust_level.numerator", BIG), f"BadNumber at {STATE}.trust_level.numerator"),
+    (STATE_FILE, put(f"{STATE}.trust_level.denominator", BIG), f"BadNumber at {STATE}.trust_level.denominator"),
     (STORED_FILE, gone("consensus_states"), "UnknownShape at -"),
     (STORED_FILE, put("consensus_states", True), "WrongType at consensus_states"),
     (STORED_FILE, gone(f"{CONSENSUS}.height"), f"MissingField at {CONSENSUS}.height"),
@@ -205,12 +207,14 @@ DAMAGES = [
     (RECEIVED_FILE, put(f"{TX}.tx_result.code", -1), f"WrongType at {TX}.code"),
     (RECEIVED_FILE, gone(f"{PACKET}[4]"), f"MissingField at {TX}.packet_src_port"),
     (RECEIVED_FILE, gone(f"{PACKET}[5]"), f"MissingField at {TX}.packet_src_channel"),
+    (RECEIVED_FILE, gone(f"{PACKET}[6]"), f"MissingField at {TX}.packet_dst_port"),
+    (RECEIVED_FILE, gone(f"{PACKET}[7]"), f"MissingField at {TX}.packet_dst_channel"),
+    (RECEIVED_FILE, put(f"{PACKET}[3].value", BIG), f"BadNumber at {TX}.packet_sequence"),
     (RECEIVED_FILE, put(f"{PACKET}[3].value", 2), f"MissingField at {TX}.packet_sequence"),
     (SENT_FILE, gone(f"{PACKET}[1]"), f"MissingField at {TX}.packet_timeout_height"),
     (SENT_FILE, gone(f"{PACKET}[2]"), f"MissingField at {TX}.packet_timeout_timestamp"),
     (SENT_FILE, put(f"{PACKET}[1]", {"key": "packet_timeout_height", "value": "1/4000"}), f"BadNumber at {TX}.packet_timeout_height"),
     (SENT_FILE, put(f"{PACKET}[2]", {"key": "packet_timeout_timestamp", "value": "18446744073709551616"}), f"BadNumber at {TX}.packet_timeout_timestamp"),
-    (SENT_FILE, put(f"{PACKET}[1]", {"key": "packet_timeout_height", "value": "2-4000"}), "OtherRevision at transfers 1"),
     # what doesn't fit
     ("hub-4/commit-80.json", gone("result"), "UnknownShape at -"),
     ("hub-4/commit-80.json", gone(SIGNED), "UnknownShape at -"),
@@ -228,7 +232,7 @@ DAMAGES = [
     ("hub-on-zone/client_state.json", put(f"{STATE}.trusting_period", "336h"), f"BadDuration at {STATE}.trusting_period"),
     ("hub-on-zone/client_state.json", put(f"{STATE}.max_clock_drift", "0.0000000001s"), f"BadDuration at {STATE}.max_clock_drift"),
     ("hub-on-zone/client_state.json", put(f"{STATE}.frozen_height.revision_height", "1"), f"FrozenClient at {STATE}.frozen_height"),
-    ("hub-on-zone/consensus_states.json", put(f"{CONSENSUS}.height.revision_number", "1"), "OtherRevision at hub-on-zone 1"),
+    ("hub-on-zone/consensus_states.json", put(f"{CONSENSUS}.height.revision_number", "5"), "OtherRevision at hub-on-zone 1"),
     ("hub-on-zone/consensus_states.json", put("consensus_states[1].height.revision_height", "1"), "TwoAnswers at hub-on-zone 1"),
     ("hub-on-zone/consensus_states.json", put("pagination.next_key", "AAAA"), "MissingConsensusStates at hub-on-zone"),
     (STORED_FILE, put(f"{CONSENSUS}.consensus_state.timestamp", "2026-11-01T12:00:06Z"), "OtherRecord at hub-on-zone 1"),
@@ -241,7 +245,6 @@ DAMAGES = [
     ("transfers/received.json", gone(f"{PACKET}[3]"), f"MissingField at {TX}.packet_sequence"),
     ("transfers/received.json", put(f"{PACKET}[3].value", "two"), f"BadNumber at {TX}.packet_sequence"),
     ("transfers/received.json", put(f"{PACKET}[3].value", "9"), "MissingSend at transfers 9"),
-    ("transfers/received.json", put(f"{TX}.tx_result.code", 11), "MissingReceive at transfers 2"),
 ]
 
 
@@ -269,6 +272,14 @@ def edited(file, edit):
     return change
 
 
+def earlier(value):
+    """The edit that adds a record of an earlier revision, of the first one's height."""
+    first = json.loads(json.dumps(value["consensus_states"][0]))
+    first["height"]["revision_number"] = "3"
+    first["consensus_state"]["next_validators_hash"] = "00" * 32
+    value["consensus_states"].insert(0, first)
+
+
 def in_turn(*changes):
     return lambda folder: [change(folder) for change in changes]
 
@@ -281,6 +292,23 @@ def swapped(old, new):
     return mend
 
 
+def saved(*txs):
+    """The change that adds an answer of /tx_search with these transactions."""
+    return written("transfers/more.json", json.dumps(answers.search(*txs)))
+
+
+def packet_txs(ends, *found):
+    """A transaction for each block, kind of event and sequence."""
+    return [answers.transaction(height, answers.packet_event(kind, sequence, LATER, ends=ends)) for height, kind, sequence in found]
+
+
+def sent_until(*limits):
+    """Transactions of packets from 20 on, sent with these timeout heights."""
+    return [answers.transaction(40, answers.packet_event("send_packet", sequence, 0, limit=limit)) for sequence, limit in enumerate(limits, 20)]
+
+
+LATER = 1793541600000000005
+OURS, OTHER = ("channel-0", "channel-7"), ("channel-0", "channel-3")
 ADVICE = "the node answered an error; ask it again, or another node"
 INTO = " into files *.json of the folder "
 
@@ -305,14 +333,17 @@ CHANGES = [
     (removed(STATE_FILE), "refused MissingClientState at hub-on-zone", 1, [f"client_states/ID{INTO}hub-on-zone\n"]),
     (moved(STATE_FILE, "hub-on-zone/again.json", copy=True), "refused TwoAnswers at hub-on-zone 0", 1, [STATE_FILE, "again.json"]),
     (removed("hub-on-zone/consensus_states.json"), "refused MissingConsensusStates at hub-on-zone", 1, [f"consensus_states/ID, all of its pages,{INTO}hub-on-zone\n"]),
-    (removed(SENT_FILE), "refused MissingSend at transfers 2", 1, [f"{RECEIVED_FILE}: ", f"send_packet; fetch /tx_search with it{INTO}transfers\n"]),
+    (removed(SENT_FILE), "refused MissingSend at transfers 2", 1, [f"{RECEIVED_FILE}: ", f"send_packet; fetch /tx_search with it{INTO}transfers, or, where the node keeps it no more, set the path's `first` above it\n"]),
     (edited(RECEIVED_FILE, gone(f"{TX}.tx_result.events[1]")), "refused MissingReceive at transfers 2", 1, [f"recv_packet; fetch /tx_search with it{INTO}transfers\n"]),
     (edited(RECEIVED_FILE, put("result.total_count", "3")), "refused MissingTransactions at transfers 3", 1, [f"fetch all pages of /tx_search{INTO}transfers\n"]),
     (moved(STATE_FILE, "hub-4/client_state.json", copy=True), "refused WrongFolder at hub-4 0", 1, ["hub-4/client_state.json"]),
     (moved(COMMIT_FILE, "hub-on-zone/commit.json", copy=True), "refused WrongFolder at hub-on-zone 0", 1, ["hub-on-zone/commit.json"]),
     (moved(COMMIT_FILE, "transfers/commit.json", copy=True), "refused WrongFolder at transfers 0", 1, ["transfers/commit.json"]),
     (edited("transfers/received.json", put(f"{PACKET}[5].value", "channel-9")), "refused TwoChannels at transfers 2", 1, ["received.json", "cleared.json"]),
-    (moved("transfers/received.json", "transfers/again.json", copy=True), "refused TwoAnswers at transfers 2", 1, ["received.json", "again.json"]),
+    (saved(answers.transaction(99, answers.packet_event("send_packet", 3, 0))), "refused TwoAnswers at transfers 3", 1, ["more.json", "sent.json"]),
+    (saved(answers.transaction(33, answers.packet_event("send_packet", 3, 0, limit="1-7"))), "refused TwoAnswers at transfers 3", 1, ["more.json", "sent.json"]),
+    (saved(answers.transaction(33, answers.packet_event("send_packet", 3, LATER))), "refused TwoAnswers at transfers 3", 1, ["more.json", "sent.json"]),
+    (saved(answers.transaction(36, answers.packet_event("recv_packet", 9, 0))), "refused MissingSend at transfers 9", 1, ["more.json"]),
     (removed_folder("hub-4"), "device", 4, ["hub-4"]),
     (removed_folder("transfers"), "device", 4, ["transfers"]),
 ]
@@ -332,6 +363,7 @@ FUTURE = ("notice FutureHeaders at hub-on-zone %d: headers of hub-4 from this he
 UNSEARCHED = ("notice MissingSearches at transfers: no answer of /tx_search tells of %s, and there isn't an empty one for each; nothing is planned for "
               f"packets that aren't seen as sent, and what isn't seen as received or cleared is planned again; fetch all pages of /tx_search{INTO}transfers\n")
 SETTING, FROM, UNTIL = "drift_ns = 7\n", "12:09:20Z", "12:09:30Z"
+NAMED = swapped("gas = [5, 5, 5]\n", 'gas = [5, 5, 5]\nport = "transfer"\nchannel = "channel-0"\n')
 NO_RECORD = edited(STORED_FILE, put("consensus_states", []))
 NOTHING_FOUND = written(RECEIVED_FILE, '{"result": {"txs": [], "total_count": "0"}}')
 # the setup by its number, its change and that of the folder, after which the script is written all the same, and the lines that tell why updates
@@ -352,6 +384,20 @@ NOTICES = [
     (0, swapped(FROM, "12:08:32Z"), removed(), [FUTURE % (80, 1)]),
     (0, swapped(FROM, "12:00:01Z"), removed(), [FUTURE % (1, 2)]),
     (0, swapped(FROM, "12:08:33Z"), removed(), []),
+    (1, str, edited(RECEIVED_FILE, put(f"{TX}.tx_result.code", 11)), []),  # what failed did nothing
+    # of one packet several events: both searches saved, and messages that were relayed once more, before and after
+    (1, str, moved(RECEIVED_FILE, "transfers/acknowledged.json", copy=True), []),
+    (1, str, in_turn(*(moved(file, file.replace(".", "-again."), copy=True) for file in (SENT_FILE, RECEIVED_FILE, CLEARED_FILE))), []),
+    (1, str, saved(*packet_txs(OURS, (57, "recv_packet", 2), (57, "write_acknowledgement", 2), (58, "acknowledge_packet", 2), (59, "timeout_packet", 1))), []),
+    (1, str, saved(*packet_txs(OURS, (34, "write_acknowledgement", 2), (33, "recv_packet", 2))), []),
+    # packets of another chain whose channel has the name of the source's
+    (1, str, saved(*packet_txs(OTHER, (20, "recv_packet", 2), (36, "recv_packet", 3), (36, "write_acknowledgement", 3), (37, "recv_packet", 900))), []),
+    (1, NAMED, saved(*packet_txs(OTHER, (20, "recv_packet", 2), (36, "recv_packet", 3), (37, "recv_packet", 900)), *packet_txs(("channel-4", "channel-7"), (38, "recv_packet", 4))), []),
+    # timeout heights of other revisions than the destination's, and above all heights
+    (1, str, saved(*sent_until("1-18446744073709551615", "1-9223372036854775808", "1-9223372036854775807", "2-4000", "18446744073709551615-1", "0-4000", "1-0", "1-1")), []),
+    # a packet between clients, and a record from before an upgrade, which has another set's hash
+    (1, str, saved(answers.transaction(40, answers.client_packet_event(1), answers.packet_event("send_packet", 20, 0))), []),
+    (0, str, edited(STORED_FILE, earlier), []),
     (1, str, removed(RECEIVED_FILE), [UNSEARCHED % "recv_packet"]),
     (1, str, removed(SENT_FILE, RECEIVED_FILE, CLEARED_FILE), [UNSEARCHED % "send_packet, recv_packet, acknowledge_packet or timeout_packet"]),
     (1, str, in_turn(removed(SENT_FILE, CLEARED_FILE), NOTHING_FOUND), [UNSEARCHED % "send_packet, recv_packet, acknowledge_packet or timeout_packet"]),

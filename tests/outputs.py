@@ -133,7 +133,7 @@ def strict_cases(are_few):
 
 
 def turn_cases():
-    """`commands --turn`: the first and the last turn, one whose window is refused, and numbers of no turn."""
+    """`commands --turn`: the first and the last turn, one whose window is refused, and numbers of no turn, also of a script without turns."""
     example = TOP / "examples" / "two_clients.toml"
     table, report = tomllib.loads(example.read_text()), example.with_suffix(".report").read_text()
     for number in range(1, len(table["turn"]) + 1):
@@ -142,6 +142,8 @@ def turn_cases():
     for number, reason in ("0", "0 is not in 1..=500"), ("5", "the last turn of standard input is 4"), ("501", "501 is not in 1..=500"), ("one", "invalid digit found in string"):
         error = f"error: invalid value '{number}' for '--turn <N>': {reason}\n".encode()
         yield Case(f"commands of turn {number}", ["commands", f"--turn={number}", "-"], example.read_bytes(), b"", error, 2)
+    error = b"error: invalid value '1' for '--turn <N>': standard input has no turns\n"
+    yield Case("commands of a turn where there is none", ["commands", "--turn=1", "-"], b"version = 1\n", b"", error, 2)
     window = b"[[turn]]\nfrom = '2025-03-01T13:00:00.50+01:00'\nuntil = '2025-03-01T12:00:60Z'\n"
     output = b"# turn 1: valid from 2025-03-01T12:00:00.5Z until 2025-03-01T12:00:59Z\n"
     yield Case("commands of a window as others write it", ["commands", "-"], b"version = 1\n" + window, output, b"", 0)

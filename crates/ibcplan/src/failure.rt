@@ -7,8 +7,26 @@ use crate::shown::{Shown, shown_text};
 use crate::status;
 use rb_fields::{Fault, RunError};
 use std::alloc::Global;
-use std::io;
+use std::{fmt, io};
 use thiserror::Error;
+
+/// How many turns the script of a file has, told as which is the last.
+#[derive(Clone, Copy, Debug)]
+pub struct Turns<'a> {
+    pub file: Shown<'a>,
+    pub count: usize,
+}
+
+impl fmt::Display for Turns<'_> {
+    fn fmt<W: fmt::Write>(&self, f: &mut fmt::Formatter<W>) -> fmt::Result {
+        let Turns { file, count } = *self;
+        if count == 0 {
+            write!(f, "{file} has no turns")
+        } else {
+            write!(f, "the last turn of {file} is {count}")
+        }
+    }
+}
 
 /// Why there is no result, or not the whole one.
 #[derive(Debug, Drop, Error)]
@@ -36,11 +54,10 @@ pub enum Failure<'a> {
         flaw: Flaw<'a>,
     },
     /// The script doesn't have the turn that was asked for.
-    #[error("error: invalid value '{turn}' for '--turn <N>': the last turn of {file} is {turns}\n\nFor more information, try '--help'.")]
+    #[error("error: invalid value '{turn}' for '--turn <N>': {turns}\n\nFor more information, try '--help'.")]
     NoSuchTurn {
-        file: Shown<'a>,
         turn: u64,
-        turns: usize,
+        turns: Turns<'a>,
     },
     /// Standard output fails.
     #[error("device\nstandard output: {error}\nIt can't be written; what it took may be only a beginning.")]

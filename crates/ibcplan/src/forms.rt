@@ -1,14 +1,14 @@
 //! The report of a script in other forms than its own: JSON, and the commands that submit its updates.
 ghost use Rattle.rb_events.specs.Script.{script_view, IsScript};
 
-use crate::failure::Failure;
+use crate::failure::{Failure, Turns};
 use crate::input::Input;
-use crate::reporting::{report_has_refusal, report_of};
+use crate::reporting::report_has_refusal;
 use rb_events::Script;
 use rb_fields::RunError;
 use rb_gang::OpenGate;
 use rb_output::{Setting, commands_of, json_of};
-use rb_text::read_script;
+use rb_text::{read_script, report_of};
 use std::alloc::{AllocError, Global};
 use std::sync::{Arc, Wait};
 use std::thread::Threads;
@@ -58,13 +58,15 @@ pub fn commands_of_script<'a, R: Threads + Wait + Copy + Send + Sync + 'static>(
         Ok(script) => script,
         Err(error) => return Err(Failure::of_run(error, input)),
     };
-    let turns = script.turns.len();
+    let count = script.turns.len();
     match turn {
-        Some(turn) if turn > turns as u64 => Err(Failure::NoSuchTurn {
-            file: input.name(),
-            turn,
-            turns,
-        }),
+        Some(turn) if turn > count as u64 => {
+            let file = input.name();
+            Err(Failure::NoSuchTurn {
+                turn,
+                turns: Turns { file, count },
+            })
+        }
         _ => match commands_by(rt, alloc, script, turn) {
             Ok(text) => Ok(text),
             Err(_) => Err(Failure::NoMemory),

@@ -4,6 +4,7 @@ ghost use Rattle.std.specs.Prelude.{◌≡◌};
 use crate::failure::Failure;
 use crate::host::Host;
 use crate::shown::Shown;
+use rb_fields::MAX_BYTES;
 use std::alloc::Global;
 use std::fs::File;
 use std::io;
@@ -11,7 +12,7 @@ use std::io::Read;
 
 /// A file is read up to one byte past what a text may have, so that the reader can tell that it is
 /// too big.
-const MOST_BYTES: u64 = 16_777_217;
+const MOST_BYTES: u64 = MAX_BYTES as u64 + 1;
 
 /// The path that stands for standard input.
 pub const STANDARD_INPUT: &str = "-";

@@ -1,6 +1,7 @@
 //! ibcplan plans the client updates of an IBC relayer's script, and judges plans that others made.
-//! What it does stands in `rb_text`; here are the command line, the files, the statuses and the
-//! words for the operator.
+//! What it does stands in `rb_text`, `rb_import` and `rb_output`; here are the command line, the files,
+//! the statuses (of a plan with `--strict` by whether its report tells of something refused) and the words
+//! for the operator.
 #![tactic(auto)]
 
 mod advice;

@@ -120,7 +120,7 @@ fn done_of<'a, R: Host, W: Sink>(
         Task::PlanJson { script, is_strict } => {
             let script = Input::read(rt, script)?;
             let JsonText { text, has_refusal } = json_of_script(rt, rt.alloc(), &script)?;
-            let status = write(&text, output)?;
+            let status = write(text.as_str(), output)?;
             if is_strict {
                 strict_status(has_refusal)
             } else {
@@ -130,12 +130,12 @@ fn done_of<'a, R: Host, W: Sink>(
         Task::Commands { script, turn } => {
             let script = Input::read(rt, script)?;
             let text = commands_of_script(rt, rt.alloc(), &script, turn)?;
-            write(&text, output)?
+            write(text.as_str(), output)?
         }
         Task::Import { setup, folder } => {
             let setup = Input::read(rt, setup)?;
             let ImportedText { script, notices } = imported(rt, &setup, folder)?;
-            let status = write(&script, output)?;
+            let status = write(script.as_str(), output)?;
             return Ok(Done {
                 status,
                 notices: Some(notices),
@@ -208,10 +208,10 @@ fn plan_strictly<
 }
 
 /// Writes a text that was made in memory.
-fn write<'a, W: Sink>(script: &String, output: &mut W) -> Result<u8, Failure<'a>>
+fn write<'a, W: Sink>(text: &str, output: &mut W) -> Result<u8, Failure<'a>>
     requires { W.is_broken output.old ≡ false }
 {
-    match write_whole(output, script.as_bytes()) {
+    match write_whole(output, text.as_bytes()) {
         Ok(()) => Ok(status::DONE),
         Err(_) => Err(Failure::untaken()),
     }

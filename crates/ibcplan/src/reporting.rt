@@ -1,50 +1,22 @@
-//! The report of a script, for whoever asks more of it than its text.
-ghost use Rattle.std.specs.Prelude.{◌≡◌, ◌≤◌, false, map, IfOk, is_some, if◌then◌else◌};
+//! What a report says of refusals, and the status of a strict plan.
+ghost use Rattle.std.specs.Prelude.{◌≡◌, ◌≤◌, ◌↔◌, ◌⊎◌, Err, true, false, IfOk, OnErr, IsErrOf, is_some, if◌then◌else◌};
 ghost use Rattle.std.specs.List.{list_any};
-ghost use Rattle.rb_events.specs.Script.{script_view, IsScript};
-ghost use Rattle.rb_events.specs.declared.config.PathConfig.{PathConfig};
-ghost use Rattle.rb_super.specs.Told.{told};
-ghost use Rattle.rb_phases.specs.Script as relayed;
-ghost use Rattle.rb_phases.specs.Turns.{IsReportOf};
+ghost use Rattle.rb_fields.specs.declared.fault.Fault.{Fault as CodeFault};
+ghost use Rattle.rb_fields.specs.Faults.{fault_view};
+ghost use Rattle.rb_text.specs.Scripts.{script_of};
 ghost use Rattle.rb_phases.specs.Views.{settlement_view, turn_report_view, report_view};
+ghost use Rattle.rb_text.specs.Headline.{BeginsReport};
 ghost use Rattle.ibcplan.specs.Status.{has_refusal, IsPlannedStrictly};
 
 use crate::status;
 use rb_base::Sink;
-use rb_events::Script;
 use rb_fields::RunError;
 use rb_gang::Gate;
 use rb_phases::{Report, SettlementReport, TurnReport};
-use rb_super::{read_scripts_are_scripts, run_by_workers, run_script};
-use rb_text::{read_script, write_report};
-use std::alloc::{AllocError, Global};
+use rb_text::report_over;
+use std::alloc::Global;
 use std::sync::{Arc, Wait};
 use std::thread::Threads;
-
-/// Runs a script by so many workers in threads of their own, or by none.
-pub(crate) fn report_of<
-    R: Threads + Wait + Copy + Send + Sync + 'static,
-    G: Gate + Send + Sync + Drop + 'static,
->(
-    rt: &R,
-    alloc: Global,
-    script: Script,
-    workers: usize,
-    gate: &Arc<G, Global>,
-) -> Result<Report, AllocError>
-    requires script { IsScript (script_view script) }
-    requires workers { workers ≤ 64 }
-    ensures kept { relayed.IsScript (told (script_view script)) }
-    ensures paths { IfOk result (λ report. report.paths.items ≡ map (λ (p : PathConfig). p.id) script.config.paths.items) }
-    ensures turns { IfOk result (λ report. IsReportOf (told (script_view script)) (report_view report)) }
-{
-    read_scripts_are_scripts(&script);
-    if workers == 0 {
-        run_script(rt, alloc, script, 0, &**gate)
-    } else {
-        run_by_workers(rt, alloc, script, workers, gate)
-    }
-}
 
 /// Whether one of a turn's settlements is refused.
 fn settlements_have_refusal(settlements: &[SettlementReport]) -> bool
@@ -91,7 +63,7 @@ pub(crate) fn strict_status(has_refusal: bool) -> u8
 }
 
 /// Reads a script, runs it and writes its report as `run_over` does, and answers the status of a strict
-/// plan.
+/// plan; what holds of an Err is as there.
 pub(crate) fn write_strictly<
     R: Threads + Wait + Copy + Send + Sync + 'static,
     W: Sink,
@@ -107,9 +79,11 @@ pub(crate) fn write_strictly<
     requires works { W.is_broken writer.old ≡ false }
     requires workers { workers ≤ 64 }
     ensures done { IfOk result (IsPlannedStrictly bytes.now (W.taken writer.old) (W.taken writer.new)) }
+    ensures fault { (f : CodeFault) → IsErrOf result (RunError.Fault f) → script_of bytes.now ≡ Err (fault_view f) }
+    ensures nothing_written { (f : CodeFault) → IsErrOf result (RunError.Fault f) → writer.new ≡ writer.old }
+    ensures device { IsErrOf result RunError.Device ↔ (W.is_broken writer.new ≡ true) }
+    ensures begun { OnErr result ((writer.new ≡ writer.old) ⊎ BeginsReport bytes.now (W.taken writer.old) (W.taken writer.new)) }
 {
-    let script = read_script(alloc, bytes)?;
-    let report = report_of(rt, alloc, script, workers, gate)?;
-    write_report(alloc, &report, writer)?;
+    let report = report_over(rt, alloc, bytes, writer, workers, gate)?;
     Ok(strict_status(report_has_refusal(&report)))
 }

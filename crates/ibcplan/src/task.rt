@@ -3,6 +3,7 @@ use crate::input::STANDARD_INPUT;
 use crate::workers::Workers;
 use clap::error::ErrorKind;
 use clap::{Arg, ArgAction, ArgMatches, Command, Error, value_parser};
+use rb_events::MAX_TURNS;
 use std::alloc::{AllocError, Global};
 
 /// What the program is asked to do, with the paths of its files.
@@ -80,8 +81,9 @@ Exit status:
      its labels don't show it; standard output says why
   4  no memory, or a file or an output that fails
   5  of ./ibcplan: the program isn't built, and can't be
-  6  of plan and run with --strict: the report is written, and something in it
-     is refused; its lines that begin with 'refused' say what";
+  6  of plan and run with --strict: the report is written, and a window, an event
+     or a settlement in it is refused; unless it is JSON, its lines that begin
+     with 'refused' say which";
 
 const AFTER_PLAN: &str = "Examples:
   ibcplan plan examples/smallest.toml
@@ -171,7 +173,7 @@ fn commands_command<'a>(alloc: Global) -> Result<Command<'a>, AllocError> {
     let turn = Arg::new(alloc, TURN)
         .long("turn")
         .value_name("N")
-        .value_parser(value_parser!(u64).range(1..=500))
+        .value_parser(value_parser!(u64).range(1..=MAX_TURNS as i64))
         .help("Writes those of this turn alone, from 1");
     Command::new(alloc, COMMANDS)
         .about("Writes the commands (of Hermes) that submit the updates of a script's plans")

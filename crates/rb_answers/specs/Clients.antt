@@ -13,6 +13,7 @@ use Rattle.rb_json.specs.declared.place.Part.{Part}
 use Rattle.rb_json.specs.Flaws.{◌>>=◌, or_flaw, must}
 use Rattle.rb_json.specs.Fields.{Object, flaw_at, field, inner, object, items, text, number, height, chain, time, hex, base64, each}
 use Rattle.rb_answers.specs.Durations.{nanoseconds_of}
+use Rattle.rb_answers.specs.Numbers.{script_number}
 
 -- only Tendermint's light clients are read
 unfoldable pub tendermint : Object → Result ⊤ Flaw
@@ -34,12 +35,12 @@ revision state = do
   latest ← object Key.LatestHeight Part.LatestHeight state
   number Key.RevisionNumber latest
 
--- a trust level is from a third to one
+-- a trust level is from a third to one, in numbers that a script takes
 unfoldable pub trust : Object → Result TrustLevel Flaw
 trust state = do
   level ← object Key.TrustLevel Part.TrustLevel state
-  numerator ← number Key.Numerator level
-  denominator ← number Key.Denominator level
+  numerator ← script_number Key.Numerator level
+  denominator ← script_number Key.Denominator level
   _ ← must (flaw_at state Key.TrustLevel BadTrust) (nat_lt 0 denominator && nat_le denominator (3 * numerator) && nat_le numerator denominator)
   Ok (record { numerator = numerator; denominator = denominator })
 

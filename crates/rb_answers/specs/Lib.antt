@@ -2,6 +2,7 @@ pub mod Votes
 pub mod Headers
 pub mod Validators
 pub mod Durations
+pub mod Numbers
 pub mod Clients
 pub mod Revisions
 pub mod Packets

@@ -1,5 +1,5 @@
 -- The answer of CometBFT's `/tx_search`: what transactions did with packets (ICS 4; ibc-go's names).
-use Rattle.std.specs.Prelude.{ℕ, suc, ◌++◌, List, [], ◌∷◌, length, map, Option, Some, None, option_map, option_and_then, option_to_list, Result, Ok, Err, codes, string_bytes, nat_lt, ◌==◌, if◌then◌else◌, Bool}
+use Rattle.std.specs.Prelude.{ℕ, suc, ◌++◌, List, [], ◌∷◌, length, map, Option, Some, None, option_and_then, option_to_list, Result, Ok, Err, codes, string_bytes, nat_lt, ◌==◌, ◌&&◌, ◌||◌, not, if◌then◌else◌, Bool, false}
 use Rattle.std.specs.List.{position_or_len, before_first, after_first}
 use Rattle.std.specs.Result.{result_ok}
 use Rattle.std.specs.Str.{bytes_eq, is_utf8}
@@ -21,6 +21,7 @@ use Rattle.rb_json.specs.Flaws.{◌>>=◌, or_flaw}
 use Rattle.rb_json.specs.Fields.{Object, flaw_at, field, inner, items, text, number, height}
 use Rattle.rb_json.specs.Names.{key_name}
 use Rattle.rb_json.specs.Values.{number_of}
+use Rattle.rb_answers.specs.Numbers.{in_script}
 
 -- what was done with a packet, by an event's type
 abbrev pub kind_of : List ℕ → Option PacketKind
@@ -36,6 +37,8 @@ kind_of name =
 
 -- the base64 of an attribute's name, as names and values stood before CometBFT 0.37
 abbrev pub encoded_name : Key → List ℕ
+encoded_name Key.PacketDstChannel = codes "cGFja2V0X2RzdF9jaGFubmVs"
+encoded_name Key.PacketDstPort = codes "cGFja2V0X2RzdF9wb3J0"
 encoded_name Key.PacketSequence = codes "cGFja2V0X3NlcXVlbmNl"
 encoded_name Key.PacketSrcPort = codes "cGFja2V0X3NyY19wb3J0"
 encoded_name Key.PacketSrcChannel = codes "cGFja2V0X3NyY19jaGFubmVs"
@@ -97,12 +100,35 @@ attribute_height name event ds = do
   t ← attribute name event ds
   or_flaw (flaw_at event name BadNumber) (revision_height_of t)
 
--- the port and the channel of a packet's source, as `port/channel`
-unfoldable pub source : Object → Items → Result (List ℕ) Flaw
-source event ds = do
-  port ← attribute Key.PacketSrcPort event ds
-  channel ← attribute Key.PacketSrcChannel event ds
-  Ok (port ++ 47 ∷ [] ++ channel)
+-- a packet's sequence, which a script takes
+unfoldable pub sequence : Object → Items → Result ℕ Flaw
+sequence event ds = do
+  n ← attribute_number Key.PacketSequence event ds
+  or_flaw (flaw_at event Key.PacketSequence BadNumber) (in_script n)
+
+-- an end of a packet's way: the port and the channel that these attributes hold, as `port/channel`
+unfoldable pub end_of : Key → Key → Object → Items → Result (List ℕ) Flaw
+end_of port channel event ds = do
+  p ← attribute port event ds
+  c ← attribute channel event ds
+  Ok (p ++ 47 ∷ [] ++ c)
+
+abbrev pub is_text : List ℕ → Option (List ℕ) → Bool
+is_text name (Some key) = bytes_eq key name
+is_text name None = false
+
+-- whether an attribute has this name
+abbrev pub is_named : Key → Data → Bool
+is_named name d = is_text (key_name name) (member_text (codes "key") d)
+
+-- whether an attribute of this name is there
+abbrev pub is_there : Key → Items → Bool
+is_there name no_items = false
+is_there name (item d ds) = is_named name d || is_there name ds
+
+-- whether a packet goes between clients, as those of IBC v2 do (ibc-go: `packet_source_client`), and not between channels
+abbrev pub are_of_clients : Items → Bool
+are_of_clients ds = is_there Key.PacketSourceClient ds && not (is_there Key.PacketSrcPort ds)
 
 -- ---- packets
 
@@ -133,24 +159,34 @@ pub record Packet : Type 0 where
   pub block : ℕ
   pub sequence : ℕ
   pub source : List ℕ
+  pub dest : List ℕ
   pub timeout : Timeout
 
 abbrev pub packet_view : PacketEvent → Packet
-packet_view p = record { kind = p.kind; block = p.block; sequence = p.sequence; source = string_bytes p.source; timeout = record { height = p.timeout_height; time = p.timeout_time } }
+packet_view p = record { kind = p.kind; block = p.block; sequence = p.sequence; source = string_bytes p.source; dest = string_bytes p.dest; timeout = record { height = p.timeout_height; time = p.timeout_time } }
 
-unfoldable pub packet : PacketKind → ℕ → Object → Result Packet Flaw
-packet kind block event = do
-  ds ← items Key.Attributes event
-  n ← attribute_number Key.PacketSequence event ds
-  from ← source event ds
+unfoldable pub packet : PacketKind → ℕ → Object → Items → Result Packet Flaw
+packet kind block event ds = do
+  n ← sequence event ds
+  from ← end_of Key.PacketSrcPort Key.PacketSrcChannel event ds
+  to ← end_of Key.PacketDstPort Key.PacketDstChannel event ds
   until ← timeout kind event ds
-  Ok (record { kind = kind; block = block; sequence = n; source = from; timeout = until })
+  Ok (record { kind = kind; block = block; sequence = n; source = from; dest = to; timeout = until })
+
+-- packets between clients are passed over
+unfoldable pub if_channels : PacketKind → ℕ → Object → Items → Result (Option Packet) Flaw
+if_channels kind block event ds = if are_of_clients ds then Ok None else (packet kind block event ds >>= λ p. Ok (Some p))
+
+unfoldable pub of_kind : PacketKind → ℕ → Object → Result (Option Packet) Flaw
+of_kind kind block event = do
+  ds ← items Key.Attributes event
+  if_channels kind block event ds
 
 abbrev pub if_packet : ℕ → Object → Option PacketKind → Result (Option Packet) Flaw
-if_packet block event (Some kind) = packet kind block event >>= λ p. Ok (Some p)
+if_packet block event (Some kind) = of_kind kind block event
 if_packet block event None = Ok None
 
--- an event, if it is about a packet
+-- an event, if it is about a packet of a channel
 unfoldable pub event : ℕ → Object → Result (Option Packet) Flaw
 event block o = do
   kind ← text Key.Type o

@@ -1,10 +1,11 @@
 //! The attributes of an event.
-ghost use Rattle.std.specs.Prelude.{◌≡◌, option_map, string_bytes};
+ghost use Rattle.std.specs.Prelude.{◌≡◌, ◌&&◌, not, option_map, string_bytes};
 ghost use Rattle.serde_json.specs.View.{view, items_view};
 ghost use Rattle.rb_json.specs.Flaws.{Gives};
 ghost use Rattle.rb_json.specs.Fields.{object_view, flaw_at};
-ghost use Rattle.rb_answers.specs.Packets.{encoded_name, member_text, decoded, if_utf8, entry_text, attribute, attribute_number, attribute_height, source, revision_height_of};
+ghost use Rattle.rb_answers.specs.Packets.{encoded_name, member_text, decoded, if_utf8, entry_text, attribute, attribute_number, attribute_height, sequence, end_of, is_named, is_there, are_of_clients, revision_height_of};
 
+use crate::number::in_script;
 use crate::packets::RevisionHeight;
 use base64::DecodeAllocError;
 use base64::engine::general_purpose::STANDARD;
@@ -17,6 +18,8 @@ fn encoded_name(key: Key) -> &'static str
     ensures { result.now ≡ encoded_name key }
 {
     match key {
+        Key::PacketDstChannel => "cGFja2V0X2RzdF9jaGFubmVs",
+        Key::PacketDstPort => "cGFja2V0X2RzdF9wb3J0",
         Key::PacketSequence => "cGFja2V0X3NlcXVlbmNl",
         Key::PacketSrcPort => "cGFja2V0X3NyY19wb3J0",
         Key::PacketSrcChannel => "cGFja2V0X3NyY19jaGFubmVs",
@@ -57,16 +60,46 @@ impl Attributes<'_> {
         }
     }
 
-    /// The port and the channel of the packet's source.
-    #[tactic(auto, using(rb_json::proofs::Steps::steps), unfolding(crate::specs::Packets::source))]
-    pub fn source(&self) -> Result<String, AnswerError>
-        ensures { Gives (λ t. string_bytes t) result (source (object_view self.now.event) (items_view self.now.items.now)) }
+    /// The packet's sequence, which a script takes.
+    #[tactic(auto, using(rb_json::proofs::Steps::steps), unfolding(crate::specs::Packets::sequence))]
+    pub fn sequence(&self) -> Result<u64, AnswerError>
+        ensures { Gives (λ n. n) result (sequence (object_view self.now.event) (items_view self.now.items.now)) }
     {
-        let mut source = self.text(Key::PacketSrcPort)?;
-        let channel = self.text(Key::PacketSrcChannel)?;
-        source.push('/')?;
-        source.push_str(channel.as_str())?;
-        Ok(source)
+        match in_script(self.number(Key::PacketSequence)?) {
+            Some(number) => Ok(number),
+            None => Err(self.flaw(Key::PacketSequence, FlawName::BadNumber)),
+        }
+    }
+
+    /// An end of the packet's way: the port and the channel that these attributes hold.
+    #[tactic(auto, using(rb_json::proofs::Steps::steps), unfolding(crate::specs::Packets::end_of))]
+    pub fn end(&self, port: Key, channel: Key) -> Result<String, AnswerError>
+        ensures { Gives (λ t. string_bytes t) result (end_of port channel (object_view self.now.event) (items_view self.now.items.now)) }
+    {
+        let mut end = self.text(port)?;
+        let channel = self.text(channel)?;
+        end.push('/')?;
+        end.push_str(channel.as_str())?;
+        Ok(end)
+    }
+
+    /// Whether the packet goes between clients, as those of IBC v2 do, and not between channels.
+    pub fn are_of_clients(&self) -> bool
+        ensures { result ≡ are_of_clients (items_view self.now.items.now) }
+    {
+        self.is_there(Key::PacketSourceClient) && !self.is_there(Key::PacketSrcPort)
+    }
+
+    /// Whether an attribute of this name is there.
+    fn is_there(&self, name: Key) -> bool
+        ensures { result ≡ is_there name (items_view self.now.items.now) }
+    {
+        for item in self.items {
+            if is_named(item, name) {
+                return true;
+            }
+        }
+        false
     }
 
     /// The text that an attribute holds, which has to be there.
@@ -126,6 +159,16 @@ fn text_of(bytes: &[u8]) -> Option<&str>
     ensures { option_map (λ t. t.now) result ≡ if_utf8 bytes.now }
 {
     std::str::from_utf8(bytes).ok()
+}
+
+/// Whether an attribute has this name.
+fn is_named(item: &Value, name: Key) -> bool
+    ensures { result ≡ is_named name (view item.now) }
+{
+    match text_at(item, "key") {
+        Some(key) => key == name.name(),
+        None => false,
+    }
 }
 
 /// The text of a member of an object, if both are.

@@ -7,6 +7,7 @@ ghost use Rattle.rb_json.specs.Fields.{object_view, each};
 ghost use Rattle.rb_answers.specs.Clients.{tendermint, live, revision, trust, period_of, period, drift_of, drift, client_state, root, consensus_state, is_last, states, states_view};
 
 use crate::duration::nanoseconds_of;
+use crate::number::script_number;
 use rb_base::{ChainId, Fraction, Height, Moment, Period};
 use rb_json::{AnswerError, Flaw, FlawName, Key, Object, Part};
 use serde_json::Value;
@@ -15,7 +16,7 @@ use std::alloc::Global;
 /// The most that a clock drift may be: 2^63 - 1 ns.
 const MAX_DRIFT: u64 = i64::MAX as u64;
 
-/// The part of a trusted set that has to have signed: from a third to one.
+/// The part of a trusted set that has to have signed: from a third to one, in numbers below 2^63.
 #[derive(Clone, Copy)]
 pub struct TrustLevel {
     pub numerator: u64,
@@ -112,8 +113,8 @@ fn read_trust(state: &Object<'_>) -> Result<TrustLevel, Flaw>
     ensures { Reads (λ t. t) result (trust (object_view state.now)) }
 {
     let level = state.object(Key::TrustLevel, Part::TrustLevel)?;
-    let numerator = level.number(Key::Numerator)?;
-    let denominator = level.number(Key::Denominator)?;
+    let numerator = script_number(&level, Key::Numerator)?;
+    let denominator = script_number(&level, Key::Denominator)?;
     match Fraction::new(numerator, denominator) {
         Ok(_) => Ok(TrustLevel {
             numerator,

@@ -8,6 +8,7 @@ mod attributes;
 mod client;
 mod commit;
 mod duration;
+mod number;
 mod packets;
 mod revision;
 mod said;

@@ -3,7 +3,7 @@ ghost use Rattle.std.specs.Prelude.{◌≡◌, [], map, option_map, string_bytes
 ghost use Rattle.serde_json.specs.View.{view, items_view};
 ghost use Rattle.rb_json.specs.Flaws.{Reads, Gives};
 ghost use Rattle.rb_json.specs.Fields.{object_view};
-ghost use Rattle.rb_answers.specs.Packets.{packet_view, search_view, found, transactions, transaction, code, events, event, packet, timeout, timeout_view};
+ghost use Rattle.rb_answers.specs.Packets.{packet_view, search_view, found, transactions, transaction, code, events, event, of_kind, if_channels, packet, timeout, timeout_view};
 
 use crate::attributes::Attributes;
 use rb_base::Height;
@@ -49,15 +49,16 @@ pub struct RevisionHeight {
     pub height: u64,
 }
 
-/// An event of a packet: what was done, in which block, the packet's sequence, the port and the
-/// channel of its source as `port/channel`, and of a packet that was sent its timeouts (the time in
-/// nanoseconds; 0 is none).
+/// An event of a packet: what was done, in which block, the packet's sequence (below 2^63), the port and
+/// the channel of its source and of its destination as `port/channel`, and of a packet that was sent its
+/// timeouts (the time in nanoseconds; 0 is none).
 #[derive(Drop)]
 pub struct PacketEvent {
     pub kind: PacketKind,
     pub block: Height,
     pub sequence: u64,
     pub source: String,
+    pub dest: String,
     pub timeout_height: RevisionHeight,
     pub timeout_time: u64,
 }
@@ -149,7 +150,7 @@ fn add_events(
     Ok(())
 }
 
-/// Reads an event, if it is about a packet.
+/// Reads an event, if it is about a packet of a channel.
 #[tactic(auto, using(rb_json::proofs::Steps::steps), unfolding(crate::specs::Packets::event))]
 fn read_event(
     alloc: Global,
@@ -159,33 +160,62 @@ fn read_event(
     ensures { Gives (λ o. option_map packet_view o) result (event block (object_view told.now)) }
 {
     match PacketKind::of_type(told.text(Key::Type)?) {
-        Some(kind) => Ok(Some(read_packet(alloc, told, kind, block)?)),
+        Some(kind) => read_attributes(alloc, told, kind, block),
         None => Ok(None),
     }
 }
 
-#[tactic(auto, using(rb_json::proofs::Steps::steps), unfolding(crate::specs::Packets::packet))]
-fn read_packet(
+#[tactic(auto, using(rb_json::proofs::Steps::steps), unfolding(crate::specs::Packets::of_kind))]
+fn read_attributes(
     alloc: Global,
     told: &Object<'_>,
     kind: PacketKind,
     block: Height,
-) -> Result<PacketEvent, AnswerError>
-    ensures { Gives (λ p. packet_view p) result (packet kind block (object_view told.now)) }
+) -> Result<Option<PacketEvent>, AnswerError>
+    ensures { Gives (λ o. option_map packet_view o) result (of_kind kind block (object_view told.now)) }
 {
     let attributes = Attributes {
         alloc,
         event: *told,
         items: told.items(Key::Attributes)?,
     };
-    let sequence = attributes.number(Key::PacketSequence)?;
-    let source = attributes.source()?;
-    let timeout = read_timeout(&attributes, kind)?;
+    read_channels(&attributes, kind, block)
+}
+
+/// Reads a packet, if it goes between channels.
+#[tactic(auto, using(rb_json::proofs::Steps::steps), unfolding(crate::specs::Packets::if_channels))]
+fn read_channels(
+    attributes: &Attributes<'_>,
+    kind: PacketKind,
+    block: Height,
+) -> Result<Option<PacketEvent>, AnswerError>
+    ensures { Gives (λ o. option_map packet_view o) result (if_channels kind block (object_view attributes.now.event) (items_view attributes.now.items.now)) }
+{
+    if attributes.are_of_clients() {
+        Ok(None)
+    } else {
+        Ok(Some(read_packet(attributes, kind, block)?))
+    }
+}
+
+#[tactic(auto, using(rb_json::proofs::Steps::steps), unfolding(crate::specs::Packets::packet))]
+fn read_packet(
+    attributes: &Attributes<'_>,
+    kind: PacketKind,
+    block: Height,
+) -> Result<PacketEvent, AnswerError>
+    ensures { Gives (λ p. packet_view p) result (packet kind block (object_view attributes.now.event) (items_view attributes.now.items.now)) }
+{
+    let sequence = attributes.sequence()?;
+    let source = attributes.end(Key::PacketSrcPort, Key::PacketSrcChannel)?;
+    let dest = attributes.end(Key::PacketDstPort, Key::PacketDstChannel)?;
+    let timeout = read_timeout(attributes, kind)?;
     Ok(PacketEvent {
         kind,
         block,
         sequence,
         source,
+        dest,
         timeout_height: timeout.height,
         timeout_time: timeout.time,
     })

@@ -9,10 +9,9 @@ use Rattle.std.proofs.lemmas.Bool.{true≢false}
 use Rattle.std.proofs.lemmas.List.Sums.{fold-append}
 use Rattle.left_right.specs.Register.{Admits, Turns, TurnsAt, Forks, Merges}
 use Rattle.atomic_table.proofs.Lists.{at_set, at_snoc}
-use Rattle.rb_core.specs.Follower.{Past, Follower, IsOfLog, events_in, followed, follows, state_after, told_entry, told_of}
-use Rattle.rb_core.specs.declared.told.Told.{Told}
+use Rattle.rb_core.specs.Follower.{Past, Follower, IsOfLog, Told, events_in, followed, follows, state_after, told_of}
 use Rattle.rb_core.proofs.Entries.{after_free, events-append, events_grow}
-use Rattle.rb_core.proofs.Unjudged.{told_back, entry_told}
+use Rattle.rb_core.proofs.Unjudged.{told_back}
 use Rattle.rb_events.specs.Config.{Config}
 use Rattle.rb_machine.specs.Config.{IsSetUp}
 use Rattle.rb_machine.specs.Entry.{Logged, logged_of, events_of}
@@ -52,17 +51,17 @@ known_set : (k : Knowledge) (views : List Knowledge) (seat : ℕ) (w : Knowledge
 known_set k views seat w h mine j u e = ⊎_elim (λ (t : (j ≡ seat) × (w ≡ u)). subst (λ (z : Knowledge). Begins z k) t.1 mine) (λ (t : (j ≢ seat) × (get_elem? views j ≡ some u)). h j u t.1) (at_set views seat j w u e)
 
 -- who follows what waits keeps the configuration, and has what was there at the beginning of the entries
-pub same_config : {A : Type 0} (f : Follower) (waiting : List (Told A)) → f.past.config ≡ (followed_on f waiting).past.config
+pub same_config : (f : Follower) (waiting : List Told) → f.past.config ≡ (followed_on f waiting).past.config
 same_config f [] = refl
 same_config f (x ∷ xs) = same_config (follows f x) xs
 
-more_entries : {A : Type 0} (f : Follower) (waiting : List (Told A)) → IsPrefix f.past.entries (followed_on f waiting).past.entries
+more_entries : (f : Follower) (waiting : List Told) → IsPrefix f.past.entries (followed_on f waiting).past.entries
 more_entries f [] = prefix_same f.past.entries
 more_entries f (x ∷ xs) =
-    prefix_trans f.past.entries (follows f x).past.entries (followed_on (follows f x) xs).past.entries (told_entry x ∷ [], refl) (more_entries (follows f x) xs)
+    prefix_trans f.past.entries (follows f x).past.entries (followed_on (follows f x) xs).past.entries (x.entry ∷ [], refl) (more_entries (follows f x) xs)
 
 -- the events that were followed are a beginning of those that are followed with what waits
-pub published_begins : {A : Type 0} (f : Follower) (waiting : List (Told A)) → IsPrefix (events_in f.past) (events_in (followed_on f waiting).past)
+pub published_begins : (f : Follower) (waiting : List Told) → IsPrefix (events_in f.past) (events_in (followed_on f waiting).past)
 published_begins f waiting =
     let g = followed_on f waiting in
     subst (λ (c : Config). IsPrefix (events_in f.past) (events_of (opening c) g.past.entries)) (same_config f waiting) (events_begin f.past.config f.past.entries g.past.entries (more_entries f waiting))
@@ -95,22 +94,21 @@ unlooked old new told desk is same =
     subst (λ (p : Desk × Knowledge). IsPrefix p.0.seen (events_in (past_of p.1))) (λ i. (sym is i, sym same i)) (prefix_same (events_in (past_of old)))
 
 -- an event is appended to the log, and what is told of it is put behind what waits
-pub appends : {A : Type 0} (f : Follower) (config : Config) (log head : List Event) (waiting rest : List (Told A)) (told : Told A) (event : Event)
+pub appends : (f : Follower) (config : Config) (log head : List Event) (waiting rest : List Told) (told : Told) (event : Event)
     → f.past.config ≡ config → log ≡ events_in (followed_on f waiting).past → (followed_on f waiting).state ≡ state_of config log
     → refusal_of (state_of config log) event ≡ None → head ≡ log ++ event ∷ [] → told ≡ told_of event → rest ≡ waiting ++ told ∷ []
     → (head ≡ events_in (followed_on f rest).past) × ((followed_on f rest).state ≡ state_of config head)
-appends {A} f config log head waiting rest told event same is knows none to kept put =
+appends f config log head waiting rest told event same is knows none to kept put =
     let g = followed_on f waiting in
     let c = g.past.config in
     let there : config ≡ c = sym same ∙ same_config f waiting in
-    let next : followed_on f rest ≡ follows g (told_of {A = A} event) = ap (followed_on f) put ∙ fold-append follows f waiting (told ∷ []) ∙ ap (follows g) kept in
+    let next : followed_on f rest ≡ follows g (told_of event) = ap (followed_on f) put ∙ fold-append follows f waiting (told ∷ []) ∙ ap (follows g) kept in
     let none_there : refusal_of (state_of c (events_in g.past)) event ≡ None = subst (λ (p : Config × List Event). refusal_of (state_of p.0 p.1) event ≡ None) (λ i. (there i, is i)) none in
     let s = state_of config log in
-    let one : followed {A = A} s (told_of event) ≡ state_of config (log ++ event ∷ []) =
-    told_back A s event none ∙ sym (after_free s event none) ∙ sym (fold-append after (opening config) log (event ∷ [])) in (
-      to ∙ ap (λ (l : List Event). l ++ event ∷ []) is ∙ sym (events_grow c g.past.entries event none_there)
-      ∙ ap (λ (x : Logged). events_of (opening c) (g.past.entries ++ x ∷ [])) (sym (entry_told A event)) ∙ ap (λ (h : Follower). events_in h.past) (sym next),
-      ap (λ (h : Follower). h.state) next ∙ ap (λ (t : State). followed t (told_of {A = A} event)) knows ∙ one ∙ ap (state_of config) (sym to),
+    let one : followed s (told_of event) ≡ state_of config (log ++ event ∷ []) =
+    told_back s event none ∙ sym (after_free s event none) ∙ sym (fold-append after (opening config) log (event ∷ [])) in (
+      to ∙ ap (λ (l : List Event). l ++ event ∷ []) is ∙ sym (events_grow c g.past.entries event none_there) ∙ ap (λ (h : Follower). events_in h.past) (sym next),
+      ap (λ (h : Follower). h.state) next ∙ ap (λ (t : State). followed t (told_of event)) knows ∙ one ∙ ap (state_of config) (sym to),
     )
 
 module _ {A : Type 0} where
@@ -150,7 +148,7 @@ module _ {A : Type 0} where
   looks seat v x views h = sees seat v x x h.0 (begins_same (knowledge_of x)) views h
 
   -- a publish of what waits
-  pub shows : (seat : ℕ) (v : Knowledge) (x next : Held A) (more : List (Told A)) → IsOfLog next.follower → next.follower ≡ followed_on x.follower more → TurnsAt (Known {A = A}) seat v x next Sees
+  pub shows : (seat : ℕ) (v : Knowledge) (x next : Held A) (more : List Told) → IsOfLog next.follower → next.follower ≡ followed_on x.follower more → TurnsAt (Known {A = A}) seat v x next Sees
   shows seat v x next more of is =
       sees seat v x next of
       (subst (λ (f : Follower). Begins (knowledge_of x) (record { config = Some f.past.config; entries = f.past.entries })) (sym is) (inr (ap (λ (c : Config). Some c) (same_config x.follower more)), more_entries x.follower more))
@@ -171,18 +169,18 @@ module _ {A : Type 0} where
   opens x is = admits x [] (is, λ j u e. absurd (some-ne-none u (sym e)))
 
   -- all of the log is shown
-  whole : (new : Held A) (w : Knowledge) (rest : List (Told A)) (config : Config) (log : List Event) → new.follower.past.config ≡ config → log ≡ events_in new.follower.past → new.follower.state ≡ state_of config log
+  whole : (new : Held A) (w : Knowledge) (rest : List Told) (config : Config) (log : List Event) → new.follower.past.config ≡ config → log ≡ events_in new.follower.past → new.follower.state ≡ state_of config log
       → w ≡ knowledge_of new → IsOfLog new.follower → rest ≡ [] → IsKnown new w rest config log
   whole new w rest config log same led knows all of none = record {
     all = all;
     config_same = same;
     published = of;
-    leads = led ∙ ap (λ (l : List (Told A)). events_in (followed_on new.follower l).past) (sym none);
-    knows = ap (λ (l : List (Told A)). (followed_on new.follower l).state) none ∙ knows;
+    leads = led ∙ ap (λ (l : List Told). events_in (followed_on new.follower l).past) (sym none);
+    knows = ap (λ (l : List Told). (followed_on new.follower l).state) none ∙ knows;
   }
 
   -- what a publish leaves: all that was appended is published, or what was published before
-  pub publishes : {U E : Type 0} (r : Result U E) (old new : Held A) (v w : Knowledge) (waiting rest : List (Told A)) (config : Config) (log : List Event)
+  pub publishes : {U E : Type 0} (r : Result U E) (old new : Held A) (v w : Knowledge) (waiting rest : List Told) (config : Config) (log : List Event)
       → IsKnown old v waiting config log
       → MatchResult r (λ _. (new.follower ≡ followed_on old.follower waiting) × (rest ≡ [])) (λ _. (new ≡ old) × (rest ≡ waiting))
       → MatchResult r (λ _. Sees v old new w) (λ _. w ≡ v)
@@ -193,10 +191,10 @@ module _ {A : Type 0} where
       let same : new.follower.past.config ≡ config = ap (λ (f : Follower). f.past.config) all ∙ sym (same_config old.follower waiting) ∙ is.config_same in
       (whole new w rest config log same led (ap (λ (f : Follower). f.state) all ∙ is.knows) rule.1 rule.2 values.1, (sym led, tt))
   publishes (Err e) old new v w waiting rest config log is values rule =
-      (subst (λ (p : Held A × Knowledge × List (Told A)). IsKnown p.0 p.1 p.2 config log) (λ i. (sym values.0 i, sym rule i, sym values.1 i)) is, (tt, ap (λ (x : Held A). events_in x.follower.past) values.0))
+      (subst (λ (p : Held A × Knowledge × List Told). IsKnown p.0 p.1 p.2 config log) (λ i. (sym values.0 i, sym rule i, sym values.1 i)) is, (tt, ap (λ (x : Held A). events_in x.follower.past) values.0))
 
   -- what the first publish leaves, before which nothing was appended: all of the core is published
-  pub opened : {U E : Type 0} (r : Result U E) (old new : Held A) (v w : Knowledge) (waiting rest : List (Told A)) (config : Config) (log : List Event)
+  pub opened : {U E : Type 0} (r : Result U E) (old new : Held A) (v w : Knowledge) (waiting rest : List Told) (config : Config) (log : List Event)
       → is_err r ≡ false → old.follower.past.config ≡ config → events_in old.follower.past ≡ log → IsOfLog old.follower → waiting ≡ []
       → MatchResult r (λ _. (new.follower ≡ followed_on old.follower waiting) × (rest ≡ [])) (λ _. (new ≡ old) × (rest ≡ waiting))
       → MatchResult r (λ _. Sees v old new w) (λ _. w ≡ v)

@@ -9,8 +9,7 @@ use Rattle.left_right.specs.declared.board.Doing.{Doing}
 use Rattle.left_right.specs.declared.part.Part.{Part}
 use Rattle.left_right.specs.declared.reader.Reader.{Reader}
 use Rattle.left_right.specs.declared.writer.Writer.{Writer}
-use Rattle.rb_core.specs.Follower.{Past, Follower, IsOfLog, events_in, follows}
-use Rattle.rb_core.specs.declared.told.Told.{Told}
+use Rattle.rb_core.specs.Follower.{Past, Follower, IsOfLog, Told, events_in, follows}
 use Rattle.rb_events.specs.Config.{Config}
 use Rattle.rb_machine.specs.Event.{Event}
 use Rattle.rb_machine.specs.Machine.{state_of}
@@ -52,12 +51,12 @@ abbrev pub past_of : Knowledge → Past
 past_of k = record { config = config_or k.config; entries = k.entries }
 
 -- a follower that has followed what waits, too
-abbrev pub followed_on : {A : Type 0} → Follower → List (Told A) → Follower
+abbrev pub followed_on : Follower → List Told → Follower
 followed_on f waiting = fold follows f waiting
 
 -- the pen knows what is published, which is a log; who follows what waits, too, has followed the board's log, and knows what is
 -- known after it
-pub record IsKnown {A : Type 0} (shown : Held A) (known : Knowledge) (waiting : List (Told A)) (config : Config) (log : List Event) : Type 0 where
+pub record IsKnown {A : Type 0} (shown : Held A) (known : Knowledge) (waiting : List Told) (config : Config) (log : List Event) : Type 0 where
   pub all : known ≡ knowledge_of shown
   pub config_same : shown.follower.past.config ≡ config
   pub published : IsOfLog shown.follower

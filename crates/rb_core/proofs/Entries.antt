@@ -60,7 +60,7 @@ scan_seen s path scan none =
     let found = tested (same_path scan.view) (path_view s.standing path) is in
     found.1 ∙ ap (λ v. Some v) (sym ((same_path-Decides scan.view found.0).0 found.2))
 
-draft_seen : (s : State) (d : Draft) → refusal_beside s (Planned d) ≡ None → client_view s d.job.client ≡ Some d.job
+pub draft_seen : (s : State) (d : Draft) → refusal_beside s (Planned d) ≡ None → client_view s d.job.client ≡ Some d.job
 draft_seen s d none =
     let first = passes (ltb d.job.plan (plan_number s d.job.client)) Repeat _ none in
     let second = passes (ltb (plan_number s d.job.client) d.job.plan) OutOfOrder _ first.1 in

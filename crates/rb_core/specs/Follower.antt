@@ -1,14 +1,19 @@
--- A follower: what is known after the entries of a log, where nothing is judged again.
-use Rattle.std.specs.Prelude.{◌≡◌, List, [], ◌∷◌, ◌++◌, All}
+-- A follower: what is known after the entries of a log, and why what is told of one isn't taken in. What a scan or a plan was made
+-- for isn't compared again, and what was received, written or cleared isn't judged again; the rest is, since taking it in asks for it.
+use Rattle.std.specs.Prelude.{◌≡◌, Bool, not, nat_le, List, [], ◌∷◌, ◌++◌, All, Option, Some, None, IsSomeAnd, is_none}
 use Rattle.std.specs.Option.{option_map_or}
 use Rattle.rb_events.specs.Config.{Config}
+use Rattle.rb_events.specs.declared.refusal.Refusal.{Refusal}
+use Rattle.rb_events.specs.declared.refusal.Refusal.TheVariants.{UnknownObject, LogFull, OutOfOrder}
 use Rattle.rb_machine.specs.Config.{IsSetUp}
+use Rattle.rb_machine.specs.Entry as entries
 use Rattle.rb_machine.specs.Entry.{Logged, logged_of, event_of, events_of}
-use Rattle.rb_machine.specs.Event.{Event, IsEvent, Scanned}
+use Rattle.rb_machine.specs.Event.{Event, IsEvent, Received, AckWritten, Cleared, Scanned}
 use Rattle.rb_machine.specs.Log.{IsLog}
-use Rattle.rb_machine.specs.Machine.{State, opening, accepted, state_of}
-use Rattle.rb_core.specs.declared.told.Told.{Told}
-use Rattle.rb_core.specs.declared.told.Told.TheVariants as told
+use Rattle.rb_machine.specs.Machine.{State, opening, knows_client, knows_path, is_known, max_events, accepted, state_of}
+use Rattle.rb_machine.specs.Refusal.{refused_if}
+use Rattle.rb_machine.specs.Standing.{Standing, judged}
+use Rattle.rb_machine.specs.Scan.{Scan}
 
 -- how a relayer is configured, and the entries of a log
 pub record Past : Type 0 where
@@ -37,27 +42,58 @@ pub record IsOfLog (f : Follower) : Type 0 where
   pub state : f.state ≡ state_after f.past
 
 -- what followers are told of an event: what the log keeps of it, and a scan as it was made
-abbrev pub told_of : {A : Type 0} → Event → Told A
-told_of (Scanned path scan) = told.Scan (logged_of (Scanned path scan)) path scan
-told_of event = told.Entry (logged_of event)
+pub record Told : Type 0 where
+  pub entry : Logged
+  pub scan : Option Scan
 
--- what the log keeps of what is told
-abbrev pub told_entry : {A : Type 0} → Told A → Logged
-told_entry (told.Entry entry) = entry
-told_entry (told.Scan entry path scan) = entry
+-- an entry of a scan comes with the scan, and no other with one
+abbrev pub IsTold : Logged → Option Scan → Type 0
+IsTold (entries.scan path part) scan = IsSomeAnd scan (λ (s : Scan). s.part ≡ part)
+IsTold entry scan = scan ≡ None
 
--- what an entry leaves, unjudged; nothing new where its path or its client isn't shown
+abbrev pub scan_in : Event → Option Scan
+scan_in (Scanned path scan) = Some scan
+scan_in event = None
+
+abbrev pub told_of : Event → Told
+told_of event = record { entry = logged_of event; scan = scan_in event }
+
+-- what an entry leaves; nothing new where its path or its client isn't shown
 abbrev pub after_entry : State → Logged → State
 after_entry s x = option_map_or (accepted s) (event_of s x) s
 
 -- what is known after what is told
-abbrev pub followed : {A : Type 0} → State → Told A → State
-followed s (told.Entry entry) = after_entry s entry
-followed s (told.Scan entry path scan) = accepted s (Scanned path scan)
+abbrev pub followed_as : State → Logged → Option Scan → State
+followed_as s (entries.scan path part) (Some scan) = accepted s (Scanned path scan)
+followed_as s entry scan = after_entry s entry
+
+abbrev pub followed : State → Told → State
+followed s x = followed_as s x.entry x.scan
 
 -- a follower that has followed what is told, too
-abbrev pub follows : {A : Type 0} → Follower → Told A → Follower
+abbrev pub follows : Follower → Told → Follower
 follows f x = record {
-  past = record { config = f.past.config; entries = f.past.entries ++ told_entry x ∷ [] };
+  past = record { config = f.past.config; entries = f.past.entries ++ x.entry ∷ [] };
   state = followed f.state x;
 }
+
+-- ---- why what is told isn't taken in
+
+-- what it speaks of isn't there, or the log is full; else what comes next
+abbrev pub refused_first : State → Bool → Option Refusal → Option Refusal
+refused_first s known next =
+    refused_if (not known) UnknownObject (
+    refused_if (nat_le max_events s.front) LogFull next)
+
+-- why how things stand refuses an event; what was received, written or cleared isn't judged again
+abbrev pub judged_again : Standing → Event → Option Refusal
+judged_again s (Received path sequence block) = None
+judged_again s (AckWritten path sequence block) = None
+judged_again s (Cleared path sequence) = None
+judged_again s event = judged s event
+
+-- why an entry isn't taken in, the first reason that applies; what a scan or a plan was made for isn't compared again
+abbrev pub entry_refusal : State → Logged → Option Refusal
+entry_refusal s (entries.whole event) = refused_first s (is_known s event) (judged_again s.standing event)
+entry_refusal s (entries.scan path part) = refused_first s (knows_path s path) None
+entry_refusal s (entries.plan client answer) = refused_first s (knows_client s client) (refused_if (is_none s.standing.window) OutOfOrder None)

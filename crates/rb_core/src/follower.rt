@@ -1,12 +1,14 @@
 //! Followers of a core's log.
-ghost use Rattle.std.specs.Prelude.{◌≡◌, length, Some, IfOk, IfErr, MatchResult};
+ghost use Rattle.std.specs.Prelude.{◌≡◌, length, None, Some, IfOk, IfErr, OnErr, OnOk};
 ghost use Rattle.rb_events.specs.Config.{config_view};
-ghost use Rattle.rb_core.specs.Follower.{IsOfLog, events_in, follows, state_after};
+ghost use Rattle.rb_core.specs.Follower.{IsOfLog, entry_refusal, events_in, follows, state_after, told_of};
 ghost use Rattle.rb_core.specs.Known.{state_view};
+ghost use Rattle.rb_machine.specs.Event.{Event};
 ghost use Rattle.rb_machine.specs.Kept.{IsKept};
-ghost use Rattle.rb_machine.specs.Machine.{client_view, client_view_refusal, path_view_refusal};
+ghost use Rattle.rb_machine.specs.Machine.{client_view, client_view_refusal, path_view_refusal, refusal_of};
 ghost use Rattle.rb_machine.specs.Refused.{IsRefusal};
 ghost use Rattle.rb_machine.specs.Standing.{path_view};
+ghost use Rattle.rb_machine.specs.declared.error.CoreError.TheVariants as errors;
 
 use crate::client_views::client_view;
 use crate::copies::copy_known;
@@ -22,9 +24,10 @@ use rb_task::JobView;
 use std::alloc::{AllocError, Allocator, Global};
 use std::marker::Model;
 
-/// What a core knows, by what is told of its log: what the core judged isn't judged again. A contract sees
-/// how it is configured, the entries of the log, and what is known. It is what is known after these
-/// entries where what was told is of the log (`IsOfLog`).
+/// What a core knows, by what is told of its log: what a scan or a plan was made for isn't compared again,
+/// and what was received, written or cleared isn't judged again; the rest is, since taking it in asks for
+/// it. A contract sees how it is configured, the entries of the log, and what is known. It is what is known
+/// after these entries where what was told is of the log (`IsOfLog`).
 #[derive(Drop)]
 pub struct Follower<A: Allocator = Global> {
     alloc: A,
@@ -78,14 +81,20 @@ impl<A: Allocator + Copy> Follower<A> {
         })
     }
 
-    /// Follows what is told of the next event of the log. Where it isn't followed (a growth is refused,
-    /// or nothing is there that it speaks of) nothing has changed.
+    /// Follows what is told of the next event of the log. Where it isn't followed, nothing has changed: a
+    /// growth is refused (`NoMemory`), what it speaks of isn't there (`UnknownObject`), the log is full
+    /// (`LogFull`), a plan comes before the first window (`OutOfOrder`), or how things stand refuses it. What
+    /// a scan or a plan was made for isn't compared again, and what was received, written or cleared isn't
+    /// judged again: what the core accepts after the same events is followed, or a growth is refused.
     pub fn follow(&mut self, told: &Told<A>) -> Result<(), CoreError>
-        ensures { MatchResult result (λ _. self.new ≡ follows self.old told.now) (λ _. self.new ≡ self.old) }
+        ensures followed { OnOk result (self.new ≡ follows self.old told.now) }
+        ensures unchanged { OnErr result (self.new ≡ self.old) }
+        ensures refused { IfErr result (λ e. IsRefusal e (entry_refusal self.old.state told.now.entry)) }
+        ensures accepted { (event : Event) → refusal_of self.old.state event ≡ None → told.now ≡ told_of event → IfErr result (λ e. e ≡ errors.NoMemory) }
     {
         self.log.reserve(1)?;
         let entry = told.entry().share()?;
-        follow_told(self.alloc, &mut self.known, told)?;
+        follow_told(&mut self.known, told)?;
         self.log.push_reserved(entry);
         Ok(())
     }

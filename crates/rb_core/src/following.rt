@@ -1,30 +1,34 @@
-//! What was judged elsewhere is taken in as it is.
-ghost use Rattle.std.specs.Prelude.{◌≡◌, suc, IfOk, MatchResult, Some};
-ghost use Rattle.rb_core.specs.Follower.{after_entry, followed};
+//! What was judged elsewhere is taken in. What a scan or a plan was made for isn't compared again, and what was
+//! received, written or cleared isn't judged again; the rest is, since taking it in asks for it.
+ghost use Rattle.std.specs.Prelude.{◌≡◌, suc, IfErr, None, OnErr, OnOk};
+ghost use Rattle.std.specs.Option.{option_copied};
+ghost use Rattle.rb_core.specs.Follower.{IsTold, after_entry, entry_refusal, followed, followed_as, refused_first};
 ghost use Rattle.rb_core.specs.Known.{standing_view, state_view};
 ghost use Rattle.rb_known.specs.Marked.{mark_by};
-ghost use Rattle.rb_machine.specs.Entry.{entry_view, plan, scan};
+ghost use Rattle.rb_machine.specs.Entry.{entry_view, plan, whole};
 ghost use Rattle.rb_machine.specs.Kept.{IsKept};
-ghost use Rattle.rb_machine.specs.Machine.{accepted};
+ghost use Rattle.rb_machine.specs.Machine.{accepted, is_known, knows_path};
+ghost use Rattle.rb_machine.specs.Refused.{IsRefusal};
 ghost use Rattle.rb_machine.specs.Seen.{event_view, observed};
-ghost use Rattle.rb_machine.specs.Standing.{path_view, with_mark, with_path};
+ghost use Rattle.rb_machine.specs.Standing.{judged, with_mark, with_path};
 
 use crate::known::Known;
-use crate::path_views::path_view;
 use crate::refusing::{refuse_answer, refuse_mark, refuse_unseen};
 use crate::taking::{make_room, put};
 use crate::told::Told;
 use rb_events::Observation;
 use rb_known::Mark;
-use rb_machine::{CoreError, Entry, Event, Scan, copy_answer, scan};
-use rb_scan::{Part, ScanError, Sequence};
+use rb_machine::{CoreError, Entry, Event, Scan, copy_answer};
+use rb_scan::Sequence;
 use rb_task::Planned;
 use std::alloc::Allocator;
 
 /// Takes in an event, if how things stand allows it. What was seen isn't compared.
 fn follow_event<A: Allocator + Copy>(known: &mut Known<A>, event: Event<A>) -> Result<(), CoreError>
     requires { IsKept (state_view known.old) }
-    ensures { MatchResult result (λ _. state_view known.new ≡ accepted (state_view known.old) (event_view event)) (λ _. state_view known.new ≡ state_view known.old) }
+    ensures followed { OnOk result (state_view known.new ≡ accepted (state_view known.old) (event_view event)) }
+    ensures unchanged { OnErr result (state_view known.new ≡ state_view known.old) }
+    ensures refused { IfErr result (λ e. IsRefusal e (refused_first (state_view known.old) (is_known (state_view known.old) (event_view event)) (judged (standing_view known.old) (event_view event)))) }
 {
     if let Some(refusal) = refuse_unseen(known, &event) {
         return Err(CoreError::Refused(refusal));
@@ -41,10 +45,12 @@ fn follow_mark<A: Allocator + Copy>(
     sequence: Sequence,
     mark: Mark,
 ) -> Result<(), CoreError>
-    ensures { MatchResult result (λ _. state_view known.new ≡ record (state_view known.old) {
+    ensures followed { OnOk result (state_view known.new ≡ record (state_view known.old) {
       standing = with_path (standing_view known.old) path (with_mark (mark_by mark) sequence);
       front = suc known.old.front;
-    }) (λ _. state_view known.new ≡ state_view known.old) }
+    }) }
+    ensures unchanged { OnErr result (state_view known.new ≡ state_view known.old) }
+    ensures refused { IfErr result (λ e. IsRefusal e (refused_first (state_view known.old) (knows_path (state_view known.old) path) None)) }
 {
     if let Some(refusal) = refuse_mark(known, path) {
         return Err(CoreError::Refused(refusal));
@@ -60,7 +66,9 @@ fn follow_observed<A: Allocator + Copy>(
     observation: &Observation<A>,
 ) -> Result<(), CoreError>
     requires { IsKept (state_view known.old) }
-    ensures { MatchResult result (λ _. state_view known.new ≡ accepted (state_view known.old) (observed observation.now)) (λ _. state_view known.new ≡ state_view known.old) }
+    ensures followed { OnOk result (state_view known.new ≡ accepted (state_view known.old) (observed observation.now)) }
+    ensures unchanged { OnErr result (state_view known.new ≡ state_view known.old) }
+    ensures refused { IfErr result (λ e. IsRefusal e (entry_refusal (state_view known.old) (whole (observed observation.now)))) }
 {
     match observation {
         Observation::Received {
@@ -80,37 +88,6 @@ fn follow_observed<A: Allocator + Copy>(
     }
 }
 
-/// A scan of a part of a path, as the path is.
-fn scan_of<A: Allocator + Copy>(
-    alloc: A,
-    known: &Known<A>,
-    path: usize,
-    part: Part,
-) -> Result<Scan<A>, CoreError>
-    ensures view { IfOk result (λ scan. path_view (standing_view known.now) path ≡ Some scan.view) }
-    ensures part { IfOk result (λ scan. scan.part ≡ part) }
-{
-    let view = path_view(alloc, known, path)?;
-    match scan(view, part) {
-        Ok(scan) => Ok(scan),
-        Err(ScanError::NoMemory) => Err(CoreError::NoMemory),
-    }
-}
-
-/// Takes in that a part of a path was scanned as the path is.
-fn follow_scan<A: Allocator + Copy>(
-    alloc: A,
-    known: &mut Known<A>,
-    path: usize,
-    part: Part,
-) -> Result<(), CoreError>
-    requires { IsKept (state_view known.old) }
-    ensures { MatchResult result (λ _. state_view known.new ≡ after_entry (state_view known.old) (scan path part)) (λ _. state_view known.new ≡ state_view known.old) }
-{
-    let scan = scan_of(alloc, known, path, part)?;
-    follow_event(known, Event::Scanned { path, scan })
-}
-
 /// Takes in what was planned for a client, as the client is.
 fn follow_plan<A: Allocator + Copy>(
     known: &mut Known<A>,
@@ -118,7 +95,9 @@ fn follow_plan<A: Allocator + Copy>(
     answer: Option<Planned<A>>,
 ) -> Result<(), CoreError>
     requires { IsKept (state_view known.old) }
-    ensures { MatchResult result (λ _. state_view known.new ≡ after_entry (state_view known.old) (plan client answer)) (λ _. state_view known.new ≡ state_view known.old) }
+    ensures followed { OnOk result (state_view known.new ≡ after_entry (state_view known.old) (plan client answer)) }
+    ensures unchanged { OnErr result (state_view known.new ≡ state_view known.old) }
+    ensures refused { IfErr result (λ e. IsRefusal e (entry_refusal (state_view known.old) (plan client answer))) }
 {
     if let Some(refusal) = refuse_answer(known, client) {
         return Err(CoreError::Refused(refusal));
@@ -128,20 +107,27 @@ fn follow_plan<A: Allocator + Copy>(
     Ok(())
 }
 
-/// Takes in what an entry stands for after what is known.
+/// Takes in what an entry stands for after what is known, with the scan of an entry of one.
 fn follow_entry<A: Allocator + Copy>(
-    alloc: A,
     known: &mut Known<A>,
     entry: &Entry<A>,
+    scan: Option<&Scan<A>>,
 ) -> Result<(), CoreError>
-    requires { IsKept (state_view known.old) }
-    ensures { MatchResult result (λ _. state_view known.new ≡ after_entry (state_view known.old) (entry_view entry.now)) (λ _. state_view known.new ≡ state_view known.old) }
+    requires kept { IsKept (state_view known.old) }
+    requires belongs { IsTold (entry_view entry.now) (option_copied scan) }
+    ensures followed { OnOk result (state_view known.new ≡ followed_as (state_view known.old) (entry_view entry.now) (option_copied scan.entry)) }
+    ensures unchanged { OnErr result (state_view known.new ≡ state_view known.old) }
+    ensures refused { IfErr result (λ e. IsRefusal e (entry_refusal (state_view known.old) (entry_view entry.now))) }
 {
     match entry {
         Entry::Window(window) => follow_event(known, Event::Window(*window)),
         Entry::Asked(asked) => follow_event(known, Event::Asked(*asked)),
         Entry::Observed(observation) => follow_observed(known, observation),
-        Entry::Scan { path, part } => follow_scan(alloc, known, *path, *part),
+        Entry::Scan { path, .. } => {
+            let Some(scan) = scan else { unreachable!() };
+            let scan = scan.share()?;
+            follow_event(known, Event::Scanned { path: *path, scan })
+        }
         Entry::Plan { client, answer } => {
             follow_plan(known, *client, copy_answer(answer.as_ref())?)
         }
@@ -149,20 +135,15 @@ fn follow_entry<A: Allocator + Copy>(
     }
 }
 
-/// Takes in what is told, and judges nothing again.
+/// Takes in what is told.
 pub(crate) fn follow_told<A: Allocator + Copy>(
-    alloc: A,
     known: &mut Known<A>,
     told: &Told<A>,
 ) -> Result<(), CoreError>
     requires { IsKept (state_view known.old) }
-    ensures { MatchResult result (λ _. state_view known.new ≡ followed (state_view known.old) told.now) (λ _. state_view known.new ≡ state_view known.old) }
+    ensures followed { OnOk result (state_view known.new ≡ followed (state_view known.old) told.now) }
+    ensures unchanged { OnErr result (state_view known.new ≡ state_view known.old) }
+    ensures refused { IfErr result (λ e. IsRefusal e (entry_refusal (state_view known.old) told.now.entry)) }
 {
-    match told {
-        Told::Entry(entry) => follow_entry(alloc, known, entry.entry()),
-        Told::Scan { path, scan, .. } => {
-            let scan = scan.share()?;
-            follow_event(known, Event::Scanned { path: *path, scan })
-        }
-    }
+    follow_entry(known, told.entry().entry(), told.scan())
 }

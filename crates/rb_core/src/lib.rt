@@ -1,5 +1,7 @@
 //! The relayer machine: `Core`, which judges events and takes them in, and shows clients and paths;
-//! and `Follower`, which takes in what it is told of them (`Told`) and judges nothing again.
+//! and `Follower`, which takes in what it is told of them (`Told`). What a scan or a plan was made for isn't
+//! compared again there, and what was received, written or cleared isn't judged again; the rest is, since
+//! taking it in asks for it.
 //!
 //! A core is the fold of its log: its state is what the definitions of `rb_machine` make of the events
 //! that it has taken in, from which its views, replies and refusals follow.

@@ -1,8 +1,11 @@
 //! Why an event is refused.
-ghost use Rattle.std.specs.Prelude.{◌≡◌, ◌<◌, true, length, None, IfNone, IsSome};
+ghost use Rattle.std.specs.Prelude.{◌≡◌, ◌<◌, true, length, None, Some, is_none, IfNone, IfSome, IsSome};
+ghost use Rattle.rb_events.specs.declared.refusal.Refusal.TheVariants as refusals;
 ghost use Rattle.rb_machine.specs.Kept.{IsKept};
+ghost use Rattle.rb_core.specs.Follower.{refused_first};
 ghost use Rattle.rb_core.specs.Known.{standing_view, state_view};
-ghost use Rattle.rb_machine.specs.Machine.{is_known, is_held, max_events, scan_refusal, draft_refusal, refusal_beside, refusal_of};
+ghost use Rattle.rb_machine.specs.Machine.{is_known, knows_client, knows_path, is_held, max_events, scan_refusal, draft_refusal, refusal_beside, refusal_of};
+ghost use Rattle.rb_machine.specs.Refusal.{refused_if};
 ghost use Rattle.rb_machine.specs.Seen.{event_view};
 ghost use Rattle.rb_machine.specs.Standing.{judged};
 
@@ -132,6 +135,7 @@ pub(crate) fn refuse_unseen<A: Allocator + Copy>(
     ensures object { IfNone result (is_known (state_view known.now) (event_view event.now) ≡ true) }
     ensures few { IfNone result (known.now.front < max_events) }
     ensures accepted { IfNone result (judged (standing_view known.now) (event_view event.now) ≡ None) }
+    ensures refused { IfSome result (λ refusal. refused_first (state_view known.now) (is_known (state_view known.now) (event_view event.now)) (judged (standing_view known.now) (event_view event.now)) ≡ Some refusal) }
 {
     if !is_known(known, event) {
         return Some(Refusal::UnknownObject);
@@ -147,6 +151,7 @@ pub(crate) fn refuse_unseen<A: Allocator + Copy>(
 pub(crate) fn refuse_mark<A: Allocator>(known: &Known<A>, path: usize) -> Option<Refusal>
     ensures within { IfNone result (path < length known.now.paths.items) }
     ensures few { IfNone result (known.now.front < max_events) }
+    ensures refused { IfSome result (λ refusal. refused_first (state_view known.now) (knows_path (state_view known.now) path) None ≡ Some refusal) }
 {
     if known.paths.len() <= path {
         return Some(Refusal::UnknownObject);
@@ -163,6 +168,7 @@ pub(crate) fn refuse_answer<A: Allocator>(known: &Known<A>, client: usize) -> Op
     ensures within { IfNone result (client < length known.now.clients.items) }
     ensures few { IfNone result (known.now.front < max_events) }
     ensures window { IfNone result (IsSome known.now.window) }
+    ensures refused { IfSome result (λ refusal. refused_first (state_view known.now) (knows_client (state_view known.now) client) (refused_if (is_none known.now.window) refusals.OutOfOrder None) ≡ Some refusal) }
 {
     if known.clients.len() <= client {
         return Some(Refusal::UnknownObject);

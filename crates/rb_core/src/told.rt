@@ -1,22 +1,40 @@
 //! What followers are told.
 ghost use Rattle.std.specs.Prelude.{◌≡◌, IfOk};
-ghost use Rattle.rb_core.specs.Follower.{told_entry, told_of};
+ghost use Rattle.std.specs.Option.{option_copied};
+ghost use Rattle.rb_core.specs.Follower.{IsTold, scan_in, told_of};
+ghost use Rattle.rb_machine.specs.Seen.{event_view};
 
 use rb_machine::{Event, Ready, Scan, SharedEntry};
 use std::alloc::{AllocError, Allocator, Global};
+use std::marker::Model;
 
-/// What followers of a core's log are told of an event that the core judged.
+/// What followers of a core's log are told of an event that the core judged: what the log keeps of it, and
+/// of a scan of a path the scan as it was made, so that who follows neither scans nor compares.
 #[derive(Drop)]
-pub enum Told<A: Allocator = Global> {
-    /// What the log keeps of it.
-    Entry(SharedEntry<A>),
-    /// What the log keeps of a scan of a path, and the scan as it was made: who follows neither scans nor
-    /// compares.
-    Scan {
-        entry: SharedEntry<A>,
-        path: usize,
-        scan: Scan<A>,
-    },
+pub struct Told<A: Allocator = Global> {
+    entry: SharedEntry<A>,
+    scan: Option<Scan<A>>,
+}
+
+impl<A: Allocator> Model for Told<A> {
+    ghost use Rattle.rb_core.specs.Follower as followers;
+    ghost use Rattle.rb_core.specs.Follower.{IsTold};
+
+    ghost Value = { followers.Told };
+
+    ghost view = { λ t. record { entry = t.entry; scan = t.scan } };
+
+    ghost invariant = { λ t. IsTold t.entry t.scan };
+}
+
+/// The scan of an event, if it is of one.
+fn scan_in<A: Allocator + Copy>(event: &Event<A>) -> Result<Option<Scan<A>>, AllocError>
+    ensures { IfOk result (λ scan. scan ≡ scan_in (event_view event.now)) }
+{
+    match event {
+        Event::Scanned { scan, .. } => Ok(Some(scan.share()?)),
+        _ => Ok(None),
+    }
 }
 
 impl<A: Allocator + Copy> Told<A> {
@@ -26,25 +44,24 @@ impl<A: Allocator + Copy> Told<A> {
         ensures { IfOk result (λ told. told ≡ told_of ready.now.event) }
     {
         let entry = ready.entry().share()?;
-        match ready.event() {
-            Event::Scanned { path, scan } => Ok(Told::Scan {
-                entry,
-                path: *path,
-                scan: scan.share()?,
-            }),
-            _ => Ok(Told::Entry(entry)),
-        }
+        let scan = scan_in(ready.event())?;
+        Ok(Told { entry, scan })
     }
 }
 
 impl<A: Allocator> Told<A> {
     /// What the log keeps of it.
     pub fn entry(&self) -> &SharedEntry<A>
-        ensures { result.now ≡ told_entry self.now }
+        ensures { result.now ≡ self.now.entry }
     {
-        match self {
-            Told::Entry(entry) => entry,
-            Told::Scan { entry, .. } => entry,
-        }
+        &self.entry
+    }
+
+    /// The scan of an entry of one.
+    pub(crate) fn scan(&self) -> Option<&Scan<A>>
+        ensures value { option_copied result ≡ self.now.scan }
+        ensures belongs { IsTold self.now.entry self.now.scan }
+    {
+        self.scan.as_ref()
     }
 }

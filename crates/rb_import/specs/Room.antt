@@ -8,7 +8,7 @@ use Rattle.rb_seen.specs.declared.chain.Commit.{Commit}
 use Rattle.rb_seen.specs.declared.chain.SeenChain.{SeenChain}
 use Rattle.rb_seen.specs.declared.client.SeenClient.{SeenClient}
 use Rattle.rb_seen.specs.declared.client.Stored.{Stored}
-use Rattle.rb_import.specs.declared.sets.KeptSets.{KeptSets}
+use Rattle.rb_import.specs.declared.kept.KeptSets.{KeptSets}
 
 -- there is a header of this height
 unfoldable pub HasHeader : SeenChain → ℕ → Type 0

@@ -1,13 +1,18 @@
 //! The script of a setup and of answers.
-ghost use Rattle.std.specs.Prelude.{◌≡◌, ◌≤◌, ◌++◌, ℕ, List, length, All, IfOk, IfErr, string_bytes};
+ghost use Rattle.std.specs.Prelude.{◌≡◌, ◌≤◌, ◌↔◌, ◌++◌, ℕ, List, length, All, IsTrue, IfOk, IfErr, string_bytes};
 ghost use Rattle.rb_setup.specs.Documents.{max_bytes};
-ghost use Rattle.rb_import.specs.Notices.{IsChainOf, IsClientOf, IsRecordOf, TellsHeaders, TellsSets};
+ghost use Rattle.rb_import.specs.Notices.{IsChainOf, IsClientOf, IsKeptSet, IsRecordOf, TellsHeaders, TellsSets};
 ghost use Rattle.rb_import.specs.Problems.{IsToldIn};
+ghost use Rattle.rb_import.specs.Room.{AtEachPlace};
+ghost use Rattle.rb_import.specs.Seen.{AreSeenClients, HoldsOfSeen, IsSeenChain, IsSeenIn, answers_at};
 ghost use Rattle.rb_import.specs.Texts.{warning};
+ghost use Rattle.rb_import.specs.Unsearched.{TellSearches};
+ghost use Rattle.rb_import.specs.Unusable.{TellFuture, TellGoals, TellUntrusted};
 
+use crate::kept::KeptSets;
 use crate::notice::{Notices, notices_of};
 use crate::room::{kept_records, surplus_of, with_room};
-use crate::sets::{KeptSets, kept_sets};
+use crate::sets::kept_sets;
 use crate::text::push_script;
 use rb_seen::{
     ImportError, ProblemName, Saved, SavedAnswers, SeenChain, SeenClient, SeenPacket, Stored,
@@ -34,8 +39,8 @@ pub struct Seen<'a> {
 }
 
 impl Seen<'_> {
-    ghost use Rattle.std.specs.Prelude.{◌↔◌, IsTrue};
-    ghost use Rattle.rb_import.specs.Notices.{LacksHeaders, WasSeenOf, left_out};
+    ghost use Rattle.std.specs.Prelude.{◌↔◌, IsTrue, get_or};
+    ghost use Rattle.rb_import.specs.Notices.{IsWrittenOf, LacksHeaders, WasSeenOf, left_out, sets_left_out};
 
     /// Whether no header was seen of the chain at a place.
     pub fn lacks_headers(&self, place: usize) -> bool
@@ -58,23 +63,26 @@ impl Seen<'_> {
     }
 
     /// Whether the set of this hash is written of the chain at a place.
-    pub fn is_written(&self, place: usize, hash: &[u8; 32]) -> bool {
-        let (Some(chain), Some(kept)) = (self.chains.get(place), self.sets.get(place)) else {
-            return false;
-        };
-        match chain.sets.place_of(hash) {
-            Some(number) => kept.places.binary_search(&(number as u64)).is_ok(),
-            None => false,
+    pub fn is_written(&self, place: usize, hash: &[u8; 32]) -> bool
+        ensures { IsTrue result ↔ IsWrittenOf self.now.chains.items self.now.sets.items place hash.now }
+    {
+        match (self.chains.get(place), self.sets.get(place)) {
+            (Some(chain), Some(kept)) => has_kept(chain, kept, hash),
+            _ => false,
         }
     }
 
     /// How many headers of the chain at a place its book has no room for.
-    pub fn headers_left_out(&self, place: usize) -> usize {
+    pub fn headers_left_out(&self, place: usize) -> usize
+        ensures { result ≡ get_or self.now.surplus.items place 0 }
+    {
         self.surplus.get(place).copied().unwrap_or(0)
     }
 
     /// How many sets of the chain at a place its book has no room for.
-    pub fn sets_left_out(&self, place: usize) -> usize {
+    pub fn sets_left_out(&self, place: usize) -> usize
+        ensures { result ≡ sets_left_out self.now.sets.items place }
+    {
         match self.sets.get(place) {
             Some(kept) => kept.left_out,
             None => 0,
@@ -89,6 +97,16 @@ impl Seen<'_> {
             (Some(client), Some(records)) => client.stored.len().saturating_sub(records.len()),
             _ => 0,
         }
+    }
+}
+
+/// Whether the set of this hash is one of a chain's kept sets.
+fn has_kept(chain: &SeenChain<'_>, kept: &KeptSets, hash: &[u8; 32]) -> bool
+    ensures { IsTrue result ↔ IsKeptSet chain.now hash.now kept.now }
+{
+    match chain.sets.place_of(hash) {
+        Some(place) => kept.has(place),
+        None => false,
     }
 }
 
@@ -115,22 +133,14 @@ pub fn compose<'a>(
     ensures too_many_headers { IfOk result (λ script. All (TellsHeaders setup.entry.now) script.notices.too_many_headers.items) }
     ensures too_many_sets { IfOk result (λ script. All (TellsSets setup.entry.now) script.notices.too_many_sets.items) }
     ensures too_many { IfOk result (λ script. All (IsClientOf setup.entry.now) script.notices.too_many.items) }
+    ensures untrusted { IfOk result (λ script. HoldsOfSeen setup.entry.now answers.entry.now (λ seen. TellUntrusted setup.entry.now seen script.notices.untrusted.items)) }
+    ensures future { IfOk result (λ script. HoldsOfSeen setup.entry.now answers.entry.now (λ seen. TellFuture setup.entry.now seen script.notices.future.items)) }
+    ensures goals { IfOk result (λ script. HoldsOfSeen setup.entry.now answers.entry.now (λ seen. TellGoals setup.entry.now seen script.notices.goals.items)) }
     ensures records { IfOk result (λ script. All (IsRecordOf setup.entry.now) script.notices.next_sets.items) }
+    ensures searches { IfOk result (λ script. TellSearches setup.entry.now answers.entry.now.paths.items script.notices.searches.items) }
     ensures told { IfErr result (IsToldIn setup.entry.now) }
 {
-    let (chains, surplus) = seen_chains(alloc, setup, answers)?;
-    let clients = seen_clients(alloc, setup, answers, chains.as_slice())?;
-    let paths = seen_paths(alloc, setup, answers)?;
-    let records = kept_records(alloc, setup, chains.as_slice(), clients.as_slice())?;
-    let sets = kept_sets(alloc, setup, chains.as_slice(), records.as_slice())?;
-    let seen = Seen {
-        chains,
-        surplus,
-        sets,
-        clients,
-        records,
-        paths,
-    };
+    let seen = seen_in(alloc, setup, answers)?;
     let mut body = String::new(alloc);
     push_script(&mut body, setup, &seen)?;
     let text = with_warning(alloc, body.as_str())?;
@@ -139,6 +149,31 @@ pub fn compose<'a>(
     }
     let notices = notices_of(alloc, setup, answers, &seen)?;
     Ok(Composed { text, notices })
+}
+
+/// What was seen of a setup's chains, clients and paths in their answers, as much of it as books have room for.
+fn seen_in<'a>(
+    alloc: Global,
+    setup: &'a Setup,
+    answers: &'a SavedAnswers,
+) -> Result<Seen<'a>, ImportError<'a>>
+    ensures seen { IfOk result (IsSeenIn setup.entry.now answers.entry.now) }
+    ensures told { IfErr result (IsToldIn setup.entry.now) }
+{
+    let fitting = seen_chains(alloc, setup, answers)?;
+    let (chains, surplus) = fitting;
+    let clients = seen_clients(alloc, setup, answers, chains.as_slice())?;
+    let paths = seen_paths(alloc, setup, answers)?;
+    let records = kept_records(alloc, setup, chains.as_slice(), clients.as_slice())?;
+    let sets = kept_sets(alloc, setup, chains.as_slice(), records.as_slice())?;
+    Ok(Seen {
+        chains,
+        surplus,
+        sets,
+        clients,
+        records,
+        paths,
+    })
 }
 
 /// The text that a script goes on with, behind the line that it begins with.
@@ -158,6 +193,7 @@ fn seen_chains<'a>(
     answers: &'a SavedAnswers,
 ) -> Result<(Vec<SeenChain<'a>>, Vec<usize>), ImportError<'a>>
     ensures fit { IfOk result (λ seen. All (λ c. length c.commits.items ≤ 4096) seen.0.items) }
+    ensures seen { IfOk result (λ seen. AtEachPlace (λ i id chain. IsSeenChain (answers_at answers.entry.now.chains.items i) chain) setup.entry.now.chains.items seen.0.items) }
     ensures told { IfErr result (IsToldIn setup.entry.now) }
 {
     let mut chains = Vec::with_capacity(alloc, setup.chains.len())?;
@@ -171,6 +207,7 @@ fn seen_chains<'a>(
     Ok((chains, surplus))
 }
 
+/// What was seen of each client, by its place; of one that tracks no chain of the setup nothing is, nor of those behind.
 #[tactic(auto, using(crate::proofs::Told::naming))]
 fn seen_clients<'a>(
     alloc: Global,
@@ -178,18 +215,20 @@ fn seen_clients<'a>(
     answers: &'a SavedAnswers,
     chains: &[SeenChain<'a>],
 ) -> Result<Vec<SeenClient<'a>>, ImportError<'a>>
-    ensures { IfErr result (IsToldIn setup.entry.now) }
+    ensures seen { IfOk result (λ clients. AreSeenClients setup.entry.now answers.entry.now.clients.items clients.items) }
+    ensures told { IfErr result (IsToldIn setup.entry.now) }
 {
     let mut clients = Vec::with_capacity(alloc, setup.clients.len())?;
     for (place, client) in setup.clients.iter().enumerate() {
-        if let Some(tracked) = setup.chains.get(client.tracks) {
-            let saved = answers_at(&answers.clients, place);
-            let seen = seen_client(alloc, client, tracked, saved)?;
-            if let Some(chain) = chains.get(client.tracks) {
-                judge_records(alloc, client.id.as_str(), chain, seen.stored.as_slice())?;
-            }
-            clients.push(seen)?;
+        let Some(tracked) = setup.chains.get(client.tracks) else {
+            return Ok(clients);
+        };
+        let saved = answers_at(&answers.clients, place);
+        let seen = seen_client(alloc, client, tracked, saved)?;
+        if let Some(chain) = chains.get(client.tracks) {
+            judge_records(alloc, client.id.as_str(), chain, seen.stored.as_slice())?;
         }
+        clients.push(seen)?;
     }
     Ok(clients)
 }
@@ -214,7 +253,9 @@ fn seen_paths<'a>(
 }
 
 /// The answers of the object at a place; none where there are none.
-fn answers_at(answers: &Vec<Vec<Saved>>, place: usize) -> &[Saved] {
+fn answers_at(answers: &Vec<Vec<Saved>>, place: usize) -> &[Saved]
+    ensures { result.now ≡ answers_at answers.now.items place }
+{
     match answers.get(place) {
         Some(saved) => saved.as_slice(),
         None => &[],

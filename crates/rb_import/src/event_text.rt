@@ -143,9 +143,9 @@ pub fn push_packet(text: &mut String, path: &str, seen: &SeenPacket<'_>) -> Resu
 
 /// Adds the timeouts of a packet that has some.
 fn push_timeouts(text: &mut String, seen: &SeenPacket<'_>) -> Result<(), AllocError> {
-    let height = seen.event.timeout_height.height;
-    if height != 0 {
-        write!(text, ", timeout_height = {height}")?;
+    let expiry = seen.expiry;
+    if expiry != 0 {
+        write!(text, ", timeout_height = {expiry}")?;
     }
     let time = seen.event.timeout_time;
     if time != 0 {

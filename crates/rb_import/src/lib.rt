@@ -4,6 +4,7 @@
 mod composing;
 mod event_text;
 mod excess;
+mod kept;
 mod notice;
 mod room;
 mod sets;

@@ -1,7 +1,9 @@
 //! What isn't among answers that make a script, what isn't written of them, and what can't be used: the script is
 //! written all the same, but updates may be missed.
 ghost use Rattle.std.specs.Prelude.{◌≡◌, ◌↔◌, All, IsTrue, IsNone, IfSome, IfOk};
-ghost use Rattle.rb_import.specs.Notices.{IsChainOf, IsClientOf, IsRecordOf, IsTracked, TellsHeaders, TellsRecord, TellsSets, WasSeenOf};
+ghost use Rattle.rb_import.specs.Notices.{IsChainOf, IsClientOf, IsRecordOf, IsTracked, IsWrittenOf, TellsHeaders, TellsRecord, TellsSets, WasSeenOf};
+ghost use Rattle.rb_import.specs.Unsearched.{TellSearches};
+ghost use Rattle.rb_import.specs.Unusable.{TellFuture, TellGoals, TellUntrusted};
 
 use crate::composing::Seen;
 use crate::excess::{TooManyHeaders, TooManySets, too_many_headers, too_many_sets};
@@ -49,13 +51,15 @@ impl fmt::Display for TooManyRecords<'_> {
     }
 }
 
-/// A record that a client has stored, and the chain that the client tracks: no answer on that has the next
-/// validators that the record names, so that no update starts from it.
+/// A record that a client has stored, and the chain that the client tracks: the set of the next validators that the
+/// record names isn't written, so that no update starts from it. Either it was seen, and the chain's book has no room
+/// for it, or no answer on the chain has it.
 #[derive(Clone, Copy)]
 pub struct MissingNextSet<'a> {
     pub client: &'a str,
     pub stored: Stored<'a>,
     pub chain: &'a str,
+    pub was_seen: bool,
 }
 
 impl fmt::Display for MissingNextSet<'_> {
@@ -65,9 +69,16 @@ impl fmt::Display for MissingNextSet<'_> {
         let file = self.stored.file;
         let chain = self.chain;
         let next = height.get().saturating_add(1);
+        write!(f, "notice MissingNextSet at {client} {height}: {file}: ")?;
+        if self.was_seen {
+            return write!(
+                f,
+                "the next validators are of a set of {chain} that is left out, so that no update starts from this record"
+            );
+        }
         write!(
             f,
-            "notice MissingNextSet at {client} {height}: {file}: no answer has the next validators, so that no update starts from this record; fetch all pages of /validators?height={next}&per_page=100 into files *.json of the folder {chain}"
+            "no answer has the next validators, so that no update starts from this record; fetch all pages of /validators?height={next}&per_page=100 into files *.json of the folder {chain}"
         )
     }
 }
@@ -123,7 +134,11 @@ pub fn notices_of<'a>(
     ensures too_many_headers { IfOk result (λ n. All (TellsHeaders setup.entry.now) n.too_many_headers.items) }
     ensures too_many_sets { IfOk result (λ n. All (TellsSets setup.entry.now) n.too_many_sets.items) }
     ensures too_many { IfOk result (λ n. All (IsClientOf setup.entry.now) n.too_many.items) }
+    ensures untrusted { IfOk result (λ n. TellUntrusted setup.entry.now seen.now n.untrusted.items) }
+    ensures future { IfOk result (λ n. TellFuture setup.entry.now seen.now n.future.items) }
+    ensures goals { IfOk result (λ n. TellGoals setup.entry.now seen.now n.goals.items) }
     ensures records { IfOk result (λ n. All (IsRecordOf setup.entry.now) n.next_sets.items) }
+    ensures searches { IfOk result (λ n. TellSearches setup.entry.now answers.now.paths.items n.searches.items) }
 {
     let headers = missing_headers(alloc, setup, seen)?;
     let too_many_headers = too_many_headers(alloc, setup, seen)?;
@@ -215,22 +230,24 @@ fn missing_next_sets<'a>(
     Ok(found)
 }
 
-/// A client's record, where its next set wasn't seen of the chain that the client tracks.
+/// A client's record, where its next set isn't written of the chain that the client tracks.
 fn missing_next_set<'a>(
     seen: &Seen<'a>,
     client: &'a ClientSetup,
     chain: &'a str,
     stored: &Stored<'a>,
 ) -> Option<MissingNextSet<'a>>
-    ensures when { IsNone result ↔ WasSeenOf seen.now.chains.items client.entry.now.tracks stored.now.state.now.next }
+    ensures when { IsNone result ↔ IsWrittenOf seen.now.chains.items seen.now.sets.items client.entry.now.tracks stored.now.state.now.next }
     ensures record { IfSome result (TellsRecord client.entry.now.id chain.entry.now stored.now) }
+    ensures seen { IfSome result (λ missing. IsTrue missing.was_seen ↔ WasSeenOf seen.now.chains.items client.entry.now.tracks stored.now.state.now.next) }
 {
-    if seen.has_set(client.tracks, &stored.state.next) {
+    if seen.is_written(client.tracks, &stored.state.next) {
         return None;
     }
     Some(MissingNextSet {
         client: client.id.as_str(),
         stored: *stored,
         chain,
+        was_seen: seen.has_set(client.tracks, &stored.state.next),
     })
 }

@@ -3,21 +3,13 @@
 ghost use Rattle.std.specs.Prelude.{◌⊎◌, All, Contains, IfOk};
 ghost use Rattle.rb_import.specs.Room.{FitsSets, HasNoRoom};
 
-use crate::room::highest;
+use crate::kept::KeptSets;
 use rb_seen::{SeenChain, SeenSets, Stored};
 use rb_setup::Setup;
 use std::alloc::{AllocError, Global};
 
 /// How many sets a chain's book holds.
 const BOOK_SETS: usize = 1024;
-
-/// The sets of a chain that its book has room for, by their places among those that were seen, rising; and how many
-/// others headers and records name.
-#[derive(Drop)]
-pub struct KeptSets {
-    pub places: Vec<u64>,
-    pub left_out: usize,
-}
 
 /// Of each chain the sets that its headers and the records of its clients name, and that its book has room for.
 #[tactic(auto, using(crate::proofs::Highest::fitting))]
@@ -38,7 +30,7 @@ pub fn kept_sets<'a>(
 }
 
 /// Of sets at these places the highest, as many as a book has room for.
-fn highest_of(alloc: Global, named: Vec<u64>) -> Result<KeptSets, AllocError>
+fn highest_of(alloc: Global, named: Vec<usize>) -> Result<KeptSets, AllocError>
     ensures fits { IfOk result FitsSets }
     ensures named { IfOk result (λ kept. All (Contains named.items) kept.places.items) }
     ensures highest { IfOk result (λ kept. All (λ p. Contains kept.places.items p ⊎ HasNoRoom 1024 kept.places.items p) named.items) }
@@ -46,9 +38,9 @@ fn highest_of(alloc: Global, named: Vec<u64>) -> Result<KeptSets, AllocError>
     let mut named = named;
     named.sort_unstable();
     named.dedup();
-    let count = named.len();
-    let places = highest(alloc, named, BOOK_SETS)?;
-    let left_out = count.saturating_sub(places.len());
+    let left_out = named.len().saturating_sub(BOOK_SETS);
+    let (_, highest) = named.split_at(left_out);
+    let places = Vec::from_slice(alloc, highest)?;
     Ok(KeptSets { places, left_out })
 }
 
@@ -59,7 +51,7 @@ fn named_places(
     records: &[Vec<Stored<'_>>],
     place: usize,
     chain: &SeenChain<'_>,
-) -> Result<Vec<u64>, AllocError> {
+) -> Result<Vec<usize>, AllocError> {
     let mut places = Vec::new(alloc);
     for commit in &chain.commits {
         add_place(&chain.sets, &commit.header.set, &mut places)?;
@@ -77,7 +69,7 @@ fn named_places(
 fn add_places(
     sets: &SeenSets<'_>,
     records: &[Stored<'_>],
-    places: &mut Vec<u64>,
+    places: &mut Vec<usize>,
 ) -> Result<(), AllocError> {
     for record in records {
         add_place(sets, &record.state.next, places)?;
@@ -89,10 +81,10 @@ fn add_places(
 fn add_place(
     sets: &SeenSets<'_>,
     hash: &[u8; 32],
-    places: &mut Vec<u64>,
+    places: &mut Vec<usize>,
 ) -> Result<(), AllocError> {
     if let Some(place) = sets.place_of(hash) {
-        places.push(place as u64)?;
+        places.push(place)?;
     }
     Ok(())
 }

@@ -185,7 +185,7 @@ fn push_chain(
     let id = chain_at(setup, place);
     if let Some(kept) = seen.sets.get(place) {
         for number in kept.places.iter().rev() {
-            if let Some(set) = chain.sets.sets.get(*number as usize) {
+            if let Some(set) = chain.sets.sets.get(*number) {
                 push_set(text, id, &set.set)?;
             }
         }

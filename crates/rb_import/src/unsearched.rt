@@ -1,6 +1,9 @@
 //! Notices of searches for a path's packets that aren't there.
+ghost use Rattle.std.specs.Prelude.{IfOk, MatchOption};
+ghost use Rattle.rb_import.specs.Unsearched.{LacksSearches, SaysSearches, TellSearches};
+
 use rb_seen::{Saved, Searches, searches_of};
-use rb_setup::Setup;
+use rb_setup::{PathSetup, Setup};
 use std::alloc::{AllocError, Global};
 use std::fmt;
 
@@ -59,14 +62,31 @@ pub fn missing_searches<'a>(
     alloc: Global,
     setup: &'a Setup,
     answers: &[Vec<Saved>],
-) -> Result<Vec<MissingSearches<'a>>, AllocError> {
+) -> Result<Vec<MissingSearches<'a>>, AllocError>
+    ensures { IfOk result (λ found. TellSearches setup.entry.now answers.now found.items) }
+{
     let mut found = Vec::new(alloc);
-    for (path, saved) in setup.paths.iter().zip(answers) {
-        let searches = searches_of(saved.as_slice());
-        if searches.are_missing() {
-            let path = path.id.as_str();
-            found.push(MissingSearches { path, searches })?;
+    for (place, path) in setup.paths.iter().enumerate() {
+        if let Some(missing) = missing_of(answers, place, path) {
+            found.push(missing)?;
         }
     }
     Ok(found)
+}
+
+/// What the answers of the path at a place tell nothing of, where searches aren't there.
+fn missing_of<'a>(
+    answers: &[Vec<Saved>],
+    place: usize,
+    path: &'a PathSetup,
+) -> Option<MissingSearches<'a>>
+    ensures { MatchOption result (¬ LacksSearches answers.now place) (λ n. LacksSearches answers.now place × SaysSearches answers.now place path.entry.now n) }
+{
+    let saved = answers.get(place)?;
+    let searches = searches_of(saved.as_slice());
+    if !searches.are_missing() {
+        return None;
+    }
+    let path = path.id.as_str();
+    Some(MissingSearches { path, searches })
 }

@@ -46,8 +46,9 @@ pub fn order_gives_report()
     ensures { OrderGivesReport }
 {}
 
-/// In every schedule of a supervisor and its workers, of a script whose log has room (each that is read has:
-/// `scripts::laws_hold_of_read_scripts`), the reports of the turns that are over are the script's.
+/// In every schedule of a supervisor and its workers, for every script that keeps `IsScript` and whose log
+/// has room (each that is read is such: `scripts::laws_hold_of_read_scripts`), the reports of the turns that
+/// are over are the script's.
 pub fn schedules()
     ensures { Schedules }
 {

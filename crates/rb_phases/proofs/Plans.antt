@@ -1,19 +1,21 @@
 -- What the supervisor plans for a client.
-use Rattle.std.proofs.Common.{◌≡◌, ℕ, ◌+◌, ◌<◌, [], Option, Some, None, is_some, length, map, get_or, set, refl, sym, ap, ◌∙◌, subst, arith}
+use Rattle.std.proofs.Common.{◌≡◌, ℕ, ◌+◌, ◌<◌, not, [], Option, Some, None, is_some, length, map, get_or, set, refl, sym, ap, ◌∙◌, subst, arith}
 use Rattle.std.specs.List.{slice_get}
 use Rattle.std.specs.Option.{option_map, option_map_or, option_and_then}
+use Rattle.std.proofs.lemmas.Bool.{ltb-true, not-false}
 use Rattle.rb_machine.specs.Batches.{batch_open}
 use Rattle.rb_core.specs.Core.{Core, state_in, refusal_in}
 use Rattle.rb_task.specs.Draft.{Sending, nothing, too_big, batched, Plan, Planned as Answer, Job, Draft, IsDraft}
 use Rattle.rb_machine.specs.Event.{Planned}
-use Rattle.rb_machine.specs.Machine.{State, Reply, is_scanned, job_of, client_view, reply_for, reply_of, after}
+use Rattle.rb_machine.specs.Machine.{State, Reply, is_known, is_scanned, job_of, client_view, refusal_of, reply_for, reply_of, after}
 use Rattle.rb_machine.specs.Standing.{OpenBatch, KnownClient, Standing, batch_of_sending, batch_of, batch_opened, with_client}
 use Rattle.rb_events.specs.Config.{Config}
 use Rattle.rb_events.specs.declared.config.ClientConfig.{ClientConfig}
+use Rattle.rb_events.specs.declared.refusal.Refusal.TheVariants.{UnknownObject}
 use Rattle.rb_plan.specs.Order.{cost_of}
 use Rattle.rb_step.specs.View.{client_of}
 use Rattle.rb_task.specs.Task.{Task}
-use Rattle.rb_machine.proofs.Options.{mapped, chained, some_from}
+use Rattle.rb_machine.proofs.Options.{mapped, chained, passes, some_from}
 use Rattle.rb_machine.proofs.Steps.{present_drafts, of_the_moment}
 use Rattle.rb_phases.specs.Report.{Outcome, held, idle, planned}
 use Rattle.rb_phases.specs.Turns.{priced, numbered, reported_plan, reported, outcome_numbered, outcome_of, IsClientReport, after_outcome, id_of}
@@ -75,21 +77,30 @@ outcome_is s c d reply at e =
 
 -- ---- what is reported of it
 
+-- the client of a draft that is accepted is known
+drafted_for : (s : State) (d : Draft) → refusal_of s (Planned d) ≡ None → (known : KnownClient) × (slice_get s.standing.clients d.job.client ≡ Some known)
+drafted_for s d ok =
+    let there = not-false (is_known s (Planned d)) (passes (not (is_known s (Planned d))) UnknownObject _ ok).0 in
+    at_place s.standing.clients d.job.client (ltb-true d.job.client (length s.standing.clients) there)
+
 -- a draft that is accepted, whoever made it
 pub taken_reported : (old new : Core) (client : ℕ) (d : Draft) (reply : Reply) → d.job.client ≡ client → IsDraft d → refusal_in old (Planned d) ≡ None
     → reply ≡ reply_of (state_in old) (Planned d) → state_in new ≡ after (state_in old) (Planned d)
     → IsOutcomeOf (standing_in old) (standing_in new) client (outcome_numbered (number_of reply) d)
-taken_reported old new client d reply place right ok reply_is state known at =
+taken_reported old new client d reply place right ok reply_is state =
     let s = state_in old in
-    let here : slice_get s.standing.clients d.job.client ≡ Some known = ap (slice_get s.standing.clients) place ∙ at in
-    let law = accepted_reported s d known right ok here in
-    let outcome = outcome_is s known d reply here reply_is in
-    record {
+    let there = drafted_for s d ok in
+    let known : KnownClient = there.0 in
+    let at : slice_get s.standing.clients client ≡ Some known = ap (slice_get s.standing.clients) (sym place) ∙ there.1 in
+    let law = accepted_reported s d known right ok there.1 in
+    let outcome = outcome_is s known d reply there.1 reply_is in
+    let report : IsReportedOf (standing_in old) (standing_in new) client (record { id = known.config.id; outcome = outcome_numbered (number_of reply) d }) = record {
       known = known;
       is_known = at;
       right = subst (λ (p : ℕ × Outcome). IsClientReport s.standing (p.0, known) (record { id = known.config.id; outcome = p.1 })) (λ i. (place i, sym outcome i)) law.0;
       after = ap (λ (t : State). t.standing) state ∙ law.1 ∙ (λ i. with_client s.standing (place i) (after_outcome (sym outcome i)));
-    }
+    } in
+    record { known = known; is_known = at; reported = report }
 
 -- a draft that the supervisor made
 pub draft_reported : (old new : Core) (client : ℕ) (d : Draft) (reply : Reply) → client < length old.config.clients → IsDraft d → HasLogRoom old 1 → IsPlannable old
@@ -154,5 +165,5 @@ id_there core client c lt at =
 pub reported_by_id : (core : Core) (t : Standing) (client : ℕ) (c : ClientConfig) (o : Outcome) → client < length core.config.clients → c ≡ get_or core.config.clients client c
     → IsOutcomeOf (standing_in core) t client o → IsReportedOf (standing_in core) t client (record { id = c.id; outcome = o })
 reported_by_id core t client c o lt at report =
-    let k = known_at core client lt in
-    subst (λ id. IsReportedOf (standing_in core) t client (record { id = id; outcome = o })) (ap (λ (x : ClientConfig). x.id) (known_config core client c lt at k.0 k.1)) (report k.0 k.1)
+    subst (λ id. IsReportedOf (standing_in core) t client (record { id = id; outcome = o }))
+    (ap (λ (x : ClientConfig). x.id) (known_config core client c lt at report.known report.is_known)) report.reported

@@ -49,9 +49,10 @@ pub record IsReportedOf (s t : Standing) (client : ℕ) (report : ClientReport) 
   pub after : t ≡ with_client s client (after_outcome report.outcome)
 
 -- the same of an outcome, under the identifier of the client that is known there
-abbrev pub IsOutcomeOf : Standing → Standing → ℕ → Outcome → Type 0
-IsOutcomeOf s t client outcome =
-    (known : KnownClient) → slice_get s.clients client ≡ Some known → IsReportedOf s t client (record { id = known.config.id; outcome = outcome })
+pub record IsOutcomeOf (s t : Standing) (client : ℕ) (outcome : Outcome) : Type 0 where
+  pub known : KnownClient
+  pub is_known : slice_get s.clients client ≡ Some known
+  pub reported : IsReportedOf s t client (record { id = known.config.id; outcome = outcome })
 
 -- The reports are one of each client from this one on, in their order. Each is right as those before it leave things, and all
 -- of them lead to how things stand then.

@@ -37,10 +37,11 @@ abbrev pub refusals : ℕ → Standing → List Event → List RefusedEvent
 refusals number s [] = []
 refusals number s (event ∷ events) = refusal_at number s event ++ refusals (number + 1) (standing_after s event) events
 
--- how things stand when a turn's clients are planned
+-- how things stand when a turn's events are taken in: its window was entered, and its questions were asked
 abbrev pub before_events : Standing → Turn → Standing
 before_events s turn = fold after_question (after_window s turn.window) turn.goals
 
+-- how things stand when a turn's clients are planned
 abbrev pub before_plans : Standing → Turn → Standing
 before_plans s turn = fold standing_after (before_events s turn) turn.events
 

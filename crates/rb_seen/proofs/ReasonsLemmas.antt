@@ -1,6 +1,7 @@
 -- What the answers of a client have that are refused.
-use Rattle.std.proofs.Common.{◌≡◌, ◌≢◌, ◌⊎◌, ℕ, zero, suc, ◌+◌, ◌<◌, ◌≤◌, ◌==◌, List, [], ◌∷◌, ◌++◌, length, get_or, take, map, Option, Some, None, Bool, true, false, cond, inl, inr, refl, sym, subst, ap, ◌∙◌, arith, eq-eqb}
-use Rattle.std.specs.Prelude.{Any, Contains, MatchOption, count_by, sum_by, slice_index}
+use Rattle.std.proofs.Common.{◌≡◌, ◌≢◌, ◌⊎◌, ℕ, zero, suc, ◌+◌, ◌<◌, ◌≤◌, ◌==◌, List, [], ◌∷◌, ◌++◌, length, get_or, take, map, filter, Option, Some, None, Bool, true, false, cond, inl, inr, refl, sym, subst, ap, ◌∙◌, All, arith, eq-eqb}
+use Rattle.std.proofs.lemmas.Bool.{leb-true}
+use Rattle.std.specs.Prelude.{Any, Contains, nat_le, MatchOption, count_by, sum_by, slice_index}
 use Rattle.std.specs.List.{flat_map}
 use Rattle.std.specs.List.Sorted.{IsNonDecreasingBy}
 use Rattle.std.specs.Str.Parse.{digits_value}
@@ -19,7 +20,7 @@ use Rattle.rb_seen.specs.declared.error.ProblemName.{ProblemName}
 use Rattle.rb_seen.specs.declared.error.ImportError.{ImportError}
 use Rattle.rb_seen.specs.declared.error.ImportError.TheVariants as errors
 use Rattle.rb_seen.specs.declared.saved.Saved.{Saved}
-use Rattle.rb_seen.specs.Clients.{HaveStates, HasReason, HasOtherRevision, TellsTwice, Refuses, Falls, IsOfRevision, client_states_in, client_states_of, stored_of, is_of_client}
+use Rattle.rb_seen.specs.Clients.{HaveStates, HasReason, HasOtherRevision, TellsTwice, Refuses, Falls, IsOfRevision, client_states_in, client_states_of, stored_of, current_of, is_of_client}
 use Rattle.rb_seen.specs.Problems.{IsTold}
 use Rattle.rb_seen.proofs.Sorting.{taken}
 
@@ -90,9 +91,9 @@ longer f (x ∷ xs) (suc i) =
     let long : length (f x ++ flat_map f xs) ≡ length (f x) + length (flat_map f xs) = length-append (f x) _ in
     omega arith
 
-pub two_states : (saved : List Saved) (i : ℕ) (s : Saved) (x y : ClientState) → i < length saved → s ≡ get_or saved i s → x ∷ [] ≡ client_states_of (take i saved)
-    → client_states_in s.answer ≡ y ∷ [] → TellsTwice saved
-two_states saved i s x y small is before there =
+pub two_states : (tracked : List ℕ) (saved : List Saved) (i : ℕ) (s : Saved) (x y : ClientState) → i < length saved → s ≡ get_or saved i s → x ∷ [] ≡ client_states_of (take i saved)
+    → client_states_in s.answer ≡ y ∷ [] → TellsTwice tracked saved
+two_states tracked saved i s x y small is before there =
     let f : Saved → List ClientState = λ t. client_states_in t.answer in
     let both : flat_map f (take (i + 1) saved) ≡ x ∷ y ∷ [] = taken f saved i s small is ∙ ap (λ l. l ++ f s) (sym before) ∙ ap (λ l. x ∷ l) there in
     let two : length (flat_map f (take (i + 1) saved)) ≡ 2 = ap length both in
@@ -113,6 +114,12 @@ in_map P (x ∷ xs) (zero, s, small, is, p) = (s.state.now, (zero, omega arith, 
 in_map P (x ∷ xs) (suc k, s, small, is, p) =
     let w = in_map P xs (k, s, omega arith, is, p) in
     (w.0, (suc w.1.0, omega arith, w.1.2), w.2)
+
+above : (m n : ℕ) → m ≤ n → n ≢ m → m < n
+above zero zero le other = absurd (other refl)
+above zero (suc n) le other = omega arith
+above (suc m) zero le other = absurd (omega (arith, le))
+above (suc m) (suc n) le other = let w = above m n (omega (arith, le)) (λ e. other (ap (λ k. suc k) e)) in omega (arith, w)
 
 in_states : (P : ConsensusState → Type 0) (states : List ConsensusState) (stored : List Stored) → HaveStates states stored → Any (λ (s : Stored). P s.state.now) stored → Any P states
 in_states P states stored same w =
@@ -177,15 +184,43 @@ pub tells_foreign : (setup : ClientSetup) (tracked : List ℕ) (saved : List Sav
 tells_foreign setup tracked saved (errors.Problem p) w = subst (λ name. Refuses name setup tracked saved) (sym w.0) w.1
 tells_foreign setup tracked saved errors.NoMemory w = tt
 
-pub tells_revision : (setup : ClientSetup) (tracked : List ℕ) (saved : List Saved) (stored : List Stored) (e : ImportError) → HaveStates (stored_of saved) stored
-    → IsTold ProblemName.OtherRevision (Any (λ s. ¬ IsOfRevision tracked s) stored) e → HasReason setup tracked saved e
-tells_revision setup tracked saved stored (errors.Problem p) same w =
-    subst (λ name. Refuses name setup tracked saved) (sym w.0) (inr (in_states (λ (s : ConsensusState). ¬ IsRevision tracked s.revision) (stored_of saved) stored same w.1))
-tells_revision setup tracked saved stored errors.NoMemory same w = tt
+from_at : (p : ConsensusState → Bool) (Q : ConsensusState → Type 0) (b : Bool) (x : ConsensusState) (xs ys : List ConsensusState) → p x ≡ b
+    → (Any Q xs → Any (λ s. (p s ≡ true) × Q s) ys) → Any Q (cond b (x ∷ xs) xs) → Any (λ s. (p s ≡ true) × Q s) (x ∷ ys)
+from_at p Q true x xs ys e next (zero, y, small, is, q) = (zero, x, omega arith, refl, (e, subst Q (sym is) q))
+from_at p Q true x xs ys e next (suc k, y, small, is, q) = any_there (λ s. (p s ≡ true) × Q s) x ys (next (k, y, omega arith, is, q))
+from_at p Q false x xs ys e next w = any_there (λ s. (p s ≡ true) × Q s) x ys (next w)
 
-pub tells_twice : (setup : ClientSetup) (tracked : List ℕ) (saved : List Saved) (stored : List Stored) (e : ImportError) → HaveStates (stored_of saved) stored
-    → IsNonDecreasingBy (λ (s : Stored). s.state.now.height) stored → IsTold ProblemName.TwoAnswers (Falls (map (λ (s : Stored). s.state.now.height) stored)) e → HasReason setup tracked saved e
-tells_twice setup tracked saved stored (errors.Problem p) same order w = subst (λ name. Refuses name setup tracked saved) (sym w.0) (inr (two_records (stored_of saved) stored same order w.1))
-tells_twice setup tracked saved stored errors.NoMemory same order w = tt
+-- some of those that pass is one of all, and passes
+from_filter : (p : ConsensusState → Bool) (Q : ConsensusState → Type 0) (xs : List ConsensusState) → Any Q (filter p xs) → Any (λ s. (p s ≡ true) × Q s) xs
+from_filter p Q [] (k, y, small, is, q) = absurd (omega (arith, small))
+from_filter p Q (x ∷ xs) w = from_at p Q (p x) x (filter p xs) xs refl (from_filter p Q xs) w
 
-pub ruleset recording = (tells_foreign, tells_revision, tells_twice)
+any_so : (P Q : ConsensusState → Type 0) (xs : List ConsensusState) → ((s : ConsensusState) → P s → Q s) → Any P xs → Any Q xs
+any_so P Q xs f (k, y, small, is, p) = (k, y, small, is, f y p)
+
+-- one that isn't earlier, and of another revision, is of a later one
+later : (revision : ℕ) (saved : List Saved) → Any (λ s. s.revision ≢ revision) (current_of revision saved) → Any (λ s. revision < s.revision) (stored_of saved)
+later revision saved w =
+    any_so (λ (s : ConsensusState). (nat_le revision s.revision ≡ true) × (s.revision ≢ revision)) (λ (s : ConsensusState). revision < s.revision) (stored_of saved)
+    (λ s h. let low : revision ≤ s.revision = leb-true revision s.revision h.0 in above revision s.revision low h.1)
+    (from_filter (λ (s : ConsensusState). nat_le revision s.revision) (λ (s : ConsensusState). s.revision ≢ revision) (stored_of saved) w)
+
+pub tells_revision : (setup : ClientSetup) (tracked : List ℕ) (saved : List Saved) (revision : ℕ) (stored : List Stored) (e : ImportError) → IsRevision tracked revision
+    → HaveStates (current_of revision saved) stored → IsTold ProblemName.OtherRevision (Any (λ s. s.state.now.revision ≢ revision) stored) e → HasReason setup tracked saved e
+tells_revision setup tracked saved revision stored (errors.Problem p) is same w =
+    subst (λ name. Refuses name setup tracked saved) (sym w.0)
+    (inr (revision, is, later revision saved (in_states (λ (s : ConsensusState). s.revision ≢ revision) (current_of revision saved) stored same w.1)))
+tells_revision setup tracked saved revision stored errors.NoMemory is same w = tt
+
+pub tells_twice : (setup : ClientSetup) (tracked : List ℕ) (saved : List Saved) (revision : ℕ) (stored : List Stored) (e : ImportError) → IsRevision tracked revision
+    → HaveStates (current_of revision saved) stored → IsNonDecreasingBy (λ (s : Stored). s.state.now.height) stored
+    → IsTold ProblemName.TwoAnswers (Falls (map (λ (s : Stored). s.state.now.height) stored)) e → HasReason setup tracked saved e
+tells_twice setup tracked saved revision stored (errors.Problem p) is same order w =
+    subst (λ name. Refuses name setup tracked saved) (sym w.0) (inr (revision, is, two_records (current_of revision saved) stored same order w.1))
+tells_twice setup tracked saved revision stored errors.NoMemory is same order w = tt
+
+-- records of the chain's revision number are of its revision
+pub are_of_revision : (tracked : List ℕ) (revision : ℕ) (stored : List Stored) → IsRevision tracked revision → All (λ (s : Stored). s.state.now.revision ≡ revision) stored → All (IsOfRevision tracked) stored
+are_of_revision tracked revision stored is h = λ k d small. subst (IsRevision tracked) (sym (h k d small)) is
+
+pub ruleset recording = (tells_foreign, tells_revision, tells_twice, are_of_revision)

@@ -1,6 +1,6 @@
 -- The set that a hash finds, and one set more.
-use Rattle.std.proofs.Common.{◌≡◌, ◌≢◌, ◌⊎◌, if◌then◌else◌, ℕ, zero, suc, ◌<◌, List, [], ◌∷◌, ◌++◌, length, get_or, Some, None, Bool, true, false, inl, inr, refl, sym, subst, ap, ◌∙◌}
-use Rattle.std.specs.Prelude.{slice_get}
+use Rattle.std.proofs.Common.{◌≡◌, ◌≢◌, ◌⊎◌, if◌then◌else◌, ℕ, zero, suc, ◌<◌, List, [], ◌∷◌, ◌++◌, length, get_or, Option, Some, None, Bool, true, false, inl, inr, refl, sym, subst, ap, ◌∙◌}
+use Rattle.std.specs.Prelude.{IsSomeAnd, slice_get}
 use Rattle.std.specs.BTreeMap.{BTreeMap, get, is_at, Updates}
 use Rattle.std.specs.Cmp.Lexicographic.{slice_cmp}
 use Rattle.std.specs.Ordering.{nat_cmp}
@@ -10,7 +10,7 @@ use Rattle.std.proofs.lemmas.Map.Text.{is_eq-slice_cmp}
 use Rattle.std.proofs.lemmas.Slice.Eq.{bytes_eq-Decides}
 use Rattle.rb_valset.specs.ValidatorSet.{set_hash}
 use Rattle.rb_seen.specs.declared.sets.SeenSet.{SeenSet}
-use Rattle.rb_seen.specs.Sets.{AreIndexed, WasSeen}
+use Rattle.rb_seen.specs.Sets.{AreIndexed, IsPlaceOf, WasSeen}
 
 there : {A : Type 0} (xs : List A) (k : ℕ) (x : A) → k < length xs → get_or xs k x ≡ x → slice_get xs k ≡ Some x
 there xs k x small is = slice_get-get_or xs k x small ∙ ap (λ y. Some y) is
@@ -43,6 +43,19 @@ unseen_other sets places hash i s indexed found at other seen =
     let same : i ≡ w.0 = same_Some i w.0 (sym found ∙ w.2) in
     let one : s ≡ w.1 = same_Some s w.1 (sym at ∙ ap (slice_get sets) same ∙ w.3) in
     other (ap (λ t. set_hash t.set) one ∙ w.4)
+
+-- where a set of this hash stands, it was seen
+pub seen_at : (sets : List SeenSet) (hash : List ℕ) (i : ℕ) (s : SeenSet) → slice_get sets i ≡ Some s → set_hash s.set ≡ hash → WasSeen sets hash
+seen_at sets hash i s at same = (i, s, slice_get_within sets i s at, get_or_from_slice_get sets i s s at, same)
+
+-- and at no other place than the map's
+pub only_place : (sets : List SeenSet) (places : BTreeMap (List ℕ) ℕ) (hash : List ℕ) (i other : ℕ) → AreIndexed sets places
+    → get (slice_cmp nat_cmp) places hash ≡ Some i → IsPlaceOf sets hash other → other ≡ i
+only_place sets places hash i other indexed found there = at _ refl there
+  where
+    at : (o : Option SeenSet) → slice_get sets other ≡ o → IsSomeAnd o (λ (s : SeenSet). set_hash s.set ≡ hash) → other ≡ i
+    at (Some s) is same = same_Some other i (sym (subst (λ h. get (slice_cmp nat_cmp) places h ≡ Some other) same (indexed other s is)) ∙ found)
+    at None is same = absurd same
 
 -- the places of other hashes stay
 kept : (sets : List SeenSet) (m n : BTreeMap (List ℕ) ℕ) (hash : List ℕ) (i : ℕ) (s : SeenSet) → AreIndexed sets m → (WasSeen sets hash → ⊥)

@@ -1,5 +1,5 @@
 -- What was seen of a client (ibc-go's `client_states/ID` and `consensus_states/ID`).
-use Rattle.std.specs.Prelude.{◌≡◌, ◌≢◌, ◌⊎◌, ◌+◌, ◌<◌, ◌≤◌, ⊤, ℕ, List, [], ◌∷◌, Bool, true, false, Option, Some, None, Any, length, map, count_by, ◌==◌, slice_index}
+use Rattle.std.specs.Prelude.{◌≡◌, ◌≢◌, ◌⊎◌, ◌+◌, ◌<◌, ◌≤◌, ⊤, ℕ, List, [], ◌∷◌, Bool, true, false, Option, Some, None, Any, length, map, filter, count_by, ◌==◌, nat_le, slice_index}
 use Rattle.std.specs.List.{flat_map, list_any}
 use Rattle.std.specs.List.Sorted.{IsPermutation}
 use Rattle.rb_answers.specs.declared.answer.Answer.{Answer}
@@ -53,6 +53,14 @@ stored_in (answers.Transactions page) = []
 abbrev pub stored_of : List Saved → List ConsensusState
 stored_of saved = flat_map (λ s. stored_in s.answer) saved
 
+-- those of the records that aren't of a revision before this one: ibc-go takes no update from such
+abbrev pub current_of : ℕ → List Saved → List ConsensusState
+current_of revision saved = filter (λ (s : ConsensusState). nat_le revision s.revision) (stored_of saved)
+
+-- this holds at the revision number of the chain that the client tracks
+abbrev pub AtRevision : List ℕ → (ℕ → Type 0) → Type 0
+AtRevision tracked P = (revision : ℕ) × IsRevision tracked revision × P revision
+
 -- these are the records, each once
 abbrev pub HaveStates : List ConsensusState → List Stored → Type 0
 HaveStates states stored = IsPermutation states (map (λ (s : Stored). s.state.now) stored)
@@ -78,17 +86,17 @@ is_of_client (answers.ClientState state) = true
 is_of_client (answers.ConsensusStates page) = true
 is_of_client (answers.Transactions page) = false
 
--- a client state or a record is of another revision than the tracked chain's
+-- a client state is of another revision than the tracked chain's, or a record of a later one
 abbrev pub HasOtherRevision : List ℕ → List Saved → Type 0
 HasOtherRevision tracked saved =
     Any (λ s. ¬ IsRevision tracked s.revision) (client_states_of saved)
-    ⊎ Any (λ s. ¬ IsRevision tracked s.revision) (stored_of saved)
+    ⊎ AtRevision tracked (λ revision. Any (λ s. revision < s.revision) (stored_of saved))
 
--- there are two client states, or two records of one height
-abbrev pub TellsTwice : List Saved → Type 0
-TellsTwice saved =
+-- there are two client states, or two records of one height that aren't of an earlier revision
+abbrev pub TellsTwice : List ℕ → List Saved → Type 0
+TellsTwice tracked saved =
     (1 < length (client_states_of saved))
-    ⊎ ((height : ℕ) × (1 < count_by (λ s. s.height == height) (stored_of saved)))
+    ⊎ AtRevision tracked (λ revision. (height : ℕ) × (1 < count_by (λ s. s.height == height) (current_of revision saved)))
 
 -- a height isn't above the one before it
 abbrev pub Falls : List ℕ → Type 0
@@ -103,7 +111,7 @@ abbrev pub Refuses : ProblemName → ClientSetup → List ℕ → List Saved →
 Refuses ProblemName.WrongFolder setup tracked saved = Any (λ s. is_of_client s.answer ≡ false) saved
 Refuses ProblemName.OtherChain setup tracked saved = Any (λ s. s.chain ≢ tracked) (client_states_of saved)
 Refuses ProblemName.OtherRevision setup tracked saved = HasOtherRevision tracked saved
-Refuses ProblemName.TwoAnswers setup tracked saved = TellsTwice saved
+Refuses ProblemName.TwoAnswers setup tracked saved = TellsTwice tracked saved
 Refuses ProblemName.MissingConsensusStates setup tracked saved = has_last saved ≡ false
 Refuses ProblemName.MissingClientState setup tracked saved = LeavesOut setup × (client_states_of saved ≡ [])
 Refuses other setup tracked saved = ⊥

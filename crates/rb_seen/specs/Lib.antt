@@ -5,4 +5,5 @@ pub mod Sets
 pub mod Chains
 pub mod Clients
 pub mod Packets
+pub mod Lowest
 pub mod Accord

@@ -1,31 +1,53 @@
 -- What was seen of a path's packets (ICS 4).
-use Rattle.std.specs.Prelude.{◌≡◌, ℕ, ◌+◌, ◌≤◌, ◌==◌, nat_le, Bool, true, false, not, ◌&&◌, if◌then◌else◌, List, [], Option, Some, None, IfSome, String, length, map, filter, string_bytes}
+use Rattle.std.specs.Prelude.{◌≡◌, ℕ, ◌+◌, ◌-◌, ◌^◌, ◌≤◌, ◌==◌, nat_le, nat_lt, Bool, true, false, not, ◌&&◌, ◌||◌, if◌then◌else◌, List, [], ◌∷◌, Option, Some, None, IfSome, String, All, Any, Contains, length, map, filter, string_bytes}
 use Rattle.std.specs.Global.{Global}
-use Rattle.std.specs.List.{flat_map, list_any}
-use Rattle.std.specs.List.Sorted.{IsPermutation}
+use Rattle.std.specs.List.{flat_map, list_any, IsDistinct}
 use Rattle.std.specs.Str.{bytes_eq}
 use Rattle.rb_answers.specs.declared.answer.Answer.{Answer}
 use Rattle.rb_answers.specs.declared.answer.Answer.TheVariants as answers
 use Rattle.rb_answers.specs.declared.packets.PacketEvent.{PacketEvent}
 use Rattle.rb_answers.specs.declared.packets.PacketKind.{PacketKind}
+use Rattle.rb_answers.specs.declared.packets.RevisionHeight.{RevisionHeight}
+use Rattle.rb_answers.specs.Revisions.{IsRevision}
 use Rattle.rb_setup.specs.declared.setup.PathSetup.{PathSetup}
 use Rattle.rb_seen.specs.declared.packets.Searches.{Searches}
 use Rattle.rb_seen.specs.declared.packets.SeenPacket.{SeenPacket}
 use Rattle.rb_seen.specs.declared.saved.Saved.{Saved}
 
--- the packet is the path's: its sequence is the first one or later, and its source is the one that the setup names
-abbrev pub IsOfPath : PathSetup → SeenPacket → Type 0
-IsOfPath setup p =
-    (setup.first ≤ p.event.now.sequence)
-    × IfSome setup.source_channel (λ source. string_bytes p.event.now.source ≡ string_bytes source)
-
 abbrev pub is_source : Option (String Global) → List ℕ → Bool
 is_source (Some wanted) source = bytes_eq (string_bytes wanted) source
 is_source None source = true
 
+abbrev pub is_dest : Option (List ℕ) → List ℕ → Bool
+is_dest (Some wanted) dest = bytes_eq wanted dest
+is_dest None dest = true
+
+abbrev pub same_kind : PacketKind → PacketKind → Bool
+same_kind PacketKind.Sent PacketKind.Sent = true
+same_kind PacketKind.Received PacketKind.Received = true
+same_kind PacketKind.AckWritten PacketKind.AckWritten = true
+same_kind PacketKind.Cleared PacketKind.Cleared = true
+same_kind other another = false
+
+-- whether an event tells that a packet of the path's source was sent
+abbrev pub is_sending : PathSetup → PacketEvent → Bool
+is_sending setup e = same_kind e.kind PacketKind.Sent && is_source setup.source_channel (string_bytes e.source)
+
+-- the path's destination: that of the first of its packets that was sent (ICS 4: a channel's end has one counterparty); none where none was
+abbrev pub counterparty : PathSetup → List PacketEvent → Option (List ℕ)
+counterparty setup [] = None
+counterparty setup (e ∷ es) = if is_sending setup e then Some (string_bytes e.dest) else counterparty setup es
+
+-- the packet is the path's: its sequence is the first one or later, its source is the one that the setup names, and its destination this one
+abbrev pub IsOfPath : PathSetup → Option (List ℕ) → SeenPacket → Type 0
+IsOfPath setup end p =
+    (setup.first ≤ p.event.now.sequence)
+    × IfSome setup.source_channel (λ source. string_bytes p.event.now.source ≡ string_bytes source)
+    × IfSome end (λ dest. string_bytes p.event.now.dest ≡ dest)
+
 -- whether an event is of the path's packets
-abbrev pub is_wanted : PathSetup → PacketEvent → Bool
-is_wanted setup e = is_source setup.source_channel (string_bytes e.source) && nat_le setup.first e.sequence
+abbrev pub is_wanted : PathSetup → Option (List ℕ) → PacketEvent → Bool
+is_wanted setup end e = is_source setup.source_channel (string_bytes e.source) && is_dest end (string_bytes e.dest) && nat_le setup.first e.sequence
 
 abbrev pub events_in : Answer → List PacketEvent
 events_in (answers.Commit header) = []
@@ -42,18 +64,63 @@ events_of saved = flat_map (λ s. events_in s.answer) saved
 abbrev pub seen_events : List SeenPacket → List PacketEvent
 seen_events packets = map (λ (p : SeenPacket). p.event.now) packets
 
--- these are the events of the path's packets, each once
+-- those of a path's events that are wanted of it
+abbrev pub wanted_of : PathSetup → List PacketEvent → List PacketEvent
+wanted_of setup events = filter (is_wanted setup (counterparty setup events)) events
+
+-- a sending's events are equal
+abbrev pub IsSameSending : PacketEvent → PacketEvent → Type 0
+IsSameSending e p =
+    (p.block ≡ e.block)
+    × (p.timeout_height.revision ≡ e.timeout_height.revision)
+    × (p.timeout_height.height ≡ e.timeout_height.height)
+    × (p.timeout_time ≡ e.timeout_time)
+
+-- a seen event stands for another: it is of its kind and sequence, and of its block or a lower one; it is equal, where a packet was sent
+abbrev pub StandsFor : PacketEvent → SeenPacket → Type 0
+StandsFor e p =
+    (p.event.now.kind ≡ e.kind) × (p.event.now.sequence ≡ e.sequence) × (p.event.now.block ≤ e.block)
+    × (e.kind ≡ PacketKind.Sent → IsSameSending e p.event.now)
+
+-- the kinds in the order of a packet's way
+abbrev pub place_of : PacketKind → ℕ
+place_of PacketKind.Sent = 0
+place_of PacketKind.Received = 1
+place_of PacketKind.AckWritten = 2
+place_of PacketKind.Cleared = 3
+
+-- whether two are of one kind and sequence
+abbrev pub are_of_one : SeenPacket → SeenPacket → Bool
+are_of_one p q = place_of p.event.now.kind == place_of q.event.now.kind && p.event.now.sequence == q.event.now.sequence
+
+-- what is seen are wanted events; each wanted event has one that stands for it; no two are of one kind and sequence
 abbrev pub HaveEvents : PathSetup → List PacketEvent → List SeenPacket → Type 0
-HaveEvents setup events packets = IsPermutation (filter (is_wanted setup) events) (seen_events packets)
+HaveEvents setup events packets =
+    All (λ (p : SeenPacket). Contains (wanted_of setup events) p.event.now) packets
+    × All (λ e. Any (StandsFor e) packets) (wanted_of setup events)
+    × IsDistinct are_of_one packets
+
+-- ---- until when packets are received
+
+abbrev pub within_heights : ℕ → ℕ
+within_heights n = if nat_lt n 1 then 1 else if nat_lt n (2 ^ 63) then n else 2 ^ 63 - 1
+
+-- the height of a chain of this revision from which on a packet with this timeout isn't received any more; 0 is none (ICS 2: a height of a
+-- later revision is above all heights of an earlier one; 0-0 is none; CometBFT's heights are from 1 to 2^63 - 1)
+abbrev pub expiry_at : ℕ → RevisionHeight → ℕ
+expiry_at revision timeout =
+    if (timeout.revision == 0 && timeout.height == 0) || nat_lt revision timeout.revision then 0
+    else if nat_lt timeout.revision revision then 1
+    else within_heights timeout.height
+
+abbrev pub ExpiresAt : ℕ → SeenPacket → Type 0
+ExpiresAt revision p = p.expiry ≡ expiry_at revision p.event.now.timeout_height
+
+-- the packet's timeout is read for the revision of its destination's chain
+abbrev pub Expires : List ℕ → SeenPacket → Type 0
+Expires dest p = (revision : ℕ) × IsRevision dest revision × ExpiresAt revision p
 
 -- ---- searches that aren't there
-
-abbrev pub same_kind : PacketKind → PacketKind → Bool
-same_kind PacketKind.Sent PacketKind.Sent = true
-same_kind PacketKind.Received PacketKind.Received = true
-same_kind PacketKind.AckWritten PacketKind.AckWritten = true
-same_kind PacketKind.Cleared PacketKind.Cleared = true
-same_kind other another = false
 
 -- whether an answer tells of an event of this kind
 abbrev pub tells_of : PacketKind → Answer → Bool

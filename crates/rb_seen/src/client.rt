@@ -1,8 +1,8 @@
 //! What a client has stored, and how it judges headers.
-ghost use Rattle.std.specs.Prelude.{◌≡◌, ◌↔◌, ◌++◌, ⊤, IsTrue, true, false, map, All, Any, IfOk, IfErr, OnOk, option_map, option_to_list};
+ghost use Rattle.std.specs.Prelude.{◌≡◌, ◌≢◌, ◌↔◌, ◌++◌, ⊤, IsTrue, true, false, map, filter, nat_le, All, Any, IfOk, IfErr, OnOk, option_map, option_to_list};
 ghost use Rattle.rb_seen.specs.Problems.{IsTold, IsToldOf};
 ghost use Rattle.std.specs.List.Sorted.{IsNonDecreasingBy, IsStrictlyIncreasing};
-ghost use Rattle.rb_seen.specs.Clients.{IsOfRevision, JudgesAs, HaveStates, HasReason, Falls, client_states_of, stored_of, is_of_client, is_last_in, has_last};
+ghost use Rattle.rb_seen.specs.Clients.{IsOfRevision, JudgesAs, AtRevision, HaveStates, HasReason, Falls, client_states_of, current_of, is_of_client, is_last_in, has_last};
 
 use crate::error::{ImportError, ProblemName};
 use crate::repeat::repeated;
@@ -39,7 +39,7 @@ pub fn seen_client<'a>(
     ensures rising { IfOk result (λ client. IsStrictlyIncreasing (map (λ s. s.state.now.height) client.stored.items)) }
     ensures revision { IfOk result (λ client. All (IsOfRevision tracked.now) client.stored.items) }
     ensures judging { IfOk result (JudgesAs setup.entry.now (client_states_of answers.entry.now)) }
-    ensures states { IfOk result (λ client. HaveStates (stored_of answers.entry.now) client.stored.items) }
+    ensures states { IfOk result (λ client. AtRevision tracked.now (λ revision. HaveStates (current_of revision answers.entry.now) client.stored.items)) }
     ensures last { OnOk result (has_last answers.entry.now ≡ true) }
     ensures reason { IfErr result (HasReason setup.entry.now tracked.now answers.entry.now) }
     ensures told { IfErr result (IsToldOf setup.entry.now.id) }
@@ -100,7 +100,7 @@ fn is_of_chain(state: &ClientState, chain: &ChainId) -> bool
 }
 
 /// The records of a client by rising height, which are of the tracked chain's revision; the last page
-/// has to be there.
+/// has to be there. Those of an earlier revision are passed over.
 #[tactic(auto, using(crate::proofs::ReasonsLemmas::recording))]
 fn stored_of<'a>(
     alloc: Global,
@@ -110,17 +110,18 @@ fn stored_of<'a>(
 ) -> Result<Vec<Stored<'a>>, ImportError<'a>>
     ensures rising { IfOk result (λ stored. IsStrictlyIncreasing (map (λ s. s.state.now.height) stored.items)) }
     ensures revision { IfOk result (λ stored. All (IsOfRevision tracked.now) stored.items) }
-    ensures states { IfOk result (λ stored. HaveStates (stored_of answers.entry.now) stored.items) }
+    ensures states { IfOk result (λ stored. AtRevision tracked.now (λ revision. HaveStates (current_of revision answers.entry.now) stored.items)) }
     ensures last { OnOk result (has_last answers.entry.now ≡ true) }
     ensures reason { IfErr result (HasReason setup.entry.now tracked.now answers.entry.now) }
     ensures told { IfErr result (IsToldOf setup.entry.now.id) }
 {
     let id = setup.id.as_str();
-    let stored = sorted(all_stored(alloc, id, answers)?)?;
+    let revision = revision_of(tracked.as_str());
+    let stored = sorted(current_of(alloc, id, revision, answers)?)?;
     if !has_last(answers) {
         return Err(ImportError::of(ProblemName::MissingConsensusStates, id));
     }
-    judge_revisions(id, tracked, stored.as_slice())?;
+    judge_revisions(id, revision, stored.as_slice())?;
     judge_heights(alloc, id, stored.as_slice())?;
     Ok(stored)
 }
@@ -158,14 +159,15 @@ fn is_last_in(answer: &Answer) -> bool
     }
 }
 
-/// The records of a client in the order of the answers.
-#[tactic(auto, using(crate::proofs::Sorting::taking))]
-fn all_stored<'a>(
+/// The records of a client in the order of the answers, but for those of a revision before this one.
+#[tactic(auto, using(crate::proofs::Sorting::filtering))]
+fn current_of<'a>(
     alloc: Global,
     id: &'a str,
+    revision: u64,
     answers: &'a [Saved],
 ) -> Result<Vec<Stored<'a>>, ImportError<'a>>
-    ensures states { IfOk result (λ stored. map (λ s. s.state.now) stored.items ≡ stored_of answers.entry.now) }
+    ensures states { IfOk result (λ stored. map (λ s. s.state.now) stored.items ≡ current_of revision answers.entry.now) }
     ensures foreign { IfErr result (IsTold ProblemName.WrongFolder (Any (λ s. is_of_client s.answer ≡ false) answers.entry.now)) }
     ensures told { IfErr result (IsToldOf id.entry.now) }
 {
@@ -174,7 +176,7 @@ fn all_stored<'a>(
         let file = saved.file.as_str();
         match &saved.answer {
             Answer::ConsensusStates(page) => {
-                add_states(file, page.states.as_slice(), &mut stored)?;
+                add_states(file, revision, page.states.as_slice(), &mut stored)?;
             }
             Answer::ClientState(_) => {}
             _ => return Err(ImportError::at(ProblemName::WrongFolder, id, 0, file)),
@@ -183,30 +185,33 @@ fn all_stored<'a>(
     Ok(stored)
 }
 
+#[tactic(auto, using(crate::proofs::Sorting::filtering))]
 fn add_states<'a>(
     file: &'a str,
+    revision: u64,
     states: &'a [ConsensusState],
     stored: &mut Vec<Stored<'a>>,
 ) -> Result<(), AllocError>
-    ensures { OnOk result (map (λ s. s.state.now) stored.new.items ≡ map (λ s. s.state.now) stored.old.items ++ states.entry.now) }
+    ensures { OnOk result (map (λ s. s.state.now) stored.new.items ≡ map (λ s. s.state.now) stored.old.items ++ filter (λ s. nat_le revision s.revision) states.entry.now) }
 {
     for state in states {
-        stored.push(Stored { file, state })?;
+        if revision <= state.revision {
+            stored.push(Stored { file, state })?;
+        }
     }
     Ok(())
 }
 
-/// Refuses records of another revision than the chain's.
+/// Refuses records of another revision than this one.
 fn judge_revisions<'a>(
     id: &'a str,
-    tracked: &ChainId,
+    revision: u64,
     stored: &[Stored<'a>],
 ) -> Result<(), ImportError<'a>>
-    ensures revision { OnOk result (All (IsOfRevision tracked.now) stored.now) }
-    ensures other { IfErr result (IsTold ProblemName.OtherRevision (Any (λ s. ¬ IsOfRevision tracked.now s) stored.now)) }
+    ensures revision { OnOk result (All (λ s. s.state.now.revision ≡ revision) stored.now) }
+    ensures other { IfErr result (IsTold ProblemName.OtherRevision (Any (λ s. s.state.now.revision ≢ revision) stored.now)) }
     ensures told { IfErr result (IsToldOf id.entry.now) }
 {
-    let revision = revision_of(tracked.as_str());
     for record in stored {
         if record.state.revision != revision {
             let height = record.state.height.get();

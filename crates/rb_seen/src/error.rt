@@ -159,6 +159,16 @@ impl Problem<'_> {
         }
     }
 
+    /// Writes what else can be done, where the answer may be gone.
+    fn write_other_way<W: fmt::Write>(&self, f: &mut fmt::Formatter<W>) -> fmt::Result {
+        match self.name {
+            ProblemName::MissingSend => f.write_str(
+                ", or, where the node keeps it no more, set the path's `first` above it",
+            ),
+            _ => Ok(()),
+        }
+    }
+
     /// Writes which answers of a height are to be fetched, where such are wrong or missing. Height 0 is none:
     /// an answer on another chain is then a client's.
     fn write_request<W: fmt::Write>(&self, f: &mut fmt::Formatter<W>, height: u64) -> fmt::Result {
@@ -202,7 +212,8 @@ impl fmt::Display for Problem<'_> {
         if let Some(height) = self.number {
             self.write_request(f, height)?;
         }
-        self.write_folder(f)
+        self.write_folder(f)?;
+        self.write_other_way(f)
     }
 }
 

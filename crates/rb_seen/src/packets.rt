@@ -1,22 +1,31 @@
 //! What was seen of a path's packets.
-ghost use Rattle.std.specs.Prelude.{◌≡◌, ◌≤◌, [], ◌∷◌, ◌++◌, if◌then◌else◌, All, IfOk, IfErr, OnOk, IfSome, IsTrue, count_by, filter, string_bytes};
+ghost use Rattle.std.specs.Prelude.{◌≡◌, [], ◌∷◌, ◌++◌, if◌then◌else◌, All, IfOk, IfErr, OnOk, count_by, filter, option_map};
 ghost use Rattle.std.specs.List.{flat_map, list_any};
+ghost use Rattle.std.specs.List.Sorted.{IsPermutation};
 ghost use Rattle.rb_seen.specs.Problems.{IsToldOf};
-ghost use Rattle.rb_seen.specs.Packets.{IsOfPath, HaveEvents, is_source, is_wanted, is_empty, lacks, one_if, same_kind, tells_of, events_of, seen_events};
+ghost use Rattle.rb_seen.specs.Packets.{IsOfPath, HaveEvents, Expires, ExpiresAt, counterparty, expiry_at, within_heights, is_sending, is_source, is_dest, is_wanted, is_empty, lacks, one_if, same_kind, tells_of, events_of, seen_events};
 
 use crate::error::{ImportError, ProblemName};
+use crate::lowest::lowest_of;
 use crate::saved::Saved;
-use rb_answers::{Answer, PacketEvent, PacketKind, PacketPage, revision_of};
+use rb_answers::{Answer, PacketEvent, PacketKind, PacketPage, RevisionHeight, revision_of};
 use rb_base::ChainId;
 use rb_setup::PathSetup;
-use std::alloc::Global;
+use std::alloc::{AllocError, Global};
 
-/// An event of a packet, and its file.
+/// An event of a packet, its file, and the height of the destination's chain from which on the packet isn't
+/// received any more (0: none).
 #[derive(Clone, Copy)]
 pub struct SeenPacket<'a> {
     pub file: &'a str,
     pub event: &'a PacketEvent,
+    pub expiry: u64,
 }
+
+/// The heights of the first block and of the last one (CometBFT: from 1 to 2^63 - 1).
+const FIRST_HEIGHT: u64 = 1;
+
+const LAST_HEIGHT: u64 = i64::MAX as u64;
 
 /// Of what a path's answers tell nothing: that packets were sent, that they were received, that they were cleared;
 /// and how many answers tell of no packet at all, as those of a search that found nothing.
@@ -57,26 +66,64 @@ struct Page<'a> {
 }
 
 /// The events of a path's packets from its first sequence on: those that were sent, received,
-/// acknowledged and cleared, each by block.
-#[tactic(auto, using(crate::proofs::Sorting::sorting))]
+/// acknowledged and cleared, each by block. Of several of one kind and sequence the one of the lowest
+/// block; two that tell of one sending and differ are refused.
 pub fn seen_packets<'a>(
     alloc: Global,
     setup: &'a PathSetup,
     dest: &ChainId,
     answers: &'a [Saved],
 ) -> Result<Vec<SeenPacket<'a>>, ImportError<'a>>
-    ensures path { IfOk result (λ packets. All (IsOfPath setup.entry.now) packets.items) }
+    ensures path { IfOk result (λ packets. All (IsOfPath setup.entry.now (counterparty setup.entry.now (events_of answers.entry.now))) packets.items) }
     ensures events { IfOk result (λ packets. HaveEvents setup.entry.now (events_of answers.entry.now) packets.items) }
+    ensures expiry { IfOk result (λ packets. All (Expires dest.now) packets.items) }
     ensures told { IfErr result (IsToldOf setup.entry.now.id) }
 {
     let id = setup.id.as_str();
     let pages = pages_of(alloc, id, answers)?;
     judge_totals(id, pages.as_slice())?;
-    let mut packets = packets_of(alloc, setup, pages.as_slice())?;
-    packets.sort_by_key(|seen: &SeenPacket| (seen.event.kind, seen.event.sequence))?;
-    judge_packets(id, dest, packets.as_slice())?;
-    packets.sort_by_key(|seen: &SeenPacket| (seen.event.kind, seen.event.block))?;
-    Ok(packets)
+    let all = all_events(alloc, revision_of(dest.as_str()), pages.as_slice())?;
+    let end = counterparty(setup, all.as_slice());
+    let wanted = wanted_of(alloc, setup, end, all.as_slice())?;
+    let lowest = lowest_of(id, wanted)?;
+    judge_packets(id, lowest.as_slice())?;
+    Ok(by_block(lowest)?)
+}
+
+/// These packets by kind and block.
+fn by_block<'a>(packets: Vec<SeenPacket<'a>>) -> Result<Vec<SeenPacket<'a>>, AllocError>
+    ensures { IfOk result (λ sorted. IsPermutation packets.entry.items sorted.items) }
+{
+    let mut sorted = packets;
+    sorted.sort_by_key(|seen: &SeenPacket| (seen.event.kind, seen.event.block))?;
+    Ok(sorted)
+}
+
+/// The height of a chain of this revision from which on a packet with this timeout isn't received any more;
+/// 0 is none.
+pub fn expiry_at(revision: u64, timeout: RevisionHeight) -> u64
+    ensures { result ≡ expiry_at revision timeout }
+{
+    if timeout.revision == 0 && timeout.height == 0 || revision < timeout.revision {
+        0
+    } else if timeout.revision < revision {
+        FIRST_HEIGHT
+    } else {
+        within_heights(timeout.height)
+    }
+}
+
+/// The block's height that is nearest to a number.
+fn within_heights(number: u64) -> u64
+    ensures { result ≡ within_heights number }
+{
+    if number < FIRST_HEIGHT {
+        FIRST_HEIGHT
+    } else if number <= LAST_HEIGHT {
+        number
+    } else {
+        LAST_HEIGHT
+    }
 }
 
 /// Of what a path's answers tell nothing.
@@ -196,116 +243,160 @@ fn count_with(total: u64, pages: &[Page]) -> u64 {
     count
 }
 
-/// The events of the path's packets, from its first sequence on.
-#[tactic(auto, using(crate::proofs::Sorting::filtering))]
-fn packets_of<'a>(
+/// The events of these pages, for a destination of this revision.
+#[tactic(auto, using(crate::proofs::Sorting::taking, crate::proofs::Seeing::expiring))]
+fn all_events<'a>(
     alloc: Global,
-    setup: &'a PathSetup,
+    revision: u64,
     pages: &[Page<'a>],
-) -> Result<Vec<SeenPacket<'a>>, ImportError<'a>>
-    ensures path { IfOk result (λ packets. All (IsOfPath setup.entry.now) packets.items) }
-    ensures events { IfOk result (λ packets. seen_events packets.items ≡ filter (is_wanted setup.entry.now) (flat_map (λ p. p.page.now.events.items) pages.now)) }
-    ensures told { IfErr result (IsToldOf setup.entry.now.id) }
+) -> Result<Vec<SeenPacket<'a>>, AllocError>
+    ensures events { IfOk result (λ all. seen_events all.items ≡ flat_map (λ p. p.page.now.events.items) pages.now) }
+    ensures expiry { IfOk result (λ all. All (ExpiresAt revision) all.items) }
 {
-    let mut packets = Vec::new(alloc);
+    let mut all = Vec::new(alloc);
     for page in pages {
-        add_packets(setup, *page, &mut packets)?;
+        add_events(revision, *page, &mut all)?;
     }
-    Ok(packets)
+    Ok(all)
 }
 
-#[tactic(auto, using(crate::proofs::Sorting::filtering))]
-fn add_packets<'a>(
-    setup: &'a PathSetup,
+#[tactic(auto, using(crate::proofs::Seeing::expiring))]
+fn add_events<'a>(
+    revision: u64,
     page: Page<'a>,
-    packets: &mut Vec<SeenPacket<'a>>,
-) -> Result<(), ImportError<'a>>
-    ensures path { All (IsOfPath setup.entry.now) packets.old.items → All (IsOfPath setup.entry.now) packets.new.items }
-    ensures events { OnOk result (seen_events packets.new.items ≡ seen_events packets.old.items ++ filter (is_wanted setup.entry.now) page.entry.page.now.events.items) }
-    ensures told { IfErr result (IsToldOf setup.entry.now.id) }
+    all: &mut Vec<SeenPacket<'a>>,
+) -> Result<(), AllocError>
+    ensures events { OnOk result (seen_events all.new.items ≡ seen_events all.old.items ++ page.entry.page.now.events.items) }
+    ensures expiry { All (ExpiresAt revision) all.old.items → All (ExpiresAt revision) all.new.items }
 {
     let file = page.file;
     let events = page.page.events.as_slice();
     for event in events {
-        add_packet(setup, SeenPacket { file, event }, packets)?;
+        let expiry = expiry_at(revision, event.timeout_height);
+        all.push(SeenPacket {
+            file,
+            event,
+            expiry,
+        })?;
     }
     Ok(())
 }
 
-/// Adds a packet, if it is one of the path's.
-fn add_packet<'a>(
+/// The destination of the path's packets, as the first of them that was sent says.
+fn counterparty<'a>(setup: &PathSetup, all: &[SeenPacket<'a>]) -> Option<&'a str>
+    ensures { option_map (λ end. end.now) result ≡ counterparty setup.now (seen_events all.now) }
+{
+    for seen in all {
+        if is_sending(setup, seen.event) {
+            return Some(seen.event.dest.as_str());
+        }
+    }
+    None
+}
+
+/// Whether an event tells that a packet of the path's source was sent.
+fn is_sending(setup: &PathSetup, event: &PacketEvent) -> bool
+    ensures { result ≡ is_sending setup.now event.now }
+{
+    is_same_kind(event.kind, PacketKind::Sent) && is_source(setup, event.source.as_str())
+}
+
+/// Whether a packet's source is the one that the setup names, if it names one.
+fn is_source(setup: &PathSetup, source: &str) -> bool
+    ensures { result ≡ is_source setup.now.source_channel source.now }
+{
+    match &setup.source_channel {
+        Some(wanted) => wanted.as_str() == source,
+        None => true,
+    }
+}
+
+/// Whether a packet's destination is this one, where it is known.
+fn is_dest(end: Option<&str>, dest: &str) -> bool
+    ensures { result ≡ is_dest (option_map (λ e. e.now) end.entry) dest.now }
+{
+    match end {
+        Some(wanted) => wanted == dest,
+        None => true,
+    }
+}
+
+/// Those of the events that are of the path's packets, from its first sequence on.
+#[tactic(auto, using(crate::proofs::Seeing::wanting))]
+fn wanted_of<'a>(
+    alloc: Global,
     setup: &'a PathSetup,
-    seen: SeenPacket<'a>,
-    packets: &mut Vec<SeenPacket<'a>>,
-) -> Result<(), ImportError<'a>>
-    ensures path { All (IsOfPath setup.entry.now) packets.old.items → All (IsOfPath setup.entry.now) packets.new.items }
-    ensures events { OnOk result (seen_events packets.new.items ≡ seen_events packets.old.items ++ (if is_wanted setup.entry.now seen.entry.event.now then seen.entry.event.now ∷ [] else [])) }
+    end: Option<&str>,
+    all: &[SeenPacket<'a>],
+) -> Result<Vec<SeenPacket<'a>>, ImportError<'a>>
+    ensures wanted { IfOk result (λ wanted. wanted.items ≡ filter (λ s. is_wanted setup.entry.now (option_map (λ e. e.now) end.entry) s.event.now) all.now) }
     ensures told { IfErr result (IsToldOf setup.entry.now.id) }
 {
-    if !is_of(setup, packets.first(), &seen)? {
-        return Ok(());
+    let mut wanted = Vec::new(alloc);
+    for seen in all {
+        add_wanted(setup, end, *seen, &mut wanted)?;
     }
-    if seen.event.sequence < setup.first {
-        return Ok(());
+    Ok(wanted)
+}
+
+/// Adds a packet, if it is wanted.
+fn add_wanted<'a>(
+    setup: &'a PathSetup,
+    end: Option<&str>,
+    seen: SeenPacket<'a>,
+    wanted: &mut Vec<SeenPacket<'a>>,
+) -> Result<(), ImportError<'a>>
+    ensures wanted { OnOk result (wanted.new.items ≡ wanted.old.items ++ (if is_wanted setup.entry.now (option_map (λ e. e.now) end.entry) seen.entry.event.now then seen.entry ∷ [] else [])) }
+    ensures told { IfErr result (IsToldOf setup.entry.now.id) }
+{
+    if is_wanted(setup, end, wanted.first(), &seen)? {
+        wanted.push(seen)?;
     }
-    packets.push(seen)?;
     Ok(())
 }
 
-/// Whether a packet is the path's: its source is the one that the setup names. Where it names none,
-/// all packets have to be of one source.
-fn is_of<'a>(
+/// Whether a packet is the path's, and its sequence the first one or a later one. Where the setup names no
+/// source, all packets that are taken have to be of one.
+fn is_wanted<'a>(
     setup: &'a PathSetup,
+    end: Option<&str>,
     first: Option<&SeenPacket<'a>>,
     seen: &SeenPacket<'a>,
 ) -> Result<bool, ImportError<'a>>
-    ensures source { IfOk result (λ is. IsTrue is → IfSome setup.entry.now.source_channel (λ source. string_bytes seen.now.event.now.source ≡ string_bytes source)) }
-    ensures wanted { IfOk result (λ is. is ≡ is_source setup.entry.now.source_channel (string_bytes seen.now.event.now.source)) }
+    ensures wanted { IfOk result (λ is. is ≡ is_wanted setup.entry.now (option_map (λ e. e.now) end.entry) seen.now.event.now) }
     ensures told { IfErr result (IsToldOf setup.entry.now.id) }
 {
     let source = seen.event.source.as_str();
     match (&setup.source_channel, first) {
-        (Some(wanted), _) => Ok(wanted.as_str() == source),
         (None, Some(first)) if first.event.source.as_str() != source => {
             let name = ProblemName::TwoChannels;
             let sequence = seen.event.sequence;
             Err(ImportError::between(name, setup.id.as_str(), sequence, first.file, seen.file))
         }
-        _ => Ok(true),
+        _ => Ok(
+            is_source(setup, source)
+                && is_dest(end, seen.event.dest.as_str())
+                && setup.first <= seen.event.sequence,
+        ),
     }
 }
 
-/// Refuses an event twice, a timeout height of another revision than the destination's, and a packet
-/// that was received or cleared and not sent, or acknowledged and not received. They stand by kind
-/// and sequence.
-fn judge_packets<'a>(
-    id: &'a str,
-    dest: &ChainId,
-    packets: &[SeenPacket<'a>],
-) -> Result<(), ImportError<'a>>
+/// Refuses a packet that was received or cleared and not sent, or acknowledged and not received. They
+/// stand by kind and sequence.
+fn judge_packets<'a>(id: &'a str, packets: &[SeenPacket<'a>]) -> Result<(), ImportError<'a>>
     ensures { IfErr result (IsToldOf id.entry.now) }
 {
-    let mut before: Option<SeenPacket<'a>> = None;
     for seen in packets {
-        let sequence = seen.event.sequence;
-        if let Some(lower) = before {
-            if lower.event.kind == seen.event.kind && lower.event.sequence == sequence {
-                let name = ProblemName::TwoAnswers;
-                return Err(ImportError::between(name, id, sequence, lower.file, seen.file));
-            }
+        if let Some(name) = flaw_of(packets, seen.event) {
+            return Err(ImportError::at(name, id, seen.event.sequence, seen.file));
         }
-        if let Some(name) = flaw_of(dest, packets, seen.event) {
-            return Err(ImportError::at(name, id, sequence, seen.file));
-        }
-        before = Some(*seen);
     }
     Ok(())
 }
 
 /// What an event wants, if it wants something.
-fn flaw_of(dest: &ChainId, packets: &[SeenPacket], event: &PacketEvent) -> Option<ProblemName> {
+fn flaw_of(packets: &[SeenPacket], event: &PacketEvent) -> Option<ProblemName> {
     match event.kind {
-        PacketKind::Sent if !is_of_revision(dest, event) => Some(ProblemName::OtherRevision),
         PacketKind::Received | PacketKind::Cleared
             if !was(packets, PacketKind::Sent, event.sequence) => { Some(ProblemName::MissingSend) }
         PacketKind::AckWritten if !was(packets, PacketKind::Received, event.sequence) => {
@@ -313,12 +404,6 @@ fn flaw_of(dest: &ChainId, packets: &[SeenPacket], event: &PacketEvent) -> Optio
         }
         _ => None,
     }
-}
-
-/// Whether a packet's timeout height is none, or of the destination's revision.
-fn is_of_revision(dest: &ChainId, event: &PacketEvent) -> bool {
-    let timeout = event.timeout_height;
-    timeout.height == 0 && timeout.revision == 0 || timeout.revision == revision_of(dest.as_str())
 }
 
 /// Whether there is an event of this kind with this sequence.

@@ -1,7 +1,7 @@
 //! The sets that were seen of a chain, each found by its hash.
-ghost use Rattle.std.specs.Prelude.{◌≡◌, ◌++◌, ◌∷◌, [], ◌↔◌, Contains, IsSome, IsSomeAnd, IfSome, OnOk, slice_get};
+ghost use Rattle.std.specs.Prelude.{◌≡◌, ◌++◌, ◌∷◌, [], ◌↔◌, ℕ, Contains, IsSome, IfSome, OnOk};
 ghost use Rattle.rb_valset.specs.ValidatorSet.{set_hash};
-ghost use Rattle.rb_seen.specs.Sets.{AreIndexed, WasSeen};
+ghost use Rattle.rb_seen.specs.Sets.{AreIndexed, IsPlaceOf, WasSeen};
 
 use rb_valset::ValidatorSet;
 use std::alloc::{AllocError, Global};
@@ -52,16 +52,22 @@ impl<'a> SeenSets<'a> {
         }
     }
 
-    /// The place of the set of this hash among those that were seen.
+    /// The place of the set of this hash among those that were seen, of which one at most has it.
     pub fn place_of(&self, hash: &[u8; 32]) -> Option<usize>
-        ensures { IfSome result (λ place. IsSomeAnd (slice_get self.now.sets.items place) (λ seen. set_hash seen.set ≡ hash.now)) }
+        ensures found { IsSome result ↔ WasSeen self.now.sets.items hash.now }
+        ensures place { IfSome result (IsPlaceOf self.now.sets.items hash.now) }
+        ensures only { IfSome result (λ place. (other : ℕ) → IsPlaceOf self.now.sets.items hash.now other → other ≡ place) }
     {
         let Some(place) = self.places.get(hash).copied() else {
             return None;
         };
-        match self.sets.get(place) {
-            Some(seen) if *seen.set.hash() == *hash => Some(place),
-            _ => None,
+        let Some(seen) = self.sets.get(place) else {
+            return None;
+        };
+        if *seen.set.hash() == *hash {
+            Some(place)
+        } else {
+            None
         }
     }
 

@@ -26,6 +26,12 @@ pub record WritesReport (bytes : List ℕ) (old new : Option (List ℕ)) : Type 
   pub planned : IsReportFor bytes script report
   pub written : Appends old new (text (path_ids script.config.paths) report)
 
+-- it is this report, of paths with these identifiers
+pub record WritesThisReport (bytes : List ℕ) (old new : Option (List ℕ)) (ids : List (List ℕ)) (report : Report) : Type 0 where
+  pub writes : WritesReport bytes old new
+  pub paths : ids ≡ path_ids writes.script.config.paths
+  pub this : writes.report ≡ report
+
 -- the writer took a beginning of it, where its bytes are known
 pub record BeginsReport (bytes : List ℕ) (old new : Option (List ℕ)) : Type 0 where
   pub script : Script Global

@@ -1,6 +1,7 @@
 //! The texts of a relayer's run: the certificate that is read, the report that is written,
-//! `run_over`, which goes from a script to its report, and `certify_over`, which judges a
-//! certificate for a script (`certify_texts` also tells which of the two is refused).
+//! `run_over`, which goes from a script to its report (`report_over` also answers it, `report_of`
+//! makes it without writing it), and `certify_over`, which judges a certificate for a script
+//! (`certify_texts` also tells which of the two is refused).
 #![tactic(auto)]
 
 mod case;
@@ -17,5 +18,5 @@ pub use certifying::{certify_over, certify_texts};
 pub use rb_fields::{Fault, FaultName, RunError};
 pub use rb_script::read_script;
 pub use refusal::{CertifyError, Source};
-pub use running::run_over;
+pub use running::{report_of, report_over, run_over};
 pub use write::write_report;

@@ -9,7 +9,7 @@ ghost use Rattle.rb_super.specs.Told.{told};
 ghost use Rattle.rb_phases.specs.Script as relayed;
 ghost use Rattle.rb_phases.specs.Turns.{IsReportOf};
 ghost use Rattle.rb_phases.specs.Views.{report_view};
-ghost use Rattle.rb_text.specs.Headline.{WritesReport, BeginsReport};
+ghost use Rattle.rb_text.specs.Headline.{WritesReport, WritesThisReport, BeginsReport};
 
 use crate::write::write_report;
 use rb_base::Sink;
@@ -23,8 +23,13 @@ use std::alloc::{AllocError, Global};
 use std::sync::{Arc, Wait};
 use std::thread::Threads;
 
-/// Runs a script by so many workers in threads of their own, or by none.
-fn run_by<R: Threads + Wait + Copy + Send + Sync + 'static, G: Gate + Send + Sync + Drop + 'static>(
+/// Runs a script by so many workers in threads of their own, at most 64, or by none: the calling thread
+/// then does all. The report doesn't go by how many they are, nor by the gate. AllocError where a growth
+/// is refused. It may wait for workers and for the gate; what is said holds if it returns.
+pub fn report_of<
+    R: Threads + Wait + Copy + Send + Sync + 'static,
+    G: Gate + Send + Sync + Drop + 'static,
+>(
     rt: &R,
     alloc: Global,
     script: Script,
@@ -72,7 +77,33 @@ pub fn run_over<
     ensures device { IsErrOf result RunError.Device ↔ (W.is_broken writer.new ≡ true) }
     ensures begun { OnErr result ((writer.new ≡ writer.old) ⊎ BeginsReport bytes.now (W.taken writer.old) (W.taken writer.new)) }
 {
+    let _report = report_over(rt, alloc, bytes, writer, workers, gate)?;
+    Ok(())
+}
+
+/// Does what `run_over` does, and answers the report that was written, with the identifiers of its paths.
+pub fn report_over<
+    R: Threads + Wait + Copy + Send + Sync + 'static,
+    W: Sink,
+    G: Gate + Send + Sync + Drop + 'static,
+>(
+    rt: &R,
+    alloc: Global,
+    bytes: &[u8],
+    writer: &mut W,
+    workers: usize,
+    gate: &Arc<G, Global>,
+) -> Result<Report, RunError>
+    requires works { W.is_broken writer.old ≡ false }
+    requires workers { workers ≤ 64 }
+    ensures report { IfOk result (λ report. WritesThisReport bytes.now (W.taken writer.old) (W.taken writer.new) report.paths.items (report_view report)) }
+    ensures fault { (f : CodeFault) → IsErrOf result (RunError.Fault f) → script_of bytes.now ≡ Err (fault_view f) }
+    ensures nothing_written { (f : CodeFault) → IsErrOf result (RunError.Fault f) → writer.new ≡ writer.old }
+    ensures device { IsErrOf result RunError.Device ↔ (W.is_broken writer.new ≡ true) }
+    ensures begun { OnErr result ((writer.new ≡ writer.old) ⊎ BeginsReport bytes.now (W.taken writer.old) (W.taken writer.new)) }
+{
     let script = read_script(alloc, bytes)?;
-    let report = run_by(rt, alloc, script, workers, gate)?;
-    write_report(alloc, &report, writer)
+    let report = report_of(rt, alloc, script, workers, gate)?;
+    write_report(alloc, &report, writer)?;
+    Ok(report)
 }

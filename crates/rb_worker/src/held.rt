@@ -14,28 +14,21 @@ use std::alloc::{AllocError, Allocator, Global};
 /// was not ordered, is dropped.
 #[derive(Drop)]
 pub struct Held<A: Allocator = Global> {
-    // at 2 k and 2 k + 1 for the parts of path k
-    scans: Slots<Scan<A>, A>,
+    // of packets, and of channels: at k for path k
+    packets: Slots<Scan<A>, A>,
+    channels: Slots<Scan<A>, A>,
     // at k for client k
     plans: Slots<Draft<A>, A>,
     missing: usize,
     is_short: bool,
 }
 
-/// Where the scan of a part of a path is held.
-fn scan_slot(path: usize, part: Part) -> usize {
-    let first = path.saturating_mul(2);
-    match part {
-        Part::Packets => first,
-        Part::Channel => first.saturating_add(1),
-    }
-}
-
 impl<A: Allocator + Copy> Held<A> {
     /// Nothing is ordered. Takes no memory.
     pub fn new(alloc: A) -> Held<A> {
         Held {
-            scans: Slots::new(alloc),
+            packets: Slots::new(alloc),
+            channels: Slots::new(alloc),
             plans: Slots::new(alloc),
             missing: 0,
             is_short: false,
@@ -44,13 +37,18 @@ impl<A: Allocator + Copy> Held<A> {
 }
 
 impl<A: Allocator> Held<A> {
+    /// The scans of one part, by their paths.
+    fn scans(&mut self, part: Part) -> &mut Slots<Scan<A>, A> {
+        match part {
+            Part::Packets => &mut self.packets,
+            Part::Channel => &mut self.channels,
+        }
+    }
+
     /// The job of the order is ordered.
     pub(crate) fn expect(&mut self, order: &Order<A>) -> Result<(), AllocError> {
         let is_new = match order {
-            Order::Scan { path, part, .. } => {
-                let slot = scan_slot(*path, *part);
-                self.scans.expect(slot)?
-            }
+            Order::Scan { path, part, .. } => self.scans(*part).expect(*path)?,
             Order::Plan { client, .. } => self.plans.expect(*client)?,
             Order::Stop => false,
         };
@@ -61,7 +59,7 @@ impl<A: Allocator> Held<A> {
     /// The job of this name was not done; tells whether it was ordered, and had not come to an end.
     fn give_up(&mut self, place: Place) -> bool {
         match place {
-            Place::Scan(path, part) => self.scans.fill(scan_slot(path, part), None),
+            Place::Scan(path, part) => self.scans(part).fill(path, None),
             Place::Plan(client) => self.plans.fill(client, None),
             Place::Row(_) | Place::Taken(_) => false,
         }
@@ -71,8 +69,8 @@ impl<A: Allocator> Held<A> {
     pub(crate) fn put(&mut self, finding: Finding<A>) {
         let was_ordered = match finding {
             Finding::Scanned { path, scan } => {
-                let slot = scan_slot(path, scan.part());
-                self.scans.fill(slot, Some(scan))
+                let part = scan.part();
+                self.scans(part).fill(path, Some(scan))
             }
             Finding::Planned(draft) => {
                 let client = draft.job().client();
@@ -91,7 +89,8 @@ impl<A: Allocator> Held<A> {
     /// Whether the job of this name was ordered, and has not come to an end.
     pub(crate) fn is_missing(&self, place: Place) -> bool {
         match place {
-            Place::Scan(path, part) => self.scans.is_missing(scan_slot(path, part)),
+            Place::Scan(path, Part::Packets) => self.packets.is_missing(path),
+            Place::Scan(path, Part::Channel) => self.channels.is_missing(path),
             Place::Plan(client) => self.plans.is_missing(client),
             Place::Row(_) | Place::Taken(_) => false,
         }
@@ -111,7 +110,7 @@ impl<A: Allocator> Held<A> {
     pub fn take_scan(&mut self, path: usize, part: Part) -> Option<Scan<A>>
         ensures { IfSome result (λ scan. scan.part ≡ part) }
     {
-        let scan = self.scans.take(scan_slot(path, part))?;
+        let scan = self.scans(part).take(path)?;
         if scan.part() == part {
             Some(scan)
         } else {

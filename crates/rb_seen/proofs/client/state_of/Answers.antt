@@ -28,4 +28,4 @@ returns-in-Some-clause-reason c =
     let is : c.saved-item.result ≡ get_or c.args.answers.now c.loop-saved.saved-index c.saved-item.result = search rules in
     let before : c.in-Some.field-0-1.now ∷ [] ≡ client_states_of (take c.loop-saved.saved-index c.args.answers.now) = grind (arith, common_steps) in
     subst (HasReason c.args.setup.now c.args.tracked.now c.args.answers.now) (sym c.between.ensures)
-    (two_states c.args.answers.now c.loop-saved.saved-index c.saved-item.result c.in-Some.field-0-1.now c.in-ClientState.state small is before (ap client_states_in c.in-ClientState.is))
+    (two_states c.args.tracked.now c.args.answers.now c.loop-saved.saved-index c.saved-item.result c.in-Some.field-0-1.now c.in-ClientState.state small is before (ap client_states_in c.in-ClientState.is))
