@@ -1,5 +1,5 @@
 -- What an answer tells, and the first thing that is wrong with one.
-use Rattle.std.specs.Prelude.{ℕ, List, Bool, not, ◌&&◌, if◌then◌else◌, Option, Some, None, is_some, Result, Ok, Err, codes}
+use Rattle.std.specs.Prelude.{ℕ, List, length, nat_lt, Bool, not, ◌&&◌, if◌then◌else◌, Option, Some, None, is_some, Result, Ok, Err, codes}
 use Rattle.std.specs.Str.{is_utf8}
 use Rattle.serde_json.specs.Data.{Data}
 use Rattle.serde_json.specs.Find.{get, as_null}
@@ -9,7 +9,7 @@ use Rattle.rb_answers.specs.declared.answer.Answer.TheVariants as answers
 use Rattle.rb_answers.specs.declared.client.ClientState.{ClientState}
 use Rattle.rb_json.specs.declared.flaw.Flaw.{Flaw}
 use Rattle.rb_json.specs.declared.flaw.FlawName.{FlawName}
-use Rattle.rb_json.specs.declared.flaw.FlawName.TheVariants.{NotJson, UnknownShape, NodeError}
+use Rattle.rb_json.specs.declared.flaw.FlawName.TheVariants.{TooBig, NotJson, UnknownShape, NodeError}
 use Rattle.rb_json.specs.declared.place.Key.{Key}
 use Rattle.rb_json.specs.declared.place.Part.{Part}
 use Rattle.rb_json.specs.Flaws.{◌>>=◌, or_flaw}
@@ -74,8 +74,12 @@ answer d = if is_error d then Err (whole NodeError) else of_shape (get (codes "r
 unfoldable pub json : List ℕ → Option Data
 json bytes = if is_utf8 bytes then read_text bytes else None
 
+-- how many bytes an answer may have (own choice)
+abbrev pub max_bytes : ℕ
+max_bytes = 16777216
+
 -- what an answer's bytes tell
 unfoldable pub told : List ℕ → Result Told Flaw
-told bytes = do
-  d ← or_flaw (whole NotJson) (json bytes)
-  answer d
+told bytes =
+    if nat_lt max_bytes (length bytes) then Err (whole TooBig)
+    else (or_flaw (whole NotJson) (json bytes) >>= λ d. answer d)

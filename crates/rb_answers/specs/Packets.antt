@@ -8,7 +8,7 @@ use Rattle.serde_json.specs.Find.{get, as_str, as_number, as_u64}
 use Rattle.base64.specs.Engines.{standard}
 use Rattle.base64.specs.GeneralPurpose.{decode_of}
 use Rattle.rb_answers.specs.declared.packets.PacketKind.{PacketKind}
-use Rattle.rb_answers.specs.declared.packets.PacketKind.TheVariants.{Sent, Received, AckWritten, Cleared}
+use Rattle.rb_answers.specs.declared.packets.PacketKind.TheVariants.{Sent, Received, AckWritten, Cleared, TimedOut}
 use Rattle.rb_answers.specs.declared.packets.PacketEvent.{PacketEvent}
 use Rattle.rb_answers.specs.declared.packets.PacketPage.{PacketPage}
 use Rattle.rb_answers.specs.declared.packets.RevisionHeight.{RevisionHeight}
@@ -30,7 +30,7 @@ kind_of name =
     else if bytes_eq name (codes "recv_packet") then Some Received
     else if bytes_eq name (codes "write_acknowledgement") then Some AckWritten
     else if bytes_eq name (codes "acknowledge_packet") then Some Cleared
-    else if bytes_eq name (codes "timeout_packet") then Some Cleared
+    else if bytes_eq name (codes "timeout_packet") then Some TimedOut
     else None
 
 -- ---- attributes
@@ -152,6 +152,7 @@ timeout Sent event ds = do
 timeout Received event ds = Ok no_timeout
 timeout AckWritten event ds = Ok no_timeout
 timeout Cleared event ds = Ok no_timeout
+timeout TimedOut event ds = Ok no_timeout
 
 -- what was done with a packet, in which block
 pub record Packet : Type 0 where

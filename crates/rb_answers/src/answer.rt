@@ -13,6 +13,9 @@ use rb_json::{AnswerError, Flaw, FlawName, Key, Object, Part, Place};
 use serde_json::Value;
 use std::alloc::Global;
 
+/// The most bytes of an answer.
+pub const MAX_ANSWER_BYTES: usize = 16_777_216;
+
 /// What a node answered.
 #[derive(Drop)]
 pub enum Answer {
@@ -28,12 +31,15 @@ pub enum Answer {
     Transactions(PacketPage),
 }
 
-/// Reads an answer: JSON, which is known by its members. What is read is what the JSON says; `Flaw`
-/// is the first thing that is wrong, `NoMemory` comes where a growth is refused.
+/// Reads an answer: JSON of at most 16,777,216 bytes, which is known by its members. What is read is what
+/// the JSON says; `Flaw` is the first thing that is wrong, `NoMemory` comes where a growth is refused.
 #[tactic(auto, using(rb_json::proofs::Steps::steps), unfolding(crate::specs::Answers::told, crate::specs::Answers::answer))]
 pub fn read_answer(alloc: Global, bytes: &[u8]) -> Result<Answer, AnswerError>
     ensures { Gives (λ a. answer_view a) result (told bytes.now) }
 {
+    if bytes.len() > MAX_ANSWER_BYTES {
+        return Err(whole(FlawName::TooBig));
+    }
     let value = read_json(alloc, bytes)?;
     if is_error(&value) {
         return Err(whole(FlawName::NodeError));

@@ -14,7 +14,7 @@ mod revision;
 mod said;
 mod validators;
 
-pub use answer::{Answer, read_answer};
+pub use answer::{Answer, MAX_ANSWER_BYTES, read_answer};
 pub use client::{ClientState, ConsensusPage, ConsensusState, TrustLevel};
 pub use commit::{BlockIdFlag, Signature, SignedHeader};
 pub use packets::{PacketEvent, PacketKind, PacketPage, RevisionHeight};

@@ -20,8 +20,10 @@ pub enum PacketKind {
     Received,
     /// Its acknowledgement was written (`write_acknowledgement`).
     AckWritten,
-    /// It was acknowledged or timed out (`acknowledge_packet`, `timeout_packet`).
+    /// It was acknowledged, and so it is cleared (`acknowledge_packet`).
     Cleared,
+    /// It timed out, and so it is cleared too (`timeout_packet`).
+    TimedOut,
 }
 
 impl PacketKind {
@@ -36,7 +38,8 @@ impl PacketKind {
             "send_packet" => Some(PacketKind::Sent),
             "recv_packet" => Some(PacketKind::Received),
             "write_acknowledgement" => Some(PacketKind::AckWritten),
-            "acknowledge_packet" | "timeout_packet" => Some(PacketKind::Cleared),
+            "acknowledge_packet" => Some(PacketKind::Cleared),
+            "timeout_packet" => Some(PacketKind::TimedOut),
             _ => None,
         }
     }
@@ -239,7 +242,10 @@ fn read_timeout(attributes: &Attributes<'_>, kind: PacketKind) -> Result<Timeout
             let time = attributes.number(Key::PacketTimeoutTimestamp)?;
             Ok(Timeout { height, time })
         }
-        PacketKind::Received | PacketKind::AckWritten | PacketKind::Cleared => Ok(Timeout {
+        PacketKind::Received
+        | PacketKind::AckWritten
+        | PacketKind::Cleared
+        | PacketKind::TimedOut => Ok(Timeout {
             height: RevisionHeight {
                 revision: 0,
                 height: 0,

@@ -1,9 +1,1 @@
-pub mod Ahead
-pub mod Found
-pub mod Highest
-pub mod Noticed
-pub mod Rooms
-pub mod Telling
-pub mod Told
-pub mod Watched
-pub mod Windows
+pub mod Closings

@@ -1,6 +1,21 @@
 -- The text of a script that was made of answers.
-use Rattle.std.specs.Prelude.{ℕ, List, [], ◌∷◌, ◌++◌, codes}
+use Rattle.std.specs.Prelude.{ℕ, List, [], ◌∷◌, ◌++◌, codes, Bool, ◌&&◌, if◌then◌else◌}
+use Rattle.rb_setup.specs.declared.setup.PathSetup.{PathSetup}
+use Rattle.rb_observed.specs.declared.packets.SeenPacket.{SeenPacket}
+use Rattle.rb_observed.specs.Packets.{some_timed_out}
 
 -- the line that it begins with
 abbrev pub warning : List ℕ
 warning = codes "# Signatures were not verified: headers and votes stand as the nodes gave them." ++ 10 ∷ []
+
+-- the path is ordered, and one of its packets timed out, which closed its channel (ICS 4)
+abbrev pub is_closed : PathSetup → List SeenPacket → Bool
+is_closed path packets = path.is_ordered && some_timed_out packets
+
+-- the event that the path of an identifier was closed
+abbrev pub closed : List ℕ → List ℕ
+closed id = codes "  { kind = \"closed\", path = \"" ++ id ++ (codes "\" }," ++ 10 ∷ [])
+
+-- the event of a path's closing; nothing of a path that isn't closed
+abbrev pub closing : PathSetup → List SeenPacket → List ℕ
+closing path packets = if is_closed path packets then closed path.id else []

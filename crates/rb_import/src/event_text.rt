@@ -1,11 +1,14 @@
 //! The text of what was seen.
 ghost use Rattle.std.specs.Prelude.{◌≡◌, ◌++◌, map, OnOk, string_bytes};
 ghost use Rattle.rb_answers.specs.Votes.{letter_of};
+ghost use Rattle.rb_import.specs.Texts.{closed, closing, is_closed};
 
 use crate::text::push_time;
 use jiff::Timestamp;
 use rb_answers::{PacketKind, Signature};
-use rb_seen::{Commit, SeenPacket, Stored};
+use rb_observed::{SeenPacket, some_timed_out};
+use rb_seen::{Commit, Stored};
+use rb_setup::PathSetup;
 use rb_valset::{Validator, ValidatorSet};
 use std::alloc::AllocError;
 
@@ -134,11 +137,44 @@ pub fn push_packet(text: &mut String, path: &str, seen: &SeenPacket<'_>) -> Resu
             text,
             "  {{ kind = \"ack\", path = \"{path}\", seq = {sequence}, height = {block} }},"
         ),
-        PacketKind::Cleared => writeln!(
+        PacketKind::Cleared | PacketKind::TimedOut => writeln!(
             text,
             "  {{ kind = \"cleared\", path = \"{path}\", seq = {sequence} }},"
         ),
     }
+}
+
+/// Adds the event of a path's closing, behind those of its packets: an ordered path of which a packet timed out is
+/// closed (ICS 4).
+pub fn push_closing(
+    text: &mut String,
+    path: &PathSetup,
+    packets: &[SeenPacket<'_>],
+) -> Result<(), AllocError>
+    ensures { OnOk result (string_bytes text.new ≡ string_bytes text.old ++ closing path.now packets.now) }
+{
+    if is_closed(path, packets) {
+        push_closed(text, path.id.as_str())
+    } else {
+        Ok(())
+    }
+}
+
+/// Adds the event that the path of an identifier was closed.
+fn push_closed(text: &mut String, id: &str) -> Result<(), AllocError>
+    ensures { OnOk result (string_bytes text.new ≡ string_bytes text.old ++ closed id.now) }
+{
+    text.push_str("  { kind = \"closed\", path = \"")?;
+    text.push_str(id)?;
+    text.push_str("\" },\n")?;
+    Ok(())
+}
+
+/// Whether a path is ordered, and one of its packets timed out.
+fn is_closed(path: &PathSetup, packets: &[SeenPacket<'_>]) -> bool
+    ensures { result ≡ is_closed path.now packets.now }
+{
+    path.is_ordered && some_timed_out(packets)
 }
 
 /// Adds the timeouts of a packet that has some.

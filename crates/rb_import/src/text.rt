@@ -1,8 +1,8 @@
 //! The text of a script.
-use crate::composing::Seen;
-use crate::event_text::{push_header, push_packet, push_set, push_stored};
+use crate::event_text::{push_closing, push_header, push_packet, push_set, push_stored};
 use jiff::Timestamp;
 use rb_base::Moment;
+use rb_observed::Seen;
 use rb_seen::{SeenChain, SeenClient, Stored};
 use rb_setup::{Asked, ClientSetup, Goal, PathSetup, Settlement, Setup, TurnSetup};
 use std::alloc::AllocError;
@@ -156,7 +156,7 @@ fn push_settlements(
 }
 
 /// Adds what was seen: of each chain its sets and its headers, of each client the records that
-/// there is room for, of each path its packets.
+/// there is room for, of each path its packets, and that it is closed where a packet's timeout closed it.
 fn push_events(text: &mut String, setup: &Setup, seen: &Seen<'_>) -> Result<(), AllocError> {
     text.push_str("event = [\n")?;
     for (place, chain) in seen.chains.iter().enumerate() {
@@ -169,6 +169,7 @@ fn push_events(text: &mut String, setup: &Setup, seen: &Seen<'_>) -> Result<(), 
         for packet in packets {
             push_packet(text, path.id.as_str(), packet)?;
         }
+        push_closing(text, path, packets.as_slice())?;
     }
     text.push_str("]\n")
 }

@@ -79,6 +79,7 @@ part_path Part.Transactions = codes "result.txs"
 part_path Part.Answer = []
 
 abbrev pub flaw_name : FlawName → List ℕ
+flaw_name FlawName.TooBig = codes "TooBig"
 flaw_name FlawName.NotJson = codes "NotJson"
 flaw_name FlawName.UnknownShape = codes "UnknownShape"
 flaw_name FlawName.NodeError = codes "NodeError"

@@ -9,6 +9,8 @@ use thiserror::Error;
 /// What is wrong with an answer.
 #[derive(Clone, Copy, Debug)]
 pub enum FlawName {
+    /// It has more bytes than are read.
+    TooBig,
     /// Not UTF-8, or not JSON.
     NotJson,
     /// JSON, and no answer that is known.
@@ -55,6 +57,7 @@ impl FlawName {
         ensures { result.now ≡ flaw_name self }
     {
         match self {
+            FlawName::TooBig => "TooBig",
             FlawName::NotJson => "NotJson",
             FlawName::UnknownShape => "UnknownShape",
             FlawName::NodeError => "NodeError",
@@ -79,6 +82,9 @@ impl FlawName {
     /// What belongs there, or what to do.
     pub fn advice(self) -> &'static str {
         match self {
+            FlawName::TooBig => {
+                "an answer has at most 16,777,216 bytes; ask for fewer of them on a page (per_page=20)"
+            }
             FlawName::NotJson => "this is no JSON in UTF-8; save the node's answer as it came",
             FlawName::UnknownShape => {
                 "this is no answer of /commit, /validators, /tx_search, client_states or consensus_states; take the file away"

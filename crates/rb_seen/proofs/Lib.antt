@@ -2,5 +2,3 @@ pub mod Sorting
 pub mod SetsLemmas
 pub mod ReasonsLemmas
 pub mod Accords
-pub mod Lowering
-pub mod Seeing

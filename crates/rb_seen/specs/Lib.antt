@@ -4,6 +4,4 @@ pub mod Saved
 pub mod Sets
 pub mod Chains
 pub mod Clients
-pub mod Packets
-pub mod Lowest
 pub mod Accord

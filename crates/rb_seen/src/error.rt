@@ -86,7 +86,7 @@ impl ProblemName {
     pub fn advice(self) -> &'static str {
         match self {
             ProblemName::WrongFolder => {
-                "a chain's folder has answers of /commit and /validators, a client's of client_states and consensus_states, a path's of /tx_search; move the file"
+                "a chain's folder has answers of /commit and /validators, a client's of client_states and consensus_states, a path's of /tx_search; move the file, or give the chain, the client and the path different identifiers"
             }
             ProblemName::OtherChain => "the answer is on another chain",
             ProblemName::OtherRevision => {
@@ -95,7 +95,9 @@ impl ProblemName {
             ProblemName::TwoAnswers => "both tell of the same; keep one of the two",
             ProblemName::OtherTotal => "the pages tell different totals",
             ProblemName::MissingPage => "pages are missing",
-            ProblemName::TooManyValidators => "a page is there twice; keep each page once",
+            ProblemName::TooManyValidators => {
+                "the pages of this height hold more validators than they count: one is there twice, perhaps under another name; keep each page once"
+            }
             ProblemName::BadSet => "these validators make no set",
             ProblemName::OtherSet => {
                 "the set's hash isn't the header's validators_hash; fetch /commit and /validators of this height from one node"

@@ -11,7 +11,7 @@ use Rattle.rb_setup.specs.declared.setup.ClientSetup.{ClientSetup}
 use Rattle.rb_setup.specs.declared.setup.PathSetup.{PathSetup}
 use Rattle.rb_setup.specs.Clients.{client_ids, three}
 
--- a path: its chains and clients by their places, and the port and the channel of its source
+-- a path: its chains and clients by their places, and the two ends of its channel, each as `port/channel`
 pub record Path : Type 0 where
   pub id : List ℕ
   pub source : ℕ
@@ -22,6 +22,7 @@ pub record Path : Type 0 where
   pub back : ℕ
   pub gas : List ℕ
   pub source_channel : Option (List ℕ)
+  pub counterparty : Option (List ℕ)
 
 abbrev pub path_view : PathSetup → Path
 path_view p = record {
@@ -34,6 +35,7 @@ path_view p = record {
   back = p.back;
   gas = p.gas;
   source_channel = option_map string_bytes p.source_channel;
+  counterparty = option_map string_bytes p.counterparty;
 }
 
 -- ---- values of their own
@@ -43,14 +45,28 @@ abbrev pub is_ordered : Order → Bool
 is_ordered Ordered = true
 is_ordered Unordered = false
 
--- `port/channel`, where one of the two keys is there
+-- whether neither of an end's two keys is there
+abbrev pub is_unnamed : List ℕ → List ℕ → Section → Bool
+is_unnamed port channel s = is_none (optional port s) && is_none (optional channel s)
+
+-- an end, as `port/channel`; both keys are needed
+unfoldable pub named_end : List ℕ → List ℕ → Section → Result (Option (List ℕ)) Fault
+named_end port_key channel_key s = do
+  port ← needs port_key text s
+  channel ← needs channel_key text s
+  Ok (Some (port ++ 47 ∷ channel))
+
+-- the source's end of the channel, if a key of it or of the other end is there
 unfoldable pub source_channel : Section → Result (Option (List ℕ)) Fault
 source_channel s =
-    if is_none (optional (codes "port") s) && is_none (optional (codes "channel") s) then Ok None
-    else do
-      port ← needs (codes "port") text s
-      channel ← needs (codes "channel") text s
-      Ok (Some (port ++ 47 ∷ channel))
+    if is_unnamed (codes "port") (codes "channel") s && is_unnamed (codes "counterparty_port") (codes "counterparty_channel") s then Ok None
+    else named_end (codes "port") (codes "channel") s
+
+-- the other end of the channel (ICS 4: the counterparty), if a key of it is there
+unfoldable pub counterparty : Section → Result (Option (List ℕ)) Fault
+counterparty s =
+    if is_unnamed (codes "counterparty_port") (codes "counterparty_channel") s then Ok None
+    else named_end (codes "counterparty_port") (codes "counterparty_channel") s
 
 -- whether the client at a place is hosted on the one chain and tracks the other
 abbrev pub connects : List ClientSetup → ℕ → ℕ → ℕ → Bool
@@ -65,7 +81,7 @@ path_ids paths = map (λ p. p.id) paths
 abbrev pub path_keys : List (List ℕ)
 path_keys =
     codes "id" ∷ codes "source" ∷ codes "dest" ∷ codes "order" ∷ codes "first" ∷ codes "forward" ∷ codes "back" ∷ codes "gas"
-    ∷ codes "port" ∷ codes "channel" ∷ []
+    ∷ codes "port" ∷ codes "channel" ∷ codes "counterparty_port" ∷ codes "counterparty_channel" ∷ []
 
 -- a path of these chains and clients, beside those before it
 unfoldable pub path : List (List ℕ) → List ClientSetup → List Path → Section → Result Path Fault
@@ -80,6 +96,7 @@ path chains clients before s = do
   back ← needs (codes "back") (reference (client_ids clients)) s
   gas ← needs (codes "gas") three s
   channel ← source_channel s
+  other ← counterparty s
   _ ← check (not (source == dest)) SameChain s.path
   _ ← check (connects clients forward dest source && connects clients back source dest) WrongClient s.path
   Ok (record {
@@ -92,4 +109,5 @@ path chains clients before s = do
     back = back;
     gas = gas;
     source_channel = channel;
+    counterparty = other;
   })

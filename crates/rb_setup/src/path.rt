@@ -5,7 +5,7 @@ ghost use Rattle.rb_fields.specs.Faults.{Gives};
 ghost use Rattle.rb_fields.specs.Fields.{section_view, only, needs, text, at_element, elements};
 ghost use Rattle.rb_base.specs.Identifier.{IsIdentifier};
 ghost use Rattle.rb_config.specs.Named.{new_identifier};
-ghost use Rattle.rb_setup.specs.Paths.{is_ordered, source_channel, connects, path, path_ids, path_keys, path_view};
+ghost use Rattle.rb_setup.specs.Paths.{is_ordered, is_unnamed, named_end, source_channel, counterparty, connects, path, path_ids, path_keys, path_view};
 
 use crate::client::needed_three;
 use crate::setup::{ClientSetup, PathSetup};
@@ -33,17 +33,49 @@ fn needed_text<'a>(section: &Section<'a>, key: &'a str) -> Result<&'a str, RunEr
     section.required(key)?.text()
 }
 
-/// The port and the channel of the source, which are there both or neither.
+/// Whether neither of an end's two keys is there.
+fn is_unnamed<'a>(section: &Section<'a>, port: &'a str, channel: &'a str) -> bool
+    ensures { result ≡ is_unnamed port.entry.now channel.entry.now (section_view section.now) }
+{
+    section.optional(port).is_none() && section.optional(channel).is_none()
+}
+
+/// An end of the channel, both of whose keys have to be there.
+#[tactic(auto, using(rb_fields::proofs::Steps::steps), unfolding(crate::specs::Paths::named_end))]
+fn named_end<'a>(
+    section: &Section<'a>,
+    port: &'a str,
+    channel: &'a str,
+) -> Result<Option<String>, RunError>
+    ensures { Gives (λ e. option_map string_bytes e) result (named_end port.entry.now channel.entry.now (section_view section.now)) }
+{
+    let port = needed_text(section, port)?;
+    let channel = needed_text(section, channel)?;
+    Ok(Some(format!(in section.alloc; "{port}/{channel}")?))
+}
+
+/// The source's end of the channel, if a key of it or of the other end is there.
 #[tactic(auto, using(rb_fields::proofs::Steps::steps), unfolding(crate::specs::Paths::source_channel))]
 fn source_channel(section: &Section<'_>) -> Result<Option<String>, RunError>
     ensures { Gives (λ s. option_map string_bytes s) result (source_channel (section_view section.now)) }
 {
-    if section.optional("port").is_none() && section.optional("channel").is_none() {
+    if is_unnamed(section, "port", "channel")
+        && is_unnamed(section, "counterparty_port", "counterparty_channel")
+    {
         return Ok(None);
     }
-    let port = needed_text(section, "port")?;
-    let channel = needed_text(section, "channel")?;
-    Ok(Some(format!(in section.alloc; "{port}/{channel}")?))
+    named_end(section, "port", "channel")
+}
+
+/// The other end of the channel, if a key of it is there.
+#[tactic(auto, using(rb_fields::proofs::Steps::steps), unfolding(crate::specs::Paths::counterparty))]
+fn counterparty(section: &Section<'_>) -> Result<Option<String>, RunError>
+    ensures { Gives (λ c. option_map string_bytes c) result (counterparty (section_view section.now)) }
+{
+    if is_unnamed(section, "counterparty_port", "counterparty_channel") {
+        return Ok(None);
+    }
+    named_end(section, "counterparty_port", "counterparty_channel")
 }
 
 /// Whether a client is hosted on the one chain and tracks the other.
@@ -71,7 +103,18 @@ fn only_path_keys(section: &Section<'_>) -> Result<(), RunError>
     ensures { Gives (λ u. u) result (only path_keys (section_view section.now)) }
 {
     section.only(&[
-        "id", "source", "dest", "order", "first", "forward", "back", "gas", "port", "channel",
+        "id",
+        "source",
+        "dest",
+        "order",
+        "first",
+        "forward",
+        "back",
+        "gas",
+        "port",
+        "channel",
+        "counterparty_port",
+        "counterparty_channel",
     ])
 }
 
@@ -94,6 +137,7 @@ fn read_path(
     let back = reference(section, "back", clients)?;
     let gas = needed_three(section, "gas")?;
     let source_channel = source_channel(section)?;
+    let counterparty = counterparty(section)?;
     if source == dest {
         return Err(section.fault(FaultName::SameChain));
     }
@@ -110,6 +154,7 @@ fn read_path(
         back,
         gas,
         source_channel,
+        counterparty,
     })
 }
 

@@ -81,8 +81,9 @@ fn read_document(alloc: Global, table: &Table) -> Result<Setup, RunError>
 
 /// Reads the setup that a text holds: a script without events, with at least one turn, whose
 /// clients may leave out `period_ns`, `drift_ns` and `trust`, and whose paths may have `port` and
-/// `channel`. `Fault` is its first fault, in the order in which scripts are judged
-/// (docs/FORMATS.md); `NoMemory` comes where a growth is refused.
+/// `channel`, and beside them `counterparty_port` and `counterparty_channel`. `Fault` is its first
+/// fault, in the order in which scripts are judged (docs/FORMATS.md); `NoMemory` comes where a growth
+/// is refused.
 #[tactic(auto, using(rb_fields::proofs::Steps::steps), unfolding(crate::specs::Setups::setup_of))]
 pub fn read_setup(alloc: Global, bytes: &[u8]) -> Result<Setup, RunError>
     ensures read { Gives setup_view result (setup_of bytes.now) }

@@ -40,8 +40,10 @@ impl Named for ClientSetup {
     }
 }
 
-/// A path: one direction of a channel. Its packets are those of `source_channel`, a port and a
-/// channel as `port/channel`, where that is there, else all that the answers tell of.
+/// A path: one direction of a channel. Its packets are those from `source_channel`, the source's end
+/// of the channel as `port/channel`, where that is there, else all that the answers tell of; and of
+/// these the ones to `counterparty`, the channel's other end, where that is there (never without
+/// `source_channel`), else those to the end that the first of them was sent to.
 #[derive(Drop)]
 pub struct PathSetup {
     pub id: PathId,
@@ -53,6 +55,7 @@ pub struct PathSetup {
     pub back: usize,
     pub gas: [u64; 3],
     pub source_channel: Option<String>,
+    pub counterparty: Option<String>,
 }
 
 impl Named for PathSetup {

@@ -1,11 +1,10 @@
-use Rattle.std.proofs.Common.{◌≡◌, ◌<◌, ℕ, Ok, Err, length, map, get_or, refl, sym, ap, subst, ◌∙◌, arith}
+use Rattle.std.proofs.Common.{◌≡◌, ◌<◌, ℕ, length, map, get_or, refl, sym, ap, subst, ◌∙◌}
 use Rattle.std.specs.List.Sorted.{IsBinarySearchResult}
 use Rattle.std.specs.Ordering.{nat_cmp}
 use Rattle.std.proofs.lemmas.Bool.{true≢false}
 use Rattle.std.proofs.lemmas.List.{length-map}
-use Rattle.rb_seen.specs.declared.chain.Commit.{Commit}
 use Rattle.rb_seen.specs.declared.error.ProblemName.{ProblemName}
-use Rattle.rb_seen.specs.Accord.{AgreesWith, IsAsHeader}
+use Rattle.rb_seen.specs.Accord.{AgreesWith}
 use Rattle.rb_seen.specs.Problems.{IsTold}
 use Rattle.rb_seen.proofs.Accords.{agrees_where_absent, agrees_where_found, disagrees, found_height, height_of}
 use Rattle.rb_seen.proofs.accord.judge_record.Goals as goal

@@ -1,0 +1,7 @@
+-- Three texts that are added in a row.
+use Rattle.std.proofs.Common.{◌≡◌, ℕ, List, ◌++◌, ap, ◌∙◌}
+use Rattle.std.proofs.lemmas.List.{append_assoc}
+
+pub in_a_row : (text a b c one two three : List ℕ) → one ≡ text ++ a → two ≡ one ++ b → three ≡ two ++ c → three ≡ text ++ (a ++ b ++ c)
+in_a_row text a b c one two three first second third =
+    third ∙ ap (λ l. l ++ c) (second ∙ ap (λ l. l ++ b) first ∙ append_assoc text a b) ∙ append_assoc text (a ++ b) c

@@ -1,7 +1,0 @@
-use Rattle.std.proofs.Common.{All}
-use Rattle.rb_import.specs.Notices.{TellsHeaders}
-use Rattle.rb_import.proofs.excess.too_many_headers.Given as goal
-
--- those so far are chains of the setup
-abbrev pub invariant-loop-place : goal.invariant-loop-place
-invariant-loop-place l = All (TellsHeaders l.setup) l.found.items

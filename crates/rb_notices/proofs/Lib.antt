@@ -1,0 +1,4 @@
+pub mod Ahead
+pub mod Noticed
+pub mod Telling
+pub mod Windows

@@ -1,0 +1,5 @@
+pub mod Counterparties
+pub mod Channels
+pub mod Notices
+pub mod Unsearched
+pub mod Unusable

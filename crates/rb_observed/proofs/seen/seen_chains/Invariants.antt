@@ -1,0 +1,11 @@
+use Rattle.std.proofs.Common.{ℕ, List, ◌≤◌, All, length}
+use Rattle.rb_seen.specs.declared.chain.SeenChain.{SeenChain}
+use Rattle.rb_observed.specs.Seen.{IsSeenChain, answers_at}
+use Rattle.rb_observed.proofs.Rooms.{AtEachBefore}
+use Rattle.rb_observed.proofs.seen.seen_chains.Given as goal
+
+-- a book has room for the headers of each of those so far, and each is what was seen of the chain at its place
+abbrev pub invariant-loop-place : goal.invariant-loop-place
+invariant-loop-place l =
+    All (λ (c : SeenChain). length c.commits.items ≤ 4096) l.chains.items
+    × AtEachBefore l.place (λ (i : ℕ) (id : List ℕ) (chain : SeenChain). IsSeenChain (answers_at l.answers.chains.items i) chain) l.setup.chains.items l.chains.items

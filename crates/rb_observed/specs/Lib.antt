@@ -1,0 +1,7 @@
+pub mod Packets
+pub mod Counterparties
+pub mod Sources
+pub mod Lowest
+pub mod Problems
+pub mod Room
+pub mod Seen

@@ -1,0 +1,95 @@
+-- What was seen in the answers that a script is made of.
+use Rattle.std.specs.Prelude.{◌≡◌, ◌<◌, ◌-◌, ℕ, List, [], Vec, Option, Some, None, IsSomeAnd, All, Any, length, map, slice_get}
+use Rattle.std.specs.Global.{Global}
+use Rattle.std.specs.List.Sorted.{IsStrictlyIncreasing}
+use Rattle.rb_setup.specs.declared.setup.ClientSetup.{ClientSetup}
+use Rattle.rb_setup.specs.declared.setup.Setup.{Setup}
+use Rattle.rb_seen.specs.declared.chain.Commit.{Commit}
+use Rattle.rb_seen.specs.declared.chain.SeenChain.{SeenChain}
+use Rattle.rb_seen.specs.declared.client.SeenClient.{SeenClient}
+use Rattle.rb_seen.specs.declared.client.Stored.{Stored}
+use Rattle.rb_seen.specs.declared.saved.Saved.{Saved}
+use Rattle.rb_seen.specs.declared.saved.SavedAnswers.{SavedAnswers}
+use Rattle.rb_seen.specs.Chains.{HaveHeaders, headers_of}
+use Rattle.rb_seen.specs.Clients.{AtRevision, HaveStates, JudgesAs, client_states_of, current_of}
+use Rattle.rb_seen.specs.Sets.{IsPlaceOf, WasSeen}
+use Rattle.rb_observed.specs.declared.kept.KeptSets.{KeptSets}
+use Rattle.rb_observed.specs.declared.seen.Seen.{Seen}
+use Rattle.rb_observed.specs.Room.{AtEachPlace, FitBooks, FitsHeaders}
+
+abbrev items_of : Option (Vec Saved Global) → List Saved
+items_of (Some saved) = saved.items
+items_of None = []
+
+-- the answers of the object at a place; none where there are none
+abbrev pub answers_at : List (Vec Saved Global) → ℕ → List Saved
+answers_at answers place = items_of (slice_get answers place)
+
+-- of the headers that a chain's answers tell of, each once and rising, these are the highest, as many as a book has room for
+abbrev pub IsSeenChain : List Saved → SeenChain → Type 0
+IsSeenChain saved chain =
+    (commits : List Commit) × HaveHeaders (headers_of saved) commits × IsStrictlyIncreasing (map (λ (c : Commit). c.header.now.height) commits)
+    × FitsHeaders commits chain.commits.items
+
+-- the client judges headers as the setup says, or else its state, and its records are those that its answers tell of, without those
+-- of a revision before that of the chain that it tracks
+abbrev pub IsSeenClient : List (List ℕ) → ClientSetup → List Saved → SeenClient → Type 0
+IsSeenClient chains c saved client =
+    JudgesAs c (client_states_of saved) client
+    × IsSomeAnd (slice_get chains c.tracks) (λ tracked. AtRevision tracked (λ revision. HaveStates (current_of revision saved) client.stored.items))
+
+-- each client tracks a chain of the setup
+abbrev pub TrackChains : Setup → Type 0
+TrackChains setup = All (λ (c : ClientSetup). c.tracks < length setup.chains.items) setup.clients.items
+
+-- each of these is what was seen of the client at its place; there is one of each client, if each tracks a chain of the setup
+unfoldable pub AreSeenClients : Setup → List (Vec Saved Global) → List SeenClient → Type 0
+AreSeenClients setup answers clients =
+    ((i : ℕ) → (c : ClientSetup) → (client : SeenClient) → slice_get setup.clients.items i ≡ Some c → slice_get clients i ≡ Some client → IsSeenClient setup.chains.items c (answers_at answers i) client)
+    × (TrackChains setup → length clients ≡ length setup.clients.items)
+
+-- this was seen of the setup's chains and clients in their answers, and books have room for the records
+unfoldable pub IsSeenIn : Setup → SavedAnswers → Seen → Type 0
+IsSeenIn setup answers seen =
+    AtEachPlace (λ i id chain. IsSeenChain (answers_at answers.chains.items i) chain) setup.chains.items seen.chains.items
+    × AreSeenClients setup answers.clients.items seen.clients.items
+    × FitBooks setup seen.chains.items seen.clients.items seen.records.items
+
+-- this holds of what was seen
+abbrev pub HoldsOfSeen : Setup → SavedAnswers → (Seen → Type 0) → Type 0
+HoldsOfSeen setup answers Holds = (seen : Seen) × IsSeenIn setup answers seen × Holds seen
+
+-- ---- what is kept of it, and what is left out
+
+-- a set of this hash was seen of the chain at a place
+abbrev pub WasSeenOf : List SeenChain → ℕ → List ℕ → Type 0
+WasSeenOf chains place hash = IsSomeAnd (slice_get chains place) (λ (c : SeenChain). WasSeen c.sets.sets.items hash)
+
+-- the set of this hash is one of a chain's kept sets
+abbrev pub IsKeptSet : SeenChain → List ℕ → KeptSets → Type 0
+IsKeptSet chain hash kept = Any (IsPlaceOf chain.sets.sets.items hash) kept.places.items
+
+-- the set of this hash is written of the chain at a place
+abbrev pub IsWrittenOf : List SeenChain → List KeptSets → ℕ → List ℕ → Type 0
+IsWrittenOf chains sets place hash =
+    IsSomeAnd (slice_get chains place) (λ (c : SeenChain). IsSomeAnd (slice_get sets place) (IsKeptSet c hash))
+
+abbrev left_of_sets : Option KeptSets → ℕ
+left_of_sets (Some kept) = kept.left_out
+left_of_sets None = 0
+
+-- how many sets of the chain at a place aren't written
+abbrev pub sets_left_out : List KeptSets → ℕ → ℕ
+sets_left_out sets place = left_of_sets (slice_get sets place)
+
+-- no header was seen of the chain at a place
+abbrev pub LacksHeaders : List SeenChain → ℕ → Type 0
+LacksHeaders chains place = IsSomeAnd (slice_get chains place) (λ (c : SeenChain). length c.commits.items ≡ 0)
+
+abbrev left_of : Option SeenClient → Option (Vec Stored Global) → ℕ
+left_of (Some client) (Some records) = length client.stored.items - length records.items
+left_of client records = 0
+
+-- how many of the records that the client at a place has stored aren't written
+abbrev pub left_out : List SeenClient → List (Vec Stored Global) → ℕ → ℕ
+left_out clients records place = left_of (slice_get clients place) (slice_get records place)

@@ -1,0 +1,18 @@
+//! What the answers of nodes tell of a whole setup: the packets of its paths, and its chains and clients, as much of
+//! them as books have room for.
+#![tactic(auto)]
+
+mod counterparties;
+mod kept;
+mod lowest;
+mod packets;
+mod room;
+mod seen;
+mod sets;
+mod sources;
+
+pub use counterparties::{Counterparties, several_counterparties};
+pub use kept::KeptSets;
+pub use packets::{Searches, SeenPacket, expiry_at, searches_of, seen_packets, some_timed_out};
+pub use seen::{Seen, answers_at, seen_in};
+pub use sources::{OtherSource, other_source};
