@@ -1,6 +1,6 @@
 -- What is refused, told by the report as it lies in memory.
 use Rattle.std.specs.Prelude.{◌≡◌, ℕ, Bool, true, false, List, [], ◌∷◌, ◌||◌, map, length, is_some}
-use Rattle.std.specs.List.{list_any}
+use Rattle.std.specs.List.{list_any, sum_by}
 use Rattle.std.proofs.Common.{refl, ap, sym}
 use Rattle.std.proofs.lemmas.List.{length-map}
 use Rattle.rb_phases.specs.Views.{refused_view, settlement_view, turn_report_view}
@@ -16,5 +16,9 @@ pub turn-by-settlements : {A : Type 0} (t : CodeTurnReport A) → t.window_back 
     list_any (λ x. is_some (settlement_view x).refusal) t.settlements.items ≡ has_refusal (turn_report_view t)
 turn-by-settlements t window events =
     rw (window, length-map t.refused.items refused_view, events) (sym (any-map (λ x. is_some x.refusal) settlement_view t.settlements.items))
+
+-- how many events turns refused, as they lie in memory
+abbrev pub events_refused : {A : Type 0} → List (CodeTurnReport A) → ℕ
+events_refused turns = sum_by (λ t. length (map refused_view t.refused.items)) turns
 
 pub ruleset refusals = (any-map, turn-by-settlements)

@@ -31,7 +31,9 @@ pub fn advice_for(name: FaultName, path: &str) -> &'static str {
             "there may be 64 chains, 256 clients, 256 paths and 500 turns"
         }
         FaultName::TooManyEvents => "there may be 200,000 goals, events and settlements in all",
-        FaultName::UnknownSetName => "no earlier set event of the chain has this name",
+        FaultName::UnknownSetName => {
+            "no set event before this one gives the chain a set of this name: sets stand before the headers and records that name them"
+        }
         FaultName::DuplicateSetName => "an earlier set event of the chain has this name",
         FaultName::TwoGoals =>
             "a goal has one of at_least and exactly, and a client one goal in a turn",
@@ -71,7 +73,7 @@ fn keys_at(path: &str) -> &'static str {
     let (table, _) = table_and_key(path);
     match key_of(table) {
         "" => {
-            "there is no such key here; a script has version, chain, client, path and turn, a certificate version, turn, client, answer, updates and labels"
+            "there is no such key here; a script has version, chain, client, path and turn, a certificate version, turn, client, answer, updates and labels; goal, event and settle belong into a turn, as [[turn.goal]]"
         }
         "chain" => {
             "a chain has id and, in version 2, defaults; TOML puts a key that stands after [[chain]] into that chain"
@@ -81,7 +83,7 @@ fn keys_at(path: &str) -> &'static str {
             "a client has id, host, of, period_ns, drift_ns, refresh_ns, fee, gas, limits and trust"
         }
         "path" => {
-            "a path has id, source, dest, order, first, forward, back and gas, and in a setup port and channel"
+            "a path has id, source, dest, order, first, forward, back and gas, and in a setup port, channel, counterparty_port and counterparty_channel"
         }
         "turn" => "a turn has from, until, goal, event (in a setup none) and settle",
         "goal" => "a goal has client, and at_least or exactly",
@@ -112,9 +114,13 @@ fn range_at(path: &str) -> &'static str {
 /// What an identifier at a path should be of.
 fn wanted_at(path: &str) -> &'static str {
     match key_of(path) {
-        "host" | "of" | "source" | "dest" | "chain" => "no chain has this identifier",
-        "forward" | "back" | "client" => "no client has this identifier",
-        "path" => "no path has this identifier",
+        "host" | "of" | "source" | "dest" | "chain" => {
+            "no chain has this identifier (each [[chain]] gives one by its id)"
+        }
+        "forward" | "back" | "client" => {
+            "no client has this identifier (each [[client]] gives one by its id)"
+        }
+        "path" => "no path has this identifier (each [[path]] gives one by its id)",
         _ => "nothing has this identifier",
     }
 }
@@ -128,7 +134,10 @@ fn element_type(array: &str, is_inner: bool) -> &'static str {
         "validators" => { "a key and a power belong here, as ['64 hexadecimal digits', 10]" }
         "updates" if !is_inner => "a height and a trusted height belong here, as [3, 1]",
         "labels" if !is_inner => "a height, a fee and a count belong here, as [3, 112, 1]",
-        "fee" | "gas" | "limits" | "trust" | "updates" | "labels" => "a whole number belongs here",
+        "fee" | "gas" => {
+            "a whole number belongs here, so take a smaller unit where it has decimals"
+        }
+        "limits" | "trust" | "updates" | "labels" => "a whole number belongs here",
         "chain" | "client" | "path" | "turn" | "goal" | "event" | "settle" => {
             "a table belongs here"
         }
@@ -159,10 +168,13 @@ fn type_at(path: &str) -> &'static str {
         "from" | "until" | "time" | "timeout_time" => {
             "a time in quotes belongs here, as '2026-11-22T10:00:00Z'"
         }
+        "version" if table.is_empty() => {
+            "a whole number without quotes belongs here, above the first [[..]]: TOML puts a key that stands after [[chain]] into that chain"
+        }
+        "period_ns" | "drift_ns" | "refresh_ns" => {
+            "a whole number of nanoseconds without quotes belongs here, as 1_209_600_000_000_000 (two weeks)"
+        }
         "version"
-        | "period_ns"
-        | "drift_ns"
-        | "refresh_ns"
         | "at_least"
         | "exactly"
         | "height"
@@ -170,15 +182,24 @@ fn type_at(path: &str) -> &'static str {
         | "timeout_height"
         | "first"
         | "batch"
-        | "done" => { "a number without quotes belongs here" }
-        "fee" | "gas" | "limits" => "three numbers belong here, as [100, 1, 1]",
+        | "done" => { "a whole number without quotes belongs here" }
+        "limits" => {
+            "three numbers belong here, as [25_000_000, 50, 80_000]: gas and messages of a transaction, and gas of its own"
+        }
+        "fee" => {
+            "three numbers belong here, as [100, 1, 1]: of an update, of each commit vote, of each validator of the two sets"
+        }
+        "gas" => {
+            "three numbers belong here, as [100, 1, 1]: of a client those of an update, each commit vote and each validator, of a path those of a receive, an acknowledgement and a timeout"
+        }
         "trust" => "two numbers belong here, as [1, 3]",
         "validators" =>
             "pairs of a key and a power belong here, as [['64 hexadecimal digits', 10]]",
-        "goal" | "event" | "settle" => "an array of tables belongs here, as [[turn.goal]]",
-        "chain" | "path" if table.is_empty() => {
-            "an array of tables belongs here, as [[chain]] or [[path]]"
-        }
+        "goal" => "an array of tables belongs here, as [[turn.goal]]",
+        "event" => "an array of tables belongs here, as [[turn.event]]",
+        "settle" => "an array of tables belongs here, as [[turn.settle]]",
+        "chain" if table.is_empty() => "an array of tables belongs here, as [[chain]]",
+        "path" if table.is_empty() => "an array of tables belongs here, as [[path]]",
         "client" if table.is_empty() => {
             "an array of tables belongs here, as [[client]]; in a certificate an identifier in quotes"
         }
@@ -199,6 +220,8 @@ fn type_at(path: &str) -> &'static str {
         | "votes"
         | "port"
         | "channel"
+        | "counterparty_port"
+        | "counterparty_channel"
         | "answer" => "a text in quotes belongs here",
         "defaults" => "a table belongs here, as [chain.defaults]",
         "updates" => "pairs of a height and a trusted height belong here, as [[3, 1]]",

@@ -1,5 +1,7 @@
 //! Why the program gave no result: the line that says so, and what to do about it.
-ghost use Rattle.ibcplan.specs.Status.{IsFailureStatus};
+ghost use Rattle.std.specs.Prelude.{◌≡◌, true, None};
+ghost use Rattle.rb_fields.specs.Faults.{status_of};
+ghost use Rattle.ibcplan.specs.Failures.{failure_status, IsFailureStatus, told_fault, is_unwritten, error_fault, is_device};
 
 use crate::flaw::{Flaw, flaw_of};
 use crate::input::Input;
@@ -39,7 +41,7 @@ pub enum Failure<'a> {
         advice: &'static str,
     },
     /// A file or a folder of answers can't be read.
-    #[error("device\n{file}: {error}\nThe folder of answers has a folder for each client, each path and each chain that is tracked, and in each of these *.json are files.")]
+    #[error("device\n{file}: {error}\nThe folder of answers has a folder for each client, each path and each chain that is tracked, and each of these holds the answers in files *.json.")]
     UnreadableAnswers {
         file: String,
         error: io::Error,
@@ -71,7 +73,11 @@ pub enum Failure<'a> {
 
 impl<'a> Failure<'a> {
     /// Why a run over an input gave no result.
-    pub fn of_run(error: RunError, input: &Input<'a>) -> Failure<'a> {
+    pub fn of_run(error: RunError, input: &Input<'a>) -> Failure<'a>
+        ensures status { failure_status result ≡ status_of error }
+        ensures fault { told_fault result ≡ error_fault error }
+        ensures device { is_unwritten result ≡ is_device error }
+    {
         match error {
             RunError::Fault(mut fault) => {
                 let flaw = flaw_of(&mut fault, input);
@@ -83,13 +89,19 @@ impl<'a> Failure<'a> {
     }
 
     /// Standard output takes nothing, and gives no reason.
-    pub fn untaken() -> Failure<'a> {
+    pub fn untaken() -> Failure<'a>
+        ensures status { failure_status result ≡ 4 }
+        ensures fault { told_fault result ≡ None }
+        ensures device { is_unwritten result ≡ true }
+    {
         let error = io::Error::from(io::ErrorKind::WriteZero);
         Failure::Unwritten { error }
     }
 
     /// The failure, with the reason that standard output gave where it fails.
-    pub fn because_of(self, reason: Option<io::Error>) -> Failure<'a> {
+    pub fn because_of(self, reason: Option<io::Error>) -> Failure<'a>
+        ensures { failure_status result ≡ failure_status self.entry }
+    {
         match (self, reason) {
             (Failure::Unwritten { .. }, Some(error)) => Failure::Unwritten { error },
             (failure, _) => failure,
@@ -108,7 +120,8 @@ impl<'a> Failure<'a> {
 
     /// The status that the program ends with.
     pub fn status(&self) -> u8
-        ensures { IsFailureStatus result }
+        ensures status { result ≡ failure_status self.now }
+        ensures known { IsFailureStatus result }
     {
         match self {
             Failure::Refused { .. } | Failure::RefusedAnswers(_) => status::REFUSED,

@@ -1,4 +1,7 @@
 //! What is wrong with a file that is refused.
+ghost use Rattle.std.specs.Prelude.{◌≡◌};
+ghost use Rattle.rb_fields.specs.Faults.{fault_view};
+
 use crate::advice::{advice_for, type_words};
 use crate::input::Input;
 use crate::shown::Shown;
@@ -17,26 +20,26 @@ pub enum Flaw<'a> {
         place: usize,
     },
     /// It is UTF-8, and not of TOML's grammar.
-    #[error("{file}: {reason}Mend the text there; a value that is a text stands in quotes, and a key stands once.")]
+    #[error("{file}: {reason}Mend the text there; a value that is a text stands in quotes, a key stands once, and a table of which there may be several has two brackets, as [[chain]] or [[turn.event]].")]
     Grammar {
         file: Shown<'a>,
         reason: String,
     },
     /// A key isn't there.
-    #[error("{file}: this key is missing; {advice} (docs/FORMATS.md)")]
+    #[error("{file}: this key is missing; {advice} (docs/FORMATS.md; places are counted from 0)")]
     Missing {
         file: Shown<'a>,
         advice: &'static str,
     },
     /// A value has another type than the one that belongs there.
-    #[error("{file}: {advice}; what stands there is {found} (docs/FORMATS.md)")]
+    #[error("{file}: {advice}; what stands there is {found} (docs/FORMATS.md; places are counted from 0)")]
     Type {
         file: Shown<'a>,
         advice: &'static str,
         found: &'static str,
     },
     /// It is TOML, and holds no script or certificate.
-    #[error("{file}: {advice} (docs/FORMATS.md)")]
+    #[error("{file}: {advice} (docs/FORMATS.md; places are counted from 0)")]
     Content {
         file: Shown<'a>,
         advice: &'static str,
@@ -44,7 +47,9 @@ pub enum Flaw<'a> {
 }
 
 /// The flaw of a file that is refused for a fault, from which it takes the reason.
-pub fn flaw_of<'a>(fault: &mut Fault, input: &Input<'a>) -> Flaw<'a> {
+pub fn flaw_of<'a>(fault: &mut Fault, input: &Input<'a>) -> Flaw<'a>
+    ensures { fault_view fault.new ≡ fault_view fault.old }
+{
     let file = input.name();
     if fault.name == FaultName::NotToml {
         if let Err(error) = str::from_utf8(input.bytes()) {

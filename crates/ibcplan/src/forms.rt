@@ -1,9 +1,9 @@
 //! The report of a script in other forms than its own: JSON, and the commands that submit its updates.
-ghost use Rattle.rb_events.specs.Script.{script_view, IsScript};
+ghost use Rattle.rb_events.specs.Script.{script_view, IsReadScript};
 
 use crate::failure::{Failure, Turns};
 use crate::input::Input;
-use crate::reporting::report_has_refusal;
+use crate::reporting::plan_status;
 use rb_events::Script;
 use rb_fields::RunError;
 use rb_gang::OpenGate;
@@ -13,11 +13,11 @@ use std::alloc::{AllocError, Global};
 use std::sync::{Arc, Wait};
 use std::thread::Threads;
 
-/// A report as JSON, and whether something in it is refused.
+/// A report as JSON, and the status of a plan that writes it.
 #[derive(Drop)]
 pub struct JsonText {
     pub text: String,
-    pub has_refusal: bool,
+    pub status: u8,
 }
 
 /// The report of the script that a file holds, as JSON.
@@ -25,8 +25,9 @@ pub fn json_of_script<'a, R: Threads + Wait + Copy + Send + Sync + 'static>(
     rt: &R,
     alloc: Global,
     input: &Input<'a>,
+    is_strict: bool,
 ) -> Result<JsonText, Failure<'a>> {
-    match json_of_bytes(rt, alloc, input.bytes()) {
+    match json_of_bytes(rt, alloc, input.bytes(), is_strict) {
         Ok(json) => Ok(json),
         Err(error) => Err(Failure::of_run(error, input)),
     }
@@ -36,13 +37,14 @@ fn json_of_bytes<R: Threads + Wait + Copy + Send + Sync + 'static>(
     rt: &R,
     alloc: Global,
     bytes: &[u8],
+    is_strict: bool,
 ) -> Result<JsonText, RunError> {
     let script = read_script(alloc, bytes)?;
     let gate = Arc::new(alloc, OpenGate)?;
     let report = report_of(rt, alloc, script, 0, &gate)?;
     Ok(JsonText {
         text: json_of(alloc, &report)?,
-        has_refusal: report_has_refusal(&report),
+        status: plan_status(is_strict, &report),
     })
 }
 
@@ -80,7 +82,7 @@ fn commands_by<R: Threads + Wait + Copy + Send + Sync + 'static>(
     script: Script,
     turn: Option<u64>,
 ) -> Result<String, AllocError>
-    requires { IsScript (script_view script) }
+    requires { IsReadScript (script_view script) }
 {
     let setting = Setting::of(alloc, &script)?;
     let gate = Arc::new(alloc, OpenGate)?;

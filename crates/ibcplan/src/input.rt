@@ -1,5 +1,5 @@
 //! The files that the program reads.
-ghost use Rattle.std.specs.Prelude.{◌≡◌};
+ghost use Rattle.std.specs.Prelude.{◌≡◌, ℕ, List};
 
 use crate::failure::Failure;
 use crate::host::Host;
@@ -9,19 +9,26 @@ use std::alloc::Global;
 use std::fs::File;
 use std::io;
 use std::io::Read;
+use std::marker::Model;
 
-/// A file is read up to one byte past what a text may have, so that the reader can tell that it is
-/// too big.
+/// A file is read up to one byte past what a text, or the answer of a node, may have, so that the
+/// reader can tell that it is too big.
 const MOST_BYTES: u64 = MAX_BYTES as u64 + 1;
 
 /// The path that stands for standard input.
 pub const STANDARD_INPUT: &str = "-";
 
-/// A file's path and bytes.
+/// A file's path and bytes, which clauses see as the bytes.
 #[derive(Drop)]
 pub struct Input<'a> {
     path: &'a str,
     bytes: Vec<u8>,
+}
+
+impl<'a> Model for Input<'a> {
+    ghost Value = { List ℕ };
+
+    ghost view = { λ input. input.bytes.items };
 }
 
 impl<'a> Input<'a> {
@@ -45,7 +52,7 @@ impl<'a> Input<'a> {
 
     /// The bytes.
     pub fn bytes(&self) -> &[u8]
-        ensures { result.now ≡ self.now.bytes.items }
+        ensures { result.now ≡ self.now }
     {
         self.bytes.as_slice()
     }

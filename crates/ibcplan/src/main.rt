@@ -5,6 +5,7 @@
 #![tactic(auto)]
 
 mod advice;
+mod explained;
 mod failure;
 mod flaw;
 mod forms;
@@ -16,7 +17,6 @@ mod progress;
 mod reporting;
 mod shown;
 mod status;
-mod tally;
 mod task;
 mod workers;
 

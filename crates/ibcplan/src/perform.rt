@@ -1,22 +1,26 @@
 //! The tasks done: files are read, results go to standard output, failures and notices to standard error.
-ghost use Rattle.std.specs.Prelude.{◌≡◌, ◌⊎◌, false, IfOk};
-ghost use Rattle.ibcplan.specs.Status.{IsPlanned, IsPlannedStrictly, IsConfirmed, IsDenied};
+ghost use Rattle.std.specs.Prelude.{◌≡◌, ◌⊎◌, false, Err, IfOk, IfErr, IsErr, OnErr, IfSome, MatchResult};
+ghost use Rattle.rb_text.specs.Scripts.{script_of};
+ghost use Rattle.rb_text.specs.Headline.{BeginsReport};
+ghost use Rattle.rb_text.specs.Verdicts.{IsFaultFor, BeginsVerdict};
+ghost use Rattle.ibcplan.specs.Failures.{failure_status, told_fault, is_unwritten};
+ghost use Rattle.ibcplan.specs.Status.{IsPlanned, IsConfirmed, IsDenied};
 
+use crate::explained::Explained;
 use crate::failure::Failure;
 use crate::forms::{JsonText, commands_of_script, json_of_script};
 use crate::host::Host;
 use crate::importing::{ImportedText, imported};
 use crate::input::Input;
 use crate::progress::Progress;
-use crate::reporting::{strict_status, write_strictly};
+use crate::reporting::{plan_status, refused_events};
 use crate::status;
-use crate::tally::Tally;
 use crate::task::Task;
 use crate::workers::Workers;
 use clap::error::ErrorKind;
 use rb_base::{Counted, Sink, write_whole};
 use rb_gang::Gate;
-use rb_text::{Source, certify_texts, run_over};
+use rb_text::{Source, certify_texts, report_over};
 use std::alloc::Global;
 use std::io;
 use std::io::{Printer, Write};
@@ -59,13 +63,13 @@ pub fn no_memory<R: Eprint>(rt: &R) -> u8 {
 /// Does a task, and sends on what the writer may still hold; then what is to be told of the results stands
 /// on standard error.
 fn outcome_of<'a, R: Host>(rt: &R, task: Task<'a>, is_watched: bool) -> Result<u8, Failure<'a>> {
-    let mut output = Tally::new(Counted::new(io::writer(rt)));
+    let mut output = Explained::new(Counted::new(io::writer(rt)));
     let done = match done_of(rt, task, is_watched, &mut output) {
         Ok(done) => done,
         Err(failure) => return Err(failure.because_of(output.error())),
     };
-    let refused = output.refused();
     flush(output.into_inner())?;
+    let refused = done.refused_events;
     if is_watched && refused > 0 {
         let _ = eprintln!(rt;
             "refused events: {refused}; their lines in the report begin with 'refused event'"
@@ -77,10 +81,13 @@ fn outcome_of<'a, R: Host>(rt: &R, task: Task<'a>, is_watched: bool) -> Result<u
     Ok(done.status)
 }
 
-/// The status to end with, and lines to tell where the results were written.
+/// The status to end with, and what to tell where the results were written.
 #[derive(Drop)]
 struct Done {
     status: u8,
+    /// How many events a report that was planned tells to be refused, up to 2^64 - 1.
+    refused_events: usize,
+    /// Lines that tell which answers aren't there, of a script that was imported.
     notices: Option<String>,
 }
 
@@ -89,6 +96,7 @@ impl Done {
     fn quietly(status: u8) -> Done {
         Done {
             status,
+            refused_events: 0,
             notices: None,
         }
     }
@@ -103,7 +111,7 @@ fn done_of<'a, R: Host, W: Sink>(
 ) -> Result<Done, Failure<'a>>
     requires { W.is_broken output.old ≡ false }
 {
-    let status = match task {
+    match task {
         Task::Plan {
             script,
             workers,
@@ -111,35 +119,37 @@ fn done_of<'a, R: Host, W: Sink>(
         } => {
             let script = Input::read(rt, script)?;
             let progress = Progress::new(*rt, is_watched);
-            if is_strict {
-                plan_strictly(rt, rt.alloc(), &script, workers, progress, output)?
-            } else {
-                plan(rt, rt.alloc(), &script, workers, progress, output)?
-            }
+            plan(
+                rt,
+                rt.alloc(),
+                &script,
+                workers,
+                is_strict,
+                progress,
+                output,
+            )
         }
         Task::PlanJson { script, is_strict } => {
             let script = Input::read(rt, script)?;
-            let JsonText { text, has_refusal } = json_of_script(rt, rt.alloc(), &script)?;
-            let status = write(text.as_str(), output)?;
-            if is_strict {
-                strict_status(has_refusal)
-            } else {
-                status
-            }
+            let JsonText { text, status } = json_of_script(rt, rt.alloc(), &script, is_strict)?;
+            write(text.as_str(), output)?;
+            Ok(Done::quietly(status))
         }
         Task::Commands { script, turn } => {
             let script = Input::read(rt, script)?;
             let text = commands_of_script(rt, rt.alloc(), &script, turn)?;
-            write(text.as_str(), output)?
+            write(text.as_str(), output)?;
+            Ok(Done::quietly(status::DONE))
         }
         Task::Import { setup, folder } => {
             let setup = Input::read(rt, setup)?;
             let ImportedText { script, notices } = imported(rt, &setup, folder)?;
-            let status = write(script.as_str(), output)?;
-            return Ok(Done {
-                status,
+            write(script.as_str(), output)?;
+            Ok(Done {
+                status: status::DONE,
+                refused_events: 0,
                 notices: Some(notices),
-            });
+            })
         }
         Task::Certify {
             script,
@@ -147,13 +157,15 @@ fn done_of<'a, R: Host, W: Sink>(
         } => {
             let script = Input::read(rt, script)?;
             let certificate = Input::read(rt, certificate)?;
-            certify(rt, rt.alloc(), &script, &certificate, output)?
+            let status = certify(rt, rt.alloc(), &script, &certificate, output)?;
+            Ok(Done::quietly(status))
         }
-    };
-    Ok(Done::quietly(status))
+    }
 }
 
-/// Writes the report of the script that a file holds, by so many workers, through a gate.
+/// Writes the report of the script that a file holds, by so many workers, through a gate; of a strict
+/// plan the status also tells whether something in the report is refused. Nothing is written where the
+/// file is refused, and a beginning of the report, or nothing, where it fails otherwise.
 fn plan<
     'a,
     R: Threads + Wait + Copy + Send + Sync + 'static,
@@ -164,60 +176,44 @@ fn plan<
     alloc: Global,
     script: &Input<'a>,
     workers: Workers,
+    is_strict: bool,
     gate: G,
     output: &mut W,
-) -> Result<u8, Failure<'a>>
+) -> Result<Done, Failure<'a>>
     requires { W.is_broken output.old ≡ false }
-    ensures done { IfOk result (IsPlanned script.now.bytes.items (W.taken output.old) (W.taken output.new)) }
+    ensures done { IfOk result (λ done. IsPlanned is_strict script.now (W.taken output.old) (W.taken output.new) done.status done.refused_events) }
+    ensures refused { IfErr result (λ failure. failure_status failure ≡ 1 → IsErr (script_of script.now)) }
+    ensures fault { IfErr result (λ failure. IfSome (told_fault failure) (λ fault. script_of script.now ≡ Err fault)) }
+    ensures nothing_written { IfErr result (λ failure. failure_status failure ≡ 1 → output.new ≡ output.old) }
+    ensures device { MatchResult result (λ _. W.is_broken output.new ≡ false) (λ failure. W.is_broken output.new ≡ is_unwritten failure) }
+    ensures begun { OnErr result ((output.new ≡ output.old) ⊎ BeginsReport script.now (W.taken output.old) (W.taken output.new)) }
 {
     let Ok(gate) = Arc::new(alloc, gate) else {
         return Err(Failure::NoMemory);
     };
     let workers = workers.count();
-    match run_over(rt, alloc, script.bytes(), output, workers, &gate) {
-        Ok(()) => Ok(status::DONE),
-        Err(error) => Err(Failure::of_run(error, script)),
-    }
-}
-
-/// Writes the report as `plan` does; the status also tells whether something in it is refused.
-fn plan_strictly<
-    'a,
-    R: Threads + Wait + Copy + Send + Sync + 'static,
-    G: Gate + Send + Sync + Drop + 'static,
-    W: Sink,
->(
-    rt: &R,
-    alloc: Global,
-    script: &Input<'a>,
-    workers: Workers,
-    gate: G,
-    output: &mut W,
-) -> Result<u8, Failure<'a>>
-    requires { W.is_broken output.old ≡ false }
-    ensures done { IfOk result (IsPlannedStrictly script.now.bytes.items (W.taken output.old) (W.taken output.new)) }
-{
-    let Ok(gate) = Arc::new(alloc, gate) else {
-        return Err(Failure::NoMemory);
-    };
-    let workers = workers.count();
-    match write_strictly(rt, alloc, script.bytes(), output, workers, &gate) {
-        Ok(status) => Ok(status),
+    match report_over(rt, alloc, script.bytes(), output, workers, &gate) {
+        Ok(report) => Ok(Done {
+            status: plan_status(is_strict, &report),
+            refused_events: refused_events(&report),
+            notices: None,
+        }),
         Err(error) => Err(Failure::of_run(error, script)),
     }
 }
 
 /// Writes a text that was made in memory.
-fn write<'a, W: Sink>(text: &str, output: &mut W) -> Result<u8, Failure<'a>>
+fn write<'a, W: Sink>(text: &str, output: &mut W) -> Result<(), Failure<'a>>
     requires { W.is_broken output.old ≡ false }
 {
     match write_whole(output, text.as_bytes()) {
-        Ok(()) => Ok(status::DONE),
+        Ok(()) => Ok(()),
         Err(_) => Err(Failure::untaken()),
     }
 }
 
-/// Writes the verdict on the certificate that a file holds.
+/// Writes the verdict on the certificate that a file holds. Nothing is written where a file is refused,
+/// and a beginning of the verdict's line, or nothing, where it fails otherwise.
 fn certify<'a, R: Threads + Sync, W: Sink>(
     rt: &R,
     alloc: Global,
@@ -227,8 +223,12 @@ fn certify<'a, R: Threads + Sync, W: Sink>(
 ) -> Result<u8, Failure<'a>>
     requires { W.is_broken output.old ≡ false }
     ensures judged { IfOk result (λ status.
-        IsConfirmed script.now.bytes.items certificate.now.bytes.items (W.taken output.old) (W.taken output.new) status
-        ⊎ IsDenied script.now.bytes.items certificate.now.bytes.items (W.taken output.old) (W.taken output.new) status) }
+        IsConfirmed script.now certificate.now (W.taken output.old) (W.taken output.new) status
+        ⊎ IsDenied script.now certificate.now (W.taken output.old) (W.taken output.new) status) }
+    ensures fault { IfErr result (λ failure. IfSome (told_fault failure) (IsFaultFor script.now certificate.now)) }
+    ensures nothing_written { IfErr result (λ failure. failure_status failure ≡ 1 → output.new ≡ output.old) }
+    ensures device { MatchResult result (λ _. W.is_broken output.new ≡ false) (λ failure. W.is_broken output.new ≡ is_unwritten failure) }
+    ensures begun { OnErr result ((output.new ≡ output.old) ⊎ BeginsVerdict script.now certificate.now (W.taken output.old) (W.taken output.new)) }
 {
     match certify_texts(rt, alloc, script.bytes(), certificate.bytes(), output) {
         Ok(true) => Ok(status::DONE),

@@ -63,15 +63,15 @@ const FOLDER: &str = "FOLDER";
 
 const CERT: &str = "CERT";
 
-const AFTER_HELP: &str = "Examples:
-  ibcplan plan examples/smallest.toml
-  ibcplan run --workers 4 examples/hundred_headers.toml
-  ibcplan certify examples/smallest.toml examples/smallest.certificate
+const AFTER_HELP: &str = "Examples (in the folder of the repository):
+  ./ibcplan plan examples/smallest.toml
+  ./ibcplan run --workers 4 examples/hundred_headers.toml
+  ./ibcplan certify examples/smallest.toml examples/smallest.certificate
 
 Results go to standard output; what went wrong goes to standard error.
 
 ./ibcplan --unproved COMMAND .. does the same by a program of which nothing was
-proved, which it builds each time, in a minute or two.
+proved, which it builds each time, in some minutes.
 
 Exit status:
   0  done; of certify: the plan is the cheapest
@@ -85,37 +85,37 @@ Exit status:
      or a settlement in it is refused; unless it is JSON, its lines that begin
      with 'refused' say which";
 
-const AFTER_PLAN: &str = "Examples:
-  ibcplan plan examples/smallest.toml
-  ibcplan plan - < examples/smallest.toml > report.txt
-  ibcplan plan --json examples/two_clients.toml | jq .
-  ibcplan plan --strict examples/lost_client.toml || echo \"exit status $?\"";
+const AFTER_PLAN: &str = "Examples (in the folder of the repository):
+  ./ibcplan plan examples/smallest.toml
+  ./ibcplan plan - < examples/smallest.toml > report.txt
+  ./ibcplan plan --json examples/two_clients.toml | jq .
+  ./ibcplan plan --strict examples/lost_client.toml || echo \"exit status $?\"";
 
-const AFTER_RUN: &str = "Examples:
-  ibcplan run examples/packets.toml
-  ibcplan run --workers 4 examples/hundred_headers.toml
-  ibcplan run --strict --workers 4 examples/hundred_headers.toml
+const AFTER_RUN: &str = "Examples (in the folder of the repository):
+  ./ibcplan run examples/packets.toml
+  ./ibcplan run --workers 4 examples/hundred_headers.toml
+  ./ibcplan run --strict --workers 4 examples/hundred_headers.toml
 
 It writes what plan writes, whatever the number of threads. Measure before you
 use it: where a plan takes less than a second or two, plan is faster.";
 
-const AFTER_COMMANDS: &str = "Examples:
-  ibcplan commands examples/smallest.toml
-  ibcplan commands --turn 2 examples/two_clients.toml > updates.sh
+const AFTER_COMMANDS: &str = "Examples (in the folder of the repository):
+  ./ibcplan commands examples/smallest.toml
+  ./ibcplan commands --turn 1 examples/hundred_headers.toml > updates.sh
 
 Without --turn it writes those of every turn, of which only the last turn's are
 to be run. Each turn's begin with a comment that says until when they are valid.";
 
-const AFTER_IMPORT: &str = "Examples:
-  ibcplan import examples/import/setup.toml examples/import/answers > script.toml
-  ibcplan import setup.toml answers | ibcplan plan -
+const AFTER_IMPORT: &str = "Examples (in the folder of the repository):
+  ./ibcplan import examples/import/setup.toml examples/import/answers > script.toml
+  ./ibcplan import setup.toml answers | ./ibcplan plan -
 
 FOLDER has a folder for each client, each path and each chain that is tracked, by
 its identifier, with saved answers in files *.json. Signatures aren't verified.";
 
-const AFTER_CERTIFY: &str = "Examples:
-  ibcplan certify examples/smallest.toml examples/smallest.certificate
-  ibcplan certify examples/smallest.toml - < examples/smallest.certificate
+const AFTER_CERTIFY: &str = "Examples (in the folder of the repository):
+  ./ibcplan certify examples/smallest.toml examples/smallest.certificate
+  ./ibcplan certify examples/smallest.toml - < examples/smallest.certificate
 
 It writes yes (exit status 0), or no and the reason (exit status 3).";
 

@@ -1,0 +1,52 @@
+//! Why a writer failed, to be told once nothing more is written.
+use rb_base::Sink;
+use std::io;
+
+/// A sink that keeps the error of the write that failed.
+#[derive(Drop)]
+pub(crate) struct Explained<W> {
+    inner: W,
+    error: Option<io::Error>,
+}
+
+impl<W: Sink> Explained<W> {
+    ghost use Rattle.std.specs.Prelude.{◌≡◌};
+
+    /// This sink, of which no write has failed yet.
+    pub(crate) fn new(inner: W) -> Explained<W>
+        ensures { result.inner ≡ inner }
+    {
+        Explained { inner, error: None }
+    }
+
+    /// The error of the last write that failed, unless that took nothing and gave none.
+    pub(crate) fn error(&self) -> Option<io::Error> {
+        self.error
+    }
+
+    /// The sink.
+    pub(crate) fn into_inner(self) -> W
+        ensures { result ≡ self.inner }
+    {
+        let Explained { inner, error: _ } = self;
+        inner
+    }
+}
+
+impl<W: Sink> Sink for Explained<W> {
+    ghost taken = { λ sink. W.taken sink.inner };
+
+    ghost is_broken = { λ sink. W.is_broken sink.inner };
+
+    fn write(&mut self, piece: &[u8]) -> io::Result<usize> {
+        let result = self.inner.write(piece);
+        if let Err(error) = &result {
+            self.error = Some(*error);
+        }
+        result
+    }
+
+    fn failed(&self) -> bool {
+        self.inner.failed()
+    }
+}
