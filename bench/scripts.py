@@ -164,16 +164,18 @@ def hexadecimal(value, path):
 
 
 def moment(value, path):
-    """Nanoseconds since 1970 of an RFC 3339 time."""
-    found = re.fullmatch(r"(\d{4}-\d\d-\d\d[Tt ]\d\d:\d\d:\d\d)(?:\.(\d{1,9}))?([Zz]|[+-]\d\d:\d\d)", text(value, path))
+    """Nanoseconds since 1970 of an RFC 3339 time; seconds may be left out, a leap second is the one before, and a zone may be named."""
+    found = re.fullmatch(r"(\d{4}-\d\d-\d\d)[Tt ](\d\d:\d\d)(?::(\d\d)(?:\.(\d{1,9}))?)?([Zz]|[+-]\d\d:\d\d)(?:\[[A-Za-z/_]+\])?", text(value, path))
     need(found, 1011, path)
+    day, minute, second, fraction, offset = found.groups()
     try:
-        zone = "+00:00" if found[3] in "zZ" else found[3]
-        whole = datetime.fromisoformat(found[1].upper().replace(" ", "T") + zone).astimezone(timezone.utc)
+        second = "59" if second == "60" else second or "00"
+        zone = "+00:00" if offset in "zZ" else offset
+        whole = datetime.fromisoformat(f"{day}T{minute}:{second}{zone}").astimezone(timezone.utc)
     except (ValueError, OverflowError):
         raise Fault(1011, path) from None
     since = whole - datetime(1970, 1, 1, tzinfo=timezone.utc)
-    nanoseconds = (since.days * 86400 + since.seconds) * 10**9 + int((found[2] or "").ljust(9, "0"))
+    nanoseconds = (since.days * 86400 + since.seconds) * 10**9 + int((fraction or "").ljust(9, "0"))
     need(0 <= nanoseconds <= 10**20, 1011, path)
     return nanoseconds
 

@@ -302,7 +302,8 @@ LAST = 2**63 - 1
 
 
 def packet_events(folder, path):
-    """The packets of a path: of those that go to the first sent one's destination the one of the lowest block by kind and sequence."""
+    """The packets of a path: of those that go to the counterparty, or else to the first sent one's destination, the one of the lowest block by kind and sequence;
+    and that the path is closed, if it is ordered and one of them timed out."""
     found, dest_revision = [], int(path["dest"].rsplit("-", 1)[1])
     for answer in answers_in(folder / path["id"]):
         for tx in answer["result"]["txs"]:
@@ -311,11 +312,13 @@ def packet_events(folder, path):
                 if "cGFja2V0X3NlcXVlbmNl" in values:
                     values = {base64.b64decode(k).decode(): base64.b64decode(v).decode() for k, v in values.items()}
                 if event["type"] in KINDS and "packet_source_client" not in values:
-                    found.append((list(KINDS.values()).index(KINDS[event["type"]]), int(tx["height"]), int(values["packet_sequence"]), event["type"], values))
+                    found.append((list(KINDS).index(event["type"]), int(tx["height"]), int(values["packet_sequence"]), event["type"], values))
     source, dest = ([f"packet_{end}_{part}" for part in ("port", "channel")] for end in ("src", "dst"))
     if "port" in path:
         found = [f for f in found if [f[4][name] for name in source] == [path["port"], path["channel"]]]
     ends = [[f[4][name] for name in dest] for f in found if f[3] == "send_packet"][:1]
+    if "counterparty_port" in path:
+        ends = [[path["counterparty_port"], path["counterparty_channel"]]]
     found = [f for f in found if f[2] >= path.get("first", 1) and [f[4][name] for name in dest] in (ends or [[f[4][name] for name in dest]])]
     lowest = {}
     for kind, height, sequence, name, values in found:
@@ -336,6 +339,8 @@ def packet_events(folder, path):
             time = int(values["packet_timeout_timestamp"])
             event |= {"timeout_time": time} if time else {}
         yield event
+    if path["order"] == "ordered" and any(f[3] == "timeout_packet" for f in lowest.values()):
+        yield {"kind": "closed", "path": path["id"]}
 
 
 def height_of(state):
@@ -385,7 +390,8 @@ def script_of(setup, folder):
     for path in script.get("path", []):
         events += packet_events(folder, path)
         path.setdefault("first", 1)
-        path.pop("port", None), path.pop("channel", None)
+        for key in "port", "channel", "counterparty_port", "counterparty_channel":
+            path.pop(key, None)
     for turn in script["turn"]:
         turn["from"], turn["until"] = nanoseconds(turn["from"]), nanoseconds(turn["until"])
     script["turn"][-1]["event"] = events

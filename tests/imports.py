@@ -25,6 +25,9 @@ CLIENT = '[[client]]\nid = "%s"\nhost = "%s"\nof = "%s"\nfee = [100, 1, 1]\ngas 
 ONE = CLIENT % ("hub-on-zone", "zone-1", "hub-4")
 PATH = ('[[path]]\nid = "transfers"\nsource = "hub-4"\ndest = "zone-1"\norder = "unordered"\nforward = "hub-on-zone"\n'
         'back = "zone-on-hub"\ngas = [5, 5, 5]\n')
+SOURCE = 'port = "transfer"\nchannel = "channel-0"\n'
+COUNTERPARTY = 'counterparty_port = "transfer"\ncounterparty_channel = "channel-7"\n'
+ENDS = SOURCE + COUNTERPARTY
 TURN = '[[turn]]\nfrom = "2026-11-01T12:09:%02dZ"\nuntil = "2026-11-01T12:09:30Z"\ngoal = [{ client = "hub-on-zone", at_least = 80 }]\n'
 GIVEN = ["", "period_ns = 800000000000000\n", "drift_ns = 7\ntrust = [2, 3]\n", "period_ns = 900000000000000\ndrift_ns = 7\ntrust = [1, 2]\n"]
 
@@ -33,7 +36,7 @@ def setups(seed):
     """The setup of one client, which is planned, and one of two clients, a path and two turns."""
     one = HEAD + ONE + GIVEN[seed % 4] + TURN % 20
     two = CLIENT % ("zone-on-hub", "hub-4", "zone-1") + "refresh_ns = 5\n"
-    path = PATH + ('port = "transfer"\nchannel = "channel-0"\n' if seed % 2 else "") + ("first = 2\n" if seed % 3 == 0 else "")
+    path = PATH + (ENDS if seed % 4 == 1 else SOURCE if seed % 2 else "") + ("first = 2\n" if seed % 3 == 0 else "")
     turns = TURN % 10 + 'settle = [{ client = "hub-on-zone", batch = 1, done = 2 }]\n' + TURN % 20
     return one, HEAD + ONE + two + path + turns
 
@@ -76,6 +79,22 @@ def notice_cases(top):
         change(folder)
         lines = [line.format(folder=folder).encode() for line in lines]
         yield Case(f"lacking answers {number}", ["import", str(setup), str(folder)], b"", answers.script_of(text, folder), b"".join(lines[:1]), 0, reader=values_of, named=(b"".join(lines),))
+
+
+def ordered_cases(top):
+    """The example's path as an ordered one: its receives are planned, but none once a packet has timed out, which closed its channel."""
+    setup, text = top / "ordered.toml", (EXAMPLE / "packets.toml").read_text().replace('"unordered"', '"ordered"')
+    setup.write_text(text)
+    for name, found in ("open", []), ("closed", [(47, "timeout_packet", 4, LATER)]):
+        folder = top / name
+        shutil.copytree(EXAMPLE / "answers", folder)
+        answers.write(folder / "transfers" / "more.json", answers.tx_search(found))
+        script = answers.script_of(text, folder)
+        toml = answers.in_toml(script)
+        report = reference.report(reference.read_script(toml))
+        assert ("recv transfers 5" in report) == (name == "open")
+        yield Case(f"an ordered path, {name}", ["import", str(setup), str(folder)], b"", script, b"", 0, reader=values_of)
+        yield Case(f"plan of an ordered path, {name}", ["plan", "-"], toml, report.encode(), b"", 0)
 
 
 def busy_cases(top):
@@ -256,6 +275,11 @@ def written(file, text):
     return lambda folder: (folder / file).write_text(text)
 
 
+def padded(file, size):
+    """The change that brings an answer to so many bytes by spaces."""
+    return lambda folder: (folder / file).write_text((folder / file).read_text().ljust(size))
+
+
 def removed(*files):
     return lambda folder: [(folder / file).unlink() for file in files]
 
@@ -308,6 +332,7 @@ def sent_until(*limits):
 
 
 LATER = 1793541600000000005
+FORWARDED = (20, "send_packet", 2), (36, "send_packet", 900)
 OURS, OTHER = ("channel-0", "channel-7"), ("channel-0", "channel-3")
 ADVICE = "the node answered an error; ask it again, or another node"
 INTO = " into files *.json of the folder "
@@ -315,6 +340,7 @@ INTO = " into files *.json of the folder "
 # changes of the folder, the line that tells them, the status, and the files that are named
 CHANGES = [
     (written(COMMIT_FILE, "{"), "refused NotJson at -", 1, [COMMIT_FILE]),
+    (padded(COMMIT_FILE, 2**24 + 1), "refused TooBig at -", 1, [f"{COMMIT_FILE}: an answer has at most 16,777,216 bytes; ask for fewer of them on a page (per_page=20)\n"]),
     (written("hub-4/status.json", "{}"), "refused UnknownShape at -", 1, ["hub-4/status.json"]),
     (written("hub-on-zone/gateway.json", '{"code": 5, "message": "client not found", "details": []}'), "refused NodeError at -", 1, [f'gateway.json: {ADVICE}; it said "client not found"\n']),
     (edited(COMMIT_FILE, put("error", {"code": -32603, "message": "Internal error", "data": "height 80 is not available, lowest height is 100"})),
@@ -324,7 +350,7 @@ CHANGES = [
     (moved(COMMIT_FILE, "hub-4/again.json", copy=True), "refused TwoAnswers at hub-4 80", 1, [COMMIT_FILE, "hub-4/again.json"]),
     (written("hub-4/\x1b[1m.json", "{"), "refused NotJson at -", 1, [r"hub-4/\u{1b}[1m.json: "]),
     (moved(COMMIT_FILE, "hub-4/again\n.json", copy=True), "refused TwoAnswers at hub-4 80", 1, [COMMIT_FILE, r"hub-4/again\u{a}.json"]),
-    (moved(PAGE_FILE, "hub-4/again.json", copy=True), "refused TooManyValidators at hub-4 80", 1, ["hub-4/again.json"]),
+    (moved(PAGE_FILE, "hub-4/again.json", copy=True), "refused TooManyValidators at hub-4 80", 1, ["hub-4/again.json", "one is there twice, perhaps under another name; keep each page once\n"]),
     (removed("hub-4/validators-80-2.json"), "refused MissingPage at hub-4 80", 1, [COMMIT_FILE, PAGE_FILE]),
     (removed(PAGE_FILE, "hub-4/validators-80-2.json"), "refused MissingSet at hub-4 80", 1, [COMMIT_FILE, "/validators?height=80&per_page=100 into files *.json of the folder hub-4\n"]),
     (edited(COMMIT_FILE, put(f"{HEADER}.chain_id", "hub-5")), "refused OtherChain at hub-4 80", 1, [f"{COMMIT_FILE}: the answer is on another chain; fetch it"]),
@@ -336,7 +362,7 @@ CHANGES = [
     (removed(SENT_FILE), "refused MissingSend at transfers 2", 1, [f"{RECEIVED_FILE}: ", f"send_packet; fetch /tx_search with it{INTO}transfers, or, where the node keeps it no more, set the path's `first` above it\n"]),
     (edited(RECEIVED_FILE, gone(f"{TX}.tx_result.events[1]")), "refused MissingReceive at transfers 2", 1, [f"recv_packet; fetch /tx_search with it{INTO}transfers\n"]),
     (edited(RECEIVED_FILE, put("result.total_count", "3")), "refused MissingTransactions at transfers 3", 1, [f"fetch all pages of /tx_search{INTO}transfers\n"]),
-    (moved(STATE_FILE, "hub-4/client_state.json", copy=True), "refused WrongFolder at hub-4 0", 1, ["hub-4/client_state.json"]),
+    (moved(STATE_FILE, "hub-4/client_state.json", copy=True), "refused WrongFolder at hub-4 0", 1, ["hub-4/client_state.json", "move the file, or give the chain, the client and the path different identifiers\n"]),
     (moved(COMMIT_FILE, "hub-on-zone/commit.json", copy=True), "refused WrongFolder at hub-on-zone 0", 1, ["hub-on-zone/commit.json"]),
     (moved(COMMIT_FILE, "transfers/commit.json", copy=True), "refused WrongFolder at transfers 0", 1, ["transfers/commit.json"]),
     (edited("transfers/received.json", put(f"{PACKET}[5].value", "channel-9")), "refused TwoChannels at transfers 2", 1, ["received.json", "cleared.json"]),
@@ -360,10 +386,14 @@ EXPIRED = ("notice NothingTrusted at hub-on-zone: %s, so that no update starts f
            f"consensus states again{INTO}hub-on-zone\n")
 FUTURE = ("notice FutureHeaders at hub-on-zone %d: headers of hub-4 from this height on, %d of them, are ahead of the window's first moment by the "
           "client's clock drift or more, so that no update takes them; let the window begin later\n")
-UNSEARCHED = ("notice MissingSearches at transfers: no answer of /tx_search tells of %s, and there isn't an empty one for each; nothing is planned for "
-              f"packets that aren't seen as sent, and what isn't seen as received or cleared is planned again; fetch all pages of /tx_search{INTO}transfers\n")
+UNSEARCHED = ("notice MissingSearches at transfers: no answer of /tx_search tells of %s, nor is there an empty answer to each such search; nothing is planned for "
+              f"packets that aren't seen as sent, and those that aren't seen as received or cleared are planned again; fetch all pages of /tx_search{INTO}transfers\n")
+SEVERAL = ("notice SeveralCounterparties at transfers: packets were sent from its source to several destinations: those to transfer/%s are taken, those to others, "
+           "as transfer/%s, are passed over; write counterparty_port and counterparty_channel, beside port and channel, into the setup's path, so that they decide\n")
+CHANNEL = "notice OtherChannel at transfers: the answers tell of packets of transfer/channel-0, none of transfer/channel-9; see the path's port and channel\n"
 SETTING, FROM, UNTIL = "drift_ns = 7\n", "12:09:20Z", "12:09:30Z"
-NAMED = swapped("gas = [5, 5, 5]\n", 'gas = [5, 5, 5]\nport = "transfer"\nchannel = "channel-0"\n')
+PATH_GAS = "gas = [5, 5, 5]\n"
+NAMED, BOTH_NAMED, MISNAMED = (swapped(PATH_GAS, PATH_GAS + ends) for ends in (SOURCE, ENDS, SOURCE.replace("channel-0", "channel-9")))
 NO_RECORD = edited(STORED_FILE, put("consensus_states", []))
 NOTHING_FOUND = written(RECEIVED_FILE, '{"result": {"txs": [], "total_count": "0"}}')
 # the setup by its number, its change and that of the folder, after which the script is written all the same, and the lines that tell why updates
@@ -376,6 +406,7 @@ NOTICES = [
     (0, swapped("at_least = 80", "at_least = 81"), removed(), [GOAL % (81, "at or above the goal's", 81, 81)]),
     (0, swapped("at_least = 80", "exactly = 79"), removed(), [GOAL % (79, "at the goal's", 79, 79)]),
     (0, str, removed(COMMIT_FILE), []),  # height 80 is stored
+    (0, str, padded(COMMIT_FILE, 2**24), []),
     (0, str, in_turn(removed(COMMIT_FILE), edited(STORED_FILE, gone("consensus_states[1]"))), [GOAL % (80, "at or above the goal's", 80, 80)]),
     (0, swapped(SETTING, SETTING + "period_ns = 1\n"), removed(), [EXPIRED % "all 2 stored records have expired at the window's end"]),
     (0, swapped(SETTING, SETTING + "period_ns = 563_000_000_000\n"), removed(), []),  # record 80 is trusted until 12:17:55.3
@@ -393,6 +424,16 @@ NOTICES = [
     # packets of another chain whose channel has the name of the source's
     (1, str, saved(*packet_txs(OTHER, (20, "recv_packet", 2), (36, "recv_packet", 3), (36, "write_acknowledgement", 3), (37, "recv_packet", 900))), []),
     (1, NAMED, saved(*packet_txs(OTHER, (20, "recv_packet", 2), (36, "recv_packet", 3), (37, "recv_packet", 900)), *packet_txs(("channel-4", "channel-7"), (38, "recv_packet", 4))), []),
+    # packets that the destination's chain sent on its own channel of that name, in files before and after those of the path's; and on another one
+    (1, BOTH_NAMED, saved(*packet_txs(OTHER, *FORWARDED)), []),
+    (1, str, saved(*packet_txs(OTHER, *FORWARDED)), [SEVERAL % ("channel-3", "channel-7")]),
+    (1, NAMED, written("transfers/zone.json", json.dumps(answers.search(*packet_txs(OTHER, *FORWARDED)))), [SEVERAL % ("channel-7", "channel-3")]),
+    (1, NAMED, in_turn(removed(RECEIVED_FILE), saved(*packet_txs(OTHER, *FORWARDED))), [UNSEARCHED % "recv_packet", SEVERAL % ("channel-3", "channel-7")]),
+    (1, NAMED, saved(*packet_txs(("channel-4", "channel-3"), *FORWARDED)), []),
+    # a setup that names another source than that of the packets; and such answers that tell of none, or of one from it
+    (1, MISNAMED, removed(), [CHANNEL]),
+    (1, MISNAMED, in_turn(removed(SENT_FILE, CLEARED_FILE), NOTHING_FOUND), [UNSEARCHED % "send_packet, recv_packet, acknowledge_packet or timeout_packet"]),
+    (1, MISNAMED, saved(*packet_txs(("channel-9", "channel-7"), (38, "send_packet", 4))), []),
     # timeout heights of other revisions than the destination's, and above all heights
     (1, str, saved(*sent_until("1-18446744073709551615", "1-9223372036854775808", "1-9223372036854775807", "2-4000", "18446744073709551615-1", "0-4000", "1-0", "1-1")), []),
     # a packet between clients, and a record from before an upgrade, which has another set's hash
@@ -446,7 +487,11 @@ def spoiled_cases(top):
             edited(file, edit)(whole)
     yield Case("fields that aren't needed", ["import", str(setup), str(whole)], b"", answers.script_of(text, whole), b"", 0, reader=values_of)
     for fault, script in ((b"fault 1002 MissingKey at turn\n", HEAD + ONE), (b"fault 1003 UnknownKey at client[0].colour\n", HEAD + ONE + "colour = 1\n" + TURN % 20),
-                          (b"fault 1003 UnknownKey at turn[0].event\n", HEAD + ONE + TURN % 20 + "event = []\n")):
+                          (b"fault 1003 UnknownKey at turn[0].event\n", HEAD + ONE + TURN % 20 + "event = []\n"),
+                          (b"fault 1002 MissingKey at path[0].channel\n", swapped(PATH_GAS, PATH_GAS + 'port = "transfer"\n')(text)),
+                          (b"fault 1002 MissingKey at path[0].port\n", swapped(PATH_GAS, PATH_GAS + COUNTERPARTY)(text)),
+                          (b"fault 1002 MissingKey at path[0].counterparty_port\n", swapped(PATH_GAS, PATH_GAS + SOURCE + 'counterparty_channel = "channel-7"\n')(text)),
+                          (b"fault 1002 MissingKey at path[0].counterparty_channel\n", swapped(PATH_GAS, PATH_GAS + SOURCE + 'counterparty_port = "transfer"\n')(text))):
         yield Case(fault.decode(), ["import", "-", str(whole)], script.encode(), b"", fault, 1)
 
 
@@ -455,6 +500,7 @@ def import_cases(top, seeds):
     for seed in range(1, seeds + 1):
         yield from seed_cases(top, seed)
     yield from example_cases()
+    yield from ordered_cases(top)
     yield from notice_cases(top)
     yield from busy_cases(top)
     yield from spoiled_cases(top)

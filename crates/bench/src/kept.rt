@@ -52,20 +52,38 @@ fn add_headers<R: Clock + AllocGlobal>(
     Ok(start.elapsed(rt)?.as_micros())
 }
 
-/// Puts the headers of a book into another and makes its table at once; tells the microseconds of
-/// both.
-fn make_at_once<R: Clock + AllocGlobal>(rt: &R, whole: &ChainBook) -> Result<(Graph, u128, u128)> {
-    let alloc = rt.alloc();
-    let headers = copies(alloc, whole.headers())?;
-    let mut book = book_of(alloc, whole.sets())?;
+/// The same over a table whose sets were known before: whether it is of the book then.
+fn keep<R: Clock + AllocGlobal>(rt: &R, whole: &ChainBook) -> Result<(bool, u128)> {
+    let mut kept = table_of(rt.alloc(), whole.sets())?;
+    let added = add_headers(rt, whole, &mut kept)?;
+    Ok((kept.graph().is_of(whole), added))
+}
+
+/// The same over a table that knows no set before: how many rows it has then.
+fn grow<R: Clock + AllocGlobal>(rt: &R, whole: &ChainBook) -> Result<(usize, u128)> {
+    let mut grown = table_of(rt.alloc(), &[])?;
+    let came = add_headers(rt, whole, &mut grown)?;
+    Ok((grown.graph().book().headers().len(), came))
+}
+
+/// Puts the headers of a book into another; tells the microseconds.
+fn fill_timed<R: Clock + AllocGlobal>(rt: &R, whole: &ChainBook) -> Result<(ChainBook, u128)> {
+    let headers = copies(rt.alloc(), whole.headers())?;
+    let mut book = book_of(rt.alloc(), whole.sets())?;
     let start = Instant::now(rt)?;
     for header in headers {
         book.add_header(header)?;
     }
-    let in_book = start.elapsed(rt)?.as_micros();
+    Ok((book, start.elapsed(rt)?.as_micros()))
+}
+
+/// Does so and makes the book's table at once; tells how many rows it has, and the microseconds of both.
+fn make_at_once<R: Clock + AllocGlobal>(rt: &R, whole: &ChainBook) -> Result<(usize, u128, u128)> {
+    let (book, in_book) = fill_timed(rt, whole)?;
     let start = Instant::now(rt)?;
-    let graph = Graph::from_book(alloc, book)?;
-    Ok((graph, in_book, start.elapsed(rt)?.as_micros()))
+    let graph = Graph::from_book(rt.alloc(), book)?;
+    let at_once = start.elapsed(rt)?.as_micros();
+    Ok((graph.rows().count(), in_book, at_once))
 }
 
 /// Tells how long the additions of so many headers, one at a time, over so many sets took, where the
@@ -77,17 +95,11 @@ pub fn keep_timed<R: Clock + AllocGlobal>(
     sets: u32,
     validators: u32,
 ) -> Result<String> {
-    let alloc = rt.alloc();
-    let whole = make_book(alloc, headers, sets, validators)?;
-    let mut kept = table_of(alloc, whole.sets())?;
-    let added = add_headers(rt, &whole, &mut kept)?;
-    let mut grown = table_of(alloc, &[])?;
-    let came = add_headers(rt, &whole, &mut grown)?;
-    let (graph, in_book, at_once) = make_at_once(rt, &whole)?;
-    let same = kept.graph().is_of(graph.book());
-    let rows = graph.rows().count();
-    let more = grown.graph().book().headers().len();
-    Ok(format!(in alloc;
+    let whole = make_book(rt.alloc(), headers, sets, validators)?;
+    let (same, added) = keep(rt, &whole)?;
+    let (more, came) = grow(rt, &whole)?;
+    let (rows, in_book, at_once) = make_at_once(rt, &whole)?;
+    Ok(format!(in rt.alloc();
         "{rows} rows ({same}) by additions in {added} us, {more} rows as sets come in {came} us; put into a book in {in_book} us, made at once in {at_once} us"
     )?)
 }

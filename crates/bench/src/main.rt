@@ -1,20 +1,16 @@
 //! Work for the bench scripts to time: `bench SUBCOMMAND NUMBERS` does it and prints what it did.
 #![tactic(auto)]
 
-mod board;
 mod book;
 mod certificate;
 mod gang;
 mod graph;
 mod kept;
-mod machine;
 mod plan;
-mod share;
-mod turn;
+mod view;
 
 use anyhow::{Context, Result, bail};
 use std::rt::{Clock, Env};
-use std::sync::Wait;
 use std::thread::Threads;
 use std::time::Instant;
 use std::{env, thread};
@@ -25,13 +21,6 @@ bench keep HEADERS SETS VALIDATORS
 bench build HEADERS SETS VALIDATORS [WORKERS]
 bench plan HEADERS SETS VALIDATORS
 bench certify-plan HEADERS SETS VALIDATORS
-bench share CLIENTS VIEWS HEADERS VALIDATORS
-bench share-turns CLIENTS VIEWS HEADERS VALIDATORS
-bench events PACKETS PATHS
-bench views CLIENTS VIEWS HEADERS
-bench turn CLIENTS PATHS PACKETS HEADERS
-bench board PACKETS PATHS PUBLISHES
-bench desk PATHS PACKETS HEADERS VIEWS
 ";
 
 /// A subcommand and its numbers.
@@ -72,64 +61,6 @@ fn book_numbers(task: &Task) -> Result<(u32, u32, u32)> {
     Ok((number(task, 0)?, number(task, 1)?, number(task, 2)?))
 }
 
-/// The numbers of views and of their book.
-fn share_task(task: &Task) -> Result<share::Task> {
-    Ok(share::Task {
-        clients: number(task, 0)?,
-        views: number(task, 1)?,
-        headers: number(task, 2)?,
-        validators: number(task, 3)?,
-    })
-}
-
-/// What a relayer machine is to know: so many clients, paths, packets of each path, and headers.
-fn machine_task(clients: u32, paths: u32, packets: u32, headers: u32) -> machine::Task {
-    machine::Task {
-        clients,
-        paths,
-        packets,
-        headers,
-    }
-}
-
-/// The work of the relayer machine; nothing where no such work is known.
-fn perform_machine<R: Clock + AllocGlobal>(rt: &R, task: &Task) -> Result<Option<String>> {
-    let told = match task.name.as_str() {
-        "events" => {
-            let known = machine_task(2, number(task, 1)?, number(task, 0)?, 0);
-            machine::take_packets(rt, &known)?
-        }
-        "views" => {
-            let known = machine_task(number(task, 0)?, 0, 0, number(task, 2)?);
-            machine::hold_views(rt, &known, number(task, 1)?)?
-        }
-        "turn" => {
-            let (clients, paths) = (number(task, 0)?, number(task, 1)?);
-            let known = machine_task(clients, paths, number(task, 2)?, number(task, 3)?);
-            turn::take_turn(rt, &known)?
-        }
-        _ => return Ok(None),
-    };
-    Ok(Some(told))
-}
-
-/// The work of boards; nothing where no such work is known.
-fn perform_board<R: Clock + Wait + AllocGlobal>(rt: &R, task: &Task) -> Result<Option<String>> {
-    let told = match task.name.as_str() {
-        "board" => {
-            let known = machine_task(2, number(task, 1)?, number(task, 0)?, 0);
-            board::publish_packets(rt, &known, number(task, 2)?)?
-        }
-        "desk" => {
-            let (paths, packets) = (number(task, 0)?, number(task, 1)?);
-            let known = machine_task(2, paths, packets, number(task, 2)?);
-            board::hold_views(rt, &known, number(task, 3)?)?
-        }
-        _ => return perform_machine(rt, task),
-    };
-    Ok(Some(told))
-}
-
 /// Plans over a book filled with headers, and tells how long that took when the table stood.
 fn plan_timed<R: Clock + AllocGlobal>(rt: &R, task: &Task) -> Result<String> {
     let alloc = rt.alloc();
@@ -162,10 +93,7 @@ fn certify_timed<R: Clock + Threads + Sync + AllocGlobal>(rt: &R, task: &Task) -
 }
 
 /// Does the work, and tells what was done; nothing where no such work is known.
-fn perform<R: Clock + Threads + Wait + AllocGlobal + Sync>(
-    rt: &R,
-    task: &Task,
-) -> Result<Option<String>> {
+fn perform<R: Clock + Threads + AllocGlobal + Sync>(rt: &R, task: &Task) -> Result<Option<String>> {
     let alloc = rt.alloc();
     let told = match task.name.as_str() {
         "book" => {
@@ -180,14 +108,12 @@ fn perform<R: Clock + Threads + Wait + AllocGlobal + Sync>(
         "build" => build_timed(rt, task)?,
         "plan" => plan_timed(rt, task)?,
         "certify-plan" => certify_timed(rt, task)?,
-        "share" => share::hold_views(rt, &share_task(task)?)?,
-        "share-turns" => share::hold_turns(rt, &share_task(task)?)?,
-        _ => return perform_board(rt, task),
+        _ => return Ok(None),
     };
     Ok(Some(told))
 }
 
-fn run<R: Env + Print + Clock + Threads + Wait + AllocGlobal + Sync>(rt: &R) -> Result<()> {
+fn run<R: Env + Print + Clock + Threads + AllocGlobal + Sync>(rt: &R) -> Result<()> {
     let task = read_task(rt)?;
     match perform(rt, &task)? {
         Some(told) => println!(rt; "{told}")?,

@@ -15,6 +15,7 @@ one_third = record { numerator = 1; denominator = 3 }
 abbrev pub two_thirds : Ratio
 two_thirds = record { numerator = 2; denominator = 3 }
 
--- the power is more than the fraction r of the total; equality is not more
+-- the power is more than the fraction r of the total; equality is not more. Own: no overflow (CometBFT refuses where total * numerator isn't below 2^63, which
+-- no numerator up to 8 reaches)
 abbrev pub Exceeds : ℕ → ℕ → Ratio → Type 0
 Exceeds power total r = total * r.numerator < power * r.denominator

@@ -7,5 +7,3 @@ pub mod Identifier
 pub mod Refusal
 pub mod Sink
 pub mod Counted
-pub mod Refusing
-pub mod Faulty

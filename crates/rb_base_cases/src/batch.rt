@@ -1,7 +1,6 @@
 use crate::same::assert_same;
-use rb_base::refusing::Refusing;
 use rb_batch::{BatchError, Limits, Msg, Transaction, cut};
-use std::alloc::{AllocError, Allocator, Global};
+use std::alloc::{AllocError, Global};
 use std::process::Abort;
 use std::test::Fail;
 
@@ -61,7 +60,7 @@ fn limits_of((gas, count, own): (u64, usize, u64)) -> Result<Limits, Fail> {
     Ok(Limits::new(gas, count, own))
 }
 
-fn messages_of<A: Allocator>(alloc: A, gas: &[u64]) -> Result<Vec<Msg, A>, AllocError> {
+fn messages_of(alloc: Global, gas: &[u64]) -> Result<Vec<Msg>, AllocError> {
     let mut messages = Vec::new(alloc);
     for amount in gas {
         messages.push(Msg::new((*amount).min(Msg::MAX_GAS)))?;
@@ -95,33 +94,6 @@ fn cuts_or_tells_the_message_that_is_too_big(rt: HostRuntime) -> Result<(), Fail
     for (index, row) in ROWS.iter().enumerate() {
         check_row(&rt, rt.alloc(), index, row)?;
     }
-    Ok(())
-}
-
-/// Whether nine runs are cut where a growth is refused, else want of memory is told.
-fn is_cut(rt: &impl Abort, alloc: Global, messages: &[Msg], refused: u64) -> bool {
-    let heap = Refusing::new(alloc, refused);
-    let runs = cut(&heap, messages, Limits::new(1, 1, 0));
-    let has_cut = runs.is_ok();
-    assert_same(rt, &refused, &heap.has_refused(), &!has_cut);
-    match runs {
-        Ok(runs) => assert_same(rt, &refused, &runs.len(), &9),
-        Err(error) => assert_same(rt, &refused, &error, &BatchError::NoMemory),
-    }
-    has_cut
-}
-
-/// Refuses each growth in turn until a call meets no refusal.
-#[test]
-fn survives_each_refused_growth(rt: HostRuntime) -> Result<(), Fail> {
-    let messages = messages_of(rt.alloc(), &[1; 9])?;
-    let mut has_succeeded = false;
-    for refused in 1..=5 {
-        let has_cut = is_cut(&rt, rt.alloc(), messages.as_slice(), refused);
-        assert_same(&rt, &refused, &(has_succeeded && !has_cut), &false);
-        has_succeeded = has_cut;
-    }
-    assert_same(&rt, &"at last", &has_succeeded, &true);
     Ok(())
 }
 

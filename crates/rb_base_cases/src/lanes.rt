@@ -1,18 +1,17 @@
 use crate::same::assert_same;
-use rb_base::refusing::Refusing;
-use rb_lanes::{Columns, LanesError, MAX_TOTAL, Plane, Powers, Tally, masked_sum, plain_sum};
-use std::alloc::{AllocError, Allocator, Global};
+use rb_lanes::{Columns, LanesError, MAX_TOTAL, Plane, Powers, masked_sum, plain_sum};
+use std::alloc::{AllocError, Global};
 use std::process::Abort;
 use std::test::Fail;
 
 /// One more column, of the power or what is left of the greatest total.
-fn push<A: Allocator>(powers: &mut Powers<A>, power: u64) -> Result<(), AllocError> {
+fn push(powers: &mut Powers, power: u64) -> Result<(), AllocError> {
     let total: u64 = powers.as_slice().iter().sum();
     powers.push(power.min(MAX_TOTAL - total))
 }
 
 /// The powers 1 to `count`, by column.
-fn make_powers<A: Allocator>(alloc: A, count: usize) -> Result<Powers<A>, AllocError> {
+fn make_powers(alloc: Global, count: usize) -> Result<Powers, AllocError> {
     let mut powers = Powers::zeros(alloc, 0)?;
     for column in 0..count {
         push(&mut powers, column as u64 + 1)?;
@@ -21,7 +20,7 @@ fn make_powers<A: Allocator>(alloc: A, count: usize) -> Result<Powers<A>, AllocE
 }
 
 /// A plane of so many columns, of which each is set whose number `step` divides.
-fn make_plane<A: Allocator>(alloc: A, columns: usize, step: usize) -> Result<Plane<A>, AllocError> {
+fn make_plane(alloc: Global, columns: usize, step: usize) -> Result<Plane, AllocError> {
     let mut plane = Plane::new(alloc, columns.min(65_536))?;
     for column in 0..columns {
         if column < plane.len() && step != 0 && column % step == 0 {
@@ -31,13 +30,7 @@ fn make_plane<A: Allocator>(alloc: A, columns: usize, step: usize) -> Result<Pla
     Ok(plane)
 }
 
-fn check_sums(
-    rt: &impl Abort,
-    row: usize,
-    powers: &Powers<Global>,
-    plane: &Plane<Global>,
-    wanted: u64,
-) {
+fn check_sums(rt: &impl Abort, row: usize, powers: &Powers, plane: &Plane, wanted: u64) {
     assert_same(rt, &row, &masked_sum(powers, plane), &wanted);
     assert_same(rt, &row, &plain_sum(powers, plane), &wanted);
 }
@@ -115,48 +108,6 @@ fn numbers_addresses_until_all_columns_are_taken(rt: HostRuntime) -> Result<(), 
     assert_same(&rt, &"again", &columns.intern(&address(7)), &Ok(7));
     assert_same(&rt, &"columns", &columns.len(), &65_536);
     Ok(())
-}
-
-/// Whether three addresses are numbered where a growth is refused, else want of memory is told.
-fn are_numbered(rt: &impl Abort, alloc: Global, refused: u64) -> bool {
-    let heap = Refusing::new(alloc, refused);
-    let mut columns = Columns::new(&heap);
-    for number in 0..3 {
-        if let Err(error) = columns.intern(&address(number)) {
-            assert_same(rt, &refused, &error, &LanesError::NoMemory);
-            assert_same(rt, &refused, &columns.len(), &(number as usize));
-            return false;
-        }
-    }
-    true
-}
-
-fn make_tally<A: Allocator + Copy>(alloc: A) -> Result<Tally<A>, AllocError> {
-    let members = Vec::from_slice(alloc, [(3, 5), (4, 6)].as_slice())?;
-    Tally::new(alloc, members)
-}
-
-/// Whether a plane, powers and a tally are made: all are but where a growth was refused.
-fn are_made(rt: &impl Abort, alloc: Global, refused: u64) -> bool {
-    let heap = Refusing::new(alloc, refused);
-    let are_made = make_plane(&heap, 9, 1).is_ok()
-        && make_powers(&heap, 9).is_ok()
-        && make_tally(&heap).is_ok();
-    assert_same(rt, &refused, &heap.has_refused(), &!are_made);
-    are_made
-}
-
-/// Refuses each growth in turn until a call meets no refusal.
-#[test]
-fn survives_each_refused_growth(rt: HostRuntime) -> Result<(), Fail> {
-    assert_same(&rt, &"numbered", &are_numbered(&rt, rt.alloc(), 0), &true);
-    assert_same(&rt, &"refused", &are_numbered(&rt, rt.alloc(), 1), &false);
-    for refused in 1..20 {
-        if are_made(&rt, rt.alloc(), refused) {
-            return Ok(());
-        }
-    }
-    Err(Fail::from("growths"))
 }
 
 /// Refusals, and what is printed of them.

@@ -1,6 +1,6 @@
-//! What no contract of the layers that stand on `rb_base` at most says, by their public calls: values, writers,
+//! What no contract of the layers that stand on `rb_base` at most says, by their public calls: identifiers,
 //! columns, messages that are owed, transactions and lanes between threads, as tables of cases with values
-//! from outside, and each growth of memory refused in turn.
+//! from outside.
 #![tactic(auto)]
 
 #[cfg(test)]

@@ -1,13 +1,12 @@
 ghost use Rattle.std.specs.Prelude.{◌+◌, ◌<◌, ◌^◌, IfOk};
 
 use crate::same::assert_same;
-use rb_base::refusing::Refusing;
 use rb_base::{Height, Moment};
 use rb_scan::{
-    Kind, Order, Packet, PacketMsg, Part, PathView, ScanError, Sequence, is_path, owed, owed_part,
-    ready, wanted,
+    Kind, Order, Packet, PacketMsg, Part, PathView, Sequence, is_path, owed, owed_part, ready,
+    wanted,
 };
-use std::alloc::{Allocator, Global};
+use std::alloc::Global;
 use std::process::Abort;
 use std::test::Fail;
 
@@ -98,10 +97,7 @@ fn message_of(message: Message) -> Result<PacketMsg, Fail> {
     })
 }
 
-fn messages_of<A: Allocator + Copy>(
-    alloc: A,
-    messages: &[Message],
-) -> Result<Vec<PacketMsg, A>, Fail> {
+fn messages_of(alloc: Global, messages: &[Message]) -> Result<Vec<PacketMsg>, Fail> {
     let mut list = Vec::new(alloc);
     for message in messages {
         list.push(message_of(*message)?)?;
@@ -109,7 +105,7 @@ fn messages_of<A: Allocator + Copy>(
     Ok(list)
 }
 
-fn view_of<A: Allocator + Copy>(alloc: A, row: &Row, closed: bool) -> Result<PathView<A>, Fail> {
+fn view_of(alloc: Global, row: &Row, closed: bool) -> Result<PathView, Fail> {
     let mut packets = Vec::new(alloc);
     for seen in row.packets {
         packets.push(packet_of(seen)?)?;
@@ -439,9 +435,9 @@ const ROWS: &[Row] = &[
 ];
 
 /// What a path owes, whole and in its two parts.
-fn check_owed<A: Allocator + Copy>(
+fn check_owed(
     rt: &impl Abort,
-    view: &PathView<A>,
+    view: &PathView,
     index: usize,
     wanted: &[PacketMsg],
 ) -> Result<(), Fail> {
@@ -532,30 +528,6 @@ fn keeps_what_is_ready(rt: HostRuntime) -> Result<(), Fail> {
     Ok(())
 }
 
-/// How many messages a copy of a view owes, and how many of them are ready.
-fn scan<A: Allocator + Copy>(
-    alloc: A,
-    packets: &[Packet],
-    destination: &[(Height, Moment)],
-) -> Result<(usize, usize), ScanError> {
-    let first = Sequence::new(1).unwrap();
-    if !is_path(first, packets, destination) {
-        return Ok((0, 0));
-    }
-    let view = PathView::new(
-        Order::Unordered,
-        first,
-        Vec::from_slice(alloc, packets)?,
-        false,
-        Vec::from_slice(alloc, destination)?,
-    )
-    .copy()?;
-    let list = owed(&view)?;
-    let receives = owed_part(&view, Part::Packets)?;
-    let ready = ready(alloc, &list, view.order(), Height::new(10))?;
-    Ok((list.len() + receives.len(), ready.len()))
-}
-
 /// A packet that is sent at 8 and not yet received.
 fn sent_packet(sequence: u64) -> Result<Packet, Fail> {
     packet_of(&Seen {
@@ -563,34 +535,6 @@ fn sent_packet(sequence: u64) -> Result<Packet, Fail> {
         sent: 8,
         ..NOTHING
     })
-}
-
-fn sent_packets(alloc: Global, count: u64) -> Result<Vec<Packet>, Fail> {
-    let mut packets = Vec::new(alloc);
-    for sequence in 1..=count {
-        packets.push(sent_packet(sequence)?)?;
-    }
-    Ok(packets)
-}
-
-/// Refuses each growth in turn until a scan meets no refusal: two for the view, two for its copy,
-/// and one for each list.
-#[test]
-fn survives_each_refused_growth(rt: HostRuntime) -> Result<(), Fail> {
-    let packets = sent_packets(rt.alloc(), 40)?;
-    let destination = [(block(9)?, second(90)?)];
-    for refused in 1..=8 {
-        let heap = Refusing::new(rt.alloc(), refused);
-        let scanned = scan(&heap, &packets, &destination);
-        let wanted = if refused <= 7 {
-            Err(ScanError::NoMemory)
-        } else {
-            Ok((80, 40))
-        };
-        assert_same(&rt, &refused, &scanned, &wanted);
-        assert_same(&rt, &refused, &heap.has_refused(), &(refused <= 7));
-    }
-    Ok(())
 }
 
 /// Times that do not rise, and a packet below the first, make no path.

@@ -2,8 +2,7 @@
 ghost use Rattle.std.specs.Prelude.{◌≡◌, ◌++◌, [], ◌∷◌, IfOk, IfSome};
 ghost use Rattle.rb_wire.specs.Lane.{sent_on, taken_on, SameTx, SameRx};
 
-use rb_base::refusing::Refusing;
-use rb_wire::{LaneFull, NoMemory, Rx, Tx, lane};
+use rb_wire::{LaneFull, Rx, Tx, lane};
 use std::alloc::{AllocError, Global};
 use std::sync::Wait;
 use std::test::Fail;
@@ -26,36 +25,6 @@ fn what_is_left_follows_what_was_taken(rt: HostRuntime) -> Result<(), Fail> {
         return Err(Fail::from("there is memory"));
     };
     assert_eq!(rt; left.as_slice(), [2].as_slice());
-    Ok(())
-}
-
-/// Each growth in turn is refused: of `lane` with an error; of `finished` so that end and token come
-/// back, and give all that is left when they are asked again.
-#[test]
-fn want_of_memory_hands_the_end_back(rt: HostRuntime) -> Result<(), Fail> {
-    let mut is_handed_back = false;
-    for refused in 1..8 {
-        let alloc = Refusing::new(rt.alloc(), refused);
-        let Ok((mut tx, rx)) = lane::<u32, _>(&alloc, 2) else {
-            continue;
-        };
-        assert!(rt; tx.push(7).is_ok());
-        let Some(token) = tx.finish() else {
-            return Err(Fail::from("the other end is there"));
-        };
-        let left = match rx.finished(token) {
-            Ok(left) => left,
-            Err(NoMemory { end, token }) => {
-                is_handed_back = true;
-                let Ok(left) = end.finished(token) else {
-                    return Err(Fail::from("one growth alone is refused"));
-                };
-                left
-            }
-        };
-        assert_eq!(rt; left.as_slice(), [7].as_slice());
-    }
-    assert!(rt; is_handed_back);
     Ok(())
 }
 

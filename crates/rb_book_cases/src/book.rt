@@ -1,32 +1,27 @@
 use crate::same::assert_same;
 use rb_base::Height;
-use rb_base::refusing::Refusing;
 use rb_book::{BookError, ChainBook, Header, Known, Record, Vote};
 use rb_case_values::{height, second};
 use rb_valset::{Validator, ValidatorSet};
-use std::alloc::{Allocator, Global};
+use std::alloc::Global;
 use std::fmt::Display;
 use std::process::Abort;
 use std::test::Fail;
 
-pub const THREE: &[Vote] = &[Vote::Commit, Vote::Commit, Vote::Commit, Vote::Absent];
+const THREE: &[Vote] = &[Vote::Commit, Vote::Commit, Vote::Commit, Vote::Absent];
 
 const SHORT: &[Vote] = &[Vote::Commit, Vote::Commit, Vote::Commit];
 
 const BAD: &[Vote] = &[Vote::Commit, Vote::Nil, Vote::Bad, Vote::Bad];
 
-pub const ZERO: [u8; 32] = [0; 32];
+const ZERO: [u8; 32] = [0; 32];
 
-pub fn entry(seconds: u64, next: [u8; 32]) -> Result<Record, Fail> {
+fn entry(seconds: u64, next: [u8; 32]) -> Result<Record, Fail> {
     Ok(Record::new(second(seconds)?, ZERO, next))
 }
 
 /// Validators of power 10, whose keys are the numbers from one up to another.
-pub fn make_numbered_set<A: Allocator + Copy>(
-    alloc: A,
-    from: u32,
-    to: u32,
-) -> Result<ValidatorSet<A>, Fail> {
+fn make_numbered_set(alloc: Global, from: u32, to: u32) -> Result<ValidatorSet, Fail> {
     let mut members = Vec::new(alloc);
     for number in from..to {
         let mut key = ZERO;
@@ -36,13 +31,13 @@ pub fn make_numbered_set<A: Allocator + Copy>(
     Ok(ValidatorSet::new(alloc, members)?)
 }
 
-pub fn make_header<A: Allocator + Copy>(
-    alloc: A,
+fn make_header(
+    alloc: Global,
     at: u64,
     seconds: u64,
-    set: &ValidatorSet<A>,
+    set: &ValidatorSet,
     votes: &[Vote],
-) -> Result<Header<A>, Fail> {
+) -> Result<Header, Fail> {
     let hash = *set.hash();
     let votes = Vec::from_slice(alloc, votes)?;
     Ok(Header::new(height(at)?, entry(seconds, hash)?, hash, votes))
@@ -108,7 +103,12 @@ fn check_times(rt: &impl Abort, book: &ChainBook) -> Result<(), Fail> {
         (height(3)?, second(30)?),
         (height(5)?, second(50)?),
     ];
-    assert_same(rt, &"times", &book.times()?.as_slice(), &times.as_slice());
+    assert_same(
+        rt,
+        &"times",
+        &book.heights_and_times()?.as_slice(),
+        &times.as_slice(),
+    );
     Ok(())
 }
 
@@ -178,15 +178,12 @@ fn takes_headers_in(rt: HostRuntime) -> Result<(), Fail> {
 }
 
 /// Adds a record whose height and seconds are the number.
-fn add_numbered<A: Allocator + Copy>(
-    book: &mut ChainBook<A>,
-    number: u64,
-) -> Result<Result<(), BookError>, Fail> {
+fn add_numbered(book: &mut ChainBook, number: u64) -> Result<Result<(), BookError>, Fail> {
     Ok(book.add_record(height(number)?, entry(number, ZERO)?))
 }
 
 /// Fills the book with records, as many as it may have, and tries one more.
-fn fill<A: Allocator + Copy>(rt: &impl Abort, mut book: ChainBook<A>) -> Result<usize, Fail> {
+fn fill(rt: &impl Abort, mut book: ChainBook) -> Result<usize, Fail> {
     let limit = book.limit() as u64;
     for number in 1..=limit {
         assert_same(rt, &number, &add_numbered(&mut book, number)?, &Ok(()));
@@ -236,73 +233,6 @@ fn holds_so_many_sets(rt: HostRuntime) -> Result<(), Fail> {
         &(other, equal),
         &(Err(BookError::Full), Ok(())),
     );
-    Ok(())
-}
-
-/// Adds a set, a record or a header: those of one number, which build on lower ones.
-fn add<A: Allocator + Copy>(
-    book: &mut ChainBook<A>,
-    alloc: A,
-    number: u64,
-) -> Result<Result<(), BookError>, Fail> {
-    let set = make_numbered_set(alloc, 0, 4)?;
-    Ok(match number {
-        0 => book.add_set(set),
-        1 => book.add_record(height(7)?, entry(70, *set.hash())?),
-        2 => book.add_header(make_header(alloc, 7, 70, &set, THREE)?),
-        _ => book.add_header(make_header(alloc, 8, 80, &set, THREE)?),
-    })
-}
-
-/// Gives two equal books one addition. Where memory is refused, the first book stays as it was, and
-/// takes the same addition at the second try.
-fn add_to_both<'a>(
-    rt: &impl Abort,
-    (heap, ample): (&Refusing<Global>, &'a Refusing<Global>),
-    number: u64,
-    book: &mut ChainBook<&'a Refusing<Global>>,
-    same: &mut ChainBook<&'a Refusing<Global>>,
-) -> Result<(), Fail> {
-    if let Err(refusal) = add(book, ample, number)? {
-        assert!(rt; refusal == BookError::NoMemory && heap.has_refused() && *book == *same);
-        assert_same(rt, &number, &add(book, ample, number)?, &Ok(()));
-    }
-    assert_same(rt, &number, &add(same, ample, number)?, &Ok(()));
-    assert!(rt; *book == *same);
-    Ok(())
-}
-
-/// Builds a book over a heap that refuses a growth, beside one over a heap that refuses none.
-fn build_both<'a>(
-    rt: &impl Abort,
-    heap: &'a Refusing<Global>,
-    ample: &'a Refusing<Global>,
-) -> Result<(), Fail> {
-    let Ok(mut book) = ChainBook::new(heap) else {
-        assert!(rt; heap.has_refused());
-        return Ok(());
-    };
-    let mut same = ChainBook::new(ample)?;
-    for number in 0..4 {
-        add_to_both(rt, (heap, ample), number, &mut book, &mut same)?;
-    }
-    let is_copied = book.copy().is_ok() && book.heights().is_ok() && book.times().is_ok();
-    assert!(rt; is_copied || heap.has_refused());
-    Ok(())
-}
-
-/// Each growth refused in turn, until none is.
-#[test]
-fn stays_where_memory_is_refused(rt: HostRuntime) -> Result<(), Fail> {
-    let (ample, counted) = (Refusing::new(rt.alloc(), 0), Refusing::new(rt.alloc(), 0));
-    build_both(&rt, &counted, &ample)?;
-    let growths = counted.growths();
-    assert!(rt; growths > 0);
-    for before in 0..=growths {
-        let heap = Refusing::new(rt.alloc(), before.saturating_add(1));
-        build_both(&rt, &heap, &ample)?;
-        assert_same(&rt, &before, &heap.has_refused(), &(before < growths));
-    }
     Ok(())
 }
 

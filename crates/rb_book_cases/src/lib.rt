@@ -1,6 +1,5 @@
 //! What no contract of the layers from the tree hash up to the step rule says, by their public calls: sets of
-//! validators, books, alone and shared, and steps, as tables of cases with values from outside, and each
-//! growth of memory refused in turn.
+//! validators, books and steps, as tables of cases with values from outside.
 #![tactic(auto)]
 
 #[cfg(test)]
@@ -9,8 +8,6 @@ mod book;
 mod merkle;
 #[cfg(test)]
 mod same;
-#[cfg(test)]
-mod shared;
 #[cfg(test)]
 mod step;
 #[cfg(test)]

@@ -1,8 +1,7 @@
 use crate::merkle::to_hex;
 use crate::same::assert_same;
-use rb_base::refusing::Refusing;
 use rb_valset::{Validator, ValidatorSet, ValsetError};
-use std::alloc::{Allocator, Global};
+use std::alloc::Global;
 use std::fmt::Display;
 use std::process::Abort;
 use std::test::Fail;
@@ -10,10 +9,7 @@ use std::test::Fail;
 const TOP: u64 = Validator::MAX_POWER;
 
 /// The set of the validators with these powers, whose keys are one byte 32 times.
-fn make_set<A: Allocator + Copy>(
-    alloc: A,
-    members: &[(u8, u64)],
-) -> Result<ValidatorSet<A>, ValsetError> {
+fn make_set(alloc: Global, members: &[(u8, u64)]) -> Result<ValidatorSet, ValsetError> {
     let mut validators = Vec::new(alloc);
     for (byte, power) in members {
         let validator = Validator::new([*byte; 32], *power)?;
@@ -158,38 +154,5 @@ fn refuses_too_many(rt: HostRuntime) -> Result<(), Fail> {
     assert_same(&rt, &"most", &most, &Some(ValsetError::DuplicateAddress));
     let above = refusal_of(rt.alloc(), 10_001)?;
     assert_same(&rt, &"above", &above, &Some(ValsetError::TooMany));
-    Ok(())
-}
-
-/// Whether a set is made and then copied on this heap, and the growths of the making.
-fn make_and_copy(rt: &impl Abort, heap: &Refusing<Global>) -> (bool, u64) {
-    match make_set(heap, &[(0xa1, 10), (0xa2, 10), (0xa3, 30), (0xa4, 10)]) {
-        Ok(set) => {
-            let made = heap.growths();
-            assert_same(rt, &"total", &set.total(), &60);
-            (set.copy().is_ok(), made)
-        }
-        Err(error) => {
-            assert_same(rt, &"new", &error, &ValsetError::NoMemory);
-            (false, heap.growths())
-        }
-    }
-}
-
-/// Refuses each growth of `new` and then `copy` in turn, until a run meets no refusal.
-#[test]
-fn survives_each_refused_growth(rt: HostRuntime) -> Result<(), Fail> {
-    let ample = Refusing::new(rt.alloc(), 0);
-    let (is_made, made) = make_and_copy(&rt, &ample);
-    assert!(rt; is_made && made > 0);
-    for before in 0..=ample.growths() {
-        let heap = Refusing::new(rt.alloc(), before.saturating_add(1));
-        let is_made = make_and_copy(&rt, &heap);
-        let wanted = (
-            before == ample.growths(),
-            made.min(before.saturating_add(1)),
-        );
-        assert_same(&rt, &before, &is_made, &wanted);
-    }
     Ok(())
 }

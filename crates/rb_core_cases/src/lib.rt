@@ -1,12 +1,10 @@
-//! What no contract of the relayer machine says, by its public calls: what clients are to be sent, and
-//! runs of the machine, as tables of cases with values from outside, and each growth of memory refused
-//! in turn.
+//! What no contract of the relayer machine, of boards and of their workers says, by their public calls: runs of the machine,
+//! as tables of cases with values from outside, what desks see on one thread and on two, and that what workers find is
+//! taken in.
 #![tactic(auto)]
 
 #[cfg(test)]
-mod answers;
-#[cfg(test)]
-mod growths;
+mod board;
 #[cfg(test)]
 mod make;
 #[cfg(test)]
@@ -14,6 +12,6 @@ mod rows;
 #[cfg(test)]
 mod run;
 #[cfg(test)]
-mod same;
-#[cfg(test)]
 mod tell;
+#[cfg(test)]
+mod worker;

@@ -4,16 +4,14 @@ ghost use Rattle.std.specs.Prelude.{◌≡◌, IfOk};
 use crate::make::{
     assert_same, make_config, make_header, make_lone_set, make_record, make_set, second,
 };
-use crate::same::are_same;
 use crate::tell::{answer_text, reply_text, scan_text};
 use rb_base::{Height, Window};
 use rb_book::{ChainBook, Vote};
 use rb_core::{Core, CoreError, Draft, Event, JobView, Reply, draft, scan};
 use rb_events::{Asked, BlockHeight, Goal, Observation, Refusal, Settlement, is_config};
 use rb_graph::Graph;
-use rb_phases::Relayer;
 use rb_scan::{Part, Sequence};
-use std::alloc::{AllocError, Allocator, Global};
+use std::alloc::{AllocError, Global};
 use std::mem;
 use std::process::Abort;
 use std::test::Fail;
@@ -55,25 +53,18 @@ pub enum Deed {
 /// What is done, and what comes out.
 pub type Row = (Deed, &'static str);
 
-/// A machine, what was made out by it, and another machine. And a relayer with its tables, which is given what the
-/// first machine is given.
+/// A machine, what was made out by it, and another machine.
 #[derive(Drop)]
-pub struct Run<A: Allocator + Copy> {
-    alloc: A,
-    pub core: Core<A>,
-    kept: Vec<Event<A>, A>,
-    aside: Option<Core<A>>,
-    is_aside: bool,
-    pub relayer: Option<Relayer<A>>,
+pub struct Run {
+    alloc: Global,
+    pub core: Core,
+    kept: Vec<Event>,
+    aside: Option<Core>,
 }
 
 /// A machine that knows nothing, whose books have so many records at most, and which has so many more
 /// clients.
-pub fn start<A: Allocator + Copy>(
-    alloc: A,
-    limit: usize,
-    more: &[&'static str],
-) -> Option<Core<A>> {
+pub fn start(alloc: Global, limit: usize, more: &[&'static str]) -> Option<Core> {
     let config = make_config(alloc, limit, more)?;
     if !is_config(&config) {
         return None;
@@ -81,17 +72,8 @@ pub fn start<A: Allocator + Copy>(
     Core::new(alloc, config).ok()
 }
 
-/// A relayer with its tables that has taken in nothing, of the same clients and paths.
-pub fn start_relayer<A: Allocator + Copy>(alloc: A, limit: usize) -> Option<Relayer<A>> {
-    let config = make_config(alloc, limit, &[])?;
-    if !is_config(&config) {
-        return None;
-    }
-    Relayer::new(alloc, config).ok()
-}
-
 /// What was seen of a chain or a client.
-fn chain_seen<A: Allocator + Copy>(alloc: A, deed: Deed) -> Option<Observation<A>> {
+fn chain_seen(alloc: Global, deed: Deed) -> Option<Observation> {
     match deed {
         Deed::Set(chain, first) => Some(Observation::SetSeen {
             chain,
@@ -115,7 +97,7 @@ fn chain_seen<A: Allocator + Copy>(alloc: A, deed: Deed) -> Option<Observation<A
 }
 
 /// What was seen of a path.
-fn path_seen<A: Allocator + Copy>(deed: Deed) -> Option<Observation<A>> {
+fn path_seen(deed: Deed) -> Option<Observation> {
     match deed {
         Deed::Sent(path, number, block, timeout) => Some(Observation::Sent {
             path,
@@ -144,7 +126,7 @@ fn path_seen<A: Allocator + Copy>(deed: Deed) -> Option<Observation<A>> {
 }
 
 /// What was seen of a chain, a client or a path, asked or settled.
-fn event_of<A: Allocator + Copy>(alloc: A, deed: Deed) -> Option<Event<A>> {
+pub fn event_of(alloc: Global, deed: Deed) -> Option<Event> {
     match deed {
         Deed::Window(from, until) => Some(Event::Window(Window::new(
             second(from)?,
@@ -176,17 +158,13 @@ fn answered<T>(answer: Result<T, CoreError>) -> Option<Result<T, Refusal>> {
 }
 
 /// Judges an event, and takes it in, unless it is refused.
-fn enter<A: Allocator + Copy>(core: &mut Core<A>, event: Event<A>) -> Result<Reply, CoreError> {
+pub fn enter(core: &mut Core, event: Event) -> Result<Reply, CoreError> {
     let ready = core.judge(event)?;
     Ok(core.settle(ready))
 }
 
 /// Enters an event. A refusal for an old view tells the present front.
-fn offer<A: Allocator + Copy>(
-    rt: &impl Abort,
-    core: &mut Core<A>,
-    event: Event<A>,
-) -> Option<Result<Reply, Refusal>> {
+fn offer(rt: &impl Abort, core: &mut Core, event: Event) -> Option<Result<Reply, Refusal>> {
     let front = core.front();
     let answer = answered(enter(core, event))?;
     if let Err(Refusal::Stale { front: told }) = answer {
@@ -196,7 +174,7 @@ fn offer<A: Allocator + Copy>(
 }
 
 /// The table of a book.
-fn table_of<A: Allocator + Copy>(alloc: A, book: &ChainBook<A>) -> Result<Graph<A>, AllocError>
+fn table_of(alloc: Global, book: &ChainBook) -> Result<Graph, AllocError>
     ensures { IfOk result (λ graph. graph ≡ book.now) }
 {
     let copy = book.copy()?;
@@ -205,22 +183,20 @@ fn table_of<A: Allocator + Copy>(alloc: A, book: &ChainBook<A>) -> Result<Graph<
 }
 
 /// What is planned for a client as it is seen.
-fn draft_of<A: Allocator + Copy>(alloc: A, job: JobView<A>) -> Result<Draft<A>, AllocError> {
+fn draft_of(alloc: Global, job: JobView) -> Result<Draft, AllocError> {
     let graph = table_of(alloc, job.view().book())?;
     let draft = draft(job, &graph)?;
     Ok(draft)
 }
 
-impl<A: Allocator + Copy> Run<A> {
+impl Run {
     /// A run of a machine.
-    pub fn new(alloc: A, core: Core<A>) -> Run<A> {
+    pub fn new(alloc: Global, core: Core) -> Run {
         Run {
             alloc,
             core,
             kept: Vec::new(alloc),
             aside: None,
-            is_aside: false,
-            relayer: None,
         }
     }
 
@@ -246,14 +222,14 @@ impl<A: Allocator + Copy> Run<A> {
         Some(text)
     }
 
-    fn last_on(&self, path: usize) -> Option<Event<A>> {
+    fn last_on(&self, path: usize) -> Option<Event> {
         match self.kept.last()?.copy().ok()? {
             Event::Scanned { scan, .. } => Some(Event::Scanned { path, scan }),
             _ => None,
         }
     }
 
-    fn event(&self, deed: Deed) -> Option<Event<A>> {
+    fn event(&self, deed: Deed) -> Option<Event> {
         match deed {
             Deed::Last => self.kept.last()?.copy().ok(),
             Deed::Kept(place) => self.kept.get(place)?.copy().ok(),
@@ -262,38 +238,10 @@ impl<A: Allocator + Copy> Run<A> {
         }
     }
 
-    /// Judges what is there to be entered, and lets it go.
-    pub fn let_go(&mut self, deed: Deed) {
-        if let Some(event) = self.event(deed) {
-            drop(self.core.judge(event));
-        }
-    }
-
     fn enter(&mut self, rt: &impl Abort, texts: Global, deed: Deed) -> Option<String> {
         let event = self.event(deed)?;
         let answer = offer(rt, &mut self.core, event)?;
-        if self.relayer.is_some() && !self.is_aside {
-            self.follow(rt, deed, &answer)?;
-        }
         reply_text(texts, answer).ok()
-    }
-
-    /// Gives the relayer with tables what the machine was given: it answers the same, and has then taken in the
-    /// same.
-    fn follow(
-        &mut self,
-        rt: &impl Abort,
-        deed: Deed,
-        wanted: &Result<Reply, Refusal>,
-    ) -> Option<()> {
-        let event = self.event(deed)?;
-        let relayer = self.relayer.as_mut()?;
-        let answer = answered(relayer.take_in(event))?;
-        assert!(rt;
-            answer == *wanted && are_same(relayer.core(), &self.core),
-            "{deed:?}"
-        );
-        Some(())
     }
 
     /// Enters an event again and again, until so many were taken in.
@@ -313,11 +261,10 @@ impl<A: Allocator + Copy> Run<A> {
     fn swap(&mut self) -> Option<()> {
         let other = self.aside.as_mut()?;
         mem::swap(&mut self.core, other);
-        self.is_aside = !self.is_aside;
         Some(())
     }
 
-    /// What comes out where this is done; none where a growth is refused.
+    /// What comes out where this is done; none where no memory is left.
     pub fn act(&mut self, rt: &impl Abort, texts: Global, deed: Deed) -> Option<String> {
         match deed {
             Deed::Scan(path, part) => self.scan(texts, path, part),

@@ -3,7 +3,7 @@ use rb_core::{Message, Planned, Reply, Scan, Sending};
 use rb_events::Refusal;
 use rb_plan::Goal;
 use rb_scan::PacketMsg;
-use std::alloc::{AllocError, Allocator, Global};
+use std::alloc::{AllocError, Global};
 
 fn goal_text(alloc: Global, goal: Goal) -> Result<String, AllocError> {
     match goal {
@@ -17,7 +17,7 @@ fn message_text(alloc: Global, message: &Message) -> Result<String, AllocError> 
     format!(in alloc; "{:?} {path} {} {gas}", packet.kind, packet.sequence)
 }
 
-fn sending_text<A: Allocator>(alloc: Global, sending: &Sending<A>) -> Result<String, AllocError> {
+fn sending_text(alloc: Global, sending: &Sending) -> Result<String, AllocError> {
     match sending {
         Sending::Nothing => format!(in alloc; " | nothing"),
         Sending::TooBig(index) => format!(in alloc; " | too big {index}"),
@@ -33,7 +33,7 @@ fn sending_text<A: Allocator>(alloc: Global, sending: &Sending<A>) -> Result<Str
     }
 }
 
-fn planned_text<A: Allocator>(alloc: Global, planned: &Planned<A>) -> Result<String, AllocError> {
+fn planned_text(alloc: Global, planned: &Planned) -> Result<String, AllocError> {
     let mut text = goal_text(alloc, planned.goal())?;
     let Some(plan) = planned.plan() else {
         text.push_str(" | unreachable")?;
@@ -53,10 +53,7 @@ fn planned_text<A: Allocator>(alloc: Global, planned: &Planned<A>) -> Result<Str
 
 /// What is planned: the goal, the updates with the heights that they trust, the messages with their
 /// paths, sequences and gas, and the transactions with their first messages, counts and gas.
-pub fn answer_text<A: Allocator>(
-    alloc: Global,
-    answer: Option<&Planned<A>>,
-) -> Result<String, AllocError> {
+pub fn answer_text(alloc: Global, answer: Option<&Planned>) -> Result<String, AllocError> {
     match answer {
         Some(planned) => planned_text(alloc, planned),
         None => format!(in alloc; "idle"),
@@ -73,7 +70,7 @@ fn owed_text(alloc: Global, owed: &[PacketMsg]) -> Result<String, AllocError> {
 }
 
 /// What is owed: the messages with their sequences and floors.
-pub fn scan_text<A: Allocator>(alloc: Global, scan: &Scan<A>) -> Result<String, AllocError> {
+pub fn scan_text(alloc: Global, scan: &Scan) -> Result<String, AllocError> {
     owed_text(alloc, scan.owed())
 }
 

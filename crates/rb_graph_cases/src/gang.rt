@@ -1,16 +1,14 @@
-//! Tables by many threads: equal for every number of workers, by two threads at once, and an error
-//! where a growth is refused.
+//! Tables by many threads: equal for every number of workers, and by two threads at once.
 ghost use Rattle.std.specs.Prelude.{◌<◌, ◌≤◌, All, IfOk};
 ghost use Rattle.rb_graph.specs.Frame.{IsRowOf};
 
 use crate::same::assert_same;
-use rb_base::refusing::Refusing;
 use rb_book::{ChainBook, Header, Record, Vote};
 use rb_case_values::{height, make_set, second};
 use rb_gang::laws::count;
 use rb_gang::{Gate, OpenGate, Place, build, make_rows, open};
 use rb_graph::{Cause, Frame, FrameRow, Graph};
-use std::alloc::{AllocError, Allocator, Global};
+use std::alloc::{AllocError, Global};
 use std::process::Abort;
 use std::sync::atomic::{AtomicU64, Ordering};
 use std::test::Fail;
@@ -19,26 +17,39 @@ use std::thread::Threads;
 use std::time::{Clock, Duration};
 
 /// A header of a set of two at a height, at 10 seconds for each height; both members sign it.
-fn make_header<L: Allocator + Copy>(
-    alloc: L,
-    number: u64,
-    hash: [u8; 32],
-) -> Result<Header<L>, Fail> {
+fn make_header(alloc: Global, number: u64, hash: [u8; 32]) -> Result<Header, Fail> {
     let record = Record::new(second(number.saturating_mul(10))?, [0; 32], hash);
     let votes = Vec::from_slice(alloc, &[Vote::Commit, Vote::Commit])?;
     Ok(Header::new(height(number)?, record, hash, votes))
 }
 
+/// Adds headers at the heights from 1 on.
+fn add_headers(
+    alloc: Global,
+    book: &mut ChainBook,
+    headers: u64,
+    hash: [u8; 32],
+) -> Result<(), Fail> {
+    for number in 1..=headers {
+        book.add_header(make_header(alloc, number, hash)?)?;
+    }
+    Ok(())
+}
+
 /// A book of headers at the heights from 1 on.
-fn make_book<L: Allocator + Copy>(alloc: L, headers: u64) -> Result<ChainBook<L>, Fail> {
+fn make_book(alloc: Global, headers: u64) -> Result<ChainBook, Fail> {
     let set = make_set(alloc, &[(0xa1, 60), (0xa2, 40)])?;
     let hash = *set.hash();
     let mut book = ChainBook::new(alloc)?;
     book.add_set(set)?;
-    for number in 1..=headers {
-        book.add_header(make_header(alloc, number, hash)?)?;
-    }
+    add_headers(alloc, &mut book, headers, hash)?;
     Ok(book)
+}
+
+/// The frame of a book of so many headers.
+fn make_frame(alloc: Global, headers: u64) -> Result<Frame, Fail> {
+    let book = make_book(alloc, headers)?;
+    Ok(Frame::from_book(alloc, book)?)
 }
 
 /// The sum of a table's signed powers and totals over all cells, and the number of its rows and cells.
@@ -102,7 +113,7 @@ fn tables_are_equal_for_all_numbers_of_workers(rt: HostRuntime) -> Result<(), Fa
 #[test]
 fn two_workers_draw_twelve_numbers(rt: HostRuntime) -> Result<(), Fail> {
     let alloc = rt.alloc();
-    let frame = Frame::from_book(alloc, make_book(alloc, 10)?)?;
+    let frame = make_frame(alloc, 10)?;
     if frame.rows() != 10 {
         return Err(Fail::from("ten rows"));
     }
@@ -202,7 +213,7 @@ fn make_share<G: Gate>(frame: &Frame, from: usize, to: usize, gate: &G) -> Resul
 fn rows_shared_out_beforehand_are_found_out(rt: HostRuntime) -> Result<(), Fail> {
     let alloc = rt.alloc();
     let gate = HoldFirst::new(&rt, 9, 100);
-    let frame = Frame::from_book(alloc, make_book(alloc, 10)?)?;
+    let frame = make_frame(alloc, 10)?;
     let (low, high) = thread::join(
         &rt,
         || make_share(&frame, 0, 5, &gate),
@@ -256,7 +267,7 @@ fn finished(
     alloc: Global,
     numbers: &[usize],
 ) -> Result<Option<(u16, usize)>, Fail> {
-    let frame = Frame::from_book(alloc, make_book(alloc, 3)?)?;
+    let frame = make_frame(alloc, 3)?;
     let rows = rows_of(alloc, &frame, numbers)?;
     match frame.finish(rows) {
         Ok(_graph) => Ok(None),
@@ -277,92 +288,22 @@ fn rows_are_put_together(rt: HostRuntime) -> Result<(), Fail> {
     Ok(())
 }
 
-/// The rows of three headers are told from those of the first two of them, and of none.
-#[test]
-fn rows_of_another_book_are_told(rt: HostRuntime) -> Result<(), Fail> {
-    let alloc = rt.alloc();
-    let frame = Frame::from_book(alloc, make_book(alloc, 3)?)?;
-    let other = Frame::from_book(alloc, make_book(alloc, 2)?)?;
-    let empty = Frame::from_book(alloc, ChainBook::new(alloc)?)?;
-    for row in rows_of(alloc, &frame, &[0, 1, 2])?.as_slice() {
-        assert!(rt; row.is_of(&frame));
-        assert!(rt; row.is_of(&other) == (row.number() < 2));
-        assert!(rt; !row.is_of(&empty));
+/// Of these rows those of the first headers are of the frame of so many.
+fn check_told(rt: &impl Abort, alloc: Global, rows: &[FrameRow], headers: u64) -> Result<(), Fail> {
+    let frame = make_frame(alloc, headers)?;
+    for row in rows {
+        assert!(rt; row.is_of(&frame) == (row.number() < headers as usize));
     }
     Ok(())
 }
 
-/// A build over an allocator that refuses one growth.
-#[derive(Clone, Copy, Debug, PartialEq, Eq)]
-struct Trial {
-    /// Whether it answered a table, which was the book's.
-    is_built: bool,
-    /// Whether the growth was asked for.
-    is_refused: bool,
-    /// The growths of the book, and those of book and build.
-    earlier: u64,
-    growths: u64,
-}
-
-/// Builds the table of ten headers by so many workers.
-fn build_on<R: Threads + Sync + Abort>(
-    rt: &R,
-    alloc: Global,
-    workers: usize,
-    refused: u64,
-) -> Result<Trial, Fail>
-    requires { (0 < workers) × (workers ≤ 64) }
-{
-    let heap = Refusing::new(alloc, refused);
-    let book = make_book(&heap, 10)?;
-    let same = book.copy()?;
-    let earlier = heap.growths();
-    let graph = build(rt, &heap, book, workers, &OpenGate);
-    if let Ok(graph) = &graph {
-        assert!(rt; graph.is_of(&same));
-    }
-    Ok(Trial {
-        is_built: graph.is_ok(),
-        is_refused: heap.has_refused(),
-        earlier,
-        growths: heap.growths(),
-    })
-}
-
-/// Refuses each growth of a build in turn: an error, or the table where it wasn't asked for or is
-/// asked for again. Answers how many errors there were, and how many tables that took no more growths
-/// than where none was refused.
-fn refuse_each<R: Threads + Sync + Abort>(
-    rt: &R,
-    alloc: Global,
-    workers: usize,
-) -> Result<(u64, u64), Fail>
-    requires { (0 < workers) × (workers ≤ 64) }
-{
-    let whole = build_on(rt, alloc, workers, 0)?;
-    assert!(rt; whole.is_built);
-    let mut errors: u64 = 0;
-    let mut unexplained: u64 = 0;
-    for before in whole.earlier..whole.growths {
-        let made = build_on(rt, alloc, workers, before.saturating_add(1))?;
-        assert!(rt; made.is_built || made.is_refused);
-        if !made.is_built {
-            errors = errors.saturating_add(1);
-        } else if made.growths <= whole.growths {
-            unexplained = unexplained.saturating_add(1);
-        }
-    }
-    Ok((errors, unexplained))
-}
-
-/// One worker alone survives a refusal only where it asks again. How often the lists of two workers'
-/// rows grow depends on who draws what; frame, rows and table ask for more than twenty growths in
-/// every order.
+/// The rows of three headers are told from those of the first two of them, and of none.
 #[test]
-fn each_refused_growth_is_an_error(rt: HostRuntime) -> Result<(), Fail> {
-    let (errors, unexplained) = refuse_each(&rt, rt.alloc(), 1)?;
-    assert!(rt; errors > 20 && unexplained == 0);
-    let (errors, _) = refuse_each(&rt, rt.alloc(), 2)?;
-    assert!(rt; errors > 20);
+fn rows_of_another_book_are_told(rt: HostRuntime) -> Result<(), Fail> {
+    let frame = make_frame(rt.alloc(), 3)?;
+    let rows = rows_of(rt.alloc(), &frame, &[0, 1, 2])?;
+    for headers in [3, 2, 0] {
+        check_told(&rt, rt.alloc(), rows.as_slice(), headers)?;
+    }
     Ok(())
 }

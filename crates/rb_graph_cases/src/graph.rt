@@ -1,13 +1,11 @@
 use crate::same::assert_same;
-use rb_base::refusing::Refusing;
 use rb_base::{FeeTable, Height, Window};
 use rb_book::{ChainBook, Header, Record, Vote};
 use rb_case_values::{Members, height, make_set, options, second};
-use rb_graph::{Graph, Row, SharedGraph};
+use rb_graph::{Graph, Row};
 use rb_step::{ClientView, are_known};
 use rb_valset::ValidatorSet;
-use std::alloc::{AllocError, Allocator, Global};
-use std::fmt::{Debug, Display};
+use std::alloc::Global;
 use std::process::Abort;
 use std::test::Fail;
 
@@ -35,22 +33,22 @@ const HEADERS: &[(u64, Members, Members, &[Vote])] = &[
 ];
 
 /// A header that has the time 10 h seconds at height h.
-fn make_header<L: Allocator + Copy>(
-    alloc: L,
+fn make_header(
+    alloc: Global,
     number: u64,
-    own: &ValidatorSet<L>,
+    own: &ValidatorSet,
     next: [u8; 32],
     votes: &[Vote],
-) -> Result<Header<L>, Fail> {
+) -> Result<Header, Fail> {
     let record = Record::new(second(number.saturating_mul(10))?, [0; 32], next);
     let votes = Vec::from_slice(alloc, votes)?;
     Ok(Header::new(height(number)?, record, *own.hash(), votes))
 }
 
 /// Adds a header and its own set.
-fn add_header<L: Allocator + Copy>(
-    book: &mut ChainBook<L>,
-    alloc: L,
+fn add_header(
+    book: &mut ChainBook,
+    alloc: Global,
     number: u64,
     (own, next): (Members, Members),
     votes: &[Vote],
@@ -63,7 +61,7 @@ fn add_header<L: Allocator + Copy>(
 }
 
 /// A book of these headers, and a record at 4 that names an unknown set.
-fn make_book<L: Allocator + Copy>(alloc: L) -> Result<ChainBook<L>, Fail> {
+fn make_book(alloc: Global) -> Result<ChainBook, Fail> {
     let mut book = ChainBook::new(alloc)?;
     book.add_record(height(4)?, Record::new(second(40)?, [0; 32], [7; 32]))?;
     for (number, own, next, votes) in HEADERS {
@@ -199,16 +197,21 @@ fn check_row(
     check_cells(rt, alloc, (book, header), row, wanted.3)
 }
 
-#[test]
-fn shows_rows(rt: HostRuntime) -> Result<(), Fail> {
-    let graph = make_graph(rt.alloc())?;
+/// All rows of a table.
+fn check_rows(rt: &impl Abort, alloc: Global, graph: &Graph) -> Result<(), Fail> {
     let mut rows = graph.rows();
     for wanted in ROWS {
         let row = rows.next().ok_or("row")?;
-        check_row(&rt, rt.alloc(), graph.book(), &row, wanted)?;
+        check_row(rt, alloc, graph.book(), &row, wanted)?;
     }
     assert!(rt; rows.next().is_none() && graph.row(height(4)?).is_none());
     Ok(())
+}
+
+#[test]
+fn shows_rows(rt: HostRuntime) -> Result<(), Fail> {
+    let graph = make_graph(rt.alloc())?;
+    check_rows(&rt, rt.alloc(), &graph)
 }
 
 /// A height, the first and last second of a window, and the heights from which the step is accepted.
@@ -288,62 +291,17 @@ fn shows_steps(rt: HostRuntime) -> Result<(), Fail> {
 /// The fees of a step from one height into another; a step that no row has costs nothing.
 const FEES: &[(u64, u64, u64)] = &[(1, 10, 1_207), (4, 10, 1_203), (2, 10, 0), (1, 4, 0)];
 
-#[test]
-fn charges_steps(rt: HostRuntime) -> Result<(), Fail> {
-    let graph = make_graph(rt.alloc())?;
+fn check_fees(rt: &impl Abort, graph: &Graph) -> Result<(), Fail> {
     let fees = FeeTable::new(1000, 100, 1)?;
     for (low, number, wanted) in FEES {
         let fee = graph.charge(&fees, height(*low)?, height(*number)?);
-        assert_same(&rt, low, &fee, wanted);
+        assert_same(rt, low, &fee, wanted);
     }
     Ok(())
 }
 
-/// Whether the last owner of a table gets one of the same book.
-fn is_last<L: Allocator + Copy>(owner: SharedGraph<L>, graph: &Graph<L>) -> bool {
-    match owner.into_graph() {
-        Some(last) => graph.is_of(&last.into_book()),
-        None => false,
-    }
-}
-
-/// Copies a table, shares the copy and takes it apart again: whether both tables are of one book, and
-/// the second owner was the last.
-fn share_copy<L: Allocator + Copy>(alloc: L, graph: &Graph<L>) -> Result<bool, AllocError> {
-    let first = SharedGraph::new(alloc, graph.copy()?)?;
-    let second = first.share()?;
-    let is_same = second.graph().is_of(graph.book());
-    let is_shared = first.into_graph().is_none();
-    Ok(is_same && is_shared && is_last(second, graph))
-}
-
-/// Makes a table of the book and shares a copy.
-fn use_table<L: Allocator + Copy>(alloc: L, book: ChainBook<L>) -> Result<bool, AllocError> {
-    let graph = Graph::from_book(alloc, book)?;
-    share_copy(alloc, &graph)
-}
-
-/// Whether a table was made and shared with this growth refused, and the growths of the book and of
-/// all. What is made is right.
-fn use_on(rt: &impl Abort, alloc: Global, refused: u64) -> Result<(bool, u64, u64), Fail> {
-    let heap = Refusing::new(alloc, refused);
-    let book = make_book(&heap)?;
-    let earlier = heap.growths();
-    let used = use_table(&heap, book);
-    assert_same(rt, &refused, &used.unwrap_or(true), &true);
-    Ok((used.is_ok(), earlier, heap.growths()))
-}
-
-/// Each growth after the book's is refused in turn, until a run meets no refusal. A refused one is an
-/// error, but where the list asks again for less, which makes the growths more.
 #[test]
-fn fails_where_memory_is_refused(rt: HostRuntime) -> Result<(), Fail> {
-    let (is_used, earlier, growths) = use_on(&rt, rt.alloc(), 0)?;
-    assert!(rt; is_used && earlier < growths);
-    for before in earlier..=growths {
-        let (is_used, _, asked) = use_on(&rt, rt.alloc(), before.saturating_add(1))?;
-        let is_met = before == growths || asked > growths;
-        assert_same(&rt, &before, &is_used, &is_met);
-    }
-    Ok(())
+fn charges_steps(rt: HostRuntime) -> Result<(), Fail> {
+    let graph = make_graph(rt.alloc())?;
+    check_fees(&rt, &graph)
 }

@@ -1,10 +1,9 @@
 //! Tables that are kept: additions give what a table made anew of the same book has.
 use crate::same::assert_same;
-use rb_base::refusing::Refusing;
-use rb_book::{BookError, ChainBook, Header, Record, Vote};
+use rb_book::{ChainBook, Header, Record, Vote};
 use rb_case_values::{Members, height, make_set, second};
 use rb_graph::{Graph, SharedGraph};
-use std::alloc::{Allocator, Global};
+use std::alloc::Global;
 use std::process::Abort;
 use std::test::Fail;
 
@@ -21,7 +20,7 @@ const VOTES: &[Vote] = &[Vote::Commit, Vote::Commit, Vote::Commit, Vote::Nil];
 type Numbers = (u64, u64, u64, u64, usize);
 
 /// All cells of a table, row by row; a row begins with its height, size and number of commit votes.
-fn cells_of<L: Allocator + Copy>(alloc: Global, graph: &Graph<L>) -> Result<Vec<Numbers>, Fail> {
+fn cells_of(alloc: Global, graph: &Graph) -> Result<Vec<Numbers>, Fail> {
     let mut cells = Vec::new(alloc);
     for row in graph.rows() {
         let at = row.height().get();
@@ -51,12 +50,7 @@ fn record_at(number: u64, next: [u8; 32]) -> Result<Record, Fail> {
 }
 
 /// The header at a height, which all but the last of its own set sign.
-fn header_at<L: Allocator + Copy>(
-    alloc: L,
-    number: u64,
-    own: [u8; 32],
-    next: [u8; 32],
-) -> Result<Header<L>, Fail> {
+fn header_at(alloc: Global, number: u64, own: [u8; 32], next: [u8; 32]) -> Result<Header, Fail> {
     let votes = Vec::from_slice(alloc, VOTES)?;
     Ok(Header::new(height(number)?, record_at(number, next)?, own, votes))
 }
@@ -65,15 +59,27 @@ fn hash_of(alloc: Global, members: Members) -> Result<[u8; 32], Fail> {
     Ok(*make_set(alloc, members)?.hash())
 }
 
-/// A table of the headers 1 to 5 of one set; the record at 3 names another one, which isn't known.
-fn make_table(alloc: Global) -> Result<Graph, Fail> {
-    let (own, next) = (hash_of(alloc, A)?, hash_of(alloc, B)?);
+/// A table that has the first set, and no header.
+fn make_empty(alloc: Global) -> Result<Graph, Fail> {
     let mut graph = Graph::from_book(alloc, ChainBook::new(alloc)?)?;
     graph.add_set(make_set(alloc, A)?)?;
+    Ok(graph)
+}
+
+/// Adds the headers 1 to 5 of one set; the record at 3 names another one, which isn't known.
+fn add_five(alloc: Global, graph: &mut Graph) -> Result<(), Fail> {
+    let (own, next) = (hash_of(alloc, A)?, hash_of(alloc, B)?);
     for number in [5, 1, 4, 2, 3] {
         let named = if number == 3 { next } else { own };
         graph.add_header(header_at(alloc, number, own, named)?)?;
     }
+    Ok(())
+}
+
+/// A table of these.
+fn make_table(alloc: Global) -> Result<Graph, Fail> {
+    let mut graph = make_empty(alloc)?;
+    add_five(alloc, &mut graph)?;
     Ok(graph)
 }
 
@@ -126,17 +132,31 @@ fn check_cells(
     Ok(())
 }
 
+/// Adds the second set, which brings cells, or is there already.
+fn add_late(rt: &impl Abort, alloc: Global, graph: &mut Graph) -> Result<(), Fail> {
+    graph.add_set(make_set(alloc, B)?)?;
+    check_cells(rt, alloc, graph, LATE)
+}
+
+/// The record at height 6, which names the second set.
+fn sixth_record(alloc: Global) -> Result<Record, Fail> {
+    record_at(6, hash_of(alloc, B)?)
+}
+
+/// Adds a record above all headers, which brings no cell.
+fn add_record(rt: &impl Abort, alloc: Global, graph: &mut Graph) -> Result<(), Fail> {
+    graph.add_record(height(6)?, sixth_record(alloc)?)?;
+    check_cells(rt, alloc, graph, LATE)
+}
+
 #[test]
 fn a_set_that_comes_late_brings_cells(rt: HostRuntime) -> Result<(), Fail> {
     let alloc = rt.alloc();
     let mut graph = make_table(alloc)?;
     check_cells(&rt, alloc, &graph, EARLY)?;
-    for _ in 0..2 {
-        graph.add_set(make_set(alloc, B)?)?;
-        check_cells(&rt, alloc, &graph, LATE)?;
-    }
-    graph.add_record(height(6)?, record_at(6, hash_of(alloc, B)?)?)?;
-    check_cells(&rt, alloc, &graph, LATE)
+    add_late(&rt, alloc, &mut graph)?;
+    add_late(&rt, alloc, &mut graph)?;
+    add_record(&rt, alloc, &mut graph)
 }
 
 /// What another owner holds stays as it was; without one the table is changed in place.
@@ -148,70 +168,8 @@ fn other_owners_keep_their_table(rt: HostRuntime) -> Result<(), Fail> {
     shared.add_set(make_set(alloc, B)?)?;
     check_cells(&rt, alloc, other.graph(), EARLY)?;
     check_cells(&rt, alloc, shared.graph(), LATE)?;
-    shared.add_record(height(6)?, record_at(6, hash_of(alloc, B)?)?)?;
+    shared.add_record(height(6)?, sixth_record(alloc)?)?;
     check_cells(&rt, alloc, shared.graph(), LATE)
-}
-
-/// A table of 200 headers of one set.
-fn make_long<L: Allocator + Copy>(alloc: L) -> Result<(Graph<L>, [u8; 32]), Fail> {
-    let set = make_set(alloc, A)?;
-    let hash = *set.hash();
-    let mut graph = Graph::from_book(alloc, ChainBook::new(alloc)?)?;
-    graph.add_set(set)?;
-    for number in 1..=200 {
-        graph.add_header(header_at(alloc, number, hash, hash)?)?;
-    }
-    Ok((graph, hash))
-}
-
-/// Adds a header above all to a table of one owner with the growth after so many others refused:
-/// whether none was. Where one was, the table is as before.
-fn add_with_refusal(rt: &impl Abort, alloc: Global, after: u64) -> Result<bool, Fail> {
-    let counted = Refusing::new(alloc, 0);
-    let (table, hash) = make_long(&counted)?;
-    let shared = SharedGraph::new(&counted, table)?;
-    let _header = header_at(&counted, 201, hash, hash)?;
-    let earlier = counted.growths();
-    let heap = Refusing::new(alloc, earlier.saturating_add(after));
-    let (table, _) = make_long(&heap)?;
-    let mut grown = SharedGraph::new(&heap, table)?;
-    let header = header_at(&heap, 201, hash, hash)?;
-    let added = grown.add_header(header);
-    if added.is_ok() {
-        return Ok(!heap.has_refused());
-    }
-    assert_same(rt, &after, &added, &Err(BookError::NoMemory));
-    assert_same(
-        rt,
-        &after,
-        &cells_of(alloc, grown.graph())?,
-        &cells_of(alloc, shared.graph())?,
-    );
-    Ok(false)
-}
-
-/// A header above all takes at most a hundred growths, each refused in turn.
-#[test]
-fn a_header_above_all_takes_few_growths(rt: HostRuntime) -> Result<(), Fail> {
-    for after in 1..=100 {
-        if add_with_refusal(&rt, rt.alloc(), after)? {
-            return Ok(());
-        }
-    }
-    Err("each growth up to the hundredth was refused")?
-}
-
-/// A table of 200 rows that is made anew takes more.
-#[test]
-fn a_table_made_anew_takes_many_growths(rt: HostRuntime) -> Result<(), Fail> {
-    let heap = Refusing::new(rt.alloc(), 0);
-    let (graph, _) = make_long(&heap)?;
-    let book = graph.into_book();
-    let earlier = heap.growths();
-    let anew = Graph::from_book(&heap, book)?;
-    let are_many = heap.growths().saturating_sub(earlier) > 100;
-    assert_same(&rt, &anew.rows().count(), &are_many, &true);
-    Ok(())
 }
 
 /// Numbers that look random.
@@ -259,25 +217,39 @@ fn add_both(
     Ok(())
 }
 
+/// A table is of this book, and has the cells of one that is made anew.
+fn check_table(
+    rt: &impl Abort,
+    alloc: Global,
+    graph: &Graph,
+    book: &ChainBook,
+    step: usize,
+) -> Result<(), Fail> {
+    assert_same(rt, &step, &graph.is_of(book), &true);
+    let (kept, anew) = (cells_of(alloc, graph)?, cells_anew(alloc, graph)?);
+    assert_same(rt, &step, &kept, &anew);
+    Ok(())
+}
+
+/// Sixty additions, from this number on, to a table and to a book that are empty before: the number after them.
+fn add_sixty(rt: &impl Abort, alloc: Global, first: u64) -> Result<u64, Fail> {
+    let mut number = first;
+    let mut book = ChainBook::new(alloc)?;
+    let mut graph = Graph::from_book(alloc, book.copy()?)?;
+    for step in 0..60 {
+        number = next_number(number);
+        add_both(rt, alloc, &mut graph, &mut book, number)?;
+        check_table(rt, alloc, &graph, &book, step)?;
+    }
+    Ok(number)
+}
+
 /// Random additions in random order, refused ones among them.
 #[test]
 fn additions_give_the_table_of_their_book(rt: HostRuntime) -> Result<(), Fail> {
-    let alloc = rt.alloc();
     let mut number = 88_172_645_463_325_252;
     for _ in 0..8 {
-        let mut book = ChainBook::new(alloc)?;
-        let mut graph = Graph::from_book(alloc, book.copy()?)?;
-        for step in 0..60 {
-            number = next_number(number);
-            add_both(&rt, alloc, &mut graph, &mut book, number)?;
-            assert_same(&rt, &step, &graph.is_of(&book), &true);
-            assert_same(
-                &rt,
-                &step,
-                &cells_of(alloc, &graph)?,
-                &cells_anew(alloc, &graph)?,
-            );
-        }
+        number = add_sixty(&rt, rt.alloc(), number)?;
     }
     Ok(())
 }

@@ -1,6 +1,5 @@
 //! What no contract of step tables says, by their public calls: tables as they are made, by one thread and by many,
-//! additions in any order beside tables that are made anew, as tables of cases, and each growth of memory
-//! refused in turn.
+//! additions in any order beside tables that are made anew, as tables of cases.
 #![tactic(auto)]
 
 #[cfg(test)]

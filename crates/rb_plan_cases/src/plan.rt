@@ -1,6 +1,5 @@
 ghost use Rattle.std.specs.Prelude.{◌≡◌, IfOk};
 
-use rb_base::refusing::Refusing;
 use rb_base::{FeeTable, Height, Window};
 use rb_book::{ChainBook, Header, Record, Vote};
 use rb_case_values::{height, make_heights, make_set_with, options, second};
@@ -10,7 +9,7 @@ use rb_plan::{
 };
 use rb_step::{ClientView, are_known};
 use rb_valset::ValidatorSet;
-use std::alloc::{AllocError, Allocator, Global};
+use std::alloc::{AllocError, Global};
 use std::fmt::{Debug, Display};
 use std::process::Abort;
 use std::test::Fail;
@@ -96,11 +95,7 @@ const ALL_EXPIRED: World = World {
 };
 
 /// A header that all of the set sign, which it names as the next too.
-fn make_header<A: Allocator + Copy>(
-    alloc: A,
-    number: u64,
-    set: &ValidatorSet<A>,
-) -> Result<Header<A>, Fail> {
+fn make_header(alloc: Global, number: u64, set: &ValidatorSet) -> Result<Header, Fail> {
     let time = second(number.saturating_mul(10))?;
     let record = Record::new(time, [0; 32], *set.hash());
     let votes = vec![in alloc; Vote::Commit; set.size()]?;
@@ -108,9 +103,9 @@ fn make_header<A: Allocator + Copy>(
 }
 
 /// Adds a header and its set.
-fn add_header<A: Allocator + Copy>(
-    book: &mut ChainBook<A>,
-    alloc: A,
+fn add_header(
+    book: &mut ChainBook,
+    alloc: Global,
     number: u64,
     members: &Members,
 ) -> Result<(), Fail> {
@@ -120,7 +115,7 @@ fn add_header<A: Allocator + Copy>(
     Ok(book.add_header(header)?)
 }
 
-fn make_graph<A: Allocator + Copy>(alloc: A, world: &World) -> Result<Graph<A>, Fail> {
+fn make_graph(alloc: Global, world: &World) -> Result<Graph, Fail> {
     let mut book = ChainBook::new(alloc)?;
     for (number, members) in world.headers {
         add_header(&mut book, alloc, *number, members)?;
@@ -129,12 +124,12 @@ fn make_graph<A: Allocator + Copy>(alloc: A, world: &World) -> Result<Graph<A>, 
 }
 
 /// The view of the world's client. An update costs 100, and 1 for each vote and validator.
-fn make_view<'a, A: Allocator + Copy>(
+fn make_view<'a>(
     rt: &impl Abort,
     world: &World,
     stored: &'a [Height],
-    graph: &'a Graph<A>,
-) -> Result<ClientView<'a, A>, Fail>
+    graph: &'a Graph,
+) -> Result<ClientView<'a>, Fail>
     ensures { IfOk result (λ view. view.book ≡ graph.entry.now) }
 {
     let book = graph.book();
@@ -145,7 +140,7 @@ fn make_view<'a, A: Allocator + Copy>(
 }
 
 /// The labels: `1:0,0 3:112,1 `.
-fn labels_text(alloc: Global, labelling: &Labelling<impl Allocator>) -> Result<String, AllocError> {
+fn labels_text(alloc: Global, labelling: &Labelling) -> Result<String, AllocError> {
     let mut text = String::new(alloc);
     for label in labelling.labels() {
         let Cost { fee, count } = label.cost;
@@ -165,7 +160,7 @@ fn updates_text(alloc: Global, updates: &[Update]) -> Result<String, AllocError>
 }
 
 /// The labels, and then the updates: `1:0,0 3:112,1 | 3<1`.
-fn to_text<A: Allocator>(alloc: Global, answer: &Answer<A>) -> Result<String, AllocError> {
+fn to_text(alloc: Global, answer: &Answer) -> Result<String, AllocError> {
     let labels = labels_text(alloc, answer.labelling())?;
     match answer {
         Answer::Plan { updates, .. } => {
@@ -187,7 +182,7 @@ struct Row {
     proof: Option<u64>,
 }
 
-fn proof_of<A: Allocator + Copy>(view: &ClientView<A>, answer: &Answer<A>) -> Option<u64> {
+fn proof_of(view: &ClientView, answer: &Answer) -> Option<u64> {
     match answer {
         Answer::Plan { updates, .. } => { Some(proof_height(view, updates.as_slice())?.get()) }
         Answer::Unreachable { .. } => None,
@@ -352,44 +347,4 @@ fn looks_up_labels_and_gas(rt: HostRuntime) -> Result<(), Fail> {
     let graph = make_graph(rt.alloc(), &FIVE)?;
     let stored = make_heights(rt.alloc(), FIVE.stored)?;
     check_view(&rt, rt.alloc(), &graph, stored.as_slice())
-}
-
-/// Whether the plan is made.
-fn is_planned<A: Allocator + Copy>(
-    rt: &impl Abort,
-    alloc: A,
-    graph: &Graph<A>,
-    stored: &[Height],
-) -> Result<bool, Fail> {
-    let view = make_view(rt, &TIED, stored, graph)?;
-    let answer = plan(alloc, &view, graph, Goal::AtLeast(height(10)?));
-    Ok(answer.is_ok())
-}
-
-/// Whether the plan was made on this heap, and the growths up to it.
-fn plan_on(rt: &impl Abort, heap: &Refusing<Global>) -> Result<(bool, u64), Fail> {
-    let graph = make_graph(heap, &TIED)?;
-    let stored = make_heights(heap, TIED.stored)?;
-    let before = heap.growths();
-    Ok((is_planned(rt, heap, &graph, stored.as_slice())?, before))
-}
-
-/// Whether the plan was made, with growth number `refused` refused, and the growths up to the plan
-/// and with it.
-fn growths_of(rt: &impl Abort, alloc: Global, refused: u64) -> Result<(bool, u64, u64), Fail> {
-    let heap = Refusing::new(alloc, refused);
-    let (is_made, before) = plan_on(rt, &heap)?;
-    Ok((is_made, before, heap.growths()))
-}
-
-/// Each growth of a plan in turn is refused, and no plan is made; with none refused it is.
-#[test]
-fn tells_want_of_memory(rt: HostRuntime) -> Result<(), Fail> {
-    let (is_made, before, after) = growths_of(&rt, rt.alloc(), 0)?;
-    assert!(rt; is_made && before < after);
-    for refused in before..after {
-        let (is_made, _, _) = growths_of(&rt, rt.alloc(), refused + 1)?;
-        assert!(rt; !is_made);
-    }
-    Ok(())
 }

@@ -1,14 +1,16 @@
-//! The gate test: a team of two workers, a turn of a supervisor with two workers, and a second turn over kept
+//! The gate test: a team of two workers, a turn of a script with two workers, and a second turn over kept
 //! tables pass it; what does one job after the other, and what drops what was found, fails it.
-use crate::made::{CLIENT, ClientRow, QUIET, ScriptRow, Seen, TurnRow, make_script};
-use rb_base::{Moment, Window};
+ghost use Rattle.std.specs.Prelude.{◌≤◌};
+
+use crate::made::make_config;
+use rb_base::{Counted, Moment, Window};
 use rb_board::{Desk, Note, open};
 use rb_book::ChainBook;
 use rb_core::{Core, Event};
-use rb_events::{Script, is_config, is_script};
+use rb_events::is_config;
 use rb_gang::{Gate, Place};
 use rb_graph::{Graph, SharedGraph};
-use rb_super::{run_by_workers, run_script};
+use rb_text::run_over;
 use rb_worker::{Held, Order, Team, work};
 use std::alloc::Global;
 use std::sync::atomic::{AtomicU64, Ordering};
@@ -19,37 +21,63 @@ use std::thread::Threads;
 use std::time::{Clock, Duration};
 
 /// Two chains, and a client of each that tracks the other; in the one turn nothing happens.
-const QUIET_SCRIPT: ScriptRow = ScriptRow {
-    limit: 12,
-    chains: &["a", "b"],
-    clients: &[
-        CLIENT,
-        ClientRow {
-            id: "c1",
-            chains: (0, 1),
-            ..CLIENT
-        },
-    ],
-    paths: &[],
-    turns: &[QUIET],
-    more_turns: 0,
-};
+const QUIET: &str = "version = 1
+chain = [{ id = 'a' }, { id = 'b' }]
+[[client]]
+id = 'c0'
+host = 'b'
+of = 'a'
+period_ns = 1000000000000
+drift_ns = 10000000000
+fee = [100, 1, 1]
+gas = [100, 1, 1]
+limits = [100000, 100, 0]
+[[client]]
+id = 'c1'
+host = 'a'
+of = 'b'
+period_ns = 1000000000000
+drift_ns = 10000000000
+fee = [100, 1, 1]
+gas = [100, 1, 1]
+limits = [100000, 100, 0]
+[[turn]]
+from = '1970-01-01T00:03:20Z'
+until = '1970-01-01T00:03:20Z'
+";
 
-/// The same in two turns: a set and a header of the first chain are seen, and then one more header, which is
-/// added to the table that the first turn made.
-const GROWING_SCRIPT: ScriptRow = ScriptRow {
-    turns: &[
-        TurnRow {
-            seen: &[Seen::Set(0), Seen::Block(0, 7)],
-            ..QUIET
-        },
-        TurnRow {
-            seen: &[Seen::Block(0, 8)],
-            ..QUIET
-        },
-    ],
-    ..QUIET_SCRIPT
-};
+/// In the same turn a set and a header of the first chain are seen, and in a second one another header, which is added to
+/// the table that the first turn made.
+const SEEN: &str = "event = [
+  { kind = 'set', chain = 'a', name = 'A', validators = [
+    ['a1a1a1a1a1a1a1a1a1a1a1a1a1a1a1a1a1a1a1a1a1a1a1a1a1a1a1a1a1a1a1a1', 10],
+  ] },
+  { kind = 'header', chain = 'a', height = 7, time = '1970-01-01T00:01:10Z', set = 'A', next = 'A', votes = 'C' },
+]
+[[turn]]
+from = '1970-01-01T00:03:20Z'
+until = '1970-01-01T00:03:20Z'
+event = [
+  { kind = 'header', chain = 'a', height = 8, time = '1970-01-01T00:01:20Z', set = 'A', next = 'A', votes = 'C' },
+]
+";
+
+const ONE_TURN: &str = "ibcplan 1
+turn 1
+client c0 idle
+client c1 idle
+end
+";
+
+const TWO_TURNS: &str = "ibcplan 1
+turn 1
+client c0 idle
+client c1 idle
+turn 2
+client c0 idle
+client c1 idle
+end
+";
 
 /// Holds the plan that begins first after so many earlier ones, which were taken by then, until one
 /// more client's finding was taken, for so many looks at most.
@@ -119,7 +147,7 @@ fn enter(core: &mut Core) -> Option<()> {
 
 /// A relayer of the two clients that has entered a window.
 fn know(alloc: Global) -> Result<Core, Fail> {
-    let Script { config, .. } = make_script(alloc, &QUIET_SCRIPT)?;
+    let config = make_config(alloc)?;
     if !is_config(&config) {
         return Err(Fail::from("config"));
     }
@@ -181,43 +209,89 @@ fn plan_in_turn<G: Gate>(alloc: Global, desk: &mut Desk, note: Note, gate: &G) -
     Some(())
 }
 
+/// What a team of two found over a board of its own.
+fn held_by_both<R: Threads + Wait + Copy + Send + 'static, G: Gate + Send + Sync + Drop + 'static>(
+    rt: &R,
+    alloc: Global,
+    gate: &Arc<G, Global>,
+) -> Result<Held, Fail> {
+    let core = know(alloc)?;
+    let (pen, desks) = open(rt, alloc, core, 2)?;
+    let held = plan_both(rt, alloc, desks, pen.tell(), gate);
+    pen.close(rt);
+    Ok(held.ok_or("held")?)
+}
+
 /// The gate test: each plan begins once, and the one that begins first ends after the other was
 /// taken. It would fail after a million looks.
 #[test]
 fn both_workers_plan(rt: HostRuntime) -> Result<(), Fail> {
     let alloc = rt.alloc();
     let gate = Arc::new(alloc, HoldFirst::new(rt, 1_000_000, 0))?;
-    let core = know(alloc)?;
-    let (pen, desks) = open(&rt, alloc, core, 2)?;
-    let held = plan_both(&rt, alloc, desks, pen.tell(), &gate);
-    pen.close(&rt);
-    let mut held = held.ok_or("held")?;
+    let mut held = held_by_both(&rt, alloc, &gate)?;
     assert!(rt; held.take_draft(0).is_some() && held.take_draft(1).is_some());
     assert!(rt; held.take_draft(0).is_none() && gate.is_passed());
     Ok(())
+}
+
+/// Does the orders one after the other, where a team's findings are dropped before, if they are to be.
+fn plan_alone<
+    R: Threads + Wait + Copy + Send + AllocGlobal + 'static,
+    G: Gate + Send + Sync + Drop + 'static,
+>(
+    rt: &R,
+    desks: Vec<Desk>,
+    (own, note): (&mut Desk, Note),
+    drops: bool,
+    gate: &Arc<G, Global>,
+) -> Option<()> {
+    if drops {
+        drop(plan_both(rt, rt.alloc(), desks, note, gate));
+    }
+    plan_in_turn(rt.alloc(), own, note, &**gate)
+}
+
+/// The same over a board of its own.
+fn plan_alone_on_board<
+    R: Threads + Wait + Copy + Send + AllocGlobal + 'static,
+    G: Gate + Send + Sync + Drop + 'static,
+>(rt: &R, drops: bool, gate: &Arc<G, Global>) -> Result<(), Fail> {
+    let core = know(rt.alloc())?;
+    let (pen, mut desks) = open(rt, rt.alloc(), core, 3)?;
+    let done = match desks.pop() {
+        Some(mut own) => plan_alone(rt, desks, (&mut own, pen.tell()), drops, gate),
+        None => None,
+    };
+    pen.close(rt);
+    Ok(done.ok_or("orders")?)
 }
 
 /// One that does one job after the other fails the gate test, and one that drops what was found and
 /// does each job itself.
 #[test]
 fn gate_test_fails_others(rt: HostRuntime) -> Result<(), Fail> {
-    let alloc = rt.alloc();
     for drops in [false, true] {
-        let gate = Arc::new(alloc, HoldFirst::new(rt, 100, 0))?;
-        let core = know(alloc)?;
-        let (pen, mut desks) = open(&rt, alloc, core, 3)?;
-        let Some(mut own) = desks.pop() else {
-            pen.close(&rt);
-            return Err(Fail::from("desks"));
-        };
-        let note = pen.tell();
-        let held = drops.then(|| plan_both(&rt, alloc, desks, note, &gate));
-        drop(held);
-        let done = plan_in_turn(alloc, &mut own, note, &*gate);
-        pen.close(&rt);
-        assert!(rt; done.is_some() && !gate.is_passed(), "{drops}");
+        let gate = Arc::new(rt.alloc(), HoldFirst::new(rt, 100, 0))?;
+        plan_alone_on_board(&rt, drops, &gate)?;
+        assert!(rt; !gate.is_passed(), "{drops}");
     }
     Ok(())
+}
+
+/// The report of a script, by so many workers.
+fn report_by<R: Clock + Threads + Wait + Copy + Send + Sync + 'static>(
+    rt: &R,
+    alloc: Global,
+    script: &str,
+    workers: usize,
+    gate: &Arc<HoldFirst<R>, Global>,
+) -> Result<String, Fail>
+    requires { workers ≤ 64 }
+{
+    let mut writer = Counted::new(Vec::new(alloc));
+    let ran = run_over(rt, alloc, script.as_bytes(), &mut writer, workers, gate);
+    ran.map_err(|_| Fail::from("run"))?;
+    Ok(String::from_utf8_lossy(alloc, writer.into_inner().as_slice())?)
 }
 
 /// Each plan of the turn begins once, and the one that begins first ends after what was planned for the
@@ -226,10 +300,8 @@ fn gate_test_fails_others(rt: HostRuntime) -> Result<(), Fail> {
 fn both_workers_plan_in_a_turn(rt: HostRuntime) -> Result<(), Fail> {
     let alloc = rt.alloc();
     let gate = Arc::new(alloc, HoldFirst::new(rt, 1_000_000, 0))?;
-    let script = make_script(alloc, &QUIET_SCRIPT)?;
-    assert!(rt; is_script(&script));
-    let report = run_by_workers(&rt, alloc, script, 2, &gate)?;
-    assert!(rt; report.turns.len() == 1 && gate.is_passed());
+    let report = report_by(&rt, alloc, QUIET, 2, &gate)?;
+    assert!(rt; report.as_str() == ONE_TURN && gate.is_passed());
     Ok(())
 }
 
@@ -238,11 +310,9 @@ fn both_workers_plan_in_a_turn(rt: HostRuntime) -> Result<(), Fail> {
 fn both_workers_plan_over_kept_tables(rt: HostRuntime) -> Result<(), Fail> {
     let alloc = rt.alloc();
     let gate = Arc::new(alloc, HoldFirst::new(rt, 1_000_000, 2))?;
-    let script = make_script(alloc, &GROWING_SCRIPT)?;
-    assert!(rt; is_script(&script));
-    let report = run_by_workers(&rt, alloc, script, 2, &gate)?;
-    let taken_in = report.turns.iter().all(|turn| turn.refused.is_empty());
-    assert!(rt; report.turns.len() == 2 && taken_in && gate.is_passed());
+    let script = format!(in alloc; "{QUIET}{SEEN}")?;
+    let report = report_by(&rt, alloc, script.as_str(), 2, &gate)?;
+    assert!(rt; report.as_str() == TWO_TURNS && gate.is_passed());
     Ok(())
 }
 
@@ -251,9 +321,7 @@ fn both_workers_plan_over_kept_tables(rt: HostRuntime) -> Result<(), Fail> {
 fn gate_test_fails_without_workers(rt: HostRuntime) -> Result<(), Fail> {
     let alloc = rt.alloc();
     let gate = Arc::new(alloc, HoldFirst::new(rt, 100, 0))?;
-    let script = make_script(alloc, &QUIET_SCRIPT)?;
-    assert!(rt; is_script(&script));
-    let report = run_script(&rt, alloc, script, 0, &*gate)?;
-    assert!(rt; report.turns.len() == 1 && !gate.is_passed());
+    let report = report_by(&rt, alloc, QUIET, 0, &gate)?;
+    assert!(rt; report.as_str() == ONE_TURN && !gate.is_passed());
     Ok(())
 }

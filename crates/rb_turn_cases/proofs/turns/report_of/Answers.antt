@@ -1,6 +1,0 @@
-use Rattle.std.proofs.Crossing.{frees}
-use Rattle.rb_turn_cases.proofs.turns.report_of.Goals as goal
-
--- the heap frees what any thread took of it
-pub run_script-requires-clause-alloc : goal.run_script-requires-clause-alloc
-run_script-requires-clause-alloc g c κs within = frees
