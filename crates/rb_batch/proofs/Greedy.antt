@@ -4,7 +4,7 @@ use Rattle.std.proofs.lemmas.Bool.{cases_lt}
 use Rattle.std.proofs.lemmas.List.Elements.{All-head, All-tail}
 use Rattle.rb_batch.specs.declared.transaction.Transaction.{Transaction}
 use Rattle.rb_batch.specs.Limits.{TransactionLimits}
-use Rattle.rb_batch.specs.Cut.{IsTransaction, FollowOn, IsDivision, IsLongerFirst, Precedes, IsLeastCut}
+use Rattle.rb_batch.specs.Cut.{IsTransaction, FollowOn, IsDivision, IsLongerFirst, PrecedesCut, IsLeastCut}
 use Rattle.rb_batch.proofs.Runs.{sum-run_past, FollowOn-le}
 
 -- no room for the message after a transaction, if there is one
@@ -77,7 +77,7 @@ module _ (limits : TransactionLimits) (messages : List ℕ) where
   pub least_from_greedy : (ts : List Transaction) → IsGreedy limits messages ts → IsLeastCut limits messages ts
   least_from_greedy ts greedy = record { division = greedy.division; least = least }
     where
-      least : (us : List Transaction) → IsDivision limits messages us → Precedes us ts → ⊥
+      least : (us : List Transaction) → IsDivision limits messages us → PrecedesCut us ts → ⊥
       least us d (inl fewer) =
           let no : length ts ≤ length us =
           no_fewer ts us 0 0 (omega arith) greedy.division.whole greedy.division.transactions greedy.full d.whole d.transactions in

@@ -32,13 +32,13 @@ IsLongerFirst (t ∷ ts) [] = ⊥
 IsLongerFirst (t ∷ ts) (u ∷ us) = (u.count < t.count) ⊎ ((t.count ≡ u.count) × IsLongerFirst ts us)
 
 -- fewer runs; or as many, and the first run is longer, or where they are as long the second, and so on
-abbrev pub Precedes : List Transaction → List Transaction → Type 0
-Precedes cut other = (length cut < length other) ⊎ ((length cut ≡ length other) × IsLongerFirst cut other)
+abbrev pub PrecedesCut : List Transaction → List Transaction → Type 0
+PrecedesCut cut other = (length cut < length other) ⊎ ((length cut ≡ length other) × IsLongerFirst cut other)
 
 -- the division that no other one precedes
 pub record IsLeastCut (limits : TransactionLimits) (messages : List ℕ) (cut : List Transaction) : Type 0 where
   pub division : IsDivision limits messages cut
-  pub least : (other : List Transaction) → IsDivision limits messages other → ¬ Precedes other cut
+  pub least : (other : List Transaction) → IsDivision limits messages other → ¬ PrecedesCut other cut
 
 -- no message is over the gas limit alone
 abbrev pub NoneIsTooBig : TransactionLimits → List ℕ → Type 0

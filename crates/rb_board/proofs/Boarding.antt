@@ -9,15 +9,15 @@ use Rattle.std.proofs.lemmas.Bool.{true≢false}
 use Rattle.std.proofs.lemmas.List.Sums.{fold-append}
 use Rattle.left_right.specs.Register.{Admits, Turns, TurnsAt, Forks, Merges}
 use Rattle.atomic_table.proofs.Lists.{at_set, at_snoc}
-use Rattle.rb_core.specs.Follower.{Past, Follower, IsOfLog, Told, events_in, followed, follows, state_after, told_of}
+use Rattle.rb_core.specs.Follower.{Past, Follower, IsOfLog, Told, events_in, followed, follows, told_of}
 use Rattle.rb_core.proofs.Entries.{after_free, events-append, events_grow}
 use Rattle.rb_core.proofs.Unjudged.{told_back}
 use Rattle.rb_events.specs.Config.{Config}
 use Rattle.rb_machine.specs.Config.{IsSetUp}
-use Rattle.rb_machine.specs.Entry.{Logged, logged_of, events_of}
+use Rattle.rb_machine.specs.Entry.{Logged, events_of}
 use Rattle.rb_machine.specs.Event.{Event, IsEvent}
 use Rattle.rb_machine.specs.Log.{IsLog}
-use Rattle.rb_machine.specs.Machine.{Reply, State, opening, after, refusal_of, reply_of, state_of}
+use Rattle.rb_machine.specs.Machine.{State, opening, after, refusal_of, state_of}
 use Rattle.rb_board.specs.Knowledge.{Knowledge, nothing_yet, Begins}
 use Rattle.rb_board.specs.Ends.{Desk}
 use Rattle.rb_board.specs.Kept.{IsKnown, Known, Sees, config_or, followed_on, knowledge_of, past_of}
@@ -65,13 +65,6 @@ pub published_begins : (f : Follower) (waiting : List Told) → IsPrefix (events
 published_begins f waiting =
     let g = followed_on f waiting in
     subst (λ (c : Config). IsPrefix (events_in f.past) (events_of (opening c) g.past.entries)) (same_config f waiting) (events_begin f.past.config f.past.entries g.past.entries (more_entries f waiting))
-
--- a reply to an event, where all that it speaks of is known by other names
-pub replies : (reply : Reply) (old_config config : Config) (old_log log : List Event) (old_event event : Event)
-    → reply ≡ reply_of (state_of old_config old_log) old_event → old_config ≡ config → old_log ≡ log → old_event ≡ event → reply ≡ reply_of (state_of config log) event
-replies reply old_config config old_log log old_event event is to_config to_log to_event =
-    is ∙ ap (λ (x : Config). reply_of (state_of x old_log) old_event) to_config ∙ ap (λ (x : List Event). reply_of (state_of config x) old_event) to_log
-    ∙ ap (λ (x : Event). reply_of (state_of config log) x) to_event
 
 -- a configuration that is known stays the one
 config_kept : (c : Option Config) (d : Config) → IsSome c → (c ≡ None) ⊎ (c ≡ Some d) → d ≡ config_or c

@@ -1,40 +1,20 @@
 -- What is put into a book that refuses nothing of it: there is room, it makes the book that the definition says, and that is a book.
-use Rattle.std.proofs.Common.{◌≡◌, ℕ, ◌<◌, Bool, true, cond, List, Option, Some, None, is_some, length, count_by, refl, sym, ap, ◌∙◌, subst, inl, inr, arith}
+use Rattle.std.proofs.Common.{◌≡◌, ℕ, ◌<◌, cond, List, Option, Some, None, is_some, length, count_by, refl, sym, ap, ◌∙◌, subst, inl, inr}
 use Rattle.std.specs.Prelude.{◌⊎◌}
-use Rattle.std.specs.List.{find, insert}
-use Rattle.std.specs.Option.{option_map}
-use Rattle.std.proofs.lemmas.Option.{slice_get_cases}
+use Rattle.std.specs.List.{insert}
 use Rattle.rb_valset.specs.Validator.{Member}
 use Rattle.rb_valset.specs.ValidatorSet.{set_hash}
 use Rattle.rb_book.specs.Header.{Record, Header}
 use Rattle.rb_book.specs.Book.{Known, Book, is_at, is_below, header_is_at, header_is_below, has_hash, is_before, set_of, record_at, header_at, max_sets}
 use Rattle.rb_book.specs.Invariant.{IsBook, IsBacked}
 use Rattle.rb_book.specs.Intake.{set_refusal, record_refusal, header_refusal, with_record, with_header, with_set, after_set, after_record, after_header}
-use Rattle.rb_book.specs.Search.{IsKnownPlace, IsNewPlace}
+use Rattle.rb_book.specs.Search.{IsNewPlace}
 use Rattle.rb_book.proofs.Lists.{found_holds}
 use Rattle.rb_book.proofs.Kept.{free_beside, room_beside, no_record}
 use Rattle.rb_book.proofs.FewHeaders.{room_for_header}
 use Rattle.rb_book.proofs.Additions.{if_new, record_known_or_fits, header_accepts, stays_a_book}
 
--- what stands at a place is found
-found_at : {X : Type 0} (is_it : X → Bool) (xs : List X) (place : ℕ) → IsKnownPlace is_it xs place → is_some (find is_it xs) ≡ true
-found_at is_it xs place known =
-    elim (slice_get_cases xs place).1 [
-      | inl there ↦ ap is_some (known.found ∙ there.2)
-      | inr past ↦ absurd (omega (arith, known.within, past.0))
-    ]
-
-is_some-map : {X Y : Type 0} (f : X → Y) (o : Option X) → is_some (option_map f o) ≡ is_some o
-is_some-map f None = refl
-is_some-map f (Some x) = refl
-
-if_some : {X B : Type 0} (o : Option X) (b c : B) → is_some o ≡ true → cond (is_some o) b c ≡ b
-if_some o b c e = ap (λ t. cond t b c) e
-
 -- ---- a set
-pub set_known : (b : Book) (set : List Member) (place : ℕ) → IsKnownPlace (has_hash (set_hash set)) b.sets place → after_set b set ≡ b
-set_known b set place known = if_some (set_of b (set_hash set)) b (with_set b set) (found_at (has_hash (set_hash set)) b.sets place known)
-
 pub set_put : (b : Book) (set : List Member) (place : ℕ) → IsNewPlace (has_hash (set_hash set)) (is_before (set_hash set)) b.sets place
     → record b { sets = insert b.sets place set } ≡ after_set b set
 set_put b set place new =
@@ -45,11 +25,6 @@ pub set_room : (b : Book) (set : List Member) (place : ℕ) → IsNewPlace (has_
 set_room b set place new f = (room_beside (set_of b (set_hash set)) b set new.absent f).room
 
 -- ---- a record
-pub record_known : (b : Book) (height : ℕ) (r : Record) (place : ℕ) → IsKnownPlace (is_at height) b.records place → after_record b height r ≡ b
-record_known b height r place known =
-    if_some (record_at b height) b (with_record b height r)
-    (is_some-map (λ (k : Known). k.record_of) (find (is_at height) b.records) ∙ found_at (is_at height) b.records place known)
-
 pub record_put : (b : Book) (height : ℕ) (r : Record) (k : Known) (place : ℕ) → IsNewPlace (is_at height) (is_below height) b.records place
     → k ≡ record { height = height; record_of = r } → record b { records = insert b.records place k } ≡ after_record b height r
 record_put b height r k place new is =
@@ -71,10 +46,6 @@ record_accepted b h i f = by ((header_accepts b h).0 f).1
         (record_known_or_fits (record_at b h.height) b h.height h.record_of).1
         (inl (found_holds (IsBacked b) (header_is_at h.height) b.headers h i.backed known).recorded)
     by (inr new) = new.1
-
-pub header_known : (b : Book) (h : Header) (place : ℕ) → IsKnownPlace (header_is_at h.height) b.headers place → after_header b h ≡ b
-header_known b h place known =
-    if_some (header_at b h.height) b (with_header (after_record b h.height h.record_of) h) (found_at (header_is_at h.height) b.headers place known)
 
 same_headers : (b : Book) (height : ℕ) (r : Record) (o : Option Record) → (cond (is_some o) b (with_record b height r)).headers ≡ b.headers
 same_headers b height r None = refl

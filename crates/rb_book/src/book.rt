@@ -4,7 +4,7 @@ ghost use Rattle.std.specs.Option.{option_copied};
 ghost use Rattle.std.specs.Cmp.Lexicographic.{pointwise};
 ghost use Rattle.rb_valset.specs.ValidatorSet.{set_hash, IsValidatorSet, same_set};
 ghost use Rattle.rb_book.specs.Header.{same_header};
-ghost use Rattle.rb_book.specs.Book.{Book, set_of, record_at, header_at, heights_of, times_of, top_of, is_below, header_is_at, has_hash, address_count, same_known, same_book};
+ghost use Rattle.rb_book.specs.Book.{Book, set_of, record_at, header_at, heights_of, heights_and_times_of, top_of, is_below, header_is_at, has_hash, address_count, same_known, same_book};
 ghost use Rattle.rb_book.specs.Invariant.{IsBook, IsBacked};
 ghost use Rattle.rb_book.specs.Intake.{record_refusal, header_refusal, set_refusal, after_set, after_record, after_header, IsRefusal};
 
@@ -115,8 +115,8 @@ impl<A: Allocator + Copy> ChainBook<A> {
     }
 
     /// The known heights and their times, rising together.
-    pub fn times(&self) -> Result<Vec<(Height, Moment), A>, AllocError>
-        ensures value { IfOk result (λ times. times.items ≡ times_of self.now) }
+    pub fn heights_and_times(&self) -> Result<Vec<(Height, Moment), A>, AllocError>
+        ensures value { IfOk result (λ times. times.items ≡ heights_and_times_of self.now) }
         ensures book { IsBook self.now }
     {
         let alloc = *self.records.allocator();

@@ -1,8 +1,8 @@
 -- What is looked up of the records, up to a place and of all.
-use Rattle.std.proofs.Common.{◌≡◌, ◌≢◌, ℕ, ◌+◌, ◌<◌, ◌≤◌, ◌⊎◌, ◌↔◌, List, length, get_or, set, inl, inr, ap, sym, ◌∙◌, refl, subst, arith, Option, Some, None, slice_get, get_or-set_same, get_or-set_other}
+use Rattle.std.proofs.Common.{◌≡◌, ◌≢◌, ℕ, ◌+◌, ◌<◌, ◌≤◌, ◌⊎◌, List, length, get_or, set, inl, inr, ap, sym, ◌∙◌, refl, subst, arith, Option, Some, None, slice_get, get_or-set_same, get_or-set_other}
 use Rattle.std.specs.Option.{IsSomeAnd}
 use Rattle.std.proofs.lemmas.List.{length-set}
-use Rattle.std.proofs.lemmas.Option.{none-some, same_Some, slice_get_within, slice_get-get_or, get_or_from_slice_get}
+use Rattle.std.proofs.lemmas.Option.{same_Some, slice_get_within, slice_get-get_or, get_or_from_slice_get}
 use Rattle.rb_book.specs.Book.{Known}
 use Rattle.rb_step.specs.LightClient.{IsOrderly}
 use Rattle.rb_step.specs.View.{View, client_of}
@@ -15,12 +15,6 @@ use Rattle.rb_cert.specs.Trusted.{IsLookedUp, AreLookedUp, LeadsLower}
 use Rattle.rb_cert.proofs.Rising.{earlier_or_here}
 
 module _ (v : View) (label : Labels) where
-  pub cost_of_live : (k : Known) (o : Option Cost) → (client_of v).IsLive k.height → o ≡ label k.height → (c : Cost) → (o ≡ Some c) ↔ ((client_of v).IsLive k.height × (label k.height ≡ Some c))
-  cost_of_live k o live same c = (λ e. (live, sym same ∙ e), λ p. same ∙ p.1)
-
-  pub cost_of_dead : (k : Known) → ¬ (client_of v).IsLive k.height → (c : Cost) → (None ≡ Some c) ↔ ((client_of v).IsLive k.height × (label k.height ≡ Some c))
-  cost_of_dead k dead c = (λ e. absurd (none-some c e), λ p. absurd (dead p.0))
-
   abbrev pub AreLookedUpBefore : List Trusted → ℕ → Type 0
   AreLookedUpBefore found i = (p : ℕ) (k : Known) (t : Trusted) → p < i → slice_get v.book.records p ≡ Some k → slice_get found p ≡ Some t → IsLookedUp v label k t
 

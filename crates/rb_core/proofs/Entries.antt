@@ -1,9 +1,8 @@
 -- The events come back from what a log keeps of them.
-use Rattle.std.proofs.Common.{◌≡◌, ℕ, ◌<◌, Bool, true, false, cond, not, leb, ltb, List, [], ◌∷◌, ◌++◌, Option, Some, None, is_some, map, length, All, refl, sym, ap, ◌∙◌, subst}
+use Rattle.std.proofs.Common.{◌≡◌, ℕ, ◌<◌, Bool, true, false, cond, not, leb, ltb, List, [], ◌∷◌, ◌++◌, Option, Some, None, is_some, refl, sym, ap, ◌∙◌, subst}
 use Rattle.std.specs.List.{fold}
 use Rattle.std.specs.Option.{option_map, option_map_or}
 use Rattle.std.proofs.lemmas.Bool.{leb-false, not-false}
-use Rattle.std.proofs.lemmas.List.{map-append}
 use Rattle.std.proofs.lemmas.List.Elements.{All-append, All-cons, All-nil}
 use Rattle.std.proofs.lemmas.List.Sums.{fold-append}
 use Rattle.rb_events.specs.Config.{Config}
@@ -14,12 +13,11 @@ use Rattle.rb_core.specs.Core.{IsFold}
 use Rattle.rb_task.specs.Draft.{Draft}
 use Rattle.rb_machine.specs.Entry.{Logged, logged_of, event_of, events_of}
 use Rattle.rb_machine.specs.Event.{Event, IsEvent, Window, Asked, SetSeen, HeaderSeen, StoredSeen, Sent, Received, AckWritten, Cleared, Closed, Scanned, Planned, Settled}
-use Rattle.rb_machine.specs.Log.{accepted_from, log_of, IsLog}
-use Rattle.rb_machine.specs.Machine.{State, opening, plan_number, is_held, all_scanned, is_view, is_scanned, is_job, client_view, max_events, is_known, refusal_beside, refusal_of, accepted, after, state_of}
-use Rattle.rb_machine.specs.Refusal.{refused_if}
+use Rattle.rb_machine.specs.Log.{accepted_from}
+use Rattle.rb_machine.specs.Machine.{State, opening, plan_number, is_held, all_scanned, is_view, is_job, client_view, max_events, is_known, refusal_beside, refusal_of, accepted, after, state_of}
 use Rattle.rb_task.specs.Same.{same_job, same_job-Decides}
 use Rattle.rb_machine.specs.Scan.{Scan}
-use Rattle.rb_machine.specs.Standing.{judged, path_view}
+use Rattle.rb_machine.specs.Standing.{path_view}
 use Rattle.rb_machine.proofs.Options.{passes, tested}
 
 -- ---- events that aren't refused
@@ -35,22 +33,6 @@ free s e none =
     let first = passes (not (is_known s e)) UnknownObject _ none in
     let second = passes (leb max_events s.front) LogFull _ first.1 in
     record { known = not-false (is_known s e) first.0; few = leb-false max_events s.front second.0; beside = second.1 }
-
--- how things stand doesn't speak against it either
-pub judged_free : (s : State) (e : Event) → refusal_beside s e ≡ None → judged s.standing e ≡ None
-judged_free s (Window window) e = e
-judged_free s (Asked client goal) e = e
-judged_free s (SetSeen chain set) e = e
-judged_free s (HeaderSeen chain header) e = e
-judged_free s (StoredSeen client height r) e = e
-judged_free s (Sent path sequence block timeout_height timeout_time) e = e
-judged_free s (Received path sequence block) e = e
-judged_free s (AckWritten path sequence block) e = e
-judged_free s (Cleared path sequence) e = e
-judged_free s (Closed path) e = e
-judged_free s (Scanned path scan) e = refl
-judged_free s (Planned d) e = refl
-judged_free s (Settled client number done) e = e
 
 -- ---- what a log keeps of them
 

@@ -18,9 +18,9 @@ use crate::taking::{make_room, put};
 use crate::told::Told;
 use rb_events::Observation;
 use rb_known::Mark;
-use rb_machine::{CoreError, Entry, Event, Scan, copy_answer};
+use rb_machine::{CoreError, Entry, Event, Scan};
 use rb_scan::Sequence;
-use rb_task::Planned;
+use rb_task::{Planned, copy_answer};
 use std::alloc::Allocator;
 
 /// Takes in an event, if how things stand allows it. What was seen isn't compared.

@@ -7,7 +7,7 @@ use Rattle.rb_events.specs.declared.script.Script.{Script as CodeScript}
 use Rattle.rb_events.specs.declared.script.Turn.{Turn as CodeTurn}
 use Rattle.rb_events.specs.Config.{IsConfig, config_view}
 use Rattle.rb_events.specs.Limits.{max_turns, max_entries}
-use Rattle.rb_events.specs.Script.{turn_view, script_view, IsTurn, IsTurnOf, IsScript, entry_count}
+use Rattle.rb_events.specs.Script.{turn_view, script_view, IsReadTurn, IsTurnOf, IsReadScript, entry_count}
 
 sum_by-map : {X Y : Type 0} (f : Y → ℕ) (g : X → Y) (xs : List X) → sum_by f (map g xs) ≡ sum_by (λ x. f (g x)) xs
 sum_by-map f g [] = refl
@@ -16,22 +16,22 @@ sum_by-map f g (x ∷ xs) = sum_by-cons f (g x) (map g xs) ∙ ap (λ n. f (g x)
 module _ {A : Type 0} (s : CodeScript A) (turns : List (CodeTurn A)) (same : turns ≡ s.turns.items) where
   -- of the parts of a script
   pub whole : length turns ≤ max_turns → sum_by (λ t. entry_count (turn_view t)) turns ≤ max_entries → IsConfig (config_view s.config) → All (IsTurnOf s.config) turns
-      → IsScript (script_view s)
+      → IsReadScript (script_view s)
   whole few entries config all = record {
     config = config;
-    turns = All-map (IsTurn (length s.config.chains.items) (length s.config.clients.items) (length s.config.paths.items)) turn_view s.turns.items
+    turns = All-map (IsReadTurn (length s.config.chains.items) (length s.config.clients.items) (length s.config.paths.items)) turn_view s.turns.items
         (subst (All (IsTurnOf s.config)) same all);
     few_turns = omega (arith, few, length-map s.turns.items turn_view, ap length same);
     few_entries = omega (arith, entries, sum_by-map entry_count turn_view s.turns.items, ap (sum_by (λ t. entry_count (turn_view t))) same);
   }
 
-  pub few_turns : IsScript (script_view s) → length turns ≤ max_turns
+  pub few_turns : IsReadScript (script_view s) → length turns ≤ max_turns
   few_turns is = omega (arith, is.few_turns, length-map s.turns.items turn_view, ap length same)
 
-  pub few_entries : IsScript (script_view s) → sum_by (λ t. entry_count (turn_view t)) turns ≤ max_entries
+  pub few_entries : IsReadScript (script_view s) → sum_by (λ t. entry_count (turn_view t)) turns ≤ max_entries
   few_entries is = omega (arith, is.few_entries, sum_by-map entry_count turn_view s.turns.items, ap (sum_by (λ t. entry_count (turn_view t))) same)
 
-  pub its_turns : IsScript (script_view s) → All (IsTurnOf s.config) turns
+  pub its_turns : IsReadScript (script_view s) → All (IsTurnOf s.config) turns
   its_turns is = subst (All (IsTurnOf s.config)) (sym same) (λ k d lt.
-      subst (IsTurn (length s.config.chains.items) (length s.config.clients.items) (length s.config.paths.items)) (get_or-map turn_view s.turns.items k d (turn_view d) lt)
+      subst (IsReadTurn (length s.config.chains.items) (length s.config.clients.items) (length s.config.paths.items)) (get_or-map turn_view s.turns.items k d (turn_view d) lt)
       (is.turns k (turn_view d) (omega (arith, lt, length-map s.turns.items turn_view))))

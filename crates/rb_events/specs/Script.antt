@@ -31,34 +31,34 @@ script_view s = record { config = config_view s.config; turns = map turn_view s.
 -- ---- what every script keeps
 
 -- what was seen is of a chain, a client or a path that is there, with so many of them
-abbrev pub IsSeen : {A : Type 0} → ℕ → ℕ → ℕ → Observation A → Type 0
-IsSeen chains clients paths (SetSeen chain set) = chain < chains
-IsSeen chains clients paths (HeaderSeen chain header) = chain < chains
-IsSeen chains clients paths (StoredSeen client height stored) = client < clients
-IsSeen chains clients paths (Sent path sequence block timeout_height timeout_time) = path < paths
-IsSeen chains clients paths (Received path sequence block) = path < paths
-IsSeen chains clients paths (AckWritten path sequence block) = path < paths
-IsSeen chains clients paths (Cleared path sequence) = path < paths
-IsSeen chains clients paths (Closed path) = path < paths
+abbrev pub IsReadObservation : {A : Type 0} → ℕ → ℕ → ℕ → Observation A → Type 0
+IsReadObservation chains clients paths (SetSeen chain set) = chain < chains
+IsReadObservation chains clients paths (HeaderSeen chain header) = chain < chains
+IsReadObservation chains clients paths (StoredSeen client height stored) = client < clients
+IsReadObservation chains clients paths (Sent path sequence block timeout_height timeout_time) = path < paths
+IsReadObservation chains clients paths (Received path sequence block) = path < paths
+IsReadObservation chains clients paths (AckWritten path sequence block) = path < paths
+IsReadObservation chains clients paths (Cleared path sequence) = path < paths
+IsReadObservation chains clients paths (Closed path) = path < paths
 
 -- a turn doesn't end before it begins, asks each client at most once, and names what is there
-pub record IsTurn {A : Type 0} (chains clients paths : ℕ) (t : Turn A) : Type 0 where
+pub record IsReadTurn {A : Type 0} (chains clients paths : ℕ) (t : Turn A) : Type 0 where
   pub window : t.window.from ≤ t.window.until
   pub goals : All (λ (g : Asked). g.client < clients) t.goals
   pub once : AllPairs (λ (g h : Asked). g.client ≢ h.client) t.goals
-  pub events : All (IsSeen chains clients paths) t.events
+  pub events : All (IsReadObservation chains clients paths) t.events
   pub settlements : All (λ (x : Settlement). x.client < clients) t.settlements
 
 -- the goals, events and settlements of a turn
 abbrev pub entry_count : {A : Type 0} → Turn A → ℕ
 entry_count t = length t.goals + length t.events + length t.settlements
 
-pub record IsScript {A : Type 0} (s : Script A) : Type 0 where
+pub record IsReadScript {A : Type 0} (s : Script A) : Type 0 where
   pub config : IsConfig s.config
-  pub turns : All (IsTurn (length s.config.chains) (length s.config.clients) (length s.config.paths)) s.turns
+  pub turns : All (IsReadTurn (length s.config.chains) (length s.config.clients) (length s.config.paths)) s.turns
   pub few_turns : length s.turns ≤ max_turns
   pub few_entries : sum_by entry_count s.turns ≤ max_entries
 
 -- the turn as it lies in memory, of a script that is set up so
 abbrev pub IsTurnOf : {A : Type 0} → CodeConfig A → CodeTurn A → Type 0
-IsTurnOf c t = IsTurn (length c.chains.items) (length c.clients.items) (length c.paths.items) (turn_view t)
+IsTurnOf c t = IsReadTurn (length c.chains.items) (length c.clients.items) (length c.paths.items) (turn_view t)

@@ -1,7 +1,7 @@
 //! Scripts: what is run, turn by turn.
 ghost use Rattle.std.specs.Prelude.{◌≡◌, ◌↔◌, ◌≤◌, ◌-◌, ◌<◌, IsTrue, SomeIff, All, AllPairs, length, sum_by};
 ghost use Rattle.rb_events.specs.Limits.{max_entries};
-ghost use Rattle.rb_events.specs.Script.{script_view, turn_view, IsSeen, IsTurn, IsTurnOf, IsScript, entry_count};
+ghost use Rattle.rb_events.specs.Script.{script_view, turn_view, IsReadObservation, IsReadTurn, IsTurnOf, IsReadScript, entry_count};
 
 use crate::config::{Config, is_config};
 use crate::differing::all_differ;
@@ -45,7 +45,7 @@ pub struct Settlement {
 
 /// Whether what was seen is of a chain, a client or a path that is there.
 fn is_seen<A: Allocator>(config: &Config<A>, observation: &Observation<A>) -> bool
-    ensures { IsTrue result ↔ IsSeen (length config.now.chains.items) (length config.now.clients.items) (length config.now.paths.items) observation.now }
+    ensures { IsTrue result ↔ IsReadObservation (length config.now.chains.items) (length config.now.clients.items) (length config.now.paths.items) observation.now }
 {
     match observation {
         Observation::SetSeen { chain, .. } | Observation::HeaderSeen { chain, .. } => {
@@ -61,7 +61,7 @@ fn is_seen<A: Allocator>(config: &Config<A>, observation: &Observation<A>) -> bo
 }
 
 fn are_seen<A: Allocator>(config: &Config<A>, observations: &[Observation<A>]) -> bool
-    ensures { IsTrue result ↔ All (IsSeen (length config.now.chains.items) (length config.now.clients.items) (length config.now.paths.items)) observations.now }
+    ensures { IsTrue result ↔ All (IsReadObservation (length config.now.chains.items) (length config.now.clients.items) (length config.now.paths.items)) observations.now }
 {
     observations
         .iter()
@@ -84,7 +84,7 @@ fn settle_clients(clients: usize, settlements: &[Settlement]) -> bool
 
 /// Whether a turn asks each client at most once, and names what is there.
 fn is_turn<A: Allocator>(config: &Config<A>, turn: &Turn<A>) -> bool
-    ensures { IsTrue result ↔ IsTurn (length config.now.chains.items) (length config.now.clients.items) (length config.now.paths.items) (turn_view turn.now) }
+    ensures { IsTrue result ↔ IsReadTurn (length config.now.chains.items) (length config.now.clients.items) (length config.now.paths.items) (turn_view turn.now) }
 {
     let clients = config.clients.len();
     let goals = turn.goals.as_slice();
@@ -133,7 +133,7 @@ fn are_few_entries<A: Allocator>(turns: &[Turn<A>]) -> bool
 /// asks a client at most once and names chains, clients and paths that are there, and there are at
 /// most 500 turns and 200,000 goals, events and settlements. Takes no memory.
 pub fn is_script<A: Allocator>(script: &Script<A>) -> bool
-    ensures { IsTrue result ↔ IsScript (script_view script.now) }
+    ensures { IsTrue result ↔ IsReadScript (script_view script.now) }
 {
     let turns = script.turns.as_slice();
     if turns.len() > MAX_TURNS {

@@ -2,7 +2,7 @@
 use Rattle.std.proofs.Common.{◌≡◌, ℕ, suc, ◌+◌, ◌-◌, ◌<◌, ◌≤◌, inl, inr, ◌==◌, false, cond, List, [], ◌∷◌, ◌++◌, length, get_or, map, take, drop, All, Some, refl, sym, ap, ◌∙◌, subst, arith}
 use Rattle.std.proofs.lemmas.Bool.Decides.{nat_tests}
 use Rattle.std.proofs.lemmas.List.{get_or_default, ext_get_or, length-drop, length-take, length-map, take_all, get_or-take, get_or-drop}
-use Rattle.std.proofs.lemmas.List.Sums.{sum_by-cons, sum_by_push, sum_by_more, sum_by-take-drop, sum_by-take-le, count_by-le-length}
+use Rattle.std.proofs.lemmas.List.Sums.{sum_by-cons, sum_by_push, sum_by_more, sum_by-take-drop, sum_by-take-le}
 use Rattle.std.specs.List.{slice_get}
 use Rattle.std.specs.Option.{option_map}
 use Rattle.std.specs.List.Sorted.{IsPermutation}
@@ -101,9 +101,6 @@ module _ (rows : List FrameRow) (p : ℕ) (x y : FrameRow) (n k : ℕ) (ordered 
     where
       by : (a b : ℕ) → b ≤ a → (b ≡ a → ⊥) → made m (take (p + 1) rows) ≡ made m (take p rows) + cond (a == m) 1 0 → (b < m → made m (take p rows) ≡ 0) → made m (take p rows) ≤ 1 → made m (take (p + 1) rows) ≤ 1
       by a b le other more none few = grind (arith, nat_tests)
-
-pub once_begun : (rows : List FrameRow) (m : ℕ) → made m (take 1 rows) ≤ 1
-once_begun rows m = let a = count_by-le-length (λ (row : FrameRow). row.number == m) (take 1 rows) in let b = length-take 1 rows in omega (arith, a, b)
 
 pub once_all : (rows : List FrameRow) (p : ℕ) → length rows ≤ p → ((m : ℕ) → made m (take p rows) ≤ 1) → (m : ℕ) → made m rows ≤ 1
 once_all rows p le once m = subst (λ (l : List FrameRow). made m l ≤ 1) (take_all p rows le) (once m)

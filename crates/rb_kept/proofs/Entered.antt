@@ -417,9 +417,6 @@ pub places_with_record : (b : Book) (height place : ℕ) (r : Record) (next : Op
 places_with_record b height place r next places at is named =
     (λ i. insert (is i) (at i) (named i)) ∙ sym (map-insert (next_place b) b.records (count_by (is_below height) b.records) (record { height = height; record_of = r }))
 
-pub place_of_record : (b : Book) (height place : ℕ) (places : List (Option ℕ)) → place ≡ count_by (is_below height) b.records → places ≡ next_places b → place ≤ length places
-place_of_record b height place places at is = omega (arith, at, ap length is, length-map b.records (next_place b), count_by-le-length (is_below height) b.records)
-
 -- the rows, where the record names no known set
 pub rows_unnamed : (b : Book) (height : ℕ) (r : Record) (rows : List Kept) → IsBook b → IsBook (with_record b height r) → position (has_hash r.next) b.sets ≡ None → rows ≡ map (kept_of b) b.headers
     → rows ≡ map (kept_of (with_record b height r)) b.headers

@@ -151,14 +151,6 @@ pub undone-none : {X Y : Type 0} (f g : X → Y) (xs : List X) (n : ℕ) → und
 unfolding undone
 undone-none f g xs n = refl
 
-pub length-undone : {X Y : Type 0} (f g : X → Y) (xs : List X) (n i : ℕ) → length (undone f g xs n i) ≡ length xs
-unfolding undone written
-length-undone f g xs n zero = length-written f g xs n
-length-undone f g [] zero (suc i) = refl
-length-undone f g [] (suc n) (suc i) = refl
-length-undone f g (x ∷ xs) zero (suc i) = ap suc (length-undone f g xs zero i)
-length-undone f g (x ∷ xs) (suc n) (suc i) = ap suc (length-undone f g xs n i)
-
 pub undone-here : {X Y : Type 0} (f g : X → Y) (xs : List X) (n i : ℕ) (x : X) (d : Y) → i < length xs → i < n → get_or (undone f g xs n i) i d ≡ g (get_or xs i x)
 unfolding undone written
 undone-here f g [] n i x d lt before = absurd (omega arith)

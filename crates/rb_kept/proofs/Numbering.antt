@@ -1,5 +1,5 @@
 -- Columns stand for addresses.
-use Rattle.std.proofs.Common.{◌≡◌, ◌≢◌, ℕ, zero, suc, ◌+◌, ◌<◌, ◌≤◌, Bool, true, false, cond, eqb, ◌&&◌, ◌||◌, List, [], ◌∷◌, ◌++◌, Option, Some, None, length, get_or, set, map, filter, sum_by, take, position, refl, sym, ap, subst, ◌∙◌, inl, inr, arith, zero-add}
+use Rattle.std.proofs.Common.{◌≡◌, ◌≢◌, ℕ, zero, suc, ◌+◌, ◌<◌, ◌≤◌, Bool, true, false, cond, eqb, ◌&&◌, ◌||◌, List, [], ◌∷◌, ◌++◌, Option, Some, None, length, get_or, set, map, filter, sum_by, take, position, refl, sym, ap, subst, ◌∙◌, inl, inr, arith}
 use Rattle.std.specs.Prelude.{unwrap_or}
 use Rattle.std.specs.List.{list_any, zip, All}
 use Rattle.std.specs.Str.{bytes_eq}
@@ -157,10 +157,6 @@ pub intern_step : (old new : List (List ℕ)) (a : List ℕ) (ms : List Member) 
 intern_step old new a ms i m e address lt is all =
     let here : IsNumbered new m = subst (λ (ks : List (List ℕ)). IsNumbered ks m) (sym (e ∙ ap (with_address old) address)) (numbered_now old m) in
     all-more (IsNumbered new) ms i m lt (λ k d within. intern_keeps old new a e (get_or (take i ms) k d) (all k d within)) (subst (IsNumbered new) is here)
-
-pub sets_step : (old new : List (List ℕ)) (sets : List (List Member)) (i : ℕ) (s : List Member) → ((m : Member) → IsNumbered old m → IsNumbered new m) → AreNumbered new s → i < length sets → s ≡ get_or sets i s → All (AreNumbered old) (take i sets) → All (AreNumbered new) (take (i + 1) sets)
-sets_step old new sets i s kept here lt is all =
-    all-more (AreNumbered new) sets i s lt (λ k d within j e below. kept (get_or (get_or (take i sets) k d) j e) (all k d within j e below)) (subst (AreNumbered new) is here)
 
 column_below : (keys : List (List ℕ)) (a : List ℕ) (o : Option ℕ) → position (bytes_eq a) keys ≡ o → length keys ≤ max_columns → unwrap_or o 0 < max_columns
 column_below keys a (Some i) e few = let at = position-Some (bytes_eq a) keys i [] e in omega (arith, at.0)

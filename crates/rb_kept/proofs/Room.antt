@@ -1,16 +1,16 @@
 -- There is a column for each address of a book.
-use Rattle.std.proofs.Common.{◌≡◌, ℕ, zero, suc, ◌<◌, ◌≤◌, Bool, true, false, cond, ◌||◌, List, [], ◌∷◌, ◌++◌, length, get_or, map, refl, sym, ap, subst, ◌∙◌, inl, inr, arith}
-use Rattle.std.specs.List.{list_any, IsDistinct, AllByRecursion}
-use Rattle.std.specs.Set.{unique_keys, is_member}
+use Rattle.std.proofs.Common.{◌≡◌, ℕ, zero, suc, ◌<◌, ◌≤◌, Bool, true, false, cond, ◌||◌, List, [], ◌∷◌, ◌++◌, length, get_or, refl, sym, ap, subst, ◌∙◌, inl, inr, arith}
+use Rattle.std.specs.List.{list_any, IsDistinct}
+use Rattle.std.specs.Set.{unique_keys}
 use Rattle.std.specs.Str.{bytes_eq}
 use Rattle.std.proofs.lemmas.Bool.{cases_Bool, false≢true}
 use Rattle.std.proofs.lemmas.List.Folds.{list_any-append}
-use Rattle.std.proofs.lemmas.Map.Steps.{list_any_congr}
 use Rattle.std.proofs.lemmas.Map.Made.{length-le_from_is_member}
 use Rattle.std.proofs.lemmas.Cmp.{nat_list_eq_equiv}
 use Rattle.std.proofs.lemmas.Slice.Eq.{bytes_eq-Decides}
 use Rattle.rb_valset.specs.Validator.{Member, address_of, has_address}
 use Rattle.rb_book.specs.Book.{is_known_address, addresses_of, address_count}
+use Rattle.rb_book.proofs.AddressCount.{known-addresses, member-unique, absent_all}
 use Rattle.rb_lanes.specs.Lanes.{max_columns, with_address}
 use Rattle.rb_lanes.specs.Refusal.{IsFull}
 
@@ -29,28 +29,6 @@ either false b e none = e
 or_first : (a b : Bool) → a ≡ true → (a || b) ≡ true
 or_first a b e = ap (λ (x : Bool). x || b) e
 
-same_both_ways : (a : Address) (ms : List Member) → list_any (bytes_eq a) (map (λ m. address_of m.key) ms) ≡ list_any (has_address a) ms
-same_both_ways a [] = refl
-same_both_ways a (m ∷ ms) =
-    ap (λ (b : Bool). b || list_any (bytes_eq a) (map (λ x. address_of x.key) ms)) (nat_list_eq_equiv.symm a (address_of m.key))
-    ∙ ap (λ (b : Bool). has_address a m || b) (same_both_ways a ms)
-
-known-addresses : (ss : List (List Member)) (a : Address) → is_member bytes_eq (addresses_of ss) a ≡ is_known_address ss a
-known-addresses [] a = refl
-known-addresses (s ∷ ss) a =
-    list_any-append (bytes_eq a) (map (λ m. address_of m.key) s) (addresses_of ss)
-    ∙ ap (λ (b : Bool). b || list_any (bytes_eq a) (addresses_of ss)) (same_both_ways a s)
-    ∙ ap (λ (b : Bool). list_any (has_address a) s || b) (known-addresses ss a)
-
-member-unique : (xs : List Address) (q : Address) → is_member bytes_eq (unique_keys bytes_eq xs) q ≡ is_member bytes_eq xs q
-member-unique [] q = refl
-member-unique (x ∷ xs) q = by (is_member bytes_eq xs x) (bytes_eq q x) refl refl (member-unique xs q)
-  where
-    by : (b c : Bool) → is_member bytes_eq xs x ≡ b → bytes_eq q x ≡ c → is_member bytes_eq (unique_keys bytes_eq xs) q ≡ is_member bytes_eq xs q → is_member bytes_eq (cond b (unique_keys bytes_eq xs) (x ∷ unique_keys bytes_eq xs)) q ≡ (c || is_member bytes_eq xs q)
-    by true true m t r = r ∙ list_any_congr nat_list_eq_equiv q x xs t ∙ m
-    by true false m t r = r
-    by false c m t r = ap (λ (v : Bool). v || is_member bytes_eq (unique_keys bytes_eq xs) q) t ∙ ap (λ (v : Bool). c || v) r
-
 -- so they are at most as many as the sets have
 few-of_sets : (sets : List (List Member)) (keys : List Address) → AreOfSets sets keys → length keys ≤ address_count sets
 few-of_sets sets keys of_sets =
@@ -58,14 +36,6 @@ few-of_sets sets keys of_sets =
     (λ q is. member-unique (addresses_of sets) q ∙ known-addresses sets q ∙ of_sets.known q is)
 
 -- ---- one more
-
-absent_all : (a : Address) (ks : List Address) → list_any (bytes_eq a) ks ≡ false → AllByRecursion (λ (k : Address). bytes_eq a k ≡ false) ks
-absent_all a [] e = tt
-absent_all a (k ∷ ks) e = let h = or_false (bytes_eq a k) (list_any (bytes_eq a) ks) e in (h.0, absent_all a ks h.1)
-  where
-    or_false : (b c : Bool) → (b || c) ≡ false → (b ≡ false) × (c ≡ false)
-    or_false true c e = absurd (cc)
-    or_false false c e = (refl, e)
 
 distinct-cons : (a : Address) (ks : List Address) → list_any (bytes_eq a) ks ≡ false → IsDistinct bytes_eq ks → IsDistinct bytes_eq (a ∷ ks)
 unfolding IsDistinct

@@ -3,10 +3,9 @@ ghost use Rattle.std.specs.Prelude.{◌≡◌, ◌<◌, ◌≤◌, ◌++◌, tak
 ghost use Rattle.std.specs.List.Sorted.{IsStrictlyIncreasing};
 ghost use Rattle.rb_valset.specs.ValidatorSet.{set_hash};
 ghost use Rattle.rb_book.specs.Header.{IsSignedBy};
-ghost use Rattle.rb_book.specs.Book.{has_hash, set_of, is_before, header_height, header_is_at, header_is_below, max_sets};
+ghost use Rattle.rb_book.specs.Book.{has_hash, set_of, is_before, header_height, header_is_below, max_sets};
 ghost use Rattle.rb_book.specs.Invariant.{IsBook, IsBacked};
 ghost use Rattle.rb_book.specs.Intake.{record_refusal, header_refusal, with_record, with_set, after_record};
-ghost use Rattle.rb_book.specs.Search.{IsPlace};
 ghost use Rattle.rb_kept.specs.Moved.{moved};
 ghost use Rattle.rb_kept.specs.Kept.{own_set, next_place, next_places, first_naming, kept_power, kept_of};
 ghost use Rattle.rb_kept.specs.Numbering.{AreLanesOf};
@@ -15,7 +14,7 @@ use crate::build::{first_naming, kept_by_lanes, own_set};
 use crate::kept::Kept;
 use crate::lanes::{Lanes, lanes_of};
 use rb_base::Height;
-use rb_book::{ChainBook, Header, Known, Record};
+use rb_book::{ChainBook, Header, Known, Record, header_place};
 use rb_step::signed_power;
 use rb_valset::ValidatorSet;
 use std::alloc::{AllocError, Allocator};
@@ -56,19 +55,6 @@ pub fn new_row<A: Allocator + Copy>(
     let row = kept_by_lanes(alloc, book, header, place, lowest, &made.columns, tallies)?;
     *lanes = Some(made);
     Ok(row)
-}
-
-/// The place of the header at this height, or else the place where one belongs.
-fn header_place<A: Allocator + Copy>(headers: &[Header<A>], height: Height) -> Result<usize, usize>
-    requires { IsStrictlyIncreasing (map header_height headers.now) }
-    ensures { IsPlace (header_is_at height) (header_is_below height) headers.now result }
-{
-    headers.binary_search_by_key(
-        &height,
-        |header: &Header<A>| -> Height
-            ensures { result ≡ header_height header.now }
-        { header.height() },
-    )
 }
 
 /// How many headers are lower.

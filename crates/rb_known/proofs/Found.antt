@@ -6,7 +6,7 @@ use Rattle.std.specs.Borrow.{Bor}
 use Rattle.std.specs.Slice.{IsItemAt}
 use Rattle.std.proofs.lemmas.Option.{slice_get-map, slice_get_past, unwrap_or-slice_get}
 use Rattle.std.specs.List.Sorted.{IsStrictlyIncreasing}
-use Rattle.rb_book.specs.Book.{Book, Known, height_of, time_of, times_of}
+use Rattle.rb_book.specs.Book.{Book, Known, height_of, time_of, heights_and_times_of}
 use Rattle.rb_book.specs.Invariant.{IsBook}
 use Rattle.rb_book.specs.Shared.{Shared}
 use Rattle.rb_scan.specs.Path.{heights_of as path_heights, times_of as path_times}
@@ -43,7 +43,7 @@ book_found books chain None at = index_or-none (books_of books) chain (empty_boo
 book_found books chain (Some s) at = index_or-found (books_of books) chain s.now.book (empty_book 1) (view_found (λ (x : Shared). x.book) books chain (Some s) at)
 
 -- the heights and the times of a book's records rise
-pub times_rise : (b : Book) (list : List (ℕ × ℕ)) → IsBook b → list ≡ times_of b → IsStrictlyIncreasing (path_heights list) × IsStrictlyIncreasing (path_times list)
+pub times_rise : (b : Book) (list : List (ℕ × ℕ)) → IsBook b → list ≡ heights_and_times_of b → IsStrictlyIncreasing (path_heights list) × IsStrictlyIncreasing (path_times list)
 times_rise b list good e = (
   subst (λ (l : List (ℕ × ℕ)). IsStrictlyIncreasing (path_heights l)) (sym e) (subst IsStrictlyIncreasing (sym (heights_same b.records)) good.records.heights),
   subst (λ (l : List (ℕ × ℕ)). IsStrictlyIncreasing (path_times l)) (sym e) (subst IsStrictlyIncreasing (sym (times_same b.records)) good.records.times),

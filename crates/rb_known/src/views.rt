@@ -3,7 +3,7 @@ ghost use Rattle.std.specs.Prelude.{◌≡◌, ◌==◌, ◌&&◌, map, IfOk, Ma
 ghost use Rattle.std.specs.Bool.{beq};
 ghost use Rattle.std.specs.Cmp.Lexicographic.{pointwise};
 ghost use Rattle.std.specs.List.Sorted.{IsStrictlyIncreasing};
-ghost use Rattle.rb_book.specs.Book.{height_of, time_of, times_of};
+ghost use Rattle.rb_book.specs.Book.{height_of, time_of, heights_and_times_of};
 ghost use Rattle.rb_scan.specs.Path.{heights_of as path_heights, times_of as path_times};
 ghost use Rattle.rb_scan.specs.Same.{same_order, same_packet, same_path, same_record};
 ghost use Rattle.rb_known.specs.Held.{books_of};
@@ -42,14 +42,14 @@ fn times_in<A: Allocator + Copy>(
     books: &[SharedBook<A>],
     chain: usize,
 ) -> Result<Vec<(Height, Moment), A>, AllocError>
-    ensures value { IfOk result (λ list. list.items ≡ times_of (book_at (books_of books.now) chain)) }
+    ensures value { IfOk result (λ list. list.items ≡ heights_and_times_of (book_at (books_of books.now) chain)) }
     ensures heights { IfOk result (λ list. IsStrictlyIncreasing (path_heights list.items)) }
     ensures times { IfOk result (λ list. IsStrictlyIncreasing (path_times list.items)) }
 {
     let Some(shared) = find_book(books, chain) else {
         return Ok(Vec::new(alloc));
     };
-    let list = shared.book().times()?;
+    let list = shared.book().heights_and_times()?;
     Ok(list)
 }
 

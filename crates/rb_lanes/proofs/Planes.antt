@@ -1,10 +1,8 @@
 -- The bits of a plane, by its bytes.
-use Rattle.std.proofs.Common.{◌≡◌, ℕ, zero, suc, ◌+◌, ◌<◌, ◌≤◌, Bool, true, false, cond, eqb, List, [], ◌∷◌, length, get_or, take, drop, set, map, replicate, count_by, min, refl, sym, ap, ◌∙◌, arith}
+use Rattle.std.proofs.Common.{◌≡◌, ℕ, zero, suc, ◌+◌, ◌<◌, ◌≤◌, Bool, true, false, cond, eqb, List, [], ◌∷◌, length, get_or, drop, set, map, replicate, min, refl, sym, ap, ◌∙◌, arith}
 use Rattle.std.specs.Simd.Lanes.{chunk, zip2, top}
 use Rattle.std.proofs.lemmas.List.{get_or-map, get_or-take, get_or-drop, drop-map, drop_min, length-map, map-set}
 use Rattle.std.proofs.lemmas.Simd.{length-chunk}
-use Rattle.std.specs.Int.{from_bool}
-use Rattle.std.specs.List.{All}
 use Rattle.rb_lanes.specs.Lanes.{bits_of}
 
 abbrev is_one : ℕ → Bool
@@ -25,17 +23,6 @@ bit_raised bytes k = map-set is_one bytes k 1
 -- the test of a column's byte
 pub bit_test : (bytes : List ℕ) (k d : ℕ) → k < length bytes → eqb (get_or bytes k d) 1 ≡ get_or (bits_of bytes) k false
 bit_test bytes k d lt = sym (get_or-map is_one bytes k d false lt)
-
--- a byte of 0 or 1 is its bit's number, and past the last column both are 0
-pub byte_is_bit : (bytes : List ℕ) (k : ℕ) → All (λ byte. byte ≤ 1) bytes → get_or bytes k 0 ≡ from_bool (get_or (bits_of bytes) k false)
-byte_is_bit [] k small = refl
-byte_is_bit (b ∷ bs) zero small = one b (small 0 0 (omega arith))
-  where
-    one : (n : ℕ) → n ≤ 1 → n ≡ from_bool (eqb n 1)
-    one zero le = refl
-    one (suc zero) le = refl
-    one (suc (suc n)) le = absurd (omega arith)
-byte_is_bit (b ∷ bs) (suc k) small = byte_is_bit bs k (λ j d lt. small (suc j) d (omega arith))
 
 -- the bits from a column on
 pub bits_from : (bytes : List ℕ) (first : ℕ) → bits_of (drop (min first (length bytes)) bytes) ≡ drop first (bits_of bytes)

@@ -6,12 +6,12 @@ use Rattle.std.proofs.lemmas.List.FromFn.{length-range_with_len}
 use Rattle.std.proofs.lemmas.List.Sums.{sum_by-cons}
 use Rattle.rb_events.specs.Config.{Config}
 use Rattle.rb_events.specs.Limits.{max_clients, max_paths}
-use Rattle.rb_events.specs.Script.{Turn as SeenTurn, Script as SeenScript, IsScript as IsReadScript, entry_count}
+use Rattle.rb_events.specs.Script.{Turn as SeenTurn, Script as SeenScript, IsReadScript, entry_count}
 use Rattle.rb_machine.specs.Event.{Event}
 use Rattle.rb_machine.specs.Seen.{observed}
 use Rattle.rb_phases.specs.Agenda.{Item, ask, plan, settle, observations, both_parts, agenda}
 use Rattle.rb_phases.specs.Script.{Turn}
-use Rattle.rb_super.specs.Told.{told, told_turn}
+use Rattle.rb_super.specs.AsEvents.{as_events, turn_as_events}
 use Rattle.rb_laws.specs.Schedule.{appends_in, FitsLog}
 
 length-observations : (events : List Event) (number : ℕ) → length (observations number events) ≡ length events
@@ -48,21 +48,21 @@ length-agenda c t =
 
 module _ {A : Type 0} where
   turns_fit : (c : Config) → length c.clients ≤ max_clients → length c.paths ≤ max_paths → (ts : List (SeenTurn A))
-      → appends_in c (map told_turn ts) ≤ sum_by entry_count ts + 769 * length ts
+      → appends_in c (map turn_as_events ts) ≤ sum_by entry_count ts + 769 * length ts
   turns_fit c clients paths [] = omega arith
   turns_fit c clients paths (t ∷ ts) =
       let rest = turns_fit c clients paths ts in
-      let this = told_turn t in
+      let this = turn_as_events t in
       omega (
         arith,
         rest,
         length-agenda c this,
         length-map t.events observed,
-        sum_by-cons (λ (x : Turn). length (agenda c x)) this (map told_turn ts),
+        sum_by-cons (λ (x : Turn). length (agenda c x)) this (map turn_as_events ts),
         sum_by-cons entry_count t ts,
         clients,
         paths,
       )
 
-  pub read_fits : (s : SeenScript A) → IsReadScript s → FitsLog (told s)
+  pub read_fits : (s : SeenScript A) → IsReadScript s → FitsLog (as_events s)
   read_fits s is = let all = turns_fit s.config is.config.few_clients is.config.few_paths s.turns in omega (arith, all, is.few_turns, is.few_entries)

@@ -1,8 +1,8 @@
 //! Scripts that were read are scripts that the laws speak of.
-ghost use Rattle.rb_events.specs.Script.{script_view, IsScript as IsReadScript};
+ghost use Rattle.rb_events.specs.Script.{script_view, IsReadScript};
 ghost use Rattle.rb_laws.specs.Schedule.{FitsLog};
 ghost use Rattle.rb_phases.specs.Script.{IsScript};
-ghost use Rattle.rb_super.specs.Told.{told};
+ghost use Rattle.rb_super.specs.AsEvents.{as_events};
 
 use rb_events::Script;
 use rb_super::read_scripts_are_scripts;
@@ -12,8 +12,8 @@ use std::alloc::Allocator;
 /// and of schedules ask of a script, and all that can be appended for it has room in the log: so they hold of it.
 pub fn laws_hold_of_read_scripts<A: Allocator>(script: &Script<A>)
     requires { IsReadScript (script_view script.now) }
-    ensures script { IsScript (told (script_view script.now)) }
-    ensures room { FitsLog (told (script_view script.now)) }
+    ensures script { IsScript (as_events (script_view script.now)) }
+    ensures room { FitsLog (as_events (script_view script.now)) }
 {
     read_scripts_are_scripts(script);
 }

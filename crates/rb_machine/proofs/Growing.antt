@@ -5,7 +5,7 @@ use Rattle.std.specs.Option.{option_map, option_and_then}
 use Rattle.std.proofs.lemmas.Bool.{cases_eq, cases_lt, or_parts}
 use Rattle.std.proofs.lemmas.List.{get_or-set_same, get_or-set_other, set_past, length-map}
 use Rattle.std.proofs.lemmas.Option.{none-some, same_Some}
-use Rattle.rb_book.specs.Book.{Book, Known, height_of, time_of, times_of, record_at, header_at, set_of, is_below}
+use Rattle.rb_book.specs.Book.{Book, Known, height_of, time_of, heights_and_times_of, record_at, header_at, set_of, is_below}
 use Rattle.rb_book.specs.Header.{Record, Header}
 use Rattle.rb_book.specs.Intake.{after_set, after_header, after_record, with_set, with_record, with_header}
 use Rattle.rb_scan.specs.Owed.{packet_at, same_kind}
@@ -224,33 +224,33 @@ messages_grown (m ∷ ms) s =
 -- ---- books
 
 GrownBook : Book → Book → Type 0
-GrownBook b c = (times_of b ≡ times_of c) ⊎ (length (times_of b) < length (times_of c))
+GrownBook b c = (heights_and_times_of b ≡ heights_and_times_of c) ⊎ (length (heights_and_times_of b) < length (heights_and_times_of c))
 
 record_grown : (b : Book) (height : ℕ) (r : Record) → GrownBook b (after_record b height r)
 unfolding GrownBook
 record_grown b height r = go (is_some (record_at b height))
   where
-    go : (t : Bool) → (times_of b ≡ times_of (cond t b (with_record b height r))) ⊎ (length (times_of b) < length (times_of (cond t b (with_record b height r))))
+    go : (t : Bool) → (heights_and_times_of b ≡ heights_and_times_of (cond t b (with_record b height r))) ⊎ (length (heights_and_times_of b) < length (heights_and_times_of (cond t b (with_record b height r))))
     go true = inl refl
     go false = inr longer
       where
-        before : length (times_of b) ≡ length b.records
+        before : length (heights_and_times_of b) ≡ length b.records
         before = length-map b.records (λ (x : Known). (height_of x, time_of x))
 
-        now : length (times_of (with_record b height r)) ≡ length (with_record b height r).records
+        now : length (heights_and_times_of (with_record b height r)) ≡ length (with_record b height r).records
         now = length-map (with_record b height r).records (λ (x : Known). (height_of x, time_of x))
 
         long : length (with_record b height r).records ≡ suc (length b.records)
         long = long-insert b.records (count_by (is_below height) b.records) (record { height = height; record_of = r })
 
-        longer : length (times_of b) < length (times_of (with_record b height r))
+        longer : length (heights_and_times_of b) < length (heights_and_times_of (with_record b height r))
         longer = omega (arith, before, now, long)
 
 header_grown : (b : Book) (h : Header) → GrownBook b (after_header b h)
 unfolding GrownBook
 header_grown b h = go (is_some (header_at b h.height))
   where
-    go : (t : Bool) → (times_of b ≡ times_of (cond t b (with_header (after_record b h.height h.record_of) h))) ⊎ (length (times_of b) < length (times_of (cond t b (with_header (after_record b h.height h.record_of) h))))
+    go : (t : Bool) → (heights_and_times_of b ≡ heights_and_times_of (cond t b (with_header (after_record b h.height h.record_of) h))) ⊎ (length (heights_and_times_of b) < length (heights_and_times_of (cond t b (with_header (after_record b h.height h.record_of) h))))
     go true = inl refl
     go false = record_grown b h.height h.record_of
 
@@ -258,7 +258,7 @@ set_grown : (b : Book) (x : List Member) → GrownBook b (after_set b x)
 unfolding GrownBook
 set_grown b x = go (is_some (set_of b (set_hash x)))
   where
-    go : (t : Bool) → (times_of b ≡ times_of (cond t b (with_set b x))) ⊎ (length (times_of b) < length (times_of (cond t b (with_set b x))))
+    go : (t : Bool) → (heights_and_times_of b ≡ heights_and_times_of (cond t b (with_set b x))) ⊎ (length (heights_and_times_of b) < length (heights_and_times_of (cond t b (with_set b x))))
     go true = inl refl
     go false = inl refl
 
@@ -277,11 +277,11 @@ book_grown s chain b grown path v e =
     by_times p ts us (inr lt) = inr (omega arith)
 
     by_place : (p : KnownPath) → (p.config.destination ≡ chain) ⊎ (p.config.destination ≡ chain → ⊥) → (chain < length s.books) ⊎ (length s.books ≤ chain) → Grown (view_of_path s.books p) (view_of_path (set s.books chain b) p)
-    by_place p (inr other) within = by_times p _ _ (inl (ap times_of (sym (get_or-set_other s.books chain p.config.destination b (empty_book 1) other))))
-    by_place p (inl same) (inr past) = by_times p _ _ (inl (ap (λ bs. times_of (book_at bs p.config.destination)) (sym (set_past s.books chain b past))))
+    by_place p (inr other) within = by_times p _ _ (inl (ap heights_and_times_of (sym (get_or-set_other s.books chain p.config.destination b (empty_book 1) other))))
+    by_place p (inl same) (inr past) = by_times p _ _ (inl (ap (λ bs. heights_and_times_of (book_at bs p.config.destination)) (sym (set_past s.books chain b past))))
     by_place p (inl same) (inl within) =
         by_times p _ _
-        (subst (λ (x : Book × Book). (times_of x.0 ≡ times_of x.1) ⊎ (length (times_of x.0) < length (times_of x.1)))
+        (subst (λ (x : Book × Book). (heights_and_times_of x.0 ≡ heights_and_times_of x.1) ⊎ (length (heights_and_times_of x.0) < length (heights_and_times_of x.1)))
         (λ i. (ap (book_at s.books) (sym same) i, (sym (get_or-set_same s.books chain b (empty_book 1) within) ∙ ap (book_at (set s.books chain b)) (sym same)) i)) grown)
 
 -- ---- every event

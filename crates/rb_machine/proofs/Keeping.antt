@@ -1,5 +1,5 @@
 -- What is kept after every list of events.
-use Rattle.std.proofs.Common.{◌≡◌, ℕ, zero, suc, ◌+◌, ◌<◌, ◌≤◌, Bool, true, false, cond, List, [], ◌∷◌, length, map, get_or, set, replicate, Option, Some, None, is_some, refl, sym, ap, ◌∙◌, subst, inl, inr, arith, if◌then◌else◌}
+use Rattle.std.proofs.Common.{◌≡◌, ℕ, zero, suc, ◌+◌, ◌<◌, ◌≤◌, Bool, true, false, cond, List, [], ◌∷◌, length, map, get_or, set, replicate, Option, Some, None, is_some, refl, sym, ap, ◌∙◌, subst, inl, inr, arith}
 use Rattle.std.specs.Prelude.{IfSome}
 use Rattle.std.specs.List.{fold, slice_get}
 use Rattle.std.specs.Option.{option_map, option_map_or, option_and_then}
@@ -100,7 +100,7 @@ plans_long s (Scanned path scan) = refl
 plans_long s (Planned d) = length-set s.plans d.job.client _
 plans_long s (Settled client number done) = refl
 
-scans_long : (s : State) (e : Event) → length (scans_after s e) ≡ length s.scans
+pub scans_long : (s : State) (e : Event) → length (scans_after s e) ≡ length s.scans
 scans_long s (Window window) = refl
 scans_long s (Asked client goal) = refl
 scans_long s (SetSeen chain x) = refl

@@ -5,7 +5,7 @@ use Rattle.std.specs.List.{list_any, enumerate_from}
 use Rattle.std.specs.Option.{option_map, option_map_or, option_and_then}
 use Rattle.rb_base.specs.Window.{Span}
 use Rattle.rb_batch.specs.declared.transaction.Transaction.{Transaction}
-use Rattle.rb_book.specs.Book.{Book, times_of}
+use Rattle.rb_book.specs.Book.{Book, heights_and_times_of}
 use Rattle.rb_book.specs.Intake.{set_refusal, header_refusal, record_refusal, after_set, after_header, after_record, placed}
 use Rattle.rb_events.specs.declared.goal.Goal.{Goal}
 use Rattle.rb_scan.specs.Owed.{owed_part, packet_at, next_sequence, same_kind}
@@ -97,7 +97,7 @@ view_of_path books p = record {
   first = p.config.first;
   packets = p.packets;
   closed = p.closed;
-  destination = times_of (book_at books p.config.destination);
+  destination = heights_and_times_of (book_at books p.config.destination);
 }
 
 abbrev pub path_view : Standing → ℕ → Option Path

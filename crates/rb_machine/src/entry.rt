@@ -1,6 +1,5 @@
 //! What a log keeps of an event.
 ghost use Rattle.std.specs.Prelude.{◌≡◌, IfOk};
-ghost use Rattle.std.specs.Option.{option_copied};
 ghost use Rattle.rb_machine.specs.Entry.{entry_view, logged_of};
 ghost use Rattle.rb_machine.specs.Seen.{event_view};
 
@@ -8,7 +7,7 @@ use crate::event::Event;
 use rb_base::Window;
 use rb_events::{Asked, Observation, Settlement};
 use rb_scan::Part;
-use rb_task::Planned;
+use rb_task::{Planned, copy_answer};
 use std::alloc::{AllocError, Allocator, Global};
 
 /// An event; of a scan and a plan what is left to say where the log before it is known: the path and
@@ -55,16 +54,4 @@ impl<A: Allocator + Copy> Entry<A> {
             Event::Settled(settlement) => Entry::Settled(*settlement),
         })
     }
-}
-
-/// An equal answer, if there is one. An error comes only where a growth is refused.
-pub fn copy_answer<A: Allocator + Copy>(
-    answer: Option<&Planned<A>>,
-) -> Result<Option<Planned<A>>, AllocError>
-    ensures { IfOk result (λ copy. copy ≡ option_copied answer.entry) }
-{
-    Ok(match answer {
-        Some(answer) => Some(answer.copy()?),
-        None => None,
-    })
 }

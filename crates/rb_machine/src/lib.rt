@@ -15,7 +15,7 @@ mod scans;
 mod seen;
 mod shared_entry;
 
-pub use entry::{Entry, copy_answer};
+pub use entry::Entry;
 pub use error::CoreError;
 pub use event::Event;
 pub use ready::Ready;

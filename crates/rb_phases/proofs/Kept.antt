@@ -1,5 +1,5 @@
 -- Tables that are kept stay those of their chains' books.
-use Rattle.std.proofs.Common.{◌≡◌, ℕ, zero, suc, ◌<◌, true, cond, not, ltb, List, [], ◌∷◌, ◌++◌, Option, Some, None, IfSome, is_some, length, map, get_or, set, replicate, refl, sym, ap, ◌∙◌, subst, inl, inr, arith}
+use Rattle.std.proofs.Common.{◌≡◌, ℕ, zero, suc, ◌<◌, true, cond, not, ltb, List, [], ◌∷◌, ◌++◌, Option, Some, None, IfSome, is_some, length, get_or, set, replicate, refl, sym, ap, ◌∙◌, subst, inl, inr, arith}
 use Rattle.std.specs.List.{slice_get}
 use Rattle.std.specs.Option.{option_map, option_map_or, option_and_then}
 use Rattle.std.proofs.lemmas.Bool.{cases_eq, ltb-true, not-false}
@@ -13,7 +13,7 @@ use Rattle.rb_events.specs.declared.refusal.Refusal.TheVariants.{UnknownObject}
 use Rattle.rb_machine.specs.Config.{IsSetUp}
 use Rattle.rb_core.specs.Core.{Core, state_in, refusal_in}
 use Rattle.rb_machine.specs.Event.{Event, Window, Asked, SetSeen, HeaderSeen, StoredSeen, Sent, Received, AckWritten, Cleared, Closed, Scanned, Planned, Settled}
-use Rattle.rb_machine.specs.Machine.{State, Reply, accepted, is_known, reply_of, state_of}
+use Rattle.rb_machine.specs.Machine.{State, accepted, is_known}
 use Rattle.rb_machine.specs.Standing.{OpenBatch, KnownClient, Standing, after_settled, book_at, changed, empty_book, open_batch, tracked}
 use Rattle.rb_machine.proofs.Options.{passes, get_set_other}
 use Rattle.rb_phases.specs.Phases.{standing_in}
@@ -217,11 +217,3 @@ module _ (old new : Core) (e : Event) (config : new.config ≡ old.config) (log 
       → IsTableOf (with_addition e (book_at (standing_in old).books chain)) t → AreTables old tables → AreTables new (set tables chain t)
   tables_grown tables chain t up some of are =
       tables_put old new tables chain (with_addition e (book_at (standing_in old).books chain)) t config (one_book old new e config log ok chain some) (chain_there old e chain up ok some) of are
-
--- ---- what is replied
-
-pub replies : (reply : Reply) (old_config config : Config) (old_log log : List Event) (old_event event : Event)
-    → reply ≡ reply_of (state_of old_config old_log) old_event → old_config ≡ config → old_log ≡ log → old_event ≡ event → reply ≡ reply_of (state_of config log) event
-replies reply old_config config old_log log old_event event is to_config to_log to_event =
-    is ∙ ap (λ (x : Config). reply_of (state_of x old_log) old_event) to_config ∙ ap (λ (x : List Event). reply_of (state_of config x) old_event) to_log
-    ∙ ap (λ (x : Event). reply_of (state_of config log) x) to_event

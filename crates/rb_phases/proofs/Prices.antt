@@ -16,7 +16,7 @@ use Rattle.rb_step.specs.LightClient.{Update, Client, total_fee}
 use Rattle.rb_step.specs.View.{client_of}
 use Rattle.rb_plan.proofs.Costs.{same_cost}
 use Rattle.rb_phases.specs.declared.report.PricedUpdate.{PricedUpdate as CodePriced}
-use Rattle.rb_phases.specs.Report.{PricedUpdate, Sending, Plan}
+use Rattle.rb_phases.specs.Report.{PricedUpdate, SendingReport, PlanReport}
 use Rattle.rb_phases.specs.Turns.{priced, numbered, reported_plan}
 use Rattle.rb_phases.specs.Views.{priced_view}
 
@@ -39,11 +39,11 @@ fees_in_all t us ps e = sym (fees_told ps) ∙ ap (sum_by (λ (u : PricedUpdate)
 pub fees_fit : (t : Task) (us : List Update) (ps : List CodePriced) → map priced_view ps ≡ map (priced t) us → total_fee (client_of t.view) us < 2 ^ 63 → sum_by (λ (u : CodePriced). u.fee) ps < 2 ^ 64
 fees_fit t us ps e small = let same = fees_in_all t us ps e in omega arith
 
-abbrev pub told_plan : List CodePriced → Cost → List Message → Sending → Plan
+abbrev pub told_plan : List CodePriced → Cost → List Message → SendingReport → PlanReport
 told_plan ps total messages sending = record { updates = map priced_view ps; total = total; messages = messages; sending = sending }
 
 -- the plan that is reported
-pub plan_told : (t : Task) (number : ℕ) (p : SentPlan) (ps : List CodePriced) (total : Cost) (messages : List Message) (sending : Sending) → map priced_view ps ≡ map (priced t) p.updates
+pub plan_told : (t : Task) (number : ℕ) (p : SentPlan) (ps : List CodePriced) (total : Cost) (messages : List Message) (sending : SendingReport) → map priced_view ps ≡ map (priced t) p.updates
     → total.fee ≡ sum_by (λ (u : CodePriced). u.fee) ps → total.count ≡ length ps → messages ≡ p.messages → sending ≡ numbered number p.sending
     → told_plan ps total messages sending ≡ reported_plan t number p
 plan_told t number p ps total messages sending updates fee count same_messages same_sending =

@@ -11,7 +11,7 @@ use Rattle.rb_machine.specs.Standing.{KnownClient, task_in, with_batch, batch_of
 use Rattle.rb_task.specs.Task.{Task}
 use Rattle.rb_machine.proofs.Drafted.{drafted}
 use Rattle.rb_phases.specs.Accepted.{AcceptedDraftsAreReported}
-use Rattle.rb_phases.specs.Report.{Plan as ReportedPlan, idle, planned}
+use Rattle.rb_phases.specs.Report.{PlanReport as ReportedPlan, idle, planned}
 use Rattle.rb_phases.specs.Turns.{priced, numbered, reported, reported_plan, outcome_of, update_of, batch_sent, opened, IsOutcome, after_outcome}
 
 -- ---- what a plan leaves

@@ -2,12 +2,13 @@
 use Rattle.std.proofs.Common.{◌≡◌, ℕ, zero, suc, ◌<◌, true, ltb, List, [], ◌∷◌, length, Some, refl, sym, ◌∙◌, subst, arith}
 use Rattle.std.specs.List.{slice_get}
 use Rattle.std.proofs.lemmas.Bool.{lt-ltb}
-use Rattle.std.proofs.lemmas.List.{length-set, length-replicate, length-map}
+use Rattle.std.proofs.lemmas.List.{length-replicate, length-map}
 use Rattle.rb_events.specs.Config.{Config}
 use Rattle.rb_machine.specs.Event.{Event, Window, Asked, SetSeen, HeaderSeen, StoredSeen, Sent, Received, AckWritten, Cleared, Closed, Scanned, Planned, Settled}
-use Rattle.rb_machine.specs.Machine.{State, no_scans, opening, is_known, refusal_beside, scans_after, accepted}
+use Rattle.rb_machine.specs.Machine.{State, no_scans, opening, is_known, refusal_beside, accepted}
 use Rattle.rb_machine.specs.Standing.{judged}
 use Rattle.rb_phases.specs.Script.{IsSeen}
+use Rattle.rb_machine.proofs.Keeping.{scans_long}
 use Rattle.rb_machine.proofs.Lengths.{lengths_changed}
 
 -- ---- sizes
@@ -18,25 +19,10 @@ pub record HasSizes (config : Config) (s : State) : Type 0 where
   pub paths : length s.standing.paths ≡ length config.paths
   pub scans : length s.scans ≡ length config.paths
 
-length-scans : (s : State) (e : Event) → length (scans_after s e) ≡ length s.scans
-length-scans s (Window window) = refl
-length-scans s (Asked client goal) = refl
-length-scans s (SetSeen chain x) = refl
-length-scans s (HeaderSeen chain header) = refl
-length-scans s (StoredSeen client height r) = refl
-length-scans s (Sent path sequence block timeout_height timeout_time) = refl
-length-scans s (Received path sequence block) = refl
-length-scans s (AckWritten path sequence block) = refl
-length-scans s (Cleared path sequence) = refl
-length-scans s (Closed path) = refl
-length-scans s (Scanned path scan) = length-set s.scans path _
-length-scans s (Planned d) = refl
-length-scans s (Settled client number done) = refl
-
 pub sizes_accepted : (config : Config) (s : State) (e : Event) → HasSizes config s → HasSizes config (accepted s e)
 sizes_accepted config s e sizes =
     let same = lengths_changed s.standing e in
-    record { books = same.books ∙ sizes.books; clients = same.clients ∙ sizes.clients; paths = same.paths ∙ sizes.paths; scans = length-scans s e ∙ sizes.scans }
+    record { books = same.books ∙ sizes.books; clients = same.clients ∙ sizes.clients; paths = same.paths ∙ sizes.paths; scans = scans_long s e ∙ sizes.scans }
 
 pub sizes_opening : (config : Config) → HasSizes config (opening config)
 sizes_opening config = record {

@@ -21,10 +21,9 @@ use Rattle.rb_machine.proofs.Accepted.{skip, front_of}
 use Rattle.rb_machine.proofs.Options.{some_from}
 use Rattle.rb_machine.proofs.Steps.{judged_by_standing, present_scans, scans_last}
 use Rattle.rb_events.specs.Config.{Config}
-use Rattle.rb_events.specs.Script.{IsSeen}
+use Rattle.rb_events.specs.Script.{IsReadObservation}
 use Rattle.rb_events.specs.declared.observation.Observation.{Observation}
 use Rattle.rb_events.specs.declared.observation.Observation.TheVariants as seen
-use Rattle.rb_events.specs.declared.refusal.Refusal.{Refusal}
 use Rattle.rb_events.specs.declared.refusal.Refusal.TheVariants.{UnknownObject, OutOfOrder, WindowBack}
 use Rattle.rb_phases.proofs.Sizes.{HasSizes, sizes_accepted, sizes_opening}
 use Rattle.rb_phases.specs.Phases.{standing_in, HasLogRoom, IsLater}
@@ -44,11 +43,6 @@ sizes_fold config (e ∷ events) s sizes = sizes_fold config events (after s e) 
 
 pub sizes_in : (core : Core) → HasSizes core.config (state_in core)
 sizes_in core = sizes_fold core.config core.log (opening core.config) (sizes_opening core.config)
-
--- ---- an event that is judged
-
-pub after_refused : (s : State) (e : Event) (r : Refusal) → refusal_of s e ≡ Some r → after s e ≡ s
-after_refused s e r due = ap (λ o. cond (is_some o) s (accepted s e)) due
 
 -- the core whose log has one more
 pub one_more : (old new : Core) (e : Event) → new.config ≡ old.config → new.log ≡ old.log ++ e ∷ [] → state_in new ≡ after (state_in old) e
@@ -89,7 +83,7 @@ by_standing old new e outside known room state =
 below : (n m k : ℕ) → n < m → k ≡ m → ltb n k ≡ true
 below n m k lt e = lt-ltb n k (subst (λ x. n < x) (sym e) lt)
 
-pub heard : {A : Type 0} (core : Core) (o : Observation A) → IsSeen (length core.config.chains) (length core.config.clients) (length core.config.paths) o
+pub heard : {A : Type 0} (core : Core) (o : Observation A) → IsReadObservation (length core.config.chains) (length core.config.clients) (length core.config.paths) o
     → IsFromOutside (observed o) × (is_known (state_in core) (observed o) ≡ true)
 heard core (seen.SetSeen chain x) is = (tt, below chain _ _ is (sizes_in core).books)
 heard core (seen.HeaderSeen chain header) is = (tt, below chain _ _ is (sizes_in core).books)

@@ -17,31 +17,31 @@ pub record PricedUpdate : Type 0 where
   pub update : Update
   pub fee : ℕ
 
-pub record Batch : Type 0 where
+pub record BatchReport : Type 0 where
   pub number : ℕ
   pub proof : ℕ
   pub transactions : List Transaction
 
-pub data Sending : Type 0 where
-  nothing : Sending
-  too_big : ℕ → Sending
-  batched : Batch → Sending
+pub data SendingReport : Type 0 where
+  nothing : SendingReport
+  too_big : ℕ → SendingReport
+  batched : BatchReport → SendingReport
 
-pub record Plan : Type 0 where
+pub record PlanReport : Type 0 where
   pub updates : List PricedUpdate
   pub total : Cost
   pub messages : List Message
-  pub sending : Sending
+  pub sending : SendingReport
 
-pub record Planned : Type 0 where
+pub record PlannedReport : Type 0 where
   pub goal : Goal
   pub labels : List Label
-  pub plan : Option Plan
+  pub plan : Option PlanReport
 
 pub data Outcome : Type 0 where
   held : ℕ → Outcome
   idle : Outcome
-  planned : Planned → Outcome
+  planned : PlannedReport → Outcome
 
 pub record ClientReport : Type 0 where
   pub id : List ℕ

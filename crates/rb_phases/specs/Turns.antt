@@ -10,7 +10,7 @@ use Rattle.rb_task.specs.Draft.{Plan as SentPlan, Planned as Answer, Sending as 
 use Rattle.rb_machine.specs.Event.{Event, Window, Asked, Settled}
 use Rattle.rb_machine.specs.Standing.{OpenBatch, KnownClient, Standing, opening_standing, task_in, with_batch, goes_back, judged, standing_after}
 use Rattle.rb_task.specs.Task.{Task}
-use Rattle.rb_phases.specs.Report.{RefusedEvent, PricedUpdate, Sending, nothing, too_big, batched, Plan, Planned, Outcome, held, idle, planned, ClientReport, SettlementReport, TurnReport, Report}
+use Rattle.rb_phases.specs.Report.{RefusedEvent, PricedUpdate, SendingReport, nothing, too_big, batched, PlanReport, PlannedReport, Outcome, held, idle, planned, ClientReport, SettlementReport, TurnReport, Report}
 use Rattle.rb_events.specs.declared.refusal.Refusal.{Refusal}
 use Rattle.rb_events.specs.declared.script.Asked.{Asked as Question}
 use Rattle.rb_events.specs.declared.script.Settlement.{Settlement}
@@ -55,12 +55,12 @@ refusals_in s turn = refusals 0 (before_events s turn) turn.events
 abbrev pub priced : Task → Update → PricedUpdate
 priced t u = record { update = u; fee = (client_of t.view).fee u.trusted u.height }
 
-abbrev pub numbered : ℕ → SentAs → Sending
+abbrev pub numbered : ℕ → SentAs → SendingReport
 numbered number sent_nothing = nothing
 numbered number (sent_too_big index) = too_big index
 numbered number (sent_batched b) = batched (record { number = number; proof = b.proof; transactions = b.transactions })
 
-abbrev pub reported_plan : Task → ℕ → SentPlan → Plan
+abbrev pub reported_plan : Task → ℕ → SentPlan → PlanReport
 reported_plan t number p = record {
   updates = map (priced t) p.updates;
   total = cost_of (client_of t.view) p.updates;
@@ -68,7 +68,7 @@ reported_plan t number p = record {
   sending = numbered number p.sending;
 }
 
-abbrev pub reported : Task → ℕ → Answer → Planned
+abbrev pub reported : Task → ℕ → Answer → PlannedReport
 reported t number a = record { goal = a.goal; labels = a.labels; plan = option_map (reported_plan t number) a.plan }
 
 -- what is reported of a draft whose batch has this number
@@ -80,7 +80,7 @@ abbrev pub outcome_of : KnownClient → Draft → Outcome
 outcome_of c d = outcome_numbered (c.batches + 1) d
 
 -- a plan is right for a task, and its batch has this number if it opens one
-pub record IsPlanFor (t : Task) (number : ℕ) (p : Planned) : Type 0 where
+pub record IsPlanFor (t : Task) (number : ℕ) (p : PlannedReport) : Type 0 where
   pub answer : Answer
   pub right : IsPlanned t answer
   pub is : p ≡ reported t number answer
@@ -104,7 +104,7 @@ abbrev pub update_of : PricedUpdate → Update
 update_of u = u.update
 
 -- the batch that a plan opens
-abbrev pub batch_sent : Plan → Sending → Option OpenBatch
+abbrev pub batch_sent : PlanReport → SendingReport → Option OpenBatch
 batch_sent p nothing = None
 batch_sent p (too_big index) = None
 batch_sent p (batched b) = Some (record {
@@ -115,8 +115,8 @@ batch_sent p (batched b) = Some (record {
   transactions = b.transactions;
 })
 
-abbrev pub opened : Planned → Option OpenBatch
-opened a = option_and_then (λ (p : Plan). batch_sent p p.sending) a.plan
+abbrev pub opened : PlannedReport → Option OpenBatch
+opened a = option_and_then (λ (p : PlanReport). batch_sent p p.sending) a.plan
 
 -- the goal that a client was asked for is done with, unless the client is held
 abbrev pub after_outcome : Outcome → KnownClient → KnownClient

@@ -2,7 +2,7 @@
 use Rattle.std.specs.Prelude.{ℕ, map}
 use Rattle.std.specs.Option.{option_map}
 use Rattle.rb_machine.specs.Machine.{Reply, Noted, Opened}
-use Rattle.rb_phases.specs.Report.{RefusedEvent, PricedUpdate, Batch, Sending, nothing, too_big, batched, Plan, Planned, Outcome, held, idle, planned, ClientReport, SettlementReport, TurnReport, Report}
+use Rattle.rb_phases.specs.Report.{RefusedEvent, PricedUpdate, BatchReport, SendingReport, nothing, too_big, batched, PlanReport, PlannedReport, Outcome, held, idle, planned, ClientReport, SettlementReport, TurnReport, Report}
 use Rattle.rb_phases.specs.declared.report.Batch.{Batch as CodeBatch}
 use Rattle.rb_phases.specs.declared.report.ClientReport.{ClientReport as CodeClientReport}
 use Rattle.rb_phases.specs.declared.report.Outcome.{Outcome as CodeOutcome}
@@ -23,18 +23,18 @@ refused_view r = record { event = r.event; refusal = r.refusal }
 abbrev pub priced_view : CodePricedUpdate → PricedUpdate
 priced_view u = record { update = u.update; fee = u.fee }
 
-abbrev pub batch_view : {A : Type 0} → CodeBatch A → Batch
+abbrev pub batch_view : {A : Type 0} → CodeBatch A → BatchReport
 batch_view b = record { number = b.number; proof = b.proof; transactions = b.transactions.items }
 
-abbrev pub sending_view : {A : Type 0} → CodeSending A → Sending
+abbrev pub sending_view : {A : Type 0} → CodeSending A → SendingReport
 sending_view sending.Nothing = nothing
 sending_view (sending.TooBig index) = too_big index
 sending_view (sending.Batch b) = batched (batch_view b)
 
-abbrev pub plan_view : {A : Type 0} → CodePlan A → Plan
+abbrev pub plan_view : {A : Type 0} → CodePlan A → PlanReport
 plan_view p = record { updates = map priced_view p.updates.items; total = p.total; messages = p.messages.items; sending = sending_view p.sending }
 
-abbrev pub planned_view : {A : Type 0} → CodePlanned A → Planned
+abbrev pub planned_view : {A : Type 0} → CodePlanned A → PlannedReport
 planned_view p = record { goal = p.goal; labels = p.labelling; plan = option_map plan_view p.plan }
 
 abbrev pub outcome_view : {A : Type 0} → CodeOutcome A → Outcome

@@ -2,7 +2,7 @@
 ghost use Rattle.std.specs.Prelude.{◌≡◌, ◌<◌, ◌+◌, ◌++◌, true, length, is_some, map, fold, All, IfOk, OnOk};
 ghost use Rattle.rb_machine.specs.Seen.{observed};
 ghost use Rattle.rb_machine.specs.Standing.{goes_back, judged, standing_after};
-ghost use Rattle.rb_events.specs.Script.{IsSeen};
+ghost use Rattle.rb_events.specs.Script.{IsReadObservation};
 ghost use Rattle.rb_phases.specs.Turns.{refused_as, after_window, after_question, refusals, before_plans, refusals_in};
 ghost use Rattle.rb_phases.specs.Phases.{standing_in, HasLogRoom, IsLater, turn_heard};
 ghost use Rattle.rb_phases.specs.Views.{refused_view};
@@ -65,7 +65,7 @@ fn observe<A: Allocator + Copy, M: Machine<A>>(
     relayer: &mut Relayer<A, M>,
     observation: Observation<A>,
 ) -> Result<Option<Refusal>, AllocError>
-    requires seen { IsSeen (length relayer.old.config.chains) (length relayer.old.config.clients) (length relayer.old.config.paths) observation }
+    requires seen { IsReadObservation (length relayer.old.config.chains) (length relayer.old.config.clients) (length relayer.old.config.paths) observation }
     requires room { HasLogRoom relayer.old 1 }
     ensures judged { IfOk result (λ refusal. refusal ≡ judged (standing_in relayer.old) (observed observation)) }
     ensures standing { OnOk result (standing_in relayer.new ≡ standing_after (standing_in relayer.old) (observed observation)) }
@@ -94,7 +94,7 @@ fn observe_all<A: Allocator + Copy, M: Machine<A>>(
     relayer: &mut Relayer<A, M>,
     observations: Vec<Observation<A>, A>,
 ) -> Result<Vec<RefusedEvent, A>, AllocError>
-    requires seen { All (IsSeen (length relayer.old.config.chains) (length relayer.old.config.clients) (length relayer.old.config.paths)) observations.items }
+    requires seen { All (IsReadObservation (length relayer.old.config.chains) (length relayer.old.config.clients) (length relayer.old.config.paths)) observations.items }
     requires room { HasLogRoom relayer.old (length observations.items) }
     ensures refused { IfOk result (λ refused. map refused_view refused.items ≡ refusals 0 (standing_in relayer.old) (map observed observations.items)) }
     ensures standing { OnOk result (standing_in relayer.new ≡ fold standing_after (standing_in relayer.old) (map observed observations.items)) }
@@ -121,7 +121,7 @@ pub fn hear_all<A: Allocator + Copy, M: Machine<A>>(
     events: Vec<Observation<A>, A>,
 ) -> Result<(bool, Vec<RefusedEvent, A>), AllocError>
     requires goals { All (λ (g : Asked). g.client < length relayer.old.config.clients) goals.now }
-    requires events { All (IsSeen (length relayer.old.config.chains) (length relayer.old.config.clients) (length relayer.old.config.paths)) events.items }
+    requires events { All (IsReadObservation (length relayer.old.config.chains) (length relayer.old.config.clients) (length relayer.old.config.paths)) events.items }
     requires room { HasLogRoom relayer.old (1 + length goals.now + length events.items) }
     ensures back { IfOk result (λ r. r.0 ≡ goes_back (standing_in relayer.old).window window) }
     ensures refused { IfOk result (λ r. map refused_view r.1.items ≡ refusals_in (standing_in relayer.old) (turn_heard window goals.now events.items)) }

@@ -1,7 +1,7 @@
 -- Offers serve for all labels below: records that name one set have the same steps to every header that isn't right above them.
 use Rattle.std.proofs.Common.{◌≡◌, ℕ, ◌+◌, ◌<◌, ◌≤◌, ◌^◌, ◌⊎◌, List, [], ◌∷◌, ◌++◌, length, count_by, map, get_or, set, All, true, inl, inr, ap, sym, ◌∙◌, refl, subst, arith, Option, Some, None, IsSome, IsSomeAnd}
 use Rattle.std.specs.Prelude.{IfSome, MatchOption}
-use Rattle.std.specs.List.{AllPairs, Contains, find, insert, slice_get}
+use Rattle.std.specs.List.{Contains, find, insert, slice_get}
 use Rattle.std.specs.List.Sorted.{IsPermutation}
 use Rattle.std.specs.Option.{option_map, option_map_or}
 use Rattle.std.proofs.lemmas.Bool.{cases_eq, cases_lt}
@@ -9,13 +9,13 @@ use Rattle.std.proofs.lemmas.Option.{none-some, same_Some, slice_get-get_or, sli
 use Rattle.std.proofs.lemmas.Slice.Eq.{bytes_eq-Decides}
 use Rattle.std.specs.Str.{bytes_eq}
 use Rattle.std.proofs.lemmas.List.{length-map, length-set, get_or-map, get_or_default, get_or-set_same, get_or-set_other}
-use Rattle.std.proofs.lemmas.List.Elements.{All-nil, All-cons, All-push, All-set, All-weaker, All-contains, Contains-get_or, Contains-push, Contains-append_left}
+use Rattle.std.proofs.lemmas.List.Elements.{All-push, All-set, All-weaker, All-contains, Contains-get_or, Contains-push, Contains-append_left}
 use Rattle.std.proofs.lemmas.List.Kept.{AllPairs-from_increasing}
 use Rattle.std.proofs.lemmas.List.Sorted.{All-permutation, Contains-permutation, IsPermutation-append_comm, IsPermutation-insert, IsPermutation-trans}
 use Rattle.rb_base.specs.Window.{IsWithin}
 use Rattle.rb_book.specs.Book.{Book, Known, height_of, time_of, heights_of, is_at, set_of, record_at, header_at}
 use Rattle.rb_book.specs.Header.{Record, Header, is_commit}
-use Rattle.rb_book.specs.Invariant.{IsBook, IsBacked}
+use Rattle.rb_book.specs.Invariant.{IsBacked}
 use Rattle.rb_kept.specs.Kept.{own_set}
 use Rattle.rb_graph.specs.StepTable.{IsStepFee}
 use Rattle.rb_graph.proofs.Headers.{backed_at}
@@ -30,19 +30,19 @@ use Rattle.rb_step.specs.SignedPower.{signed_power}
 use Rattle.rb_step.specs.Fee.{fee_of, size_of}
 use Rattle.rb_step.specs.KnownStep.{step_at}
 use Rattle.rb_step.specs.StepRule.{Step, step_of, Accepts, AcceptsWithin}
-use Rattle.rb_step.specs.LightClient.{Client, IsOrderly}
+use Rattle.rb_step.specs.LightClient.{Client, IsOrderly, IsSource}
 use Rattle.rb_step.specs.View.{View, IsView, client_of}
 use Rattle.rb_plan.specs.declared.cost.Cost.{Cost}
 use Rattle.rb_plan.specs.declared.labelling.Label.{Label}
 use Rattle.rb_plan.specs.declared.offers.Offer.{Offer}
 use Rattle.rb_plan.specs.Order.{IsCheaper, CostsAtMost, after_update, no_cost}
-use Rattle.rb_plan.specs.Labelling.{Labels, IsLabelling, IsSource, IsAttained, LeadsTo, label_of}
+use Rattle.rb_plan.specs.Labelling.{Labels, IsLabelling, IsAttained, LeadsTo, label_of}
 use Rattle.rb_plan.specs.Lookups.{AreAllKnown}
 use Rattle.rb_plan.specs.Raised.{IsRaised}
 use Rattle.rb_plan.specs.Offers.{IsOffer, NamesSame, Serves, IsTakenIn, IsAdded, IsServed, AreEnough, OffersLead, target_of}
 use Rattle.rb_plan.proofs.Costs.{CostsAtMost-refl, CostsAtMost-trans, CostsAtMost-after, at_most_or_cheaper}
 use Rattle.rb_plan.proofs.Lookups.{find-some, label_of-some, label_of-at, label_of-push_other, pairs_of_labelling}
-use Rattle.rb_plan.proofs.Raise.{AreLabelsSoFar, labels_none, labels_next, labels_labelling, with_label}
+use Rattle.rb_plan.proofs.Raise.{AreLabelsSoFar, labels_next, labels_labelling, with_label}
 use Rattle.rb_plan.proofs.Values.{same_value}
 use Rattle.rb_plan.proofs.Views.{step_has_header}
 
@@ -330,17 +330,7 @@ pub record IsRaisedSoFar (v : View) (n : ℕ) (labels : List Label) (offers : Li
   pub placed : AreOffers v.book (label_of labels) offers
   pub enough : AreEnoughAbove (client_of v) (heights_of v.book) n (label_of labels) offers
 
-pub are_offers : (v : View) (n : ℕ) (labels : List Label) (offers : List Offer) → IsRaisedSoFar v n labels offers → All (IsOffer v.book) offers
-are_offers v n labels offers raised = All-weaker (λ o. IsOffer v.book o × (label_of labels o.label.height ≡ Some o.label.cost)) (IsOffer v.book) (λ o p. p.0) offers raised.placed
-
 module _ (v : View) (view : IsView v) (orderly : IsOrderly (client_of v)) (are : AreAllKnown (client_of v) (heights_of v.book)) where
-  pub raised_none : IsRaisedSoFar v 0 [] []
-  raised_none = record {
-    so_far = labels_none (client_of v) orderly (heights_of v.book) are;
-    placed = All-nil (λ o. IsOffer v.book o × (label_of [] o.label.height ≡ Some o.label.cost));
-    enough = λ h above t c is. absurd (none-some c is);
-  }
-
   module _ (n h : ℕ) (labels : List Label) (offers : List Offer) (inside : n < length (heights_of v.book)) (read : h ≡ get_or (heights_of v.book) n h) (raised : IsRaisedSoFar v n labels offers) where
     -- what the offers lead to is what all labels lead to
     pub by_offers : (cost : Option Cost) → OffersLead (client_of v) offers h (λ label. IsRaised (client_of v) label h cost) → IsRaised (client_of v) (label_of labels) h cost

@@ -67,7 +67,7 @@ impl<A: Allocator + Copy> Planner<'_, A> {
             if let Some(cost) = self.cost_of(offers.as_slice(), height) {
                 let label = Label { height, cost };
                 self.add_offer(&mut offers, by_set.as_mut_slice(), Offer { place, label })?;
-                labels.push(Label { height, cost })?;
+                labels.push(label)?;
             }
         }
         Ok(Labelling::new(labels)?)

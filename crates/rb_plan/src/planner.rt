@@ -3,9 +3,8 @@ ghost use Rattle.std.specs.Prelude.{◌≡◌, ◌↔◌, ◌<◌, IfSome, IsTru
 ghost use Rattle.rb_book.specs.Book.{heights_of};
 ghost use Rattle.rb_graph.specs.StepTable.{IsStepFee};
 ghost use Rattle.rb_step.specs.Fee.{fee_limit};
-ghost use Rattle.rb_step.specs.LightClient.{IsOrderly};
+ghost use Rattle.rb_step.specs.LightClient.{IsOrderly, IsSource};
 ghost use Rattle.rb_step.specs.View.{IsView, client_of};
-ghost use Rattle.rb_plan.specs.Labelling.{IsSource};
 ghost use Rattle.rb_plan.specs.Lookups.{AreAllKnown};
 ghost use Rattle.rb_plan.specs.Offers.{target_of};
 

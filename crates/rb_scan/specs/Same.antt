@@ -40,7 +40,7 @@ options_Decides None (Some y) = (λ e. cc, λ e. cc)
 options_Decides (Some x) None = (λ e. cc, λ e. cc)
 options_Decides (Some x) (Some y) = Decides-like _ (λ e. ap Some e) (λ e. cc) (unsigned_Decides x y)
 
-orders_Decides : (o p : Order) → Decides (same_order o p) (o ≡ p)
+pub orders_Decides : (o p : Order) → Decides (same_order o p) (o ≡ p)
 orders_Decides Ordered Ordered = (λ _. refl, λ _. refl)
 orders_Decides Ordered Unordered = (λ e. cc, λ e. cc)
 orders_Decides Unordered Ordered = (λ e. cc, λ e. cc)

@@ -7,7 +7,7 @@ use Rattle.std.proofs.lemmas.List.Sums.{sum_by_push}
 use Rattle.std.proofs.lemmas.List.Elements.{All-cons, All-push}
 use Rattle.std.proofs.lemmas.List.Quantifiers.{all_pairs_push}
 use Rattle.toml.specs.Data.{Items, no_items, item}
-use Rattle.rb_events.specs.Script.{Script, Turn, IsScript, IsTurn, IsSeen, entry_count, script_view}
+use Rattle.rb_events.specs.Script.{Script, Turn, IsReadScript, IsReadTurn, IsReadObservation, entry_count, script_view}
 use Rattle.rb_events.specs.Config.{Config}
 use Rattle.rb_events.specs.Limits.{max_entries}
 use Rattle.rb_events.specs.declared.script.Script.{Script as CodeScript}
@@ -128,7 +128,7 @@ path-within paths s i h =
 -- of so many chains, clients and paths
 module _ (chains clients paths : ℕ) where
   abbrev IsSeenThere : Observation Global → Type 0
-  IsSeenThere e = IsSeen chains clients paths e
+  IsSeenThere e = IsReadObservation chains clients paths e
 
   unnamed-form : (names : Names) (read : Result (Observation Global) Fault) (x : Observation Global × Names) → unnamed names read ≡ Ok x
       → ((e : Observation Global) → read ≡ Ok e → IsSeenThere e) → IsSeenThere x.0
@@ -136,17 +136,17 @@ module _ (chains clients paths : ℕ) where
       pass read (λ e. Ok (e, names)) x h (λ e r same. subst (λ (y : Observation Global × Names). IsSeenThere y.0) (same_ok (e, names) x same) (form e r))
 
 set_seen-form : (chains : List (List ℕ)) (clients paths : ℕ) (names : Names) (s : Section) (x : Observation Global × Names) → set_seen chains names s ≡ Ok x
-    → IsSeen (length chains) clients paths x.0
+    → IsReadObservation (length chains) clients paths x.0
 unfolding set_seen
 set_seen-form chains clients paths names s x h =
     pass (only set_keys s) _ x h (λ u e0 h0.
     pass (needs (codes "chain") (reference chains) s) _ x h0 (λ chain e1 h1.
     pass (needs (codes "name") (new_set_name (names chain)) s) _ x h1 (λ name e2 h2.
     pass (needs (codes "validators") validators s) _ x h2 (λ set e3 same.
-    subst (λ (y : Observation Global × Names). IsSeen (length chains) clients paths y.0) (same_ok _ x same) (place-within (codes "chain") chains s chain e1)))))
+    subst (λ (y : Observation Global × Names). IsReadObservation (length chains) clients paths y.0) (same_ok _ x same) (place-within (codes "chain") chains s chain e1)))))
 
 header_seen-form : (chains : List (List ℕ)) (clients paths : ℕ) (names : Names) (s : Section) (x : Observation Global) → header_seen chains names s ≡ Ok x
-    → IsSeen (length chains) clients paths x
+    → IsReadObservation (length chains) clients paths x
 unfolding header_seen
 header_seen-form chains clients paths names s x h =
     pass (only header_keys s) _ x h (λ u e0 h0.
@@ -157,10 +157,10 @@ header_seen-form chains clients paths names s x h =
     pass (needs (codes "set") (set_reference (names chain)) s) _ x h4 (λ set e5 h5.
     pass (needs (codes "next") (set_reference (names chain)) s) _ x h5 (λ next e6 h6.
     pass (needs (codes "votes") votes s) _ x h6 (λ vs e7 same.
-    subst (IsSeen (length chains) clients paths) (same_ok _ x same) (place-within (codes "chain") chains s chain e1)))))))))
+    subst (IsReadObservation (length chains) clients paths) (same_ok _ x same) (place-within (codes "chain") chains s chain e1)))))))))
 
 stored_seen-form : (chains paths : ℕ) (clients : List ClientConfig) (names : Names) (s : Section) (x : Observation Global) → stored_seen clients names s ≡ Ok x
-    → IsSeen chains (length clients) paths x
+    → IsReadObservation chains (length clients) paths x
 unfolding stored_seen
 stored_seen-form chains paths clients names s x h =
     pass (only stored_keys s) _ x h (λ u e0 h0.
@@ -169,11 +169,11 @@ stored_seen-form chains paths clients names s x h =
     pass (needs (codes "time") time s) _ x h2 (λ t e3 h3.
     pass (or_default zero_hash hash (optional (codes "root") s)) _ x h3 (λ root e4 h4.
     pass (needs (codes "next") (set_reference (names (tracked_by clients i))) s) _ x h4 (λ next e5 same.
-    subst (IsSeen chains (length clients) paths) (same_ok _ x same) (client-within (codes "client") clients s i e1)))))))
+    subst (IsReadObservation chains (length clients) paths) (same_ok _ x same) (client-within (codes "client") clients s i e1)))))))
 
 module _ (chains clients : ℕ) (paths : List PathConfig) (s : Section) (x : Observation Global) where
   abbrev Kept : Type 0
-  Kept = IsSeen chains clients (length paths) x
+  Kept = IsReadObservation chains clients (length paths) x
 
   sent-form : sent paths s ≡ Ok x → Kept
   unfolding sent
@@ -184,7 +184,7 @@ module _ (chains clients : ℕ) (paths : List PathConfig) (s : Section) (x : Obs
       pass (needs (codes "height") block s) _ x h2 (λ at e3 h3.
       pass (or_default None height_or_none (optional (codes "timeout_height") s)) _ x h3 (λ th e4 h4.
       pass (or_default None time_or_none (optional (codes "timeout_time") s)) _ x h4 (λ tt e5 same.
-      subst (IsSeen chains clients (length paths)) (same_ok _ x same) (path-within paths s i e1)))))))
+      subst (IsReadObservation chains clients (length paths)) (same_ok _ x same) (path-within paths s i e1)))))))
 
   received-form : received paths s ≡ Ok x → Kept
   unfolding received
@@ -193,7 +193,7 @@ module _ (chains clients : ℕ) (paths : List PathConfig) (s : Section) (x : Obs
       pass (needs (codes "path") (reference (path_ids paths)) s) _ x h0 (λ i e1 h1.
       pass (needs (codes "seq") sequence s) _ x h1 (λ seq e2 h2.
       pass (needs (codes "height") block s) _ x h2 (λ at e3 same.
-      subst (IsSeen chains clients (length paths)) (same_ok _ x same) (path-within paths s i e1)))))
+      subst (IsReadObservation chains clients (length paths)) (same_ok _ x same) (path-within paths s i e1)))))
 
   ack_written-form : ack_written paths s ≡ Ok x → Kept
   unfolding ack_written
@@ -202,7 +202,7 @@ module _ (chains clients : ℕ) (paths : List PathConfig) (s : Section) (x : Obs
       pass (needs (codes "path") (reference (path_ids paths)) s) _ x h0 (λ i e1 h1.
       pass (needs (codes "seq") sequence s) _ x h1 (λ seq e2 h2.
       pass (needs (codes "height") block s) _ x h2 (λ at e3 same.
-      subst (IsSeen chains clients (length paths)) (same_ok _ x same) (path-within paths s i e1)))))
+      subst (IsReadObservation chains clients (length paths)) (same_ok _ x same) (path-within paths s i e1)))))
 
   cleared-form : cleared paths s ≡ Ok x → Kept
   unfolding cleared
@@ -210,18 +210,18 @@ module _ (chains clients : ℕ) (paths : List PathConfig) (s : Section) (x : Obs
       pass (only cleared_keys s) _ x h (λ u e0 h0.
       pass (needs (codes "path") (reference (path_ids paths)) s) _ x h0 (λ i e1 h1.
       pass (needs (codes "seq") sequence s) _ x h1 (λ seq e2 same.
-      subst (IsSeen chains clients (length paths)) (same_ok _ x same) (path-within paths s i e1))))
+      subst (IsReadObservation chains clients (length paths)) (same_ok _ x same) (path-within paths s i e1))))
 
   closed-form : closed paths s ≡ Ok x → Kept
   unfolding closed
   closed-form h =
       pass (only closed_keys s) _ x h (λ u e0 h0.
       pass (needs (codes "path") (reference (path_ids paths)) s) _ x h0 (λ i e1 same.
-      subst (IsSeen chains clients (length paths)) (same_ok _ x same) (path-within paths s i e1)))
+      subst (IsReadObservation chains clients (length paths)) (same_ok _ x same) (path-within paths s i e1)))
 
 -- what is seen of a script that is set up so
 abbrev IsSeenBy : Config → Observation Global → Type 0
-IsSeenBy c e = IsSeen (length c.chains) (length c.clients) (length c.paths) e
+IsSeenBy c e = IsReadObservation (length c.chains) (length c.clients) (length c.paths) e
 
 of_kind-form : (k : Kind) (c : Config) (names : Names) (s : Section) (x : Observation Global × Names) → event_of_kind k c names s ≡ Ok x → IsSeenBy c x.0
 of_kind-form kinds.Set c names s x h = set_seen-form c.chains (length c.clients) (length c.paths) names s x h
@@ -275,7 +275,7 @@ frame-form room s f h =
 
 -- a turn keeps what every turn keeps, and takes room for its entries
 record IsTaken (c : Config) (reading : Reading) (x : Turn Global × Reading) : Type 0 where
-  turn : IsTurn (length c.chains) (length c.clients) (length c.paths) x.0
+  turn : IsReadTurn (length c.chains) (length c.clients) (length c.paths) x.0
   room : entry_count x.0 + x.1.room ≡ reading.room
 
 turn-form : (c : Config) (reading : Reading) (s : Section) (x : Turn Global × Reading) → turn c reading s ≡ Ok x → IsTaken c reading x
@@ -306,7 +306,7 @@ turn-form c reading s x h =
 
 -- so do all turns
 record AreTaken (c : Config) (ts : List (Turn Global)) (reading : Reading) : Type 0 where
-  turns : All (IsTurn (length c.chains) (length c.clients) (length c.paths)) ts
+  turns : All (IsReadTurn (length c.chains) (length c.clients) (length c.paths)) ts
   room : sum_by entry_count ts + reading.room ≡ max_entries
 
 turns-form : (c : Config) (ds : Items) (all : List (Turn Global) × Reading) → in_sequence (turn c) (codes "turn") opening [] ds ≡ Ok all → AreTaken c all.0 all.1
@@ -314,13 +314,13 @@ turns-form c ds all h =
     states-keep (turn c) (AreTaken c)
     (λ before state s x kept read.
     let one = turn-form c state s x read in record {
-      turns = All-push (IsTurn (length c.chains) (length c.clients) (length c.paths)) before x.0 kept.turns one.turn;
+      turns = All-push (IsReadTurn (length c.chains) (length c.clients) (length c.paths)) before x.0 kept.turns one.turn;
       room = omega (arith, kept.room, one.room, sum_by_push entry_count before x.0);
     }) (codes "turn") opening [] ds all (record { turns = λ k d lt. absurd (omega arith); room = refl }) h
 
 -- ---- scripts
 
-pub script-form : (s : Section) (t : Script Global) → script s ≡ Ok t → IsScript t
+pub script-form : (s : Section) (t : Script Global) → script s ≡ Ok t → IsReadScript t
 unfolding script
 script-form s t h =
     pass (tables s) _ t h (λ x e0 h0.
@@ -328,7 +328,7 @@ script-form s t h =
     pass (in_sequence (turn c) (codes "turn") opening [] x.turns) _ t h1 (λ turns e2 same.
     let few = tables-few s x e0 in
     let taken = turns-form c x.turns turns e2 in
-    subst IsScript (same_ok _ t same) (record {
+    subst IsReadScript (same_ok _ t same) (record {
       config = config-form x c few e1;
       turns = taken.turns;
       few_turns = omega (arith, few.turns, in_sequence-count (turn c) (codes "turn") opening [] x.turns turns e2);

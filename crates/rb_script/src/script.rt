@@ -1,7 +1,7 @@
 //! The script of a text.
 ghost use Rattle.std.specs.Prelude.{◌≡◌, IfOk, map};
 ghost use Rattle.toml.specs.View.{items_view, table_view};
-ghost use Rattle.rb_events.specs.Script.{IsScript, script_view, turn_view};
+ghost use Rattle.rb_events.specs.Script.{IsReadScript, script_view, turn_view};
 ghost use Rattle.rb_fields.specs.Faults.{Gives};
 ghost use Rattle.rb_fields.specs.Documents.{whole};
 ghost use Rattle.rb_script.specs.Turns.{turns_of, reading_view};
@@ -66,7 +66,7 @@ fn read_document(alloc: Global, table: &Table) -> Result<Script, RunError>
 #[tactic(auto, using(rb_fields::proofs::Steps::steps), unfolding(crate::specs::Scripts::script_of))]
 pub fn read_script(alloc: Global, bytes: &[u8]) -> Result<Script, RunError>
     ensures read { Gives script_view result (script_of bytes.now) }
-    ensures form { IfOk result (λ s. IsScript (script_view s)) }
+    ensures form { IfOk result (λ s. IsReadScript (script_view s)) }
 {
     let table = read_table(alloc, bytes)?;
     read_document(alloc, &table)

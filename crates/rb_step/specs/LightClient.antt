@@ -27,6 +27,10 @@ abbrev pub IsStoredAfter : Client → List Update → ℕ → Type 0
 IsStoredAfter client [] h = Contains client.stored h
 IsStoredAfter client (u ∷ us) h = (u.height ≡ h) ⊎ IsStoredAfter client us h
 
+-- the height is stored and live before any update
+abbrev pub IsSource : Client → ℕ → Type 0
+IsSource client h = Contains client.stored h × client.IsLive h
+
 -- the updates leave the height stored and live
 abbrev pub Leaves : Client → List Update → ℕ → Type 0
 Leaves client us h = IsStoredAfter client us h × client.IsLive h

@@ -30,6 +30,7 @@ pub record Accepts (o : ClientOptions) (moment : ℕ) (s : Step) : Type 0 where
   pub not_expired : moment < s.trusted.time + o.period
   pub later : s.trusted.time < s.header.record_of.time
   pub not_from_future : s.header.record_of.time < moment + o.drift
+  -- own: an update carries this set (ibc-go, TrustedValidators)
   pub next_known : IsSome s.next
   pub follows : IsAdjacent s → s.header.set_hash ≡ s.trusted.next
   pub trusted_signed : ¬ IsAdjacent s → IfSome s.next (λ n. Exceeds (signed_power n s.own s.header) (total_of n) o.trust)

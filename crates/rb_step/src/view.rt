@@ -4,6 +4,7 @@ ghost use Rattle.std.specs.List.Sorted.{IsStrictlyIncreasing};
 ghost use Rattle.rb_book.specs.Book.{record_at};
 ghost use Rattle.rb_step.specs.Fee.{fee_at, fee_limit};
 ghost use Rattle.rb_step.specs.KnownStep.{step_at};
+ghost use Rattle.rb_step.specs.LightClient.{IsSource};
 ghost use Rattle.rb_step.specs.View.{client_of, AreKnown, IsView};
 
 use crate::step::Step;
@@ -149,7 +150,7 @@ impl<'a, A: Allocator + Copy> ClientView<'a, A> {
 
     /// Whether the height is stored and live.
     pub fn is_source(&self, height: Height) -> bool
-        ensures { IsTrue result ↔ (Contains (client_of self.now).stored height × (client_of self.now).IsLive height) }
+        ensures { IsTrue result ↔ IsSource (client_of self.now) height }
     {
         self.is_stored(height) && self.is_live(height)
     }

@@ -9,21 +9,21 @@ use Rattle.rb_core.specs.Core.{Core}
 use Rattle.rb_machine.specs.Standing.{Standing}
 use Rattle.rb_known.proofs.Places.{found_seen}
 use Rattle.rb_events.specs.Config.{Config}
-use Rattle.rb_events.specs.Script.{Script, turn_view, IsScript}
+use Rattle.rb_events.specs.Script.{Script, turn_view, IsReadScript}
 use Rattle.rb_events.specs.declared.script.Turn.{Turn as CodeTurn}
 use Rattle.rb_super.specs.Judging.{Leads, IsPlanPhase}
 use Rattle.rb_phases.specs.Phases.{standing_in, HasLogRoom, IsLater}
 use Rattle.rb_phases.specs.Script.{Turn}
-use Rattle.rb_super.specs.Told.{told_turn, told, told_as, IsTurnFor, most_events}
+use Rattle.rb_super.specs.AsEvents.{turn_as_events, as_events, code_turn_as_events, IsTurnFor, most_events}
 use Rattle.rb_phases.specs.Turns.{before_plans}
-use Rattle.rb_super.proofs.Runs.{opened_standing, turns_fit, turns_for, told_turns}
+use Rattle.rb_super.proofs.Runs.{opened_standing, turns_fit, turns_for, turns_as_events}
 
 -- what stands at a place
 there : {X : Type 0} (xs : List X) (i : ℕ) (x : X) → i < length xs → slice_get xs i ≡ Some x → x ≡ get_or xs i x
 there xs i x lt at = same_Some x (get_or xs i x) (sym at ∙ slice_get-get_or xs i x lt)
 
 module _ {A : Type 0} (script : Script A) (core : Core) (turns : List (CodeTurn A)) (config : core.config ≡ script.config) (log : core.log ≡ []) (are : script.turns ≡ map turn_view turns)
-    (is : IsScript script) (place : ℕ) (lt : place < length turns) (earlier : List (CodeTurn A)) (before : earlier ≡ take place turns)
+    (is : IsReadScript script) (place : ℕ) (lt : place < length turns) (earlier : List (CodeTurn A)) (before : earlier ≡ take place turns)
     (this : CodeTurn A) (at : slice_get turns place ≡ Some this) where
   pub earlier_for : All (IsTurnFor core.config) earlier
   earlier_for = subst (λ ts. All (IsTurnFor core.config) ts) (sym before) (All-take (IsTurnFor core.config) place turns (turns_for script core turns config are is))
@@ -50,15 +50,15 @@ module _ {A : Type 0} (script : Script A) (core : Core) (turns : List (CodeTurn 
       let front = later.front in
       omega arith
 
-  pub phase_there : (begun : Standing) (s : Standing) → Leads (standing_in core) (map told_as earlier) begun → s ≡ before_plans begun (told_as this) → IsPlanPhase (told script) place s
+  pub phase_there : (begun : Standing) (s : Standing) → Leads (standing_in core) (map code_turn_as_events earlier) begun → s ≡ before_plans begun (code_turn_as_events this) → IsPlanPhase (as_events script) place s
   phase_there begun s leads taken_in =
-      let all : (told script).turns ≡ map told_as turns = ap (map told_turn) are ∙ told_turns turns in
+      let all : (as_events script).turns ≡ map code_turn_as_events turns = ap (map turn_as_events) are ∙ turns_as_events turns in
       let opened = opened_standing core script.config config log in
-      let part : map told_as earlier ≡ take place (told script).turns = ap (map told_as) before ∙ sym (take-map told_as place turns) ∙ ap (take place) (sym all) in
+      let part : map code_turn_as_events earlier ≡ take place (as_events script).turns = ap (map code_turn_as_events) before ∙ sym (take-map code_turn_as_events place turns) ∙ ap (take place) (sym all) in
       record {
         begun = begun;
         earlier = subst (λ (p : Standing × List Turn). Leads p.0 p.1 begun) (λ i. (opened i, part i)) leads;
-        this = told_as this;
-        is = ap (λ ts. slice_get ts place) all ∙ found_seen told_as turns place this lt (there turns place this lt at);
+        this = code_turn_as_events this;
+        is = ap (λ ts. slice_get ts place) all ∙ found_seen code_turn_as_events turns place this lt (there turns place this lt at);
         taken_in = taken_in;
       }

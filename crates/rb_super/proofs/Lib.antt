@@ -6,4 +6,4 @@ pub mod Judged
 pub mod OwnAnswers
 pub mod Runs
 pub mod Ended
-pub mod AsTold
+pub mod AsEventsLemmas

@@ -15,7 +15,7 @@ use Rattle.rb_plan.specs.Least.{IsUnreachable}
 use Rattle.rb_step.specs.LightClient.{Update}
 use Rattle.rb_step.specs.View.{client_of}
 use Rattle.rb_super.specs.Judging.{Leads, IsPlanPhase, IsWanted, IsPlannedGoal, IsExactAs, claim_in, IsReported}
-use Rattle.rb_phases.specs.Report.{Plan, Planned, planned, TurnReport, Report}
+use Rattle.rb_phases.specs.Report.{PlanReport, PlannedReport, planned, TurnReport, Report}
 use Rattle.rb_phases.specs.Script.{Turn, Script}
 use Rattle.rb_phases.specs.Turns.{update_of, reported, reported_plan, IsOutcome, IsClientReport, IsTurnReport, AreTurnReports, IsReportOf, after_turn}
 use Rattle.rb_super.proofs.OneReport.{one_turn}
@@ -51,7 +51,7 @@ reported_at one cuts s (x ∷ ts) (y ∷ rs) (suc i) u t r all leads at is =
 claimed : (t : Task) (number : ℕ) (a : Answer) → claim_in (reported t number a) ≡ option_map (λ (p : SentPlan). p.updates) a.plan
 claimed t number a = go a.plan
   where
-    go : (o : Option SentPlan) → option_map (λ (p : Plan). map update_of p.updates) (option_map (reported_plan t number) o) ≡ option_map (λ (p : SentPlan). p.updates) o
+    go : (o : Option SentPlan) → option_map (λ (p : PlanReport). map update_of p.updates) (option_map (reported_plan t number) o) ≡ option_map (λ (p : SentPlan). p.updates) o
     go None = refl
     go (Some p) = ap (λ us. Some us) (updates_back t p.updates)
 
@@ -85,6 +85,6 @@ own_answer one cuts script turn client labels claim s Accepted phase accepts rep
       is = record { window = mine.window; is_window = mine.is_window; is_known = at.1; is_task = refl };
       goal = a.goal;
       is_planned = goal;
-      exact = subst (λ (l : Labels). IsExact (client_of t.view) l) (sym (own.labels_are ∙ ap (λ (p : Planned). label_of p.labels) is)) right.exact;
+      exact = subst (λ (l : Labels). IsExact (client_of t.view) l) (sym (own.labels_are ∙ ap (λ (p : PlannedReport). label_of p.labels) is)) right.exact;
       shows = subst (λ (x : Option (List Update)). Shows (client_of t.view) a.goal x) (sym (own.claim_is ∙ ap claim_in is ∙ claimed t (c.batches + 1) a)) (shown t right.reach a.goal a.plan right.plan);
     })

@@ -7,14 +7,14 @@ use Rattle.rb_core.specs.Core.{Core, state_in}
 use Rattle.rb_machine.specs.Machine.{opening, after}
 use Rattle.rb_machine.specs.Standing.{Standing, opening_standing}
 use Rattle.rb_events.specs.Config.{Config}
-use Rattle.rb_events.specs.Script.{Script, turn_view, entry_count, IsTurn, IsScript}
+use Rattle.rb_events.specs.Script.{Script, turn_view, entry_count, IsReadTurn, IsReadScript}
 use Rattle.rb_events.specs.declared.script.Turn.{Turn as CodeTurn}
 use Rattle.rb_super.specs.Judging.{Leads}
 use Rattle.rb_phases.specs.Report.{TurnReport, Report}
 use Rattle.rb_phases.specs.Script.{Turn}
 use Rattle.rb_phases.specs.Turns.{IsTurnReport, AreTurnReports, after_turn}
 use Rattle.rb_phases.specs.Phases.{standing_in, HasLogRoom}
-use Rattle.rb_super.specs.Told.{told_turn, told_as, IsTurnFor, most_events}
+use Rattle.rb_super.specs.AsEvents.{turn_as_events, code_turn_as_events, IsTurnFor, most_events}
 
 -- the turns, reported so, lead from the one standing to the other
 abbrev pub Reach : Standing → List Turn → Report → Standing → Type 0
@@ -57,7 +57,7 @@ opened_front core log = ap (λ events. (fold after (opening core.config) events)
 pub opened_standing : (core : Core) (c : Config) → core.config ≡ c → core.log ≡ [] → standing_in core ≡ opening_standing c
 opened_standing core c config log = ap (λ events. (fold after (opening core.config) events).standing) log ∙ ap opening_standing config
 
-pub turns_fit : {A : Type 0} (core : Core) (script : Script A) (ts : List (CodeTurn A)) → core.config ≡ script.config → core.log ≡ [] → script.turns ≡ map turn_view ts → IsScript script
+pub turns_fit : {A : Type 0} (core : Core) (script : Script A) (ts : List (CodeTurn A)) → core.config ≡ script.config → core.log ≡ [] → script.turns ≡ map turn_view ts → IsReadScript script
     → HasLogRoom core (sum_by (most_events core.config) ts)
 turns_fit core script ts config log turns is =
     let clients : length core.config.clients ≤ 256 = subst (λ (c : Config). length c.clients ≤ 256) (sym config) is.config.few_clients in
@@ -68,13 +68,13 @@ turns_fit core script ts config log turns is =
     omega (arith, all, entries, few, length-map ts turn_view, opened_front core log)
 
 -- each turn names what the configuration has
-pub turns_for : {A : Type 0} (script : Script A) (core : Core) (ts : List (CodeTurn A)) → core.config ≡ script.config → script.turns ≡ map turn_view ts → IsScript script → All (IsTurnFor core.config) ts
+pub turns_for : {A : Type 0} (script : Script A) (core : Core) (ts : List (CodeTurn A)) → core.config ≡ script.config → script.turns ≡ map turn_view ts → IsReadScript script → All (IsTurnFor core.config) ts
 turns_for script core ts config turns is = λ k d lt.
-    let P = IsTurn (length script.config.chains) (length script.config.clients) (length script.config.paths) in
+    let P = IsReadTurn (length script.config.chains) (length script.config.clients) (length script.config.paths) in
     let long : k < length (map turn_view ts) = subst (λ n. k < n) (sym (length-map ts turn_view)) lt in
     let one = subst (λ xs. All P xs) turns is.turns k (turn_view d) long in
     subst (λ (c : Config). IsTurnFor c (get_or ts k d)) (sym config) (subst P (get_or-map turn_view ts k d (turn_view d) lt) one)
 
-pub told_turns : {A : Type 0} (ts : List (CodeTurn A)) → map told_turn (map turn_view ts) ≡ map told_as ts
-told_turns [] = refl
-told_turns (t ∷ ts) = ap (λ us. told_as t ∷ us) (told_turns ts)
+pub turns_as_events : {A : Type 0} (ts : List (CodeTurn A)) → map turn_as_events (map turn_view ts) ≡ map code_turn_as_events ts
+turns_as_events [] = refl
+turns_as_events (t ∷ ts) = ap (λ us. code_turn_as_events t ∷ us) (turns_as_events ts)

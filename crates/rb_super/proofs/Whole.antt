@@ -8,7 +8,7 @@ use Rattle.rb_events.specs.declared.script.Settlement.{Settlement}
 use Rattle.rb_events.specs.declared.script.Turn.{Turn as CodeTurn}
 use Rattle.rb_phases.specs.Phases.{standing_in, turn_heard, AreReported}
 use Rattle.rb_phases.specs.Report.{RefusedEvent, ClientReport, SettlementReport, TurnReport}
-use Rattle.rb_super.specs.Told.{told_as}
+use Rattle.rb_super.specs.AsEvents.{code_turn_as_events}
 use Rattle.rb_phases.specs.Turns.{before_plans, refusals_in, after_settlement, settlement_reports, IsTurnReport, after_turn}
 use Rattle.rb_phases.proofs.Phases.{turn_reported}
 use Rattle.rb_phases.proofs.Steps.{sizes_in}
@@ -23,10 +23,10 @@ pub turn_done : {A : Type 0} (self b d e : Core) (t : CodeTurn A) (goals : List 
     → settlements ≡ settlement_reports (standing_in d) xs
     → standing_in e ≡ fold after_settlement (standing_in d) xs
     → let r : TurnReport = record { window_back = back; refused = refused; clients = clients; settlements = settlements }
-    in IsTurnReport (standing_in self) (told_as t) r × (standing_in e ≡ after_turn (standing_in self) (told_as t) r)
+    in IsTurnReport (standing_in self) (code_turn_as_events t) r × (standing_in e ≡ after_turn (standing_in self) (code_turn_as_events t) r)
 turn_done self b d e t goals xs back refused clients settlements goals_are xs_are back_is refused_is b_is count are settlements_are e_is =
     let s = standing_in self in
-    turn_reported self.config (told_as t) s (standing_in b) (standing_in d) (standing_in e) back refused clients settlements (sizes_in self).clients back_is
+    turn_reported self.config (code_turn_as_events t) s (standing_in b) (standing_in d) (standing_in e) back refused clients settlements (sizes_in self).clients back_is
     (refused_is ∙ ap (λ (gs : List Asked). refusals_in s (turn_heard t.window gs t.events.items)) goals_are)
     (b_is ∙ ap (λ (gs : List Asked). before_plans s (turn_heard t.window gs t.events.items)) goals_are)
     count are

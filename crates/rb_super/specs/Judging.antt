@@ -12,7 +12,7 @@ use Rattle.rb_plan.specs.Answer.{Shows}
 use Rattle.rb_plan.specs.Labelling.{Labels, IsSound, IsExact, label_of}
 use Rattle.rb_step.specs.LightClient.{Update}
 use Rattle.rb_step.specs.View.{View, client_of}
-use Rattle.rb_phases.specs.Report.{Plan, Planned, planned, ClientReport, TurnReport, Report}
+use Rattle.rb_phases.specs.Report.{PlanReport, PlannedReport, planned, ClientReport, TurnReport, Report}
 use Rattle.rb_phases.specs.Script.{Turn, Script}
 use Rattle.rb_phases.specs.Turns.{before_plans, update_of, IsTurnReport, after_turn}
 
@@ -100,14 +100,14 @@ pub record IsRightIn (script : Script) (turn client : ℕ) (labels : Labels) (cl
 -- ---- answers of a report
 
 -- the updates of a plan, or that there is none
-abbrev pub claim_in : Planned → Option (List Update)
-claim_in p = option_map (λ (plan : Plan). map update_of plan.updates) p.plan
+abbrev pub claim_in : PlannedReport → Option (List Update)
+claim_in p = option_map (λ (plan : PlanReport). map update_of plan.updates) p.plan
 
 -- labels and claim are those that a report has for the client, by its place, in the turn
 pub record IsReported (report : Report) (turn client : ℕ) (labels : Labels) (claim : Option (List Update)) : Type 0 where
   pub of_turn : TurnReport
   pub of_client : ClientReport
-  pub answer : Planned
+  pub answer : PlannedReport
   pub turn_is : slice_get report turn ≡ Some of_turn
   pub client_is : slice_get of_turn.clients client ≡ Some of_client
   pub outcome : of_client.outcome ≡ planned answer

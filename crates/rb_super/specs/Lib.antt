@@ -1,3 +1,3 @@
-pub mod Told
+pub mod AsEvents
 pub mod Judging
 pub mod Heads

@@ -5,14 +5,14 @@ ghost use Rattle.rb_machine.specs.Batches.{batch_open};
 ghost use Rattle.rb_core.specs.Core.{state_in};
 ghost use Rattle.rb_machine.specs.Machine.{client_view};
 ghost use Rattle.rb_events.specs.declared.goal.Goal.{Goal as AnyGoal};
-ghost use Rattle.rb_events.specs.Script.{script_view, IsScript};
+ghost use Rattle.rb_events.specs.Script.{script_view, IsReadScript};
 ghost use Rattle.rb_plan.specs.Answer.{labels_of, claim_of, Shows};
 ghost use Rattle.rb_plan.specs.Labelling.{IsSound, IsExact};
 ghost use Rattle.rb_step.specs.View.{client_of};
 ghost use Rattle.rb_super.specs.Judging.{IsPlanPhase, IsWanted, IsVerdictFor, IsVerdictIn, IsRightAs, IsExactAs, IsVerdictOn, IsRightIn, IsReported};
 ghost use Rattle.rb_phases.specs.Phases.{standing_in, HasLogRoom, IsPlannable};
 ghost use Rattle.rb_phases.specs.Report.{Report};
-ghost use Rattle.rb_super.specs.Told.{told};
+ghost use Rattle.rb_super.specs.AsEvents.{as_events};
 ghost use Rattle.rb_phases.specs.Turns.{IsReportOf};
 
 use crate::run::run_turns;
@@ -48,10 +48,10 @@ fn plan_phase<R: Threads + Sync, G: Gate + Sync, A: Allocator + Copy + Send + Sy
     script: Script<A>,
     turn: usize,
 ) -> Result<Relayer<A>, AllocError>
-    requires script { IsScript (script_view script) }
+    requires script { IsReadScript (script_view script) }
     requires turn { turn < length script.turns.items }
     requires alloc { Frees A.Allocator A.dealloc_token }
-    ensures phase { IfOk result (λ relayer. IsPlanPhase (told (script_view script)) turn (standing_in relayer)) }
+    ensures phase { IfOk result (λ relayer. IsPlanPhase (as_events (script_view script)) turn (standing_in relayer)) }
     ensures ready { IfOk result IsPlannable }
     ensures clients { IfOk result (λ relayer. length relayer.config.clients ≡ length script.config.clients.items) }
     ensures room { IfOk result (λ relayer. HasLogRoom relayer (length relayer.config.clients)) }
@@ -166,13 +166,13 @@ pub fn judge<R: Threads + Sync, A: Allocator + Copy + Send + Sync>(
     client: usize,
     answer: &Answer<A>,
 ) -> Result<Option<Judgement>, AllocError>
-    requires script { IsScript (script_view script) }
+    requires script { IsReadScript (script_view script) }
     requires turn { turn < length script.turns.items }
     requires client { client < length script.config.clients.items }
     requires alloc { Frees A.Allocator A.dealloc_token }
-    ensures judged { IfOk result (λ verdict. IsVerdictOn (told (script_view script)) turn client (labels_of answer.now) (claim_of answer.now) verdict) }
-    ensures right { result ≡ Ok (Some Judgement.Yes) → IsRightIn (told (script_view script)) turn client (labels_of answer.now) (claim_of answer.now) }
-    ensures accepts { (report : Report) → IsReportOf (told (script_view script)) report
+    ensures judged { IfOk result (λ verdict. IsVerdictOn (as_events (script_view script)) turn client (labels_of answer.now) (claim_of answer.now) verdict) }
+    ensures right { result ≡ Ok (Some Judgement.Yes) → IsRightIn (as_events (script_view script)) turn client (labels_of answer.now) (claim_of answer.now) }
+    ensures accepts { (report : Report) → IsReportOf (as_events (script_view script)) report
         → IsReported report turn client (labels_of answer.now) (claim_of answer.now)
         → IfOk result (λ verdict. verdict ≡ Some Judgement.Yes) }
 {

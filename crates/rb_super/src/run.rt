@@ -2,12 +2,12 @@
 ghost use Rattle.std.specs.Prelude.{◌≡◌, ◌≤◌, ◌++◌, ◌∷◌, [], Ok, map, sum_by, All, IfOk, OnOk};
 ghost use denote.Param.Send.{Frees};
 ghost use Rattle.rb_events.specs.declared.config.PathConfig.{PathConfig};
-ghost use Rattle.rb_events.specs.Script.{script_view, IsScript};
+ghost use Rattle.rb_events.specs.Script.{script_view, IsReadScript};
 ghost use Rattle.rb_super.specs.Judging.{Leads};
 ghost use Rattle.rb_phases.specs.Turns.{AreTurnReports, IsReportOf};
 ghost use Rattle.rb_phases.specs.Phases.{standing_in, HasLogRoom, IsLater};
 ghost use Rattle.rb_phases.specs.Views.{turn_report_view, report_view};
-ghost use Rattle.rb_super.specs.Told.{told_as, told, IsTurnFor, most_events};
+ghost use Rattle.rb_super.specs.AsEvents.{code_turn_as_events, as_events, IsTurnFor, most_events};
 
 use crate::supervisor::Supervisor;
 use crate::workers::Workers;
@@ -43,8 +43,8 @@ pub(crate) fn run_turns<R: Threads + Sync, G: Gate + Sync, A: Allocator + Copy +
     requires turns { All (IsTurnFor supervisor.config) turns.items }
     requires room { HasLogRoom supervisor (sum_by (most_events supervisor.config) turns.items) }
     requires alloc { Frees A.Allocator A.dealloc_token }
-    ensures reports { IfOk result (λ r. AreTurnReports (standing_in supervisor) (map told_as turns.items) (map turn_report_view r.0.items)) }
-    ensures leads { IfOk result (λ r. Leads (standing_in supervisor) (map told_as turns.items) (standing_in r.1)) }
+    ensures reports { IfOk result (λ r. AreTurnReports (standing_in supervisor) (map code_turn_as_events turns.items) (map turn_report_view r.0.items)) }
+    ensures leads { IfOk result (λ r. Leads (standing_in supervisor) (map code_turn_as_events turns.items) (standing_in r.1)) }
     ensures later { IfOk result (λ r. IsLater (sum_by (most_events supervisor.config) turns.items) supervisor r.1) }
 {
     let mut reports = Vec::with_capacity(alloc, turns.len())?;
@@ -69,11 +69,11 @@ pub fn run_script<R: Threads + Sync, G: Gate + Sync, A: Allocator + Copy + Send 
     workers: usize,
     gate: &G,
 ) -> Result<Report<A>, AllocError>
-    requires script { IsScript (script_view script) }
+    requires script { IsReadScript (script_view script) }
     requires workers { workers ≤ 64 }
     requires alloc { Frees A.Allocator A.dealloc_token }
     ensures paths { IfOk result (λ report. report.paths.items ≡ map (λ (p : PathConfig). p.id) script.config.paths.items) }
-    ensures turns { IfOk result (λ report. IsReportOf (told (script_view script)) (report_view report)) }
+    ensures turns { IfOk result (λ report. IsReportOf (as_events (script_view script)) (report_view report)) }
 {
     let crew = Crew::new(rt, workers, gate);
     let Script { config, turns } = script;
@@ -119,7 +119,7 @@ fn turns_by_workers<R: Threads + Sync + Wait, G: Gate + Send + Sync + Drop + 'st
     requires empty { reports.items ≡ [] }
     requires turns { All (IsTurnFor workers.config) turns.items }
     requires room { HasLogRoom workers (sum_by (most_events workers.config) turns.items) }
-    ensures { IfOk result (λ r. AreTurnReports (standing_in workers) (map told_as turns.items) (map turn_report_view r.items)) }
+    ensures { IfOk result (λ r. AreTurnReports (standing_in workers) (map code_turn_as_events turns.items) (map turn_report_view r.items)) }
 {
     let mut reports = reports;
     let mut workers = workers;
@@ -146,10 +146,10 @@ pub fn run_by_workers<
     workers: usize,
     gate: &Arc<G, Global>,
 ) -> Result<Report, AllocError>
-    requires script { IsScript (script_view script) }
+    requires script { IsReadScript (script_view script) }
     requires workers { workers ≤ 64 }
     ensures paths { IfOk result (λ report. report.paths.items ≡ map (λ (p : PathConfig). p.id) script.config.paths.items) }
-    ensures turns { IfOk result (λ report. IsReportOf (told (script_view script)) (report_view report)) }
+    ensures turns { IfOk result (λ report. IsReportOf (as_events (script_view script)) (report_view report)) }
 {
     let crew = Crew::new(rt, workers, &**gate);
     let Script { config, turns } = script;

@@ -1,12 +1,12 @@
 //! Scripts that were read are scripts as turns tell them.
 ghost use Rattle.std.specs.Prelude.{All};
-ghost use Rattle.rb_events.specs.Script.{script_view, IsScript as IsReadScript};
+ghost use Rattle.rb_events.specs.Script.{script_view, IsReadScript};
 ghost use Rattle.rb_events.specs.declared.observation.Observation.{Observation as Seen};
 ghost use Rattle.rb_events.specs.declared.script.Turn.{Turn as CodeTurn};
 ghost use Rattle.rb_machine.specs.Event.{IsEvent};
 ghost use Rattle.rb_machine.specs.Seen.{observed};
 ghost use Rattle.rb_phases.specs.Script.{IsScript};
-ghost use Rattle.rb_super.specs.Told.{told};
+ghost use Rattle.rb_super.specs.AsEvents.{as_events};
 
 use rb_events::{Observation, Script, Turn};
 use rb_machine::rules::{fee_tables, observation_is_event};
@@ -35,7 +35,7 @@ fn turns_have_events<A: Allocator>(turns: &[Turn<A>])
 /// and keeps what events keep. So the laws of labels, batches, reports and verdicts hold of it.
 pub fn read_scripts_are_scripts<A: Allocator>(script: &Script<A>)
     requires { IsReadScript (script_view script.now) }
-    ensures { IsScript (told (script_view script.now)) }
+    ensures { IsScript (as_events (script_view script.now)) }
 {
     fee_tables(script.config.clients.as_slice());
     turns_have_events(script.turns.as_slice());

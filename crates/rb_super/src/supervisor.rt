@@ -2,7 +2,7 @@
 ghost use Rattle.std.specs.Prelude.{◌≡◌, ◌<◌, ◌+◌, ◌*◌, ◌++◌, ◌∷◌, [], true, length, None, is_some, IfOk, IfErr, OnOk, OnErr, All, map};
 ghost use denote.Param.Send.{Frees};
 ghost use Rattle.rb_events.specs.Config.{config_view, IsConfig};
-ghost use Rattle.rb_events.specs.Script.{IsSeen};
+ghost use Rattle.rb_events.specs.Script.{IsReadObservation};
 ghost use Rattle.rb_core.specs.Core.{refusal_in, state_in};
 ghost use Rattle.rb_machine.specs.Machine.{reply_of};
 ghost use Rattle.rb_machine.specs.Refused.{IsRefusal};
@@ -13,7 +13,7 @@ ghost use Rattle.rb_phases.specs.Drafts.{AreDrafts};
 ghost use Rattle.rb_phases.specs.Turns.{before_plans, refusals_in, IsTurnReport, after_turn};
 ghost use Rattle.rb_phases.specs.Phases.{standing_in, HasLogRoom, IsLater, turn_heard, IsPlannable};
 ghost use Rattle.rb_phases.specs.Views.{refused_view, turn_report_view};
-ghost use Rattle.rb_super.specs.Told.{told_as, IsTurnFor, most_events};
+ghost use Rattle.rb_super.specs.AsEvents.{code_turn_as_events, IsTurnFor, most_events};
 
 use rb_base::Window;
 use rb_core::{Core, CoreError, Draft, Event, Reply};
@@ -54,7 +54,7 @@ pub(crate) fn prepare<R: Threads + Sync, G: Gate + Sync, A: Allocator + Copy>(
     events: Vec<Observation<A>, A>,
 ) -> Result<(bool, Vec<RefusedEvent, A>), AllocError>
     requires goals { All (λ (g : Asked). g.client < length relayer.old.config.clients) goals.now }
-    requires events { All (IsSeen (length relayer.old.config.chains) (length relayer.old.config.clients) (length relayer.old.config.paths)) events.items }
+    requires events { All (IsReadObservation (length relayer.old.config.chains) (length relayer.old.config.clients) (length relayer.old.config.paths)) events.items }
     requires room { HasLogRoom relayer.old (1 + length goals.now + length events.items + 2 * length relayer.old.config.paths) }
     ensures back { IfOk result (λ r. r.0 ≡ goes_back (standing_in relayer.old).window window) }
     ensures refused { IfOk result (λ r. map refused_view r.1.items ≡ refusals_in (standing_in relayer.old) (turn_heard window goals.now events.items)) }
@@ -118,7 +118,7 @@ impl<A: Allocator + Copy> Supervisor<A> {
     ) -> Result<Relayer<A>, AllocError>
         requires turn { IsTurnFor self.config turn }
         requires room { HasLogRoom self (most_events self.config turn) }
-        ensures standing { IfOk result (λ relayer. standing_in relayer ≡ before_plans (standing_in self) (told_as turn)) }
+        ensures standing { IfOk result (λ relayer. standing_in relayer ≡ before_plans (standing_in self) (code_turn_as_events turn)) }
         ensures ready { IfOk result IsPlannable }
         ensures config { IfOk result (λ relayer. relayer.config ≡ self.config) }
         ensures room { IfOk result (λ relayer. HasLogRoom relayer (length self.config.clients)) }
@@ -148,8 +148,8 @@ impl<A: Allocator + Copy + Send + Sync> Supervisor<A> {
         requires turn { IsTurnFor self.config turn }
         requires room { HasLogRoom self (most_events self.config turn) }
         requires alloc { Frees A.Allocator A.dealloc_token }
-        ensures report { IfOk result (λ r. IsTurnReport (standing_in self) (told_as turn) (turn_report_view r.1)) }
-        ensures standing { IfOk result (λ r. standing_in r.0 ≡ after_turn (standing_in self) (told_as turn) (turn_report_view r.1)) }
+        ensures report { IfOk result (λ r. IsTurnReport (standing_in self) (code_turn_as_events turn) (turn_report_view r.1)) }
+        ensures standing { IfOk result (λ r. standing_in r.0 ≡ after_turn (standing_in self) (code_turn_as_events turn) (turn_report_view r.1)) }
         ensures later { IfOk result (λ r. IsLater (most_events self.config turn) self r.0) }
     {
         let Turn {
@@ -189,7 +189,7 @@ impl<A: Allocator + Copy + Send + Sync> Supervisor<A> {
         requires turn { IsTurnFor self.config turn }
         requires room { HasLogRoom self (most_events self.config turn) }
         requires alloc { Frees A.Allocator A.dealloc_token }
-        ensures { IfOk result (λ drafts. AreDrafts (before_plans (standing_in self) (told_as turn)) drafts.items) }
+        ensures { IfOk result (λ drafts. AreDrafts (before_plans (standing_in self) (code_turn_as_events turn)) drafts.items) }
     {
         let alloc = self.alloc;
         let mut relayer = self.plan_phase(crew, turn)?;

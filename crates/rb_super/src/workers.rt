@@ -1,12 +1,12 @@
 //! The supervisor with workers.
 ghost use Rattle.std.specs.Prelude.{◌≡◌, ◌<◌, ◌≤◌, ◌+◌, ◌*◌, [], Ok, length, IfOk, OnOk, All, map};
 ghost use Rattle.rb_events.specs.Config.{config_view, IsConfig};
-ghost use Rattle.rb_events.specs.Script.{IsSeen};
+ghost use Rattle.rb_events.specs.Script.{IsReadObservation};
 ghost use Rattle.rb_machine.specs.Standing.{goes_back};
 ghost use Rattle.rb_phases.specs.Turns.{before_plans, refusals_in, IsTurnReport, after_turn};
 ghost use Rattle.rb_phases.specs.Phases.{standing_in, HasLogRoom, IsLater, turn_heard, IsAllScanned, IsPlannable, AreReported};
 ghost use Rattle.rb_phases.specs.Views.{refused_view, client_report_view, turn_report_view};
-ghost use Rattle.rb_super.specs.Told.{told_as, IsTurnFor, most_events};
+ghost use Rattle.rb_super.specs.AsEvents.{code_turn_as_events, IsTurnFor, most_events};
 
 use crate::found::FoundByWorkers;
 use crate::head::{Head, close, publish, relayer_over};
@@ -166,7 +166,7 @@ fn prepare<R: Threads + Sync + Wait, G: Gate + Send + Sync + Drop + 'static>(
     events: Vec<Observation>,
 ) -> Result<(Relayer<Global, Head>, Team<G>, (bool, Vec<RefusedEvent>)), AllocError>
     requires goals { All (λ (g : Asked). g.client < length relayer.config.clients) goals.now }
-    requires events { All (IsSeen (length relayer.config.chains) (length relayer.config.clients) (length relayer.config.paths)) events.items }
+    requires events { All (IsReadObservation (length relayer.config.chains) (length relayer.config.clients) (length relayer.config.paths)) events.items }
     requires room { HasLogRoom relayer (1 + length goals.now + length events.items + 2 * length relayer.config.paths) }
     ensures back { IfOk result (λ r. r.2.0 ≡ goes_back (standing_in relayer).window window) }
     ensures refused { IfOk result (λ r. map refused_view r.2.1.items ≡ refusals_in (standing_in relayer) (turn_heard window goals.now events.items)) }
@@ -246,8 +246,8 @@ impl<G: Gate + Send + Sync + Drop + 'static> Workers<G> {
     ) -> Result<(Workers<G>, TurnReport), AllocError>
         requires turn { IsTurnFor self.config turn }
         requires room { HasLogRoom self (most_events self.config turn) }
-        ensures report { IfOk result (λ r. IsTurnReport (standing_in self) (told_as turn) (turn_report_view r.1)) }
-        ensures standing { IfOk result (λ r. standing_in r.0 ≡ after_turn (standing_in self) (told_as turn) (turn_report_view r.1)) }
+        ensures report { IfOk result (λ r. IsTurnReport (standing_in self) (code_turn_as_events turn) (turn_report_view r.1)) }
+        ensures standing { IfOk result (λ r. standing_in r.0 ≡ after_turn (standing_in self) (code_turn_as_events turn) (turn_report_view r.1)) }
         ensures later { IfOk result (λ r. IsLater (most_events self.config turn) self r.0) }
     {
         let Turn {

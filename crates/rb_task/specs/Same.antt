@@ -16,12 +16,10 @@ use Rattle.rb_book.specs.Same.{same_book-Decides}
 use Rattle.rb_events.specs.declared.goal.Goal.{Goal}
 use Rattle.rb_events.specs.declared.goal.Goal.TheVariants.{Exactly, AtLeast}
 use Rattle.rb_scan.specs.Owed.{same_kind}
-use Rattle.rb_scan.specs.Same.{same_order}
+use Rattle.rb_scan.specs.Same.{same_order, orders_Decides}
 use Rattle.rb_scan.specs.declared.message.Kind.{Kind}
 use Rattle.rb_scan.specs.declared.message.Kind.TheVariants.{Receive, Acknowledge, Timeout}
 use Rattle.rb_scan.specs.declared.message.PacketMsg.{PacketMsg}
-use Rattle.rb_scan.specs.declared.path.Order.{Order}
-use Rattle.rb_scan.specs.declared.path.Order.TheVariants.{Ordered, Unordered}
 use Rattle.rb_step.specs.View.{View}
 use Rattle.rb_events.specs.Gas.{PathGas}
 use Rattle.rb_task.specs.Draft.{Job}
@@ -76,12 +74,6 @@ options_Decides e law None None = (λ _. refl, λ _. refl)
 options_Decides e law None (Some y) = (λ h. cc, λ h. cc)
 options_Decides e law (Some x) None = (λ h. cc, λ h. cc)
 options_Decides e law (Some x) (Some y) = Decides-like _ (λ h. ap Some h) (λ h. cc) (law x y)
-
-orders_Decides : (o p : Order) → Decides (same_order o p) (o ≡ p)
-orders_Decides Ordered Ordered = (λ _. refl, λ _. refl)
-orders_Decides Ordered Unordered = (λ e. cc, λ e. cc)
-orders_Decides Unordered Ordered = (λ e. cc, λ e. cc)
-orders_Decides Unordered Unordered = (λ _. refl, λ _. refl)
 
 pub kinds_Decides : (k l : Kind) → Decides (same_kind k l) (k ≡ l)
 kinds_Decides Receive Receive = (λ _. refl, λ _. refl)

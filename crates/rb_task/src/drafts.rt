@@ -80,17 +80,17 @@ impl<A: Allocator + Copy> Draft<A> {
         ensures { IfOk result (λ copy. copy ≡ self.now) }
     {
         let job = self.parts.job.copy()?;
-        let answer = copy_answer(&self.parts.answer)?;
+        let answer = copy_answer(self.parts.answer.as_ref())?;
         let parts = Box::new(*Box::allocator(&self.parts), Parts { job, answer })?;
         Ok(Draft { parts })
     }
 }
 
-/// An equal answer, if there is one.
-fn copy_answer<A: Allocator + Copy>(
-    answer: &Option<Planned<A>>,
+/// An equal answer, if there is one. An error comes only where a growth is refused.
+pub fn copy_answer<A: Allocator + Copy>(
+    answer: Option<&Planned<A>>,
 ) -> Result<Option<Planned<A>>, AllocError>
-    ensures { IfOk result (λ copy. copy ≡ answer.now) }
+    ensures { IfOk result (λ copy. copy ≡ option_copied answer.entry) }
 {
     Ok(match answer {
         Some(answer) => Some(answer.copy()?),

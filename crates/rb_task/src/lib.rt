@@ -14,7 +14,7 @@ mod task;
 
 pub use batch::{Batch, Sending};
 pub use drafting::draft;
-pub use drafts::Draft;
+pub use drafts::{Draft, copy_answer};
 pub use job::{JobView, NextPlan, same_heights};
 pub use message::Message;
 pub use planned::{Plan, Planned};

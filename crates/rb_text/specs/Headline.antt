@@ -8,7 +8,7 @@ use Rattle.rb_config.specs.Paths.{path_ids}
 use Rattle.rb_script.specs.Scripts.{script_of}
 use Rattle.rb_phases.specs.Report.{Report}
 use Rattle.rb_phases.specs.Script.{IsScript}
-use Rattle.rb_super.specs.Told.{told}
+use Rattle.rb_super.specs.AsEvents.{as_events}
 use Rattle.rb_phases.specs.Turns.{IsReportOf}
 use Rattle.rb_text.specs.Report.{text}
 
@@ -16,8 +16,8 @@ use Rattle.rb_text.specs.Report.{text}
 -- least list of updates, with the exact labelling, and the least cut of its messages
 pub record IsReportFor (bytes : List ℕ) (script : Script Global) (report : Report) : Type 0 where
   pub read : script_of bytes ≡ Ok script
-  pub kept : IsScript (told script)
-  pub reported : IsReportOf (told script) report
+  pub kept : IsScript (as_events script)
+  pub reported : IsReportOf (as_events script) report
 
 -- the writer took the text of that report, where its bytes are known before and after
 pub record WritesReport (bytes : List ℕ) (old new : Option (List ℕ)) : Type 0 where

@@ -12,7 +12,7 @@ use Rattle.rb_events.specs.declared.refusal.Refusal.{Refusal}
 use Rattle.rb_scan.specs.declared.message.Kind.{Kind}
 use Rattle.rb_scan.specs.declared.message.Kind.TheVariants.{Receive, Acknowledge, Timeout}
 use Rattle.rb_task.specs.Task.{Message}
-use Rattle.rb_phases.specs.Report.{RefusedEvent, PricedUpdate, Sending, nothing, too_big, batched, Plan, Outcome, held, idle, planned, ClientReport, SettlementReport, TurnReport, Report}
+use Rattle.rb_phases.specs.Report.{RefusedEvent, PricedUpdate, SendingReport, nothing, too_big, batched, PlanReport, Outcome, held, idle, planned, ClientReport, SettlementReport, TurnReport, Report}
 
 -- ---- lines
 
@@ -84,13 +84,13 @@ abbrev pub numbered_lines : {X : Type 0} → (ℕ → X → List ℕ) → ℕ �
 numbered_lines lines number [] = []
 numbered_lines lines number (x ∷ xs) = lines number x ++ numbered_lines lines (number + 1) xs
 
-abbrev pub sending_text : Sending → List ℕ
+abbrev pub sending_text : SendingReport → List ℕ
 sending_text nothing = []
 sending_text (too_big index) = too_big_line index
 sending_text (batched b) = batch_line b.number b.proof ++ numbered_lines transaction_line 1 b.transactions
 
 -- with the identifiers of the paths by their places
-abbrev pub plan_text : List (List ℕ) → Option Plan → List ℕ
+abbrev pub plan_text : List (List ℕ) → Option PlanReport → List ℕ
 plan_text paths None = unreachable_line
 plan_text paths (Some p) =
     flat_map update_line p.updates ++ total_line p.total ++ flat_map (message_line paths) p.messages ++ sending_text p.sending

@@ -17,7 +17,7 @@ use Rattle.rb_plan.specs.Labelling.{label_of}
 use Rattle.rb_events.specs.declared.config.ClientConfig.{ClientConfig}
 use Rattle.rb_super.specs.Judging.{IsVerdictOn, IsRightIn, IsReported}
 use Rattle.rb_phases.specs.Report.{Report}
-use Rattle.rb_super.specs.Told.{told}
+use Rattle.rb_super.specs.AsEvents.{as_events}
 use Rattle.rb_events.specs.Script.{Script, script_view}
 use Rattle.rb_fields.specs.declared.fault.RunError.{RunError}
 use Rattle.rb_text.specs.declared.case.Case.{Case as CodeCase}
@@ -73,11 +73,11 @@ case_of script certificate = do
 
 -- the verdict on the certificate's answer, for its client in its turn; none where the client is held or idle there
 abbrev pub IsVerdictOf : Case → Option Judgement → Type 0
-IsVerdictOf c verdict = IsVerdictOn (told c.script) c.turn c.client (label_of c.certificate.labels) c.certificate.claim verdict
+IsVerdictOf c verdict = IsVerdictOn (as_events c.script) c.turn c.client (label_of c.certificate.labels) c.certificate.claim verdict
 
 -- the labelling is sound, and the answer right
 abbrev pub IsRightCase : Case → Type 0
-IsRightCase c = IsRightIn (told c.script) c.turn c.client (label_of c.certificate.labels) c.certificate.claim
+IsRightCase c = IsRightIn (as_events c.script) c.turn c.client (label_of c.certificate.labels) c.certificate.claim
 
 -- a report has this answer for the client in the turn
 abbrev pub IsReportedCase : Report → Case → Type 0

@@ -3,8 +3,8 @@ ghost use Rattle.std.specs.Prelude.{◌≡◌, ◌<◌, Ok, Some, None, length, 
 ghost use Rattle.rb_fields.specs.declared.fault.Fault.{Fault as CodeFault};
 ghost use Rattle.rb_fields.specs.Faults.{Gives, fault_view};
 ghost use Rattle.rb_phases.specs.Report.{Report};
-ghost use Rattle.rb_events.specs.Script.{IsScript, script_view};
-ghost use Rattle.rb_super.specs.Told.{told};
+ghost use Rattle.rb_events.specs.Script.{IsReadScript, script_view};
+ghost use Rattle.rb_super.specs.AsEvents.{as_events};
 ghost use Rattle.rb_phases.specs.Turns.{IsReportOf};
 ghost use Rattle.rb_text.specs.Certificates.{certificate_view};
 ghost use Rattle.rb_text.specs.Verdicts.{case_view, case_in, case_of, plain, IsVerdictOf, IsRightCase, IsReportedCase, no_goal};
@@ -63,7 +63,7 @@ pub(crate) fn read_case(
     certificate: &[u8],
 ) -> Result<Case, CertifyError>
     ensures read { Gives case_view (plain result) (case_of script.now certificate.now) }
-    ensures script { IfOk result (λ c. IsScript (script_view c.script)) }
+    ensures script { IfOk result (λ c. IsReadScript (script_view c.script)) }
     ensures turn { IfOk result (λ c. c.turn < length c.script.turns.items) }
     ensures client { IfOk result (λ c. c.client < length c.script.config.clients.items) }
 {
@@ -96,12 +96,12 @@ pub(crate) fn judge_case<R: Threads + Sync>(
     alloc: Global,
     case: Case,
 ) -> Result<Judgement, RunError>
-    requires script { IsScript (script_view case.script) }
+    requires script { IsReadScript (script_view case.script) }
     requires turn { case.turn < length case.script.turns.items }
     requires client { case.client < length case.script.config.clients.items }
     ensures judged { IfOk result (λ verdict. IsVerdictOf (case_view case) (Some verdict)) }
     ensures right { result ≡ Ok Judgement.Yes → IsRightCase (case_view case) }
-    ensures accepts { (report : Report) → IsReportOf (told (script_view case.script)) report
+    ensures accepts { (report : Report) → IsReportOf (as_events (script_view case.script)) report
         → IsReportedCase report (case_view case)
         → IfOk result (λ verdict. verdict ≡ Judgement.Yes) }
     ensures fault { (f : CodeFault) → IsErrOf result (RunError.Fault f) → fault_view f ≡ no_goal }

@@ -5,7 +5,7 @@ ghost use Rattle.rb_base.specs.Sink.{AppendsBeginning};
 ghost use Rattle.rb_fields.specs.declared.fault.Fault.{Fault as CodeFault};
 ghost use Rattle.rb_fields.specs.Faults.{fault_view};
 ghost use Rattle.rb_phases.specs.Report.{Report};
-ghost use Rattle.rb_super.specs.Told.{told};
+ghost use Rattle.rb_super.specs.AsEvents.{as_events};
 ghost use Rattle.rb_phases.specs.Turns.{IsReportOf};
 ghost use Rattle.rb_text.specs.Verdicts.{Case, case_of, plain, verdict_line, IsReportedCase, IsFaultFor, WritesVerdict, BeginsVerdict, IsCertified};
 ghost use Rattle.rb_text.specs.Written.{IsWriteError};
@@ -38,36 +38,12 @@ fn put_verdict<W: Sink>(alloc: Global, verdict: &Judgement, writer: &mut W) -> R
 /// verdict as one line: `yes`, or `no` with the number, the name and the numbers of the first reason
 /// that holds. The verdict is the certifier's, for the view and the goal that a run of the script
 /// plans the client by in the certificate's turn. Ok tells whether it is yes: then the labelling is
-/// sound and the answer right.
+/// sound and the answer right. An error tells, of a fault, which of the two texts has it.
 ///
 /// `Fault` is the first fault of the script, then of the certificate, then that the script doesn't
 /// have its turn or its client, then that the client is held or idle in that turn; nothing is then
 /// written. `Device` is answered where the writer fails, `NoMemory` where a growth is refused, and a
 /// beginning of the line, or nothing, was then taken. The writer must not have failed before.
-pub fn certify_over<R: Threads + Sync, W: Sink>(
-    rt: &R,
-    alloc: Global,
-    script: &[u8],
-    certificate: &[u8],
-    writer: &mut W,
-) -> Result<bool, RunError>
-    requires { W.is_broken writer.old ≡ false }
-    ensures verdict { IfOk result (λ yes. WritesVerdict script.now certificate.now yes (W.taken writer.old) (W.taken writer.new)) }
-    ensures right { result ≡ Ok true → IsCertified script.now certificate.now }
-    ensures accepts { (case : Case) (report : Report) → case_of script.now certificate.now ≡ Ok case → IsReportOf (told case.script) report
-        → IsReportedCase report case → IfOk result (λ yes. yes ≡ true) }
-    ensures fault { (f : CodeFault) → IsErrOf result (RunError.Fault f) → IsFaultFor script.now certificate.now (fault_view f) }
-    ensures nothing_written { (f : CodeFault) → IsErrOf result (RunError.Fault f) → writer.new ≡ writer.old }
-    ensures device { IsErrOf result RunError.Device ↔ (W.is_broken writer.new ≡ true) }
-    ensures begun { OnErr result ((writer.new ≡ writer.old) ⊎ BeginsVerdict script.now certificate.now (W.taken writer.old) (W.taken writer.new)) }
-{
-    match certify_texts(rt, alloc, script, certificate, writer) {
-        Ok(yes) => Ok(yes),
-        Err(refusal) => Err(refusal.error),
-    }
-}
-
-/// Does what `certify_over` does, and tells of a fault which of the two texts has it.
 pub fn certify_texts<R: Threads + Sync, W: Sink>(
     rt: &R,
     alloc: Global,
@@ -78,7 +54,7 @@ pub fn certify_texts<R: Threads + Sync, W: Sink>(
     requires { W.is_broken writer.old ≡ false }
     ensures verdict { IfOk result (λ yes. WritesVerdict script.now certificate.now yes (W.taken writer.old) (W.taken writer.new)) }
     ensures right { plain result ≡ Ok true → IsCertified script.now certificate.now }
-    ensures accepts { (case : Case) (report : Report) → case_of script.now certificate.now ≡ Ok case → IsReportOf (told case.script) report
+    ensures accepts { (case : Case) (report : Report) → case_of script.now certificate.now ≡ Ok case → IsReportOf (as_events case.script) report
         → IsReportedCase report case → IfOk result (λ yes. yes ≡ true) }
     ensures fault { (f : CodeFault) → IsErrOf (plain result) (RunError.Fault f) → IsFaultFor script.now certificate.now (fault_view f) }
     ensures nothing_written { (f : CodeFault) → IsErrOf (plain result) (RunError.Fault f) → writer.new ≡ writer.old }

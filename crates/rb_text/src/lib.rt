@@ -1,7 +1,6 @@
 //! The texts of a relayer's run: the certificate that is read, the report that is written,
 //! `run_over`, which goes from a script to its report (`report_over` also answers it, `report_of`
-//! makes it without writing it), and `certify_over`, which judges a certificate for a script
-//! (`certify_texts` also tells which of the two is refused).
+//! makes it without writing it), and `certify_texts`, which judges a certificate for a script.
 #![tactic(auto)]
 
 mod case;
@@ -14,7 +13,7 @@ mod verdict;
 mod write;
 
 pub use certificate::{Certificate, read_certificate};
-pub use certifying::{certify_over, certify_texts};
+pub use certifying::certify_texts;
 pub use rb_fields::{Fault, FaultName, RunError};
 pub use rb_script::read_script;
 pub use refusal::{CertifyError, Source};

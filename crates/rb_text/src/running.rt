@@ -1,11 +1,11 @@
 //! The run over a text: read it, run it, write its report.
 ghost use Rattle.std.specs.Prelude.{◌≡◌, ◌≤◌, ◌↔◌, ◌⊎◌, Err, true, false, map, IfOk, OnOk, OnErr, IsErrOf};
-ghost use Rattle.rb_events.specs.Script.{script_view, IsScript};
+ghost use Rattle.rb_events.specs.Script.{script_view, IsReadScript};
 ghost use Rattle.rb_events.specs.declared.config.PathConfig.{PathConfig};
 ghost use Rattle.rb_fields.specs.declared.fault.Fault.{Fault as CodeFault};
 ghost use Rattle.rb_fields.specs.Faults.{fault_view};
 ghost use Rattle.rb_script.specs.Scripts.{script_of};
-ghost use Rattle.rb_super.specs.Told.{told};
+ghost use Rattle.rb_super.specs.AsEvents.{as_events};
 ghost use Rattle.rb_phases.specs.Script as relayed;
 ghost use Rattle.rb_phases.specs.Turns.{IsReportOf};
 ghost use Rattle.rb_phases.specs.Views.{report_view};
@@ -36,11 +36,11 @@ pub fn report_of<
     workers: usize,
     gate: &Arc<G, Global>,
 ) -> Result<Report, AllocError>
-    requires script { IsScript (script_view script) }
+    requires script { IsReadScript (script_view script) }
     requires workers { workers ≤ 64 }
-    ensures kept { relayed.IsScript (told (script_view script)) }
+    ensures kept { relayed.IsScript (as_events (script_view script)) }
     ensures paths { IfOk result (λ report. report.paths.items ≡ map (λ (p : PathConfig). p.id) script.config.paths.items) }
-    ensures turns { IfOk result (λ report. IsReportOf (told (script_view script)) (report_view report)) }
+    ensures turns { IfOk result (λ report. IsReportOf (as_events (script_view script)) (report_view report)) }
 {
     read_scripts_are_scripts(&script);
     if workers == 0 {

@@ -1,5 +1,5 @@
 use Rattle.std.proofs.Common.{◌≡◌, sym, ap, ◌∙◌}
-use Rattle.rb_book.specs.Book.{Book, times_of}
+use Rattle.rb_book.specs.Book.{Book, heights_and_times_of}
 use Rattle.rb_known.proofs.Found.{times_rise}
 use Rattle.rb_known.proofs.views.times_in.Goals as goal
 

@@ -1,5 +1,5 @@
 use Rattle.std.proofs.Common.{rules}
-use Rattle.rb_phases.proofs.Kept.{replies}
+use Rattle.rb_machine.proofs.Steps.{replies}
 use Rattle.rb_phases.proofs.machine.append.Goals as goal
 
 pub returns-clause-reply : goal.returns-clause-reply

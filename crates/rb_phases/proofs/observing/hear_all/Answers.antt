@@ -2,7 +2,7 @@ use Rattle.std.proofs.Common.{◌≡◌, ◌<◌, All, is_some, map, length, ref
 use Rattle.rb_machine.specs.Seen.{observed}
 use Rattle.rb_machine.specs.Standing.{Standing}
 use Rattle.rb_events.specs.Config.{Config}
-use Rattle.rb_events.specs.Script.{IsSeen}
+use Rattle.rb_events.specs.Script.{IsReadObservation}
 use Rattle.rb_events.specs.declared.script.Asked.{Asked}
 use Rattle.rb_phases.specs.Phases.{standing_in}
 use Rattle.rb_phases.proofs.Loops.{entered, prepared, refused_in}
@@ -14,7 +14,7 @@ ask_all-requires-clause-clients g c =
 
 pub observe_all-requires-clause-seen : goal.observe_all-requires-clause-seen
 observe_all-requires-clause-seen g c =
-    subst (λ (k : Config). All (IsSeen (length k.chains) (length k.clients) (length k.paths)) c.args.events.items)
+    subst (λ (k : Config). All (IsReadObservation (length k.chains) (length k.clients) (length k.paths)) c.args.events.items)
     (sym (c.in_ok-ask_all.ensures.later.config ∙ c.in_ok-window_back.ensures.later.config)) c.requires.events
 
 pub returns-clause-refused : goal.returns-clause-refused

@@ -6,7 +6,7 @@ use Rattle.std.proofs.lemmas.List.Elements.{All-get_or}
 use Rattle.rb_machine.specs.Seen.{observed}
 use Rattle.rb_machine.specs.Standing.{standing_after, judged}
 use Rattle.rb_events.specs.Config.{Config}
-use Rattle.rb_events.specs.Script.{IsSeen}
+use Rattle.rb_events.specs.Script.{IsReadObservation}
 use Rattle.rb_phases.specs.Phases.{standing_in, IsLater}
 use Rattle.rb_phases.specs.Turns.{refused_as, refusals}
 use Rattle.rb_phases.proofs.Loops.{seen_more, fold_seen, refusals_push}
@@ -20,9 +20,9 @@ observe-requires-clause-seen g c =
     let x = c.in-Some.observation in
     let road = YieldsList-from_vec {s = c.into_iter-observation-iterator.result} items c.into_iter-observation-iterator.ensures.into_iter_gives.0 (c.into_iter-observation-iterator.ensures.into_iter_gives.1 ∙ c.args.observations.ok.0) in
     let turn = YieldsList-turn road c.loop-observation.yielded _ c.loop-observation.yielded_by _ c.next.new.self x c.in-Some.is c.next.ensures.steps in
-    subst (λ (k : Config). IsSeen (length k.chains) (length k.clients) (length k.paths) x) (sym c.loop-observation.invariant.later.config)
-    (subst (IsSeen (length k0.chains) (length k0.clients) (length k0.paths)) (sym turn.1)
-    (All-get_or (IsSeen (length k0.chains) (length k0.clients) (length k0.paths)) items (length c.loop-observation.yielded) x turn.0 c.requires.seen))
+    subst (λ (k : Config). IsReadObservation (length k.chains) (length k.clients) (length k.paths) x) (sym c.loop-observation.invariant.later.config)
+    (subst (IsReadObservation (length k0.chains) (length k0.clients) (length k0.paths)) (sym turn.1)
+    (All-get_or (IsReadObservation (length k0.chains) (length k0.clients) (length k0.paths)) items (length c.loop-observation.yielded) x turn.0 c.requires.seen))
 
 pub loop-observation-preserved : goal.loop-observation-preserved
 loop-observation-preserved g c =

@@ -3,7 +3,7 @@ use Rattle.std.proofs.lemmas.Result.{IfOk-weaker}
 use Rattle.rb_events.specs.Script.{script_view}
 use Rattle.rb_plan.specs.Answer.{labels_of, claim_of}
 use Rattle.rb_phases.specs.Phases.{standing_in}
-use Rattle.rb_super.specs.Told.{told}
+use Rattle.rb_super.specs.AsEvents.{as_events}
 use Rattle.rb_super.proofs.OwnAnswers.{own_answer}
 use Rattle.rb_super.proofs.judging.judge.Goals as goal
 
@@ -26,5 +26,5 @@ returns-clause-right g c = λ yes. record { standing = standing_in c.in_ok-relay
 
 pub returns-clause-accepts : goal.returns-clause-accepts
 returns-clause-accepts g c =
-    own_answer c.answers_are_one.ensures c.least_cut_is_one.ensures (told (script_view c.args.script)) c.args.turn c.args.client (labels_of c.args.answer.now) (claim_of c.args.answer.now)
+    own_answer c.answers_are_one.ensures c.least_cut_is_one.ensures (as_events (script_view c.args.script)) c.args.turn c.args.client (labels_of c.args.answer.now) (claim_of c.args.answer.now)
     (standing_in c.in_ok-relayer.relayer) _ c.in_ok-relayer.ensures.phase c.verdict_on.ensures.accepts

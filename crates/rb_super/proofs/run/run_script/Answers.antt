@@ -5,7 +5,7 @@ use Rattle.rb_events.specs.Script.{script_view}
 use Rattle.rb_phases.specs.Script.{Turn}
 use Rattle.rb_phases.specs.Turns.{AreTurnReports}
 use Rattle.rb_phases.specs.Views.{turn_report_view}
-use Rattle.rb_super.proofs.Runs.{opened_standing, turns_fit, turns_for, told_turns}
+use Rattle.rb_super.proofs.Runs.{opened_standing, turns_fit, turns_for, turns_as_events}
 use Rattle.rb_super.proofs.run.run_script.Goals as goal
 
 pub run_turns-requires-clause-turns : goal.run_turns-requires-clause-turns
@@ -21,4 +21,4 @@ returns-clause-turns g c =
     let turns = c.args.script.turns.items in
     let reports = map turn_report_view c.in_ok-turns.turns.items in
     let opened = opened_standing c.in_ok-supervisor.supervisor (config_view c.args.script.config) c.in_ok-supervisor.ensures.config c.in_ok-supervisor.ensures.log in
-    subst (λ (p : Standing × List Turn). AreTurnReports p.0 p.1 reports) (λ i. (opened i, sym (told_turns turns) i)) c.in_ok-turns.ensures.reports
+    subst (λ (p : Standing × List Turn). AreTurnReports p.0 p.1 reports) (λ i. (opened i, sym (turns_as_events turns) i)) c.in_ok-turns.ensures.reports

@@ -13,7 +13,7 @@ use Rattle.rb_phases.specs.Phases.{standing_in}
 use Rattle.rb_phases.specs.Report.{Report}
 use Rattle.rb_phases.specs.Script.{Turn}
 use Rattle.rb_phases.specs.Turns.{AreTurnReports}
-use Rattle.rb_super.specs.Told.{told_as, IsTurnFor, most_events}
+use Rattle.rb_super.specs.AsEvents.{code_turn_as_events, IsTurnFor, most_events}
 use Rattle.rb_phases.specs.Views.{turn_report_view}
 use Rattle.rb_phases.proofs.Loops.{seen_more}
 use Rattle.rb_super.proofs.Runs.{Reach, reach_more, reach_reports, reach_leads}
@@ -58,10 +58,10 @@ loop-turn-preserved g c =
     let is_next : kept ≡ next = c.in_ok-workers.ensures.same in
     let report = c.in_ok-next.report in
     let count : length (c.loop-turn.yielded ++ x ∷ []) ≡ n + 1 = omega (arith, length-append c.loop-turn.yielded (x ∷ [])) in
-    let reached = reach_more (map told_as (take n items)) (map turn_report_view c.loop-turn.reports.items) s (standing_in c.loop-turn.workers) (standing_in kept) (told_as x) (turn_report_view report)
+    let reached = reach_more (map code_turn_as_events (take n items)) (map turn_report_view c.loop-turn.reports.items) s (standing_in c.loop-turn.workers) (standing_in kept) (code_turn_as_events x) (turn_report_view report)
     inv.reports c.in_ok-next.ensures.report (ap standing_in is_next ∙ c.in_ok-next.ensures.standing) in
-    let turns : map told_as (take n items) ++ told_as x ∷ [] ≡ map told_as (take (length (c.loop-turn.yielded ++ x ∷ [])) items) =
-    sym (seen_more told_as items n x turn.0 turn.1) ∙ sym (ap (λ k. map told_as (take k items)) count) in
+    let turns : map code_turn_as_events (take n items) ++ code_turn_as_events x ∷ [] ≡ map code_turn_as_events (take (length (c.loop-turn.yielded ++ x ∷ [])) items) =
+    sym (seen_more code_turn_as_events items n x turn.0 turn.1) ∙ sym (ap (λ k. map code_turn_as_events (take k items)) count) in
     let reports = sym (ap (map turn_report_view) (subst (λ r. OnOk r (c.keep-kept.new.reports.items ≡ c.loop-turn.reports.items ++ report ∷ [])) c.in_ok-workers.ensures.kept c.keep-kept.ensures) ∙ map-append turn_report_view c.loop-turn.reports.items (report ∷ [])) in
     let sum = sum_by_more (most_events k0) items n x turn.0 in
     let same = ap (most_events k0) turn.1 in
@@ -82,6 +82,6 @@ returns g c =
     let road = YieldsList-from_vec {s = c.into_iter-turn-iterator.result} items c.into_iter-turn-iterator.ensures.into_iter_gives.0 (c.into_iter-turn-iterator.ensures.into_iter_gives.1 ∙ c.args.turns.ok.0) in
     let end = YieldsList-end road c.loop-turn.yielded _ c.loop-turn.yielded_by _ c.next.new.self c.in-None.is c.next.ensures.steps in
     let all = take_all (length c.loop-turn.yielded) items (omega (arith, end.1)) in
-    subst (λ ts. AreTurnReports (standing_in c.args.workers) (map told_as ts) (map turn_report_view c.loop-turn.reports.items)) all
-    (reach_reports (map told_as (take (length c.loop-turn.yielded) items)) (map turn_report_view c.loop-turn.reports.items) (standing_in c.args.workers) (standing_in c.loop-turn.workers)
+    subst (λ ts. AreTurnReports (standing_in c.args.workers) (map code_turn_as_events ts) (map turn_report_view c.loop-turn.reports.items)) all
+    (reach_reports (map code_turn_as_events (take (length c.loop-turn.yielded) items)) (map turn_report_view c.loop-turn.reports.items) (standing_in c.args.workers) (standing_in c.loop-turn.workers)
     c.loop-turn.invariant.reports)

@@ -1,7 +1,7 @@
 use Rattle.rb_events.specs.declared.observation.Observation.{Observation}
 use Rattle.rb_machine.specs.Event.{IsEvent}
 use Rattle.rb_machine.specs.Seen.{observed}
-use Rattle.rb_super.proofs.AsTold.{all_taken, one_more}
+use Rattle.rb_super.proofs.AsEventsLemmas.{all_taken, one_more}
 use Rattle.rb_super.proofs.scripts.observations_are_events.Goals as goal
 
 pub loop-observation-preserved : goal.loop-observation-preserved

@@ -3,7 +3,8 @@ use Rattle.left_right.specs.Sides.{view}
 use Rattle.rb_core.specs.Follower.{IsOfLog, events_in}
 use Rattle.rb_machine.specs.Machine.{refusal_of, state_of}
 use Rattle.rb_board.specs.Kept.{followed_on, knowledge_of, pending}
-use Rattle.rb_board.proofs.Boarding.{appends, replies}
+use Rattle.rb_machine.proofs.Steps.{replies}
+use Rattle.rb_board.proofs.Boarding.{appends}
 use Rattle.rb_board.proofs.pen.Pen.append.Goals as goal
 
 pub invariant_of-self-2 : goal.invariant_of-self-2

@@ -1,10 +1,10 @@
 use Rattle.std.proofs.Common.{◌≡◌, ◌<◌, List, length, sym, ap, ◌∙◌, subst, arith}
 use Rattle.std.specs.List.{All}
 use Rattle.rb_core.specs.Core.{Core}
-use Rattle.rb_events.specs.Script.{IsSeen}
+use Rattle.rb_events.specs.Script.{IsReadObservation}
 use Rattle.rb_events.specs.declared.script.Asked.{Asked}
 use Rattle.rb_phases.specs.Phases.{standing_in, HasLogRoom, turn_heard}
-use Rattle.rb_super.specs.Told.{told_as, most_events}
+use Rattle.rb_super.specs.AsEvents.{code_turn_as_events, most_events}
 use Rattle.rb_phases.specs.Turns.{before_plans}
 use Rattle.rb_super.proofs.supervisor.Supervisor.plan_phase.Goals as goal
 
@@ -15,7 +15,7 @@ prepare-requires-clause-goals g c = λ ks _.
 
 pub prepare-requires-clause-events : goal.prepare-requires-clause-events
 prepare-requires-clause-events g c = λ ks _.
-    subst (λ (k : Core). All (IsSeen (length k.config.chains) (length k.config.clients) (length k.config.paths)) c.args.turn.events.items) (sym c.self.view_is) c.requires.turn.events
+    subst (λ (k : Core). All (IsReadObservation (length k.config.chains) (length k.config.clients) (length k.config.paths)) c.args.turn.events.items) (sym c.self.view_is) c.requires.turn.events
 
 pub prepare-requires-clause-room : goal.prepare-requires-clause-room
 prepare-requires-clause-room g c = λ ks _.
@@ -25,10 +25,10 @@ prepare-requires-clause-room g c = λ ks _.
 
 pub returns-clause-standing : goal.returns-clause-standing
 returns-clause-standing g c =
-    let same : standing_in c.prepare.new.relayer ≡ before_plans (standing_in c.self.inside.relayer) (told_as c.args.turn) =
+    let same : standing_in c.prepare.new.relayer ≡ before_plans (standing_in c.self.inside.relayer) (code_turn_as_events c.args.turn) =
     c.in_ok-prepare.ensures.standing
     ∙ ap (λ (gs : List Asked). before_plans (standing_in c.self.inside.relayer) (turn_heard c.args.turn.window gs c.args.turn.events.items)) c.as_slice.ensures.value in
-    subst (λ (k : Core). standing_in c.prepare.new.relayer ≡ before_plans (standing_in k) (told_as c.args.turn)) c.self.view_is same
+    subst (λ (k : Core). standing_in c.prepare.new.relayer ≡ before_plans (standing_in k) (code_turn_as_events c.args.turn)) c.self.view_is same
 
 pub returns-clause-config : goal.returns-clause-config
 returns-clause-config g c = c.in_ok-prepare.ensures.later.config ∙ ap (λ (k : Core). k.config) c.self.view_is

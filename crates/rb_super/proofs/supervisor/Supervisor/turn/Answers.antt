@@ -1,11 +1,11 @@
 use Rattle.std.proofs.Common.{◌≡◌, ◌<◌, List, length, map, sym, ap, ◌∙◌, subst, arith}
 use Rattle.std.specs.List.{All}
 use Rattle.std.proofs.lemmas.List.{length-map}
-use Rattle.rb_events.specs.Script.{IsSeen}
+use Rattle.rb_events.specs.Script.{IsReadObservation}
 use Rattle.rb_events.specs.declared.script.Asked.{Asked}
 use Rattle.rb_events.specs.declared.script.Settlement.{Settlement}
 use Rattle.rb_phases.specs.Phases.{HasLogRoom, IsLater}
-use Rattle.rb_super.specs.Told.{most_events}
+use Rattle.rb_super.specs.AsEvents.{most_events}
 use Rattle.rb_core.specs.Core.{Core}
 use Rattle.rb_events.specs.Config.{Config}
 use Rattle.rb_phases.specs.Views.{refused_view, client_report_view, settlement_view}
@@ -37,7 +37,7 @@ prepare-requires-clause-goals g c = λ ks _.
 
 pub prepare-requires-clause-events : goal.prepare-requires-clause-events
 prepare-requires-clause-events g c = λ ks _.
-    subst (λ (k : Core). All (IsSeen (length k.config.chains) (length k.config.clients) (length k.config.paths)) c.args.turn.events.items) (sym c.self.view_is) c.requires.turn.events
+    subst (λ (k : Core). All (IsReadObservation (length k.config.chains) (length k.config.clients) (length k.config.paths)) c.args.turn.events.items) (sym c.self.view_is) c.requires.turn.events
 
 pub settle_all-requires-clause-clients : goal.settle_all-requires-clause-clients
 settle_all-requires-clause-clients g c =

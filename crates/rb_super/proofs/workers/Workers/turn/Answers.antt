@@ -2,11 +2,11 @@ use Rattle.std.proofs.Common.{◌≡◌, ◌<◌, IfOk, List, length, map, sym, 
 use Rattle.std.specs.List.{All, fold}
 use Rattle.std.specs.Result.{OnOk}
 use Rattle.std.proofs.lemmas.List.{length-map}
-use Rattle.rb_events.specs.Script.{IsSeen}
+use Rattle.rb_events.specs.Script.{IsReadObservation}
 use Rattle.rb_events.specs.declared.script.Asked.{Asked}
 use Rattle.rb_events.specs.declared.script.Settlement.{Settlement}
 use Rattle.rb_phases.specs.Phases.{standing_in, HasLogRoom, IsLater}
-use Rattle.rb_super.specs.Told.{most_events}
+use Rattle.rb_super.specs.AsEvents.{most_events}
 use Rattle.rb_phases.specs.Turns.{after_settlement, settlement_reports}
 use Rattle.rb_core.specs.Core.{Core}
 use Rattle.rb_events.specs.Config.{Config}
@@ -21,7 +21,7 @@ prepare-requires-clause-goals g c = λ ks _.
 
 pub prepare-requires-clause-events : goal.prepare-requires-clause-events
 prepare-requires-clause-events g c = λ ks _.
-    subst (λ (k : Core). All (IsSeen (length k.config.chains) (length k.config.clients) (length k.config.paths)) c.args.turn.events.items) (sym c.self.view_is) c.requires.turn.events
+    subst (λ (k : Core). All (IsReadObservation (length k.config.chains) (length k.config.clients) (length k.config.paths)) c.args.turn.events.items) (sym c.self.view_is) c.requires.turn.events
 
 pub plan-requires-clause-room : goal.plan-requires-clause-room
 plan-requires-clause-room g c = λ ks _.

@@ -18,7 +18,7 @@ invariant_of-result g c =
     let made : c.in_ok-parts.parts.value ≡ record { job = c.in_ok-job.job; answer = c.in_ok-answer.answer } = c.in_ok-parts.ensures.ok in
     right c.in_ok-parts.parts.value.job old.job c.in_ok-parts.parts.value.answer old.answer
     (ap (λ (p : Parts g.row.A.Denot). p.job) made ∙ c.in_ok-job.ensures ∙ ap (λ (p : Parts g.row.A.Denot). p.job) c.deref.ensures)
-    (ap (λ (p : Parts g.row.A.Denot). p.answer) made ∙ c.in_ok-answer.ensures ∙ ap (λ (p : Parts g.row.A.Denot). p.answer) c.deref-2.ensures)
+    (ap (λ (p : Parts g.row.A.Denot). p.answer) made ∙ c.in_ok-answer.ensures ∙ c.as_ref.ensures.value ∙ ap (λ (p : Parts g.row.A.Denot). p.answer) c.deref-2.ensures)
     c.self.invariant
 
 pub returns : goal.returns
@@ -27,5 +27,5 @@ returns g c =
     let made : c.in_ok-parts.parts.value ≡ record { job = c.in_ok-job.job; answer = c.in_ok-answer.answer } = c.in_ok-parts.ensures.ok in
     same c.in_ok-parts.parts.value.job old.job c.in_ok-parts.parts.value.answer old.answer c.args.self.now
     (ap (λ (p : Parts g.row.A.Denot). p.job) made ∙ c.in_ok-job.ensures ∙ ap (λ (p : Parts g.row.A.Denot). p.job) c.deref.ensures)
-    (ap (λ (p : Parts g.row.A.Denot). p.answer) made ∙ c.in_ok-answer.ensures ∙ ap (λ (p : Parts g.row.A.Denot). p.answer) c.deref-2.ensures)
+    (ap (λ (p : Parts g.row.A.Denot). p.answer) made ∙ c.in_ok-answer.ensures ∙ c.as_ref.ensures.value ∙ ap (λ (p : Parts g.row.A.Denot). p.answer) c.deref-2.ensures)
     c.self.view_is

@@ -7,13 +7,13 @@ use Rattle.rb_events.specs.declared.observation.Observation.TheVariants.{SetSeen
 use Rattle.rb_events.specs.declared.script.Script.{Script as CodeScript}
 use Rattle.rb_events.specs.declared.script.Turn.{Turn as CodeTurn}
 use Rattle.rb_events.specs.Config.{Config}
-use Rattle.rb_events.specs.Script.{IsScript as IsReadScript, IsSeen as IsReadSeen, IsTurn as IsReadTurn, script_view, turn_view}
+use Rattle.rb_events.specs.Script.{IsReadScript, IsReadObservation, IsReadTurn, script_view, turn_view}
 use Rattle.rb_events.proofs.Turns.{its_turns}
 use Rattle.rb_machine.specs.Config.{IsSetUp}
 use Rattle.rb_machine.specs.Event.{IsEvent}
 use Rattle.rb_machine.specs.Seen.{observed}
 use Rattle.rb_phases.specs.Script.{IsScript, IsSeen, IsTurn}
-use Rattle.rb_super.specs.Told.{told, told_as, told_turn}
+use Rattle.rb_super.specs.AsEvents.{as_events, code_turn_as_events, turn_as_events}
 
 -- one element more, and all
 pub one_more : {X : Type 0} (P : X → Type 0) (xs : List X) (i : ℕ) (x : X) → i < length xs → x ≡ get_or xs i x → P x → All P (take i xs) → All P (take (i + 1) xs)
@@ -25,7 +25,7 @@ all_taken P xs i le ge h =
     subst (All P) (ap (λ (n : ℕ). take n xs) all ∙ take-length xs) h
 
 module _ {A : Type 0} where
-  seen : (c : Config) (o : Observation A) → IsReadSeen (length c.chains) (length c.clients) (length c.paths) o → IsSeen c (observed o)
+  seen : (c : Config) (o : Observation A) → IsReadObservation (length c.chains) (length c.clients) (length c.paths) o → IsSeen c (observed o)
   seen c (SetSeen chain set) is = is
   seen c (HeaderSeen chain header) is = is
   seen c (StoredSeen client height stored) is = is
@@ -36,7 +36,7 @@ module _ {A : Type 0} where
   seen c (Closed path) is = is
 
   turn : (c : Config) (t : CodeTurn A) → IsReadTurn (length c.chains) (length c.clients) (length c.paths) (turn_view t) → All (λ (o : Observation A). IsEvent (observed o)) t.events.items
-      → IsTurn c (told_as t)
+      → IsTurn c (code_turn_as_events t)
   turn c t is right = record {
     window = is.window;
     goals = is.goals;
@@ -47,12 +47,12 @@ module _ {A : Type 0} where
   }
 
   pub script : (s : CodeScript A) (turns : List (CodeTurn A)) → turns ≡ s.turns.items → IsReadScript (script_view s) → IsSetUp (script_view s).config
-      → All (λ (t : CodeTurn A). All (λ (o : Observation A). IsEvent (observed o)) t.events.items) turns → IsScript (told (script_view s))
+      → All (λ (t : CodeTurn A). All (λ (o : Observation A). IsEvent (observed o)) t.events.items) turns → IsScript (as_events (script_view s))
   script s turns same is set_up right =
       let c = (script_view s).config in
       let all = its_turns s turns same is in
-      let here : All (λ t. IsTurn c (told_as t)) turns = λ k d lt. turn c (get_or turns k d) (all k d lt) (right k d lt) in
+      let here : All (λ t. IsTurn c (code_turn_as_events t)) turns = λ k d lt. turn c (get_or turns k d) (all k d lt) (right k d lt) in
       record {
         config = set_up;
-        turns = All-map (IsTurn c) told_turn (script_view s).turns (All-map (λ t. IsTurn c (told_turn t)) turn_view s.turns.items (subst (All (λ t. IsTurn c (told_as t))) same here));
+        turns = All-map (IsTurn c) turn_as_events (script_view s).turns (All-map (λ t. IsTurn c (turn_as_events t)) turn_view s.turns.items (subst (All (λ t. IsTurn c (code_turn_as_events t))) same here));
       }
