@@ -1,10 +1,7 @@
-//! What no contract of the relayer machine, of boards and of their workers says, by their public calls: runs of the machine,
-//! as tables of cases with values from outside, what desks see on one thread and on two, and that what workers find is
-//! taken in.
+//! What no contract of the relayer machine says, by its public calls: runs of the machine, as tables of cases with values
+//! from outside.
 #![tactic(auto)]
 
-#[cfg(test)]
-mod board;
 #[cfg(test)]
 mod make;
 #[cfg(test)]
@@ -13,5 +10,3 @@ mod rows;
 mod run;
 #[cfg(test)]
 mod tell;
-#[cfg(test)]
-mod worker;

@@ -4,7 +4,7 @@ use rb_book::Vote;
 use rb_scan::Part;
 use std::test::Fail;
 
-pub const THREE: &[Vote] = &[Vote::Commit, Vote::Commit, Vote::Commit, Vote::Absent];
+const THREE: &[Vote] = &[Vote::Commit, Vote::Commit, Vote::Commit, Vote::Absent];
 
 const FOUR: &[Vote] = &[Vote::Commit, Vote::Commit, Vote::Commit, Vote::Commit];
 

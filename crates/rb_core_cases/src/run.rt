@@ -126,7 +126,7 @@ fn path_seen(deed: Deed) -> Option<Observation> {
 }
 
 /// What was seen of a chain, a client or a path, asked or settled.
-pub fn event_of(alloc: Global, deed: Deed) -> Option<Event> {
+fn event_of(alloc: Global, deed: Deed) -> Option<Event> {
     match deed {
         Deed::Window(from, until) => Some(Event::Window(Window::new(
             second(from)?,
@@ -158,9 +158,17 @@ fn answered<T>(answer: Result<T, CoreError>) -> Option<Result<T, Refusal>> {
 }
 
 /// Judges an event, and takes it in, unless it is refused.
-pub fn enter(core: &mut Core, event: Event) -> Result<Reply, CoreError> {
+fn enter(core: &mut Core, event: Event) -> Result<Reply, CoreError> {
     let ready = core.judge(event)?;
     Ok(core.settle(ready))
+}
+
+/// Enters an event; none where it is refused.
+fn learn(core: &mut Core, event: Event) -> Option<()> {
+    match enter(core, event) {
+        Ok(_) => Some(()),
+        Err(_) => None,
+    }
 }
 
 /// Enters an event. A refusal for an old view tells the present front.
@@ -248,7 +256,7 @@ impl Run {
     pub fn fill(&mut self, deed: Deed, events: usize) -> Option<()> {
         for _ in self.core.front()..events {
             let event = self.event(deed)?;
-            enter(&mut self.core, event).ok()?;
+            learn(&mut self.core, event)?;
         }
         Some(())
     }

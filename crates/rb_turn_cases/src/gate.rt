@@ -1,17 +1,10 @@
-//! The gate test: a team of two workers, a turn of a script with two workers, and a second turn over kept
-//! tables pass it; what does one job after the other, and what drops what was found, fails it.
+//! The gate test: a turn of a script with two workers, and a second turn over kept tables, pass it; what does one job
+//! after the other fails it.
 ghost use Rattle.std.specs.Prelude.{◌≤◌};
 
-use crate::made::make_config;
-use rb_base::{Counted, Moment, Window};
-use rb_board::{Desk, Note, open};
-use rb_book::ChainBook;
-use rb_core::{Core, Event};
-use rb_events::is_config;
+use rb_base::Counted;
 use rb_gang::{Gate, Place};
-use rb_graph::{Graph, SharedGraph};
 use rb_text::run_over;
-use rb_worker::{Held, Order, Team, work};
 use std::alloc::Global;
 use std::sync::atomic::{AtomicU64, Ordering};
 use std::sync::{Arc, Wait};
@@ -135,147 +128,6 @@ impl<R: Clock> Gate for HoldFirst<R> {
             self.taken.fetch_add(1, Ordering::SeqCst);
         }
     }
-}
-
-/// Enters a window.
-fn enter(core: &mut Core) -> Option<()> {
-    let window = Window::at(Moment::new(200_000_000_000)?);
-    let ready = core.judge(Event::Window(window)).ok()?;
-    core.settle(ready);
-    Some(())
-}
-
-/// A relayer of the two clients that has entered a window.
-fn know(alloc: Global) -> Result<Core, Fail> {
-    let config = make_config(alloc)?;
-    if !is_config(&config) {
-        return Err(Fail::from("config"));
-    }
-    let mut core = Core::new(alloc, config)?;
-    enter(&mut core).ok_or("window")?;
-    Ok(core)
-}
-
-/// A table of an empty book, which is of no chain that is known.
-fn no_table(alloc: Global) -> Option<SharedGraph> {
-    let book = ChainBook::new(alloc).ok()?;
-    let graph = Graph::from_book(alloc, book).ok()?;
-    SharedGraph::new(alloc, graph).ok()
-}
-
-/// Orders to plan for two clients.
-fn plan_orders(alloc: Global, note: Note) -> Option<Vec<Order>> {
-    let mut orders = Vec::new(alloc);
-    for client in 0..2 {
-        let graph = no_table(alloc)?;
-        orders
-            .push(Order::Plan {
-                client,
-                note,
-                graph,
-            })
-            .ok()?;
-    }
-    Some(orders)
-}
-
-/// Lets a team of two plan for two clients, and ends it: what was found.
-fn plan_both<R: Threads + Wait + Copy + Send + 'static, G: Gate + Send + Sync + Drop + 'static>(
-    rt: &R,
-    alloc: Global,
-    desks: Vec<Desk>,
-    note: Note,
-    gate: &Arc<G, Global>,
-) -> Option<Held> {
-    let orders = plan_orders(alloc, note)?;
-    let mut team = Team::start(rt, alloc, desks, gate).ok()?;
-    let is_whole = team.len() == 2;
-    let mut held = Held::new(alloc);
-    let mut is_ordered = true;
-    for order in orders {
-        is_ordered = team.order(rt, &mut held, order).is_ok() && is_ordered;
-    }
-    let is_finished = team.finish(rt, &mut held).is_ok();
-    team.stop(rt);
-    (is_whole && is_ordered && is_finished).then_some(held)
-}
-
-/// Does the orders one after the other.
-fn plan_in_turn<G: Gate>(alloc: Global, desk: &mut Desk, note: Note, gate: &G) -> Option<()> {
-    for order in plan_orders(alloc, note)? {
-        work(alloc, desk, order, gate);
-        gate.after(Place::Taken(0));
-    }
-    Some(())
-}
-
-/// What a team of two found over a board of its own.
-fn held_by_both<R: Threads + Wait + Copy + Send + 'static, G: Gate + Send + Sync + Drop + 'static>(
-    rt: &R,
-    alloc: Global,
-    gate: &Arc<G, Global>,
-) -> Result<Held, Fail> {
-    let core = know(alloc)?;
-    let (pen, desks) = open(rt, alloc, core, 2)?;
-    let held = plan_both(rt, alloc, desks, pen.tell(), gate);
-    pen.close(rt);
-    Ok(held.ok_or("held")?)
-}
-
-/// The gate test: each plan begins once, and the one that begins first ends after the other was
-/// taken. It would fail after a million looks.
-#[test]
-fn both_workers_plan(rt: HostRuntime) -> Result<(), Fail> {
-    let alloc = rt.alloc();
-    let gate = Arc::new(alloc, HoldFirst::new(rt, 1_000_000, 0))?;
-    let mut held = held_by_both(&rt, alloc, &gate)?;
-    assert!(rt; held.take_draft(0).is_some() && held.take_draft(1).is_some());
-    assert!(rt; held.take_draft(0).is_none() && gate.is_passed());
-    Ok(())
-}
-
-/// Does the orders one after the other, where a team's findings are dropped before, if they are to be.
-fn plan_alone<
-    R: Threads + Wait + Copy + Send + AllocGlobal + 'static,
-    G: Gate + Send + Sync + Drop + 'static,
->(
-    rt: &R,
-    desks: Vec<Desk>,
-    (own, note): (&mut Desk, Note),
-    drops: bool,
-    gate: &Arc<G, Global>,
-) -> Option<()> {
-    if drops {
-        drop(plan_both(rt, rt.alloc(), desks, note, gate));
-    }
-    plan_in_turn(rt.alloc(), own, note, &**gate)
-}
-
-/// The same over a board of its own.
-fn plan_alone_on_board<
-    R: Threads + Wait + Copy + Send + AllocGlobal + 'static,
-    G: Gate + Send + Sync + Drop + 'static,
->(rt: &R, drops: bool, gate: &Arc<G, Global>) -> Result<(), Fail> {
-    let core = know(rt.alloc())?;
-    let (pen, mut desks) = open(rt, rt.alloc(), core, 3)?;
-    let done = match desks.pop() {
-        Some(mut own) => plan_alone(rt, desks, (&mut own, pen.tell()), drops, gate),
-        None => None,
-    };
-    pen.close(rt);
-    Ok(done.ok_or("orders")?)
-}
-
-/// One that does one job after the other fails the gate test, and one that drops what was found and
-/// does each job itself.
-#[test]
-fn gate_test_fails_others(rt: HostRuntime) -> Result<(), Fail> {
-    for drops in [false, true] {
-        let gate = Arc::new(rt.alloc(), HoldFirst::new(rt, 100, 0))?;
-        plan_alone_on_board(&rt, drops, &gate)?;
-        assert!(rt; !gate.is_passed(), "{drops}");
-    }
-    Ok(())
 }
 
 /// The report of a script, by so many workers.

@@ -3,5 +3,3 @@
 
 #[cfg(test)]
 mod gate;
-#[cfg(test)]
-mod made;
