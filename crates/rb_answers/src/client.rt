@@ -7,14 +7,11 @@ ghost use Rattle.rb_json.specs.Fields.{object_view, each};
 ghost use Rattle.rb_answers.specs.Clients.{tendermint, live, revision, trust, period_of, period, drift_of, drift, client_state, root, consensus_state, is_last, states, states_view};
 
 use crate::duration::nanoseconds_of;
-use crate::number::script_number;
+use crate::number::{MAX_NUMBER, script_number};
 use rb_base::{ChainId, Fraction, Height, Moment, Period};
 use rb_json::{AnswerError, Flaw, FlawName, Key, Object, Part};
 use serde_json::Value;
 use std::alloc::Global;
-
-/// The most that a clock drift may be: 2^63 - 1 ns.
-const MAX_DRIFT: u64 = i64::MAX as u64;
 
 /// The part of a trusted set that has to have signed: from a third to one, in numbers below 2^63.
 #[derive(Clone, Copy)]
@@ -157,7 +154,7 @@ fn read_drift(state: &Object<'_>) -> Result<u64, Flaw>
 fn drift_of(nanoseconds: u64) -> Option<u64>
     ensures { result ≡ drift_of nanoseconds }
 {
-    if nanoseconds <= MAX_DRIFT {
+    if nanoseconds <= MAX_NUMBER {
         Some(nanoseconds)
     } else {
         None

@@ -7,14 +7,18 @@ ghost use Rattle.rb_answers.specs.Numbers.{in_script, script_number};
 use rb_json::{Flaw, FlawName, Key, Object};
 
 /// The largest number that a script takes: 2^63 - 1.
-const MAX: u64 = i64::MAX as u64;
+pub(crate) const MAX_NUMBER: u64 = i64::MAX as u64;
 
 /// The number, if a script takes it.
 #[tactic(auto, unfolding(crate::specs::Numbers::in_script))]
 pub fn in_script(number: u64) -> Option<u64>
     ensures { result ≡ in_script number }
 {
-    if number <= MAX { Some(number) } else { None }
+    if number <= MAX_NUMBER {
+        Some(number)
+    } else {
+        None
+    }
 }
 
 /// The number that a field holds, else `BadNumber`, as where a script doesn't take it.

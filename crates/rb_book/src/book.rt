@@ -20,11 +20,14 @@ use rb_valset::ValidatorSet;
 use std::alloc::{AllocError, Allocator, Global};
 use std::marker::Model;
 
+/// The most records that a book can be set up for.
+pub const MAX_RECORDS: usize = 4096;
+
 /// The most records of a book made by `ChainBook::new`.
 const DEFAULT_LIMIT: usize = 1024;
 
 /// The most sets of a book.
-const MAX_SETS: usize = 1024;
+pub const MAX_SETS: usize = 1024;
 
 /// The most different addresses of the members of all sets of a book.
 const MAX_ADDRESSES: usize = 65_536;

@@ -24,7 +24,7 @@ fn limits(field: &Field<'_>) -> Result<Limits, RunError>
 {
     let (gas, count, transaction) = field.three_integers()?;
     let gas = field.within(0, gas, 1, Limits::MAX_GAS, FaultName::BadLimit)?;
-    let count = field.within(1, count, 1, 10_000, FaultName::BadLimit)?;
+    let count = field.within(1, count, 1, Limits::MAX_COUNT as u64, FaultName::BadLimit)?;
     let transaction = field.within(
         2,
         transaction,

@@ -4,6 +4,7 @@ ghost use Rattle.rb_fields.specs.Faults.{Gives};
 ghost use Rattle.rb_fields.specs.Fields.{field_view, section_view, needs};
 ghost use Rattle.rb_config.specs.Versions.{version, max_records};
 
+use rb_events::MAX_RECORDS;
 use rb_fields::{FaultName, Field, RunError, Section};
 
 /// A version of the format: from the second on the chains' clients share defaults, and books are
@@ -21,7 +22,7 @@ impl Version {
     {
         match self {
             Version::One => 1024,
-            Version::Two => 4096,
+            Version::Two => MAX_RECORDS,
         }
     }
 }

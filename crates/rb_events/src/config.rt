@@ -4,9 +4,10 @@ ghost use Rattle.rb_events.specs.Config.{config_view, Connects, IsClient, IsPath
 
 use crate::differing::all_differ;
 use crate::gas::PathGas;
-use crate::limits::{MAX_CHAINS, MAX_CLIENTS, MAX_PATHS, MAX_RECORDS};
+use crate::limits::{MAX_CHAINS, MAX_CLIENTS, MAX_PATHS};
 use rb_base::{ChainId, ClientId, FeeTable, Options, PathId};
 use rb_batch::Limits;
+use rb_book::MAX_RECORDS;
 use rb_scan::{Order, Sequence};
 use std::alloc::{AllocError, Allocator, Global};
 

@@ -14,6 +14,3 @@ pub const MAX_TURNS: usize = 500;
 
 /// The most goals, events and settlements of all turns of a script.
 pub const MAX_ENTRIES: usize = 200_000;
-
-/// The most records that a book can be set up for.
-pub(crate) const MAX_RECORDS: usize = 4096;

@@ -3,8 +3,8 @@ ghost use Rattle.std.specs.Prelude.{◌≡◌, IfOk};
 ghost use Rattle.rb_machine.specs.Event.{IsEvent};
 ghost use Rattle.rb_machine.specs.Seen.{event_view};
 
+use crate::path_scan::Scan;
 use crate::rules::observation_is_event;
-use crate::seen::Scan;
 use rb_base::Window;
 use rb_events::{Asked, Observation, Settlement};
 use rb_task::Draft;

@@ -1,7 +1,7 @@
 //! What a part of a path owes.
 ghost use Rattle.std.specs.Prelude.{◌≡◌, IfOk};
 
-use crate::seen::Scan;
+use crate::path_scan::Scan;
 use rb_scan::{Part, PathView, ScanError, owed_part};
 use std::alloc::Allocator;
 

@@ -4,7 +4,7 @@ ghost use Rattle.std.specs.Option.{option_map, option_copied};
 ghost use Rattle.rb_machine.specs.Machine.{no_scans, scan_of, with_scan};
 ghost use Rattle.rb_machine.specs.Scan.{Scan};
 
-use crate::seen::Scan;
+use crate::path_scan::Scan;
 use rb_scan::Part;
 use std::alloc::{AllocError, Allocator, Global};
 use std::marker::Model;

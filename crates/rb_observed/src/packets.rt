@@ -8,7 +8,7 @@ ghost use Rattle.rb_observed.specs.Packets.{IsOfPath, HaveEvents, Expires, Expir
 use crate::counterparties::counterparty;
 use crate::lowest::lowest_of;
 use rb_answers::{Answer, PacketEvent, PacketKind, PacketPage, RevisionHeight, revision_of};
-use rb_base::ChainId;
+use rb_base::{ChainId, Height};
 use rb_seen::{ImportError, ProblemName, Saved};
 use rb_setup::PathSetup;
 use std::alloc::{AllocError, Global};
@@ -22,10 +22,8 @@ pub struct SeenPacket<'a> {
     pub expiry: u64,
 }
 
-/// The heights of the first block and of the last one (CometBFT: from 1 to 2^63 - 1).
+/// The height of the first block (CometBFT).
 const FIRST_HEIGHT: u64 = 1;
-
-const LAST_HEIGHT: u64 = i64::MAX as u64;
 
 /// Of what a path's answers tell nothing: that packets were sent, that they were received, that they were cleared;
 /// and how many answers tell of no packet at all, as those of a search that found nothing.
@@ -119,10 +117,10 @@ fn within_heights(number: u64) -> u64
 {
     if number < FIRST_HEIGHT {
         FIRST_HEIGHT
-    } else if number <= LAST_HEIGHT {
+    } else if number <= Height::MAX {
         number
     } else {
-        LAST_HEIGHT
+        Height::MAX
     }
 }
 

@@ -4,18 +4,14 @@ ghost use Rattle.std.specs.List.Sorted.{IsStrictlyIncreasing};
 ghost use Rattle.rb_observed.specs.Room.{AreBooks, AreKept, AreKeptOf, AreThose, FitBooks, FitsHeaders, HasHeader, HasNoRoom, IsBookOf, IsKept, IsStored};
 
 use rb_seen::{SeenChain, SeenClient, Stored};
-use rb_setup::{ClientSetup, Setup};
+use rb_setup::{ClientSetup, MAX_RECORDS, Setup};
 use std::alloc::{AllocError, Global};
-
-/// How many records a chain's book holds in a script of version 2, of headers and of what clients have
-/// stored: one a height.
-const BOOK_RECORDS: usize = 4096;
 
 /// How many headers of a chain its book has no room for.
 pub fn surplus_of(chain: &SeenChain<'_>) -> usize
     ensures { result ≡ length chain.now.commits.items - 4096 }
 {
-    chain.commits.len().saturating_sub(BOOK_RECORDS)
+    chain.commits.len().saturating_sub(MAX_RECORDS)
 }
 
 /// A chain with as many of its headers as its book has room for: where there are more, the lowest are left out.
@@ -74,7 +70,7 @@ fn book_of(
 {
     let stored = heights_of(alloc, setup, clients, place)?;
     let bare = without_header(alloc, chain, stored.as_slice())?;
-    let room = BOOK_RECORDS.saturating_sub(chain.commits.len());
+    let room = MAX_RECORDS.saturating_sub(chain.commits.len());
     let book = highest(alloc, bare, room)?;
     Ok(book)
 }

@@ -5,11 +5,8 @@ ghost use Rattle.rb_observed.specs.Room.{FitsSets, HasNoRoom};
 
 use crate::kept::KeptSets;
 use rb_seen::{SeenChain, SeenSets, Stored};
-use rb_setup::Setup;
+use rb_setup::{MAX_SETS, Setup};
 use std::alloc::{AllocError, Global};
-
-/// How many sets a chain's book holds.
-const BOOK_SETS: usize = 1024;
 
 /// Of each chain the sets that its headers and the records of its clients name, and that its book has room for.
 #[tactic(auto, using(crate::proofs::Highest::fitting))]
@@ -38,7 +35,7 @@ fn highest_of(alloc: Global, named: Vec<usize>) -> Result<KeptSets, AllocError>
     let mut named = named;
     named.sort_unstable();
     named.dedup();
-    let left_out = named.len().saturating_sub(BOOK_SETS);
+    let left_out = named.len().saturating_sub(MAX_SETS);
     let (_, highest) = named.split_at(left_out);
     let places = Vec::from_slice(alloc, highest)?;
     Ok(KeptSets { places, left_out })

@@ -22,7 +22,7 @@ pub trait Machine<A: Allocator + Copy> {
         ensures log { result.now.log ≡ (seen_as self.now).log };
 
     /// Takes the event out of a slot, judges it and takes it in. What is refused changes nothing that can
-    /// be seen. An error too where the slot was empty. (That the slot is empty then is not in the clauses.)
+    /// be seen. An error too where the slot was empty. (That the slot is empty after the call is in no clause.)
     fn take_from(&mut self, slot: &mut Option<Event<A>>) -> Result<Reply, CoreError>
         ensures config { (seen_as self.new).config ≡ (seen_as self.old).config }
         ensures appended { OnOk result ((seen_as self.new).log ≡ (seen_as self.old).log ++ event_in slot.old ∷ []) }

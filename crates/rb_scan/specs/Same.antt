@@ -34,11 +34,11 @@ same_path path other =
     && pointwise same_packet path.packets other.packets && pointwise same_record path.destination other.destination
 
 -- ---- each of them decides equality
-options_Decides : (o p : Option ℕ) → Decides (option_eq nat_eq o p) (o ≡ p)
-options_Decides None None = (λ _. refl, λ _. refl)
-options_Decides None (Some y) = (λ e. cc, λ e. cc)
-options_Decides (Some x) None = (λ e. cc, λ e. cc)
-options_Decides (Some x) (Some y) = Decides-like _ (λ e. ap Some e) (λ e. cc) (unsigned_Decides x y)
+pub options_Decides : {X : Type 0} (e : X → X → Bool) → ((x y : X) → Decides (e x y) (x ≡ y)) → (o p : Option X) → Decides (option_eq e o p) (o ≡ p)
+options_Decides e law None None = (λ _. refl, λ _. refl)
+options_Decides e law None (Some y) = (λ h. cc, λ h. cc)
+options_Decides e law (Some x) None = (λ h. cc, λ h. cc)
+options_Decides e law (Some x) (Some y) = Decides-like _ (λ h. ap Some h) (λ h. cc) (law x y)
 
 pub orders_Decides : (o p : Order) → Decides (same_order o p) (o ≡ p)
 orders_Decides Ordered Ordered = (λ _. refl, λ _. refl)
@@ -65,8 +65,8 @@ same_packet-Decides p q =
       ((((ap (λ (x : Packet). x.received) e, ap (λ (x : Packet). x.written) e), ap (λ (x : Packet). x.cleared) e), ap (λ (x : Packet). x.receive_settled) e), ap (λ (x : Packet). x.outcome_settled) e),
     ))
     (Decides-and _ _
-    (Decides-and _ _ (Decides-and _ _ (Decides-and _ _ (unsigned_Decides p.sequence q.sequence) (unsigned_Decides p.sent q.sent)) (options_Decides p.timeout_height q.timeout_height)) (options_Decides p.timeout_time q.timeout_time))
-    (Decides-and _ _ (Decides-and _ _ (Decides-and _ _ (Decides-and _ _ (options_Decides p.received q.received) (options_Decides p.written q.written)) (booleans_Decides p.cleared q.cleared)) (booleans_Decides p.receive_settled q.receive_settled)) (booleans_Decides p.outcome_settled q.outcome_settled)))
+    (Decides-and _ _ (Decides-and _ _ (Decides-and _ _ (unsigned_Decides p.sequence q.sequence) (unsigned_Decides p.sent q.sent)) (options_Decides nat_eq unsigned_Decides p.timeout_height q.timeout_height)) (options_Decides nat_eq unsigned_Decides p.timeout_time q.timeout_time))
+    (Decides-and _ _ (Decides-and _ _ (Decides-and _ _ (Decides-and _ _ (options_Decides nat_eq unsigned_Decides p.received q.received) (options_Decides nat_eq unsigned_Decides p.written q.written)) (booleans_Decides p.cleared q.cleared)) (booleans_Decides p.receive_settled q.receive_settled)) (booleans_Decides p.outcome_settled q.outcome_settled)))
 
 same_record-Decides : (r s : ℕ × ℕ) → Decides (same_record r s) (r ≡ s)
 same_record-Decides r s =

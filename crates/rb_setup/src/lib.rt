@@ -9,7 +9,7 @@ mod reading;
 mod setup;
 mod turn;
 
-pub use rb_events::{Asked, Goal, Settlement};
+pub use rb_events::{Asked, Goal, MAX_RECORDS, MAX_SETS, Settlement};
 pub use rb_fields::MAX_BYTES;
 pub use reading::read_setup;
 pub use setup::{ClientSetup, PathSetup, Setup, TurnSetup};

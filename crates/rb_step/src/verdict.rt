@@ -2,7 +2,7 @@
 ghost use Rattle.std.specs.Prelude.{◌≡◌};
 ghost use Rattle.rb_step.specs.Reasons.{number_of, name_of};
 
-/// The answer to a step (tendermint light client verifier: `Verdict`).
+/// The answer to a step (as `Verdict` of the Rust crate `tendermint-light-client-verifier`).
 #[derive(Clone, Copy, Debug, PartialEq, Eq)]
 pub enum Verdict {
     /// The step is accepted.

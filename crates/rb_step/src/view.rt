@@ -10,13 +10,11 @@ ghost use Rattle.rb_step.specs.View.{client_of, AreKnown, IsView};
 use crate::step::Step;
 use rb_base::{FeeTable, Height, Options, Window};
 use rb_book::ChainBook;
+use rb_valset::MAX_MEMBERS;
 use std::alloc::{Allocator, Global};
 use std::marker::Model;
 
-/// The most members of a validator set.
-const MAX_MEMBERS: u64 = 10_000;
-
-/// No step of that many commit votes, over two sets of that size, costs so much.
+/// No step of as many commit votes as a set may have members, over two such sets, costs so much.
 const FEE_LIMIT: u64 = 1 << 45;
 
 /// A client in a window, over the book of the chain that it tracks: its options, its fees, the
@@ -80,7 +78,7 @@ impl<'a, A: Allocator + Copy> ClientView<'a, A> {
     {
         // What is true of every book and of every fee table is true of the view.
         prove!(book.records().len() <= book.limit());
-        prove!(fees.charge(MAX_MEMBERS, 2 * MAX_MEMBERS) < FEE_LIMIT);
+        prove!(fees.charge(MAX_MEMBERS as u64, 2 * MAX_MEMBERS as u64) < FEE_LIMIT);
         ClientView {
             options,
             fees,

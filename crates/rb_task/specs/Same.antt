@@ -16,7 +16,7 @@ use Rattle.rb_book.specs.Same.{same_book-Decides}
 use Rattle.rb_events.specs.declared.goal.Goal.{Goal}
 use Rattle.rb_events.specs.declared.goal.Goal.TheVariants.{Exactly, AtLeast}
 use Rattle.rb_scan.specs.Owed.{same_kind}
-use Rattle.rb_scan.specs.Same.{same_order, orders_Decides}
+use Rattle.rb_scan.specs.Same.{same_order, options_Decides, orders_Decides}
 use Rattle.rb_scan.specs.declared.message.Kind.{Kind}
 use Rattle.rb_scan.specs.declared.message.Kind.TheVariants.{Receive, Acknowledge, Timeout}
 use Rattle.rb_scan.specs.declared.message.PacketMsg.{PacketMsg}
@@ -68,12 +68,6 @@ abbrev pub same_job : Job → Job → Bool
 same_job j k = (j.client == k.client) && same_task j.task k.task && (j.plan == k.plan) && beq j.held k.held
 
 -- ---- each of them decides equality
-
-options_Decides : {X : Type 0} (e : X → X → Bool) → ((x y : X) → Decides (e x y) (x ≡ y)) → (o p : Option X) → Decides (option_eq e o p) (o ≡ p)
-options_Decides e law None None = (λ _. refl, λ _. refl)
-options_Decides e law None (Some y) = (λ h. cc, λ h. cc)
-options_Decides e law (Some x) None = (λ h. cc, λ h. cc)
-options_Decides e law (Some x) (Some y) = Decides-like _ (λ h. ap Some h) (λ h. cc) (law x y)
 
 pub kinds_Decides : (k l : Kind) → Decides (same_kind k l) (k ≡ l)
 kinds_Decides Receive Receive = (λ _. refl, λ _. refl)

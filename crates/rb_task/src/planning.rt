@@ -17,7 +17,9 @@ use crate::task::{Task, ready_messages};
 use rb_base::Height;
 use rb_batch::{BatchError, Msg, cut};
 use rb_graph::Graph;
-use rb_plan::{Answer, Goal, Labelling, Update, label, plan_by, proof_height, top_reachable};
+use rb_plan::{
+    Answer, Goal, Labelling, Update, gas_of, label, plan_by, proof_height, top_reachable,
+};
 use std::alloc::{AllocError, Allocator};
 
 /// Puts the gas of each update to the end of a list.
@@ -29,10 +31,7 @@ fn append_updates<A: Allocator + Copy>(
     ensures { OnOk result (gases.new.items ≡ gases.old.items ++ map (gas_of task.now) updates.now) }
 {
     for update in updates {
-        let gas = task
-            .view()
-            .charge(&task.gas(), update.trusted(), update.height());
-        gases.push(Msg::new(gas))?;
+        gases.push(Msg::new(gas_of(task.view(), &task.gas(), update)))?;
     }
     Ok(())
 }

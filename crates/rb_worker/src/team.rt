@@ -51,11 +51,6 @@ where
 }
 
 impl<G: Gate> Team<G> {
-    /// How many workers there are.
-    pub fn len(&self) -> usize {
-        self.workers.len()
-    }
-
     /// Takes what was found into what is held, looking at each worker once; whether there was
     /// something.
     fn collect(&mut self, held: &mut Held) -> bool {
