@@ -1,13 +1,9 @@
 //! The script of a setup and of answers.
-ghost use Rattle.std.specs.Prelude.{◌≡◌, ◌≤◌, ◌++◌, ℕ, List, length, All, IfOk, IfErr, string_bytes};
+ghost use Rattle.std.specs.Prelude.{◌≡◌, ◌≤◌, ◌++◌, ℕ, List, length, IfOk, IfErr, string_bytes};
 ghost use Rattle.rb_setup.specs.Documents.{max_bytes};
 ghost use Rattle.rb_observed.specs.Problems.{IsToldIn};
 ghost use Rattle.rb_observed.specs.Seen.{HoldsOfSeen};
-ghost use Rattle.rb_notices.specs.Channels.{TellChannels};
-ghost use Rattle.rb_notices.specs.Counterparties.{TellCounterparties};
-ghost use Rattle.rb_notices.specs.Notices.{IsChainOf, IsClientOf, IsRecordOf, TellsHeaders, TellsSets};
-ghost use Rattle.rb_notices.specs.Unsearched.{TellSearches};
-ghost use Rattle.rb_notices.specs.Unusable.{TellFuture, TellGoals, TellUntrusted};
+ghost use Rattle.rb_notices.specs.Whole.{AreNoticesOf};
 ghost use Rattle.rb_import.specs.Texts.{warning};
 
 use crate::text::push_script;
@@ -40,17 +36,7 @@ pub fn compose<'a>(
 ) -> Result<Composed<'a>, ImportError<'a>>
     ensures size { IfOk result (λ script. length (string_bytes script.text) ≤ max_bytes) }
     ensures warning { IfOk result (λ script. (rest : List ℕ) × (string_bytes script.text ≡ warning ++ rest)) }
-    ensures headers { IfOk result (λ script. All (IsChainOf setup.entry.now) script.notices.headers.items) }
-    ensures too_many_headers { IfOk result (λ script. All (TellsHeaders setup.entry.now) script.notices.too_many_headers.items) }
-    ensures too_many_sets { IfOk result (λ script. All (TellsSets setup.entry.now) script.notices.too_many_sets.items) }
-    ensures too_many { IfOk result (λ script. All (IsClientOf setup.entry.now) script.notices.too_many.items) }
-    ensures untrusted { IfOk result (λ script. HoldsOfSeen setup.entry.now answers.entry.now (λ seen. TellUntrusted setup.entry.now seen script.notices.untrusted.items)) }
-    ensures future { IfOk result (λ script. HoldsOfSeen setup.entry.now answers.entry.now (λ seen. TellFuture setup.entry.now seen script.notices.future.items)) }
-    ensures goals { IfOk result (λ script. HoldsOfSeen setup.entry.now answers.entry.now (λ seen. TellGoals setup.entry.now seen script.notices.goals.items)) }
-    ensures records { IfOk result (λ script. All (IsRecordOf setup.entry.now) script.notices.next_sets.items) }
-    ensures searches { IfOk result (λ script. TellSearches setup.entry.now answers.entry.now.paths.items script.notices.searches.items) }
-    ensures counterparties { IfOk result (λ script. TellCounterparties setup.entry.now answers.entry.now.paths.items script.notices.counterparties.items) }
-    ensures channels { IfOk result (λ script. TellChannels setup.entry.now answers.entry.now.paths.items script.notices.channels.items) }
+    ensures notices { IfOk result (λ script. HoldsOfSeen setup.entry.now answers.entry.now (λ seen. AreNoticesOf setup.entry.now answers.entry.now seen script.notices)) }
     ensures told { IfErr result (IsToldIn setup.entry.now) }
 {
     let seen = seen_in(alloc, setup, answers)?;

@@ -8,7 +8,8 @@ mod text;
 
 pub use composing::{Composed, compose};
 pub use rb_notices::{
-    FutureHeaders, MissingHeaders, MissingNextSet, MissingSearches, NothingTrusted, Notices,
-    OtherChannel, SeveralCounterparties, TooManyHeaders, TooManyRecords, TooManySets, UnseenGoal,
+    FutureHeaders, MissingHeaders, MissingNextSet, MissingSearches, NothingFresh, NothingTrusted,
+    Notices, OtherChannel, SeveralCounterparties, TooManyHeaders, TooManyPackets, TooManyRecords,
+    TooManySets, UnseenGoal,
 };
 pub use rb_seen::{ImportError, Problem, ProblemName, Saved, SavedAnswers, SavedError, read_saved};

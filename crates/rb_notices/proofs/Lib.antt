@@ -1,4 +1,5 @@
 pub mod Ahead
-pub mod Noticed
+pub mod Nexts
+pub mod Rows
 pub mod Telling
 pub mod Windows

@@ -14,7 +14,7 @@ AreNoticesBefore {X = X} {N = N} n IsDue Says xs notices =
     All (λ (k : N). (i : ℕ) × (x : X) × (slice_get xs i ≡ Some x) × IsDue i x × Says i x k) notices
     × ((i : ℕ) → (x : X) → i < n → slice_get xs i ≡ Some x → IsDue i x → Any (Says i x) notices)
 
-any_more : {N : Type 0} (P : N → Type 0) (before : List N) (k : N) → Any P before → Any P (before ++ k ∷ [])
+pub any_more : {N : Type 0} (P : N → Type 0) (before : List N) (k : N) → Any P before → Any P (before ++ k ∷ [])
 any_more P before k (i, y, small, is, p) = (i, y, grind (arith, common_steps, small), grind (arith, common_steps, small, is), p)
 
 pub notices_none : {X N : Type 0} (IsDue : ℕ → X → Type 0) (Says : ℕ → X → N → Type 0) (xs : List X) → AreNoticesBefore 0 IsDue Says xs []

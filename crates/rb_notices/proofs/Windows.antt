@@ -16,9 +16,11 @@ use Rattle.rb_seen.specs.declared.client.Stored.{Stored}
 use Rattle.rb_observed.specs.declared.seen.Seen.{Seen}
 use Rattle.rb_notices.specs.declared.unusable.FutureHeaders.{FutureHeaders}
 use Rattle.rb_notices.specs.declared.unusable.UnseenGoal.{UnseenGoal}
+use Rattle.rb_notices.specs.declared.stale.NothingFresh.{NothingFresh}
+use Rattle.rb_notices.specs.Stale.{AreStale, LacksFresh, SaysFresh}
 use Rattle.rb_notices.specs.Unusable.{AreAhead, HasFuture, HoldsOfHeaders, IsFromFuture, IsGoal, IsUnseen, MissesGoal, SaysFuture, SaysGoal, TellGoals, TellThese, goals_in, last_turn}
 
-here : {A : Type 0} (o : Option A) (x : A) (P : A → Type 0) → o ≡ Some x → P x → IsSomeAnd o P
+pub here : {A : Type 0} (o : Option A) (x : A) (P : A → Type 0) → o ≡ Some x → P x → IsSomeAnd o P
 here o x P is p = subst (λ y. IsSomeAnd y P) (sym is) p
 
 holds_here : (setup : Setup) (seen : Seen) (place : ℕ) (c : ClientSetup) (turn : TurnSetup) (client : SeenClient) (chain : SeenChain) (Holds : ℕ → Span → List Commit → Type 0)
@@ -79,3 +81,16 @@ no_goals setup seen =
 pub no_last : (setup : Setup) (seen : Seen) (found : List UnseenGoal) → last_turn setup ≡ None → found ≡ [] → TellGoals setup seen found
 no_last setup seen found none empty =
     subst (λ f. TellGoals setup seen f) (sym empty) (subst (λ g. TellThese setup seen g []) (sym (ap goals_in none)) (no_goals setup seen))
+
+pub fresh_here : (setup : Setup) (seen : Seen) (place : ℕ) (c : ClientSetup) (turn : TurnSetup) (chain : SeenChain) (records : Vec Stored Global) (id : List ℕ) (notice : NothingFresh)
+    → last_turn setup ≡ Some turn → slice_get seen.chains.items c.tracks ≡ Some chain → slice_get seen.records.items place ≡ Some records → slice_get setup.chains.items c.tracks ≡ Some id
+    → AreStale c.refresh turn.window chain.commits.items records.items → notice.client.now ≡ c.id → notice.chain.now ≡ id → LacksFresh setup seen place c × SaysFresh setup c notice
+fresh_here setup seen place c turn chain records id notice last tracked stored named stale told its = (
+  (
+    slice_get_within setup.chains.items c.tracks id named,
+    here (last_turn setup) turn (λ (t : TurnSetup). IsSomeAnd (slice_get seen.chains.items c.tracks) (λ (k : SeenChain). IsSomeAnd (slice_get seen.records.items place) (λ (r : Vec Stored Global). AreStale c.refresh t.window k.commits.items r.items))) last
+        (here (slice_get seen.chains.items c.tracks) chain (λ (k : SeenChain). IsSomeAnd (slice_get seen.records.items place) (λ (r : Vec Stored Global). AreStale c.refresh turn.window k.commits.items r.items)) tracked
+        (here (slice_get seen.records.items place) records (λ (r : Vec Stored Global). AreStale c.refresh turn.window chain.commits.items r.items) stored stale)),
+  ),
+  (told, subst (λ x. slice_get setup.chains.items c.tracks ≡ Some x) (sym its) named),
+)

@@ -1,5 +1,9 @@
-pub mod Counterparties
 pub mod Channels
+pub mod Counterparties
+pub mod Excess
+pub mod Missing
 pub mod Notices
+pub mod Stale
 pub mod Unsearched
 pub mod Unusable
+pub mod Whole

@@ -5,13 +5,17 @@
 mod channels;
 mod counterparties;
 mod excess;
+mod missing;
 mod notice;
+mod stale;
 mod unsearched;
 mod unusable;
 
 pub use channels::OtherChannel;
 pub use counterparties::SeveralCounterparties;
-pub use excess::{TooManyHeaders, TooManySets};
-pub use notice::{MissingHeaders, MissingNextSet, Notices, TooManyRecords, notices_of};
+pub use excess::{TooManyHeaders, TooManyPackets, TooManyRecords, TooManySets};
+pub use missing::{MissingHeaders, MissingNextSet};
+pub use notice::{Notices, notices_of};
+pub use stale::NothingFresh;
 pub use unsearched::MissingSearches;
 pub use unusable::{FutureHeaders, NothingTrusted, UnseenGoal};

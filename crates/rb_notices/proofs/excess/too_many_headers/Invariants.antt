@@ -1,7 +1,7 @@
-use Rattle.std.proofs.Common.{All}
-use Rattle.rb_notices.specs.Notices.{TellsHeaders}
+use Rattle.rb_notices.specs.Excess.{LeavesHeaders, SaysHeaders}
+use Rattle.rb_notices.proofs.Telling.{AreNoticesBefore}
 use Rattle.rb_notices.proofs.excess.too_many_headers.Given as goal
 
--- those so far are chains of the setup
+-- these are the notices of the chains so far
 abbrev pub invariant-loop-place : goal.invariant-loop-place
-invariant-loop-place l = All (TellsHeaders l.setup) l.found.items
+invariant-loop-place l = AreNoticesBefore l.place (λ i x. LeavesHeaders l.seen i) (SaysHeaders l.seen) l.setup.chains.items l.found.items

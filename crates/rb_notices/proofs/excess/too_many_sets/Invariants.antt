@@ -1,7 +1,7 @@
-use Rattle.std.proofs.Common.{All}
-use Rattle.rb_notices.specs.Notices.{TellsSets}
+use Rattle.rb_notices.specs.Excess.{LeavesSets, SaysSets}
+use Rattle.rb_notices.proofs.Telling.{AreNoticesBefore}
 use Rattle.rb_notices.proofs.excess.too_many_sets.Given as goal
 
--- those so far are chains of the setup
+-- these are the notices of the chains so far
 abbrev pub invariant-loop-place : goal.invariant-loop-place
-invariant-loop-place l = All (TellsSets l.setup) l.found.items
+invariant-loop-place l = AreNoticesBefore l.place (λ i x. LeavesSets l.seen i) (SaysSets l.seen) l.setup.chains.items l.found.items
