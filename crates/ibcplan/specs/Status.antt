@@ -18,7 +18,7 @@ abbrev pub refused_events : Report → ℕ
 refused_events report = sum_by (λ t. length t.refused) report
 
 -- the bytes hold a script, and the writer took the text of its report; the status and the number of refused events are that report's
-pub record IsPlanned (is_strict : Bool) (script : List ℕ) (old new : Option (List ℕ)) (status count : ℕ) : Type 0 where
+pub record IsPlanWritten (is_strict : Bool) (script : List ℕ) (old new : Option (List ℕ)) (status count : ℕ) : Type 0 where
   pub writes : WritesReport script old new
   pub ends : status ≡ plan_status is_strict writes.report
   pub counts : count ≡ min (refused_events writes.report) (2 ^ 64 - 1)

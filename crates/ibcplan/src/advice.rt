@@ -1,12 +1,20 @@
 //! What a file should have in the place of a fault.
 use rb_fields::FaultName;
 
+/// Which kinds of events there are.
+const KINDS: &str =
+    "an event's kind is 'set', 'header', 'stored', 'sent', 'received', 'ack', 'cleared' or 'closed'";
+
+/// Which orders of a path there are.
+const ORDERS: &str = "an order is 'ordered' or 'unordered'";
+
 /// What should stand at the path of a fault.
 pub fn advice_for(name: FaultName, path: &str) -> &'static str {
     match name {
         FaultName::NotToml => "the file has to be TOML in UTF-8",
         FaultName::UnknownKey => keys_at(path),
-        FaultName::MissingKey | FaultName::WrongType => type_at(path),
+        FaultName::MissingKey => missing_at(path),
+        FaultName::WrongType => type_at(path),
         FaultName::BadVersion => "the version of a script is 1 or 2, of a setup or a certificate 1",
         FaultName::OutOfRange => range_at(path),
         FaultName::BadIdentifier => {
@@ -14,14 +22,12 @@ pub fn advice_for(name: FaultName, path: &str) -> &'static str {
         }
         FaultName::DuplicateIdentifier => "an earlier one has this identifier",
         FaultName::UnknownIdentifier => wanted_at(path),
-        FaultName::BadHex => "64 hexadecimal digits belong here",
+        FaultName::BadHex => hex_at(path),
         FaultName::BadTime =>
             "a time is a text as '2026-11-22T10:00:00Z', with Z or an offset, at most 9 digits of a second, from 1970 on",
         FaultName::BadVotes => "votes are the letters C, N, A and B",
-        FaultName::BadKind => {
-            "an event's kind is 'set', 'header', 'stored', 'sent', 'received', 'ack', 'cleared' or 'closed'"
-        }
-        FaultName::BadOrder => "an order is 'ordered' or 'unordered'",
+        FaultName::BadKind => KINDS,
+        FaultName::BadOrder => ORDERS,
         FaultName::SameChain =>
             "host and of of a client, source and dest of a path, have to be two chains",
         FaultName::WrongClient => {
@@ -44,7 +50,8 @@ pub fn advice_for(name: FaultName, path: &str) -> &'static str {
         FaultName::BadLimit => {
             "limits are gas (1 to 10^15), messages (1 to 10,000) and a transaction's own gas (0 to 10^9)"
         }
-        FaultName::BadFee => "fees and gas are numbers from 0 to 10^9",
+        FaultName::BadFee =>
+            "fees and gas are numbers from 0 to 10^9; take a larger unit where one is more",
         FaultName::NoSuchTurn => "the script doesn't have this turn",
         FaultName::BadAnswer => "an answer is 'plan', or 'unreachable' without updates",
         FaultName::NoGoal => "nothing is planned for this client in the turn",
@@ -92,6 +99,33 @@ fn keys_at(path: &str) -> &'static str {
         }
         "settle" => "a settlement has client, batch and done",
         _ => "there is no such key here",
+    }
+}
+
+/// What should stand where a key is missing.
+fn missing_at(path: &str) -> &'static str {
+    let (table, key) = table_and_key(path);
+    match key {
+        "kind" => KINDS,
+        "order" => ORDERS,
+        "period_ns" | "drift_ns" if key_of(table) == "client" => {
+            "a whole number of nanoseconds belongs here or, in version 2, in [chain.defaults] of the chain that the client follows; only a setup for import may leave it out"
+        }
+        "fee" | "gas" if key_of(table) == "client" => {
+            "three numbers belong here, as [100, 1, 1], or, in version 2, in [chain.defaults] of the chain that the client follows"
+        }
+        _ => type_at(path),
+    }
+}
+
+/// What belongs where a text isn't of 64 hexadecimal digits.
+fn hex_at(path: &str) -> &'static str {
+    match key_of(path) {
+        "set" | "next" => {
+            "64 hexadecimal digits belong here, or the name of a set, of at most 32 characters"
+        }
+        "validators" => "64 hexadecimal digits belong here; nodes give keys in base64",
+        _ => "64 hexadecimal digits belong here",
     }
 }
 

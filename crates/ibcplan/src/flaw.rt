@@ -25,6 +25,11 @@ pub enum Flaw<'a> {
         file: Shown<'a>,
         reason: String,
     },
+    /// Nothing is there.
+    #[error("{file}: there is nothing in it; did the command fail that was to write it?")]
+    Empty {
+        file: Shown<'a>,
+    },
     /// A key isn't there.
     #[error("{file}: this key is missing; {advice} (docs/FORMATS.md; places are counted from 0)")]
     Missing {
@@ -63,6 +68,7 @@ pub fn flaw_of<'a>(fault: &mut Fault, input: &Input<'a>) -> Flaw<'a>
     }
     let advice = advice_for(fault.name, fault.path.as_str());
     match (fault.name, fault.found) {
+        (FaultName::MissingKey, _) if is_blank(input.bytes()) => Flaw::Empty { file },
         (FaultName::MissingKey, _) => Flaw::Missing { file, advice },
         (_, Some(found)) => Flaw::Type {
             file,
@@ -71,6 +77,11 @@ pub fn flaw_of<'a>(fault: &mut Fault, input: &Input<'a>) -> Flaw<'a>
         },
         (_, None) => Flaw::Content { file, advice },
     }
+}
+
+/// Whether there is nothing but white space.
+fn is_blank(bytes: &[u8]) -> bool {
+    bytes.iter().all(|byte| byte.is_ascii_whitespace())
 }
 
 /// The line of the byte at a place, counted from 1.

@@ -4,9 +4,11 @@ ghost use Rattle.rb_events.specs.Script.{script_view, IsReadScript};
 use crate::failure::{Failure, Turns};
 use crate::input::Input;
 use crate::reporting::plan_status;
+use crate::task::WantedTurns;
+use crate::workers::Workers;
 use rb_events::Script;
 use rb_fields::RunError;
-use rb_gang::OpenGate;
+use rb_gang::Gate;
 use rb_output::{Setting, commands_of, json_of};
 use rb_text::{read_script, report_of};
 use std::alloc::{AllocError, Global};
@@ -20,47 +22,68 @@ pub struct JsonText {
     pub status: u8,
 }
 
-/// The report of the script that a file holds, as JSON.
-pub fn json_of_script<'a, R: Threads + Wait + Copy + Send + Sync + 'static>(
+/// The report of the script that a file holds, as JSON; its plans are made by so many workers, through a gate.
+pub fn json_of_script<
+    'a,
+    R: Threads + Wait + Copy + Send + Sync + 'static,
+    G: Gate + Send + Sync + Drop + 'static,
+>(
     rt: &R,
     alloc: Global,
     input: &Input<'a>,
+    workers: Workers,
     is_strict: bool,
+    gate: G,
 ) -> Result<JsonText, Failure<'a>> {
-    match json_of_bytes(rt, alloc, input.bytes(), is_strict) {
+    match json_of_bytes(rt, alloc, input.bytes(), workers, is_strict, gate) {
         Ok(json) => Ok(json),
         Err(error) => Err(Failure::of_run(error, input)),
     }
 }
 
-fn json_of_bytes<R: Threads + Wait + Copy + Send + Sync + 'static>(
+fn json_of_bytes<
+    R: Threads + Wait + Copy + Send + Sync + 'static,
+    G: Gate + Send + Sync + Drop + 'static,
+>(
     rt: &R,
     alloc: Global,
     bytes: &[u8],
+    workers: Workers,
     is_strict: bool,
+    gate: G,
 ) -> Result<JsonText, RunError> {
     let script = read_script(alloc, bytes)?;
-    let gate = Arc::new(alloc, OpenGate)?;
-    let report = report_of(rt, alloc, script, 0, &gate)?;
+    let gate = Arc::new(alloc, gate)?;
+    let report = report_of(rt, alloc, script, workers.count(), &gate)?;
     Ok(JsonText {
         text: json_of(alloc, &report)?,
         status: plan_status(is_strict, &report),
     })
 }
 
-/// The commands for the plans of the script that a file holds, of every turn or of the one with this
-/// number, which it has to have.
-pub fn commands_of_script<'a, R: Threads + Wait + Copy + Send + Sync + 'static>(
+/// The commands for the plans of the script that a file holds, of the turns that are wanted: one that is
+/// numbered has to be there; the plans are made through a gate.
+pub fn commands_of_script<
+    'a,
+    R: Threads + Wait + Copy + Send + Sync + 'static,
+    G: Gate + Send + Sync + Drop + 'static,
+>(
     rt: &R,
     alloc: Global,
     input: &Input<'a>,
-    turn: Option<u64>,
+    turns: WantedTurns,
+    gate: G,
 ) -> Result<String, Failure<'a>> {
     let script = match read_script(alloc, input.bytes()) {
         Ok(script) => script,
         Err(error) => return Err(Failure::of_run(error, input)),
     };
     let count = script.turns.len();
+    let turn = match turns {
+        WantedTurns::Every => None,
+        WantedTurns::Last => Some(count as u64),
+        WantedTurns::Numbered(turn) => Some(turn),
+    };
     match turn {
         Some(turn) if turn > count as u64 => {
             let file = input.name();
@@ -69,23 +92,21 @@ pub fn commands_of_script<'a, R: Threads + Wait + Copy + Send + Sync + 'static>(
                 turns: Turns { file, count },
             })
         }
-        _ => match commands_by(rt, alloc, script, turn) {
+        _ => match commands_by(rt, alloc, script, turn, gate) {
             Ok(text) => Ok(text),
             Err(_) => Err(Failure::NoMemory),
         },
     }
 }
 
-fn commands_by<R: Threads + Wait + Copy + Send + Sync + 'static>(
-    rt: &R,
-    alloc: Global,
-    script: Script,
-    turn: Option<u64>,
-) -> Result<String, AllocError>
+fn commands_by<
+    R: Threads + Wait + Copy + Send + Sync + 'static,
+    G: Gate + Send + Sync + Drop + 'static,
+>(rt: &R, alloc: Global, script: Script, turn: Option<u64>, gate: G) -> Result<String, AllocError>
     requires { IsReadScript (script_view script) }
 {
     let setting = Setting::of(alloc, &script)?;
-    let gate = Arc::new(alloc, OpenGate)?;
+    let gate = Arc::new(alloc, gate)?;
     let report = report_of(rt, alloc, script, 0, &gate)?;
     commands_of(alloc, &setting, &report, turn)
 }

@@ -4,11 +4,11 @@ ghost use Rattle.rb_text.specs.Scripts.{script_of};
 ghost use Rattle.rb_text.specs.Headline.{BeginsReport};
 ghost use Rattle.rb_text.specs.Verdicts.{IsFaultFor, BeginsVerdict};
 ghost use Rattle.ibcplan.specs.Failures.{failure_status, told_fault, is_unwritten};
-ghost use Rattle.ibcplan.specs.Status.{IsPlanned, IsConfirmed, IsDenied};
+ghost use Rattle.ibcplan.specs.Status.{IsPlanWritten, IsConfirmed, IsDenied};
 
 use crate::explained::Explained;
 use crate::failure::Failure;
-use crate::forms::{JsonText, commands_of_script, json_of_script};
+use crate::forms::{commands_of_script, json_of_script};
 use crate::host::Host;
 use crate::importing::{ImportedText, imported};
 use crate::input::Input;
@@ -129,15 +129,21 @@ fn done_of<'a, R: Host, W: Sink>(
                 output,
             )
         }
-        Task::PlanJson { script, is_strict } => {
+        Task::PlanJson {
+            script,
+            workers,
+            is_strict,
+        } => {
             let script = Input::read(rt, script)?;
-            let JsonText { text, status } = json_of_script(rt, rt.alloc(), &script, is_strict)?;
-            write(text.as_str(), output)?;
-            Ok(Done::quietly(status))
+            let progress = Progress::new(*rt, is_watched);
+            let json = json_of_script(rt, rt.alloc(), &script, workers, is_strict, progress)?;
+            write(json.text.as_str(), output)?;
+            Ok(Done::quietly(json.status))
         }
-        Task::Commands { script, turn } => {
+        Task::Commands { script, turns } => {
             let script = Input::read(rt, script)?;
-            let text = commands_of_script(rt, rt.alloc(), &script, turn)?;
+            let progress = Progress::new(*rt, is_watched);
+            let text = commands_of_script(rt, rt.alloc(), &script, turns, progress)?;
             write(text.as_str(), output)?;
             Ok(Done::quietly(status::DONE))
         }
@@ -181,7 +187,7 @@ fn plan<
     output: &mut W,
 ) -> Result<Done, Failure<'a>>
     requires { W.is_broken output.old ≡ false }
-    ensures done { IfOk result (λ done. IsPlanned is_strict script.now (W.taken output.old) (W.taken output.new) done.status done.refused_events) }
+    ensures done { IfOk result (λ done. IsPlanWritten is_strict script.now (W.taken output.old) (W.taken output.new) done.status done.refused_events) }
     ensures refused { IfErr result (λ failure. failure_status failure ≡ 1 → IsErr (script_of script.now)) }
     ensures fault { IfErr result (λ failure. IfSome (told_fault failure) (λ fault. script_of script.now ≡ Err fault)) }
     ensures nothing_written { IfErr result (λ failure. failure_status failure ≡ 1 → output.new ≡ output.old) }

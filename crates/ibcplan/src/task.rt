@@ -15,15 +15,16 @@ pub enum Task<'a> {
         workers: Workers,
         is_strict: bool,
     },
-    /// Write a script's report as JSON.
+    /// Write a script's report as JSON, by so many workers.
     PlanJson {
         script: &'a str,
+        workers: Workers,
         is_strict: bool,
     },
-    /// Write the commands for a script's plans, of every turn or of the one with a number, from 1.
+    /// Write the commands for a script's plans.
     Commands {
         script: &'a str,
-        turn: Option<u64>,
+        turns: WantedTurns,
     },
     /// Write the script that a setup and the answers in a folder make.
     Import {
@@ -35,6 +36,17 @@ pub enum Task<'a> {
         script: &'a str,
         certificate: &'a str,
     },
+}
+
+/// The turns of a script that are wanted.
+#[derive(Clone, Copy, Debug)]
+pub enum WantedTurns {
+    /// All of them.
+    Every,
+    /// The last one.
+    Last,
+    /// The one with a number, from 1.
+    Numbered(u64),
 }
 
 const PLAN: &str = "plan";
@@ -50,6 +62,8 @@ const WORKERS: &str = "workers";
 const STRICT: &str = "strict";
 
 const TURN: &str = "turn";
+
+const LAST: &str = "last";
 
 const IMPORT: &str = "import";
 
@@ -95,16 +109,19 @@ const AFTER_RUN: &str = "Examples (in the folder of the repository):
   ./ibcplan run examples/packets.toml
   ./ibcplan run --workers 4 examples/hundred_headers.toml
   ./ibcplan run --strict --workers 4 examples/hundred_headers.toml
+  ./ibcplan run --json --workers 4 examples/hundred_headers.toml | jq .
 
 It writes what plan writes, whatever the number of threads. Measure before you
 use it: where a plan takes less than a second or two, plan is faster.";
 
 const AFTER_COMMANDS: &str = "Examples (in the folder of the repository):
   ./ibcplan commands examples/smallest.toml
-  ./ibcplan commands --turn 1 examples/hundred_headers.toml > updates.sh
+  ./ibcplan commands --last examples/hundred_headers.toml > updates.sh
+  ./ibcplan commands --turn 1 examples/two_clients.toml
 
-Without --turn it writes those of every turn, of which only the last turn's are
-to be run. Each turn's begin with a comment that says until when they are valid.";
+Without --last or --turn it writes those of every turn, of which only the last
+turn's are to be run. Each turn's begin with a comment that says until when they
+are valid.";
 
 const AFTER_IMPORT: &str = "Examples (in the folder of the repository):
   ./ibcplan import examples/import/setup.toml examples/import/answers > script.toml
@@ -137,18 +154,21 @@ fn strict<'a>(alloc: Global) -> Arg<'a> {
         .help("Ends with status 6 where an event, a window or a settlement is refused")
 }
 
-fn plan_command<'a>(alloc: Global) -> Result<Command<'a>, AllocError> {
-    let json = Arg::new(alloc, JSON)
+fn json<'a>(alloc: Global) -> Arg<'a> {
+    Arg::new(alloc, JSON)
         .long("json")
         .action(ArgAction::SetTrue)
-        .help("Writes the report as JSON");
+        .help("Writes the report as JSON")
+}
+
+fn plan_command<'a>(alloc: Global) -> Result<Command<'a>, AllocError> {
     Command::new(alloc, PLAN)
         .about(
             "Writes the report of a script: for each turn and client the cheapest list of updates",
         )
         .after_help(AFTER_PLAN)
         .arg(script_file(alloc))?
-        .arg(json)?
+        .arg(json(alloc))?
         .arg(strict(alloc))
 }
 
@@ -166,6 +186,7 @@ fn run_command<'a>(alloc: Global) -> Result<Command<'a>, AllocError> {
         .after_help(AFTER_RUN)
         .arg(script_file(alloc))?
         .arg(workers)?
+        .arg(json(alloc))?
         .arg(strict(alloc))
 }
 
@@ -175,11 +196,17 @@ fn commands_command<'a>(alloc: Global) -> Result<Command<'a>, AllocError> {
         .value_name("N")
         .value_parser(value_parser!(u64).range(1..=MAX_TURNS as i64))
         .help("Writes those of this turn alone, from 1");
+    let last = Arg::new(alloc, LAST)
+        .long("last")
+        .action(ArgAction::SetTrue)
+        .conflicts_with(TURN)?
+        .help("Writes those of the last turn alone");
     Command::new(alloc, COMMANDS)
         .about("Writes the commands (of Hermes) that submit the updates of a script's plans")
         .after_help(AFTER_COMMANDS)
         .arg(script_file(alloc))?
-        .arg(turn)
+        .arg(turn)?
+        .arg(last)
 }
 
 fn certify_command<'a>(alloc: Global) -> Result<Command<'a>, AllocError> {
@@ -234,19 +261,34 @@ fn twice_standard_input(alloc: Global) -> Result<Error, AllocError> {
 /// The task of `plan` or `run`, or none where a word is missing.
 fn plan_of<'a>(name: &str, script: &'a str, given: &ArgMatches<'a>) -> Option<Task<'a>> {
     let is_strict = given.get_flag(STRICT);
-    if name == PLAN && given.get_flag(JSON) {
-        return Some(Task::PlanJson { script, is_strict });
-    }
     let workers = if name == RUN {
         Workers::new(given.get_one(WORKERS)?)?
     } else {
         Workers::none()
     };
+    if given.get_flag(JSON) {
+        return Some(Task::PlanJson {
+            script,
+            workers,
+            is_strict,
+        });
+    }
     Some(Task::Plan {
         script,
         workers,
         is_strict,
     })
+}
+
+/// The turns whose commands are wanted.
+fn turns_of(given: &ArgMatches<'_>) -> WantedTurns {
+    if given.get_flag(LAST) {
+        return WantedTurns::Last;
+    }
+    match given.get_one(TURN) {
+        Some(turn) => WantedTurns::Numbered(turn),
+        None => WantedTurns::Every,
+    }
 }
 
 /// The task of words that were parsed, or none where one is missing.
@@ -265,8 +307,8 @@ fn task_of<'a>(matches: &ArgMatches<'a>) -> Option<Task<'a>> {
             certificate,
         })
     } else if name == COMMANDS {
-        let turn = given.get_one(TURN);
-        Some(Task::Commands { script, turn })
+        let turns = turns_of(given);
+        Some(Task::Commands { script, turns })
     } else {
         plan_of(name, script, given)
     }
