@@ -35,7 +35,7 @@ GIVEN = ["", "period_ns = 800000000000000\n", "drift_ns = 7\ntrust = [2, 3]\n", 
 def setups(seed):
     """The setup of one client, which is planned, and one of two clients, a path and two turns."""
     one = HEAD + ONE + GIVEN[seed % 4] + TURN % 20
-    two = CLIENT % ("zone-on-hub", "hub-4", "zone-1") + "refresh_ns = 5\n"
+    two = CLIENT % ("zone-on-hub", "hub-4", "zone-1") + "refresh_ns = 5_000_000_000_000\n"
     path = PATH + (ENDS if seed % 4 == 1 else SOURCE if seed % 2 else "") + ("first = 2\n" if seed % 3 == 0 else "")
     turns = TURN % 10 + 'settle = [{ client = "hub-on-zone", batch = 1, done = 2 }]\n' + TURN % 20
     return one, HEAD + ONE + two + path + turns
@@ -390,6 +390,10 @@ UNSEARCHED = ("notice MissingSearches at transfers: no answer of /tx_search tell
               f"packets that aren't seen as sent, and those that aren't seen as received or cleared are planned again; fetch all pages of /tx_search{INTO}transfers\n")
 SEVERAL = ("notice SeveralCounterparties at transfers: packets were sent from its source to several destinations: those to transfer/%s are taken, those to others, "
            "as transfer/%s, are passed over; write counterparty_port and counterparty_channel, beside port and channel, into the setup's path, so that they decide\n")
+FRESH = ("notice NothingFresh at hub-on-zone: its records are due for a refresh by the window's end, and no header of hub-4 is young enough for it, so that "
+         f"none is planned; fetch /commit and /validators of later heights{INTO}hub-4\n")
+PACKETS = ("notice TooManyPackets at transfers: %d packets were sent, and a path holds 4,096, so that the later ones are refused; if all packets before %d are "
+           "finished, give the path first = %d in the setup\n")
 CHANNEL = "notice OtherChannel at transfers: the answers tell of packets of transfer/channel-0, none of transfer/channel-9; see the path's port and channel\n"
 SETTING, FROM, UNTIL = "drift_ns = 7\n", "12:09:20Z", "12:09:30Z"
 PATH_GAS = "gas = [5, 5, 5]\n"
@@ -415,6 +419,11 @@ NOTICES = [
     (0, swapped(FROM, "12:08:32Z"), removed(), [FUTURE % (80, 1)]),
     (0, swapped(FROM, "12:00:01Z"), removed(), [FUTURE % (1, 2)]),
     (0, swapped(FROM, "12:08:33Z"), removed(), []),
+    # at the window's end header 80 is 57.7 seconds old
+    (0, swapped(SETTING, SETTING + "refresh_ns = 57_000_000_000\n"), removed(), [FRESH]),
+    (0, swapped(SETTING, SETTING + "refresh_ns = 58_000_000_000\n"), removed(), []),
+    (0, swapped(SETTING, SETTING + "refresh_ns = 1\n"), NO_RECORD, [EXPIRED % "it has stored no record"]),
+    (1, str, saved(*packet_txs(OURS, *((40, "send_packet", sequence) for sequence in range(100, 4195)))), [PACKETS % (4098, 3, 3)]),
     (1, str, edited(RECEIVED_FILE, put(f"{TX}.tx_result.code", 11)), []),  # what failed did nothing
     # of one packet several events: both searches saved, and messages that were relayed once more, before and after
     (1, str, moved(RECEIVED_FILE, "transfers/acknowledged.json", copy=True), []),
@@ -513,6 +522,10 @@ def chain_cases(top, program):
     folders += [(top / "collected", top / "setup-4-0.toml", ""), (top / "busy-1500", top / "busy-1500.toml", SETS % (482, 0))]
     with answers.serve(random.Random(7)) as (rpc, rest):
         subprocess.run([TOP / "examples" / "collect", top / "collected", "hub-on-zone", "hub-4", rpc, rest, "4"], check=True)
+    for client, chain, there in (("hub-on-zone", "none-1", "hub-on-zone/client_state"), ("none", "hub-4", "hub-4/commit-57")):  # no node is left to answer
+        told = f"collect: {top}/collected/{there}.json is there already; name a new folder, or take the answers out of this one\n"
+        asked = [str(TOP / "examples" / "collect"), str(top / "collected"), client, chain, rpc, rest]
+        yield Case(f"collecting {client} of {chain} again", asked, b"", b"", told.encode(), 1)
     for folder, setup, told in folders:
         toml = answers.in_toml(answers.script_of(setup.read_text(), folder))
         report = reference.report(reference.read_script(toml)).encode()

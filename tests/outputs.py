@@ -1,4 +1,4 @@
-"""Runs of `plan --json` and `commands` on the rows and the examples; what they write is made here of the reports that are stored."""
+"""Runs of `plan --json`, `run --json` and `commands` on the rows and the examples; what they write is made here of the reports that are stored."""
 import json
 import shlex
 import tomllib
@@ -122,7 +122,7 @@ def stored_texts(are_few):
 
 def strict_cases(are_few):
     """With `--strict` the same is written, and the status says whether something in it is refused."""
-    commands = ["plan"], ["plan", "--json"], ["run"], ["run", "--workers", "2"]
+    commands = ["plan"], ["plan", "--json"], ["run"], ["run", "--workers", "2"], ["run", "--json", "--workers", "2"]
     for number, (script, report) in enumerate(stored_texts(are_few)):
         words = [*commands[number % len(commands)], "--strict", "-"]
         is_json, status = "--json" in words, 6 if "\nrefused " in report else 0
@@ -133,12 +133,15 @@ def strict_cases(are_few):
 
 
 def turn_cases():
-    """`commands --turn`: the first and the last turn, one whose window is refused, and numbers of no turn, also of a script without turns."""
+    """`commands --turn` and `--last`: the first and the last turn, one whose window is refused, and numbers of no turn, also of a script without turns."""
     example = TOP / "examples" / "two_clients.toml"
     table, report = tomllib.loads(example.read_text()), example.with_suffix(".report").read_text()
     for number in range(1, len(table["turn"]) + 1):
         output = commands_of(table, value_of(table, report), number).encode()
         yield Case(f"commands of turn {number}", ["commands", "--turn", f"{number}", "-"], example.read_bytes(), output, b"", 0)
+    yield Case("commands of the last turn", ["commands", "--last", "-"], example.read_bytes(), output, b"", 0)
+    yield Case("commands of the last turn where there is none", ["commands", "--last", "-"], b"version = 1\n", b"", b"", 0)
+    yield Case("commands of two turns", ["commands", "--last", "--turn", "1", "-"], b"", b"", b"error: the argument '--last' cannot be used with '--turn <N>'\n", 2)
     for number, reason in ("0", "0 is not in 1..=500"), ("5", "the last turn of standard input is 4"), ("501", "501 is not in 1..=500"), ("one", "invalid digit found in string"):
         error = f"error: invalid value '{number}' for '--turn <N>': {reason}\n".encode()
         yield Case(f"commands of turn {number}", ["commands", f"--turn={number}", "-"], example.read_bytes(), b"", error, 2)
