@@ -1,5 +1,5 @@
 -- What there is no room for: headers and sets of a chain, records of a client, packets of a path.
-use Rattle.std.specs.Prelude.{◌≡◌, ◌<◌, ℕ, Bool, true, false, List, Vec, IsSomeAnd, count_by, get_or, slice_get}
+use Rattle.std.specs.Prelude.{◌≡◌, ◌<◌, ◌-◌, ℕ, Bool, true, false, List, Vec, IsSomeAnd, count_by, filter, get_or, slice_get}
 use Rattle.std.specs.Global.{Global}
 use Rattle.rb_answers.specs.declared.packets.PacketKind.{PacketKind}
 use Rattle.rb_setup.specs.declared.setup.ClientSetup.{ClientSetup}
@@ -66,7 +66,10 @@ is_sending other = false
 abbrev pub is_sent : SeenPacket → Bool
 is_sent p = is_sending p.event.now.kind
 
--- how many of these were sent
+-- those of these that were sent, and how many they are
+abbrev pub sent_of : List SeenPacket → List SeenPacket
+sent_of packets = filter is_sent packets
+
 abbrev pub sent_in : List SeenPacket → ℕ
 sent_in packets = count_by is_sent packets
 
@@ -74,10 +77,14 @@ sent_in packets = count_by is_sent packets
 abbrev pub LeavesPackets : Seen → ℕ → Type 0
 LeavesPackets seen place = IsSomeAnd (slice_get seen.paths.items place) (λ (packets : Vec SeenPacket Global). 4096 < sent_in packets.items)
 
--- it is told of this path, and how many packets were sent
+-- so many of these packets were sent, and this is the sequence of the first of the last 4,096 of them
+abbrev pub TellsSent : List SeenPacket → ℕ → ℕ → Type 0
+TellsSent packets sent first = (sent ≡ sent_in packets) × IsSomeAnd (slice_get (sent_of packets) (sent - 4096)) (λ (p : SeenPacket). first ≡ p.event.now.sequence)
+
+-- it is told of this path, and of its packets
 abbrev pub SaysPackets : Seen → ℕ → PathSetup → TooManyPackets → Type 0
 SaysPackets seen place path notice =
-    (notice.path.now ≡ path.id) × IsSomeAnd (slice_get seen.paths.items place) (λ (packets : Vec SeenPacket Global). notice.sent ≡ sent_in packets.items)
+    (notice.path.now ≡ path.id) × IsSomeAnd (slice_get seen.paths.items place) (λ (packets : Vec SeenPacket Global). TellsSent packets.items notice.sent notice.first)
 
 -- a notice for each path of the setup of which more packets were sent than a path holds
 unfoldable pub TellExcessPackets : Setup → Seen → List TooManyPackets → Type 0

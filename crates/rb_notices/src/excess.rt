@@ -1,6 +1,6 @@
 //! Notices of what there is no room for: headers and sets of a chain, records of a client, packets of a path.
-ghost use Rattle.std.specs.Prelude.{◌≡◌, count_by, IfOk, MatchOption};
-ghost use Rattle.rb_notices.specs.Excess.{LeavesHeaders, LeavesPackets, LeavesRecords, LeavesSets, SaysHeaders, SaysPackets, SaysRecords, SaysSets, TellExcessHeaders, TellExcessPackets, TellExcessRecords, TellExcessSets, is_sent, sent_in};
+ghost use Rattle.std.specs.Prelude.{◌≡◌, IfOk, MatchOption, slice_get};
+ghost use Rattle.rb_notices.specs.Excess.{LeavesHeaders, LeavesPackets, LeavesRecords, LeavesSets, SaysHeaders, SaysPackets, SaysRecords, SaysSets, TellExcessHeaders, TellExcessPackets, TellExcessRecords, TellExcessSets, is_sent, sent_in, sent_of};
 
 use rb_answers::PacketKind;
 use rb_observed::{Seen, SeenPacket};
@@ -242,7 +242,10 @@ fn is_sent(packet: &SeenPacket<'_>) -> bool
 }
 
 /// The sequence of the packet that was sent after so many others, 0 if there is none.
-fn sequence_after(packets: &[SeenPacket<'_>], skipped: usize) -> u64 {
+#[tactic(auto, using(crate::proofs::Sent::skipping))]
+fn sequence_after(packets: &[SeenPacket<'_>], skipped: usize) -> u64
+    ensures { MatchOption (slice_get (sent_of packets.now) skipped) (result ≡ 0) (λ p. result ≡ p.event.now.sequence) }
+{
     let mut left = skipped;
     for packet in packets {
         if is_sent(packet) {

@@ -60,11 +60,3 @@ headers_rise seen kept n rises end =
     subst IsStrictlyIncreasing (drop-map header_height n seen ∙ ap (map header_height) (sym end)) (end_rises n (map header_height seen) rises)
 
 pub ruleset fitting = (headers_fit, headers_rise, All-push)
-
--- ---- places of sets
-
-pub end_fits : (n room : ℕ) (xs kept : List ℕ) → n ≡ length xs - room → kept ≡ drop n xs → length kept ≤ room
-end_fits n room xs kept is end =
-    let long : length (drop n xs) ≡ length xs - n = length-drop n xs in
-    let same : length kept ≡ length (drop n xs) = ap length end in
-    omega (arith, long, same, is)

@@ -1,6 +1,7 @@
 pub mod Found
 pub mod Highest
 pub mod Lowering
+pub mod Naming
 pub mod Rooms
 pub mod Seeing
 pub mod Sendings

@@ -4,4 +4,5 @@ pub mod Sources
 pub mod Lowest
 pub mod Problems
 pub mod Room
+pub mod Sets
 pub mod Seen

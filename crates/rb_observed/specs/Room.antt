@@ -8,7 +8,6 @@ use Rattle.rb_seen.specs.declared.chain.Commit.{Commit}
 use Rattle.rb_seen.specs.declared.chain.SeenChain.{SeenChain}
 use Rattle.rb_seen.specs.declared.client.SeenClient.{SeenClient}
 use Rattle.rb_seen.specs.declared.client.Stored.{Stored}
-use Rattle.rb_observed.specs.declared.kept.KeptSets.{KeptSets}
 
 -- there is a header of this height
 unfoldable pub HasHeader : SeenChain → ℕ → Type 0
@@ -68,12 +67,8 @@ AreKept setup chains clients books records = AtEachPlace (λ number c kept. AreK
 abbrev pub FitBooks : Setup → List SeenChain → List SeenClient → List (Vec Stored Global) → Type 0
 FitBooks setup chains clients records = (books : List (Vec ℕ Global)) × AreBooks setup chains clients books × AreKept setup chains clients books records
 
--- ---- headers and sets
+-- ---- headers
 
 -- a book has room for these headers of a chain: of those that were seen the highest
 abbrev pub FitsHeaders : List Commit → List Commit → Type 0
 FitsHeaders seen kept = (length kept ≤ 4096) × (kept ≡ drop (length seen - 4096) seen)
-
--- a book has room for so many sets, each once, by rising places
-abbrev pub FitsSets : KeptSets → Type 0
-FitsSets kept = (length kept.places.items ≤ 1024) × IsStrictlyIncreasing kept.places.items

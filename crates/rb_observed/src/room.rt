@@ -17,7 +17,8 @@ pub fn surplus_of(chain: &SeenChain<'_>) -> usize
 /// A chain with as many of its headers as its book has room for: where there are more, the lowest are left out.
 #[tactic(auto, using(crate::proofs::Highest::fitting))]
 pub fn with_room<'a>(alloc: Global, chain: SeenChain<'a>) -> Result<SeenChain<'a>, AllocError>
-    ensures { IfOk result (λ fitting. FitsHeaders chain.entry.commits.items fitting.commits.items) }
+    ensures fits { IfOk result (λ fitting. FitsHeaders chain.entry.commits.items fitting.commits.items) }
+    ensures sets { IfOk result (λ fitting. fitting.sets.sets.items ≡ chain.entry.sets.sets.items) }
 {
     let left_out = surplus_of(&chain);
     let SeenChain { commits, sets } = chain;

@@ -1,8 +1,9 @@
 //! What was seen of a setup's chains, clients and paths, as much of it as books have room for.
-ghost use Rattle.std.specs.Prelude.{◌≡◌, ◌≤◌, ◌↔◌, length, All, IsTrue, IfOk, IfErr};
+ghost use Rattle.std.specs.Prelude.{◌≡◌, ◌≤◌, ◌↔◌, length, All, IsTrue, IfOk, IfErr, OnOk};
+ghost use Rattle.rb_seen.specs.Problems.{IsToldOf};
 ghost use Rattle.rb_observed.specs.Problems.{IsToldIn};
 ghost use Rattle.rb_observed.specs.Room.{AtEachPlace};
-ghost use Rattle.rb_observed.specs.Seen.{AreSeenClients, IsKeptSet, IsSeenChain, IsSeenIn, answers_at};
+ghost use Rattle.rb_observed.specs.Seen.{AgreesWithChain, AreSeenClients, AreSeenPaths, IsKeptSet, IsSeenChain, IsSeenIn, answers_at, surplus_of};
 
 use crate::kept::KeptSets;
 use crate::packets::{SeenPacket, seen_packets};
@@ -12,7 +13,7 @@ use rb_seen::{
     ImportError, Saved, SavedAnswers, SeenChain, SeenClient, Stored, judge_records, seen_chain,
     seen_client,
 };
-use rb_setup::Setup;
+use rb_setup::{ClientSetup, Setup};
 use std::alloc::Global;
 
 /// What was seen of the chains, clients and paths of a setup, in its order. Of each chain there are the headers and
@@ -136,6 +137,7 @@ fn seen_chains<'a>(
 ) -> Result<(Vec<SeenChain<'a>>, Vec<usize>), ImportError<'a>>
     ensures fit { IfOk result (λ seen. All (λ c. length c.commits.items ≤ 4096) seen.0.items) }
     ensures seen { IfOk result (λ seen. AtEachPlace (λ i id chain. IsSeenChain (answers_at answers.entry.now.chains.items i) chain) setup.entry.now.chains.items seen.0.items) }
+    ensures surplus { IfOk result (λ seen. AtEachPlace (λ i id surplus. surplus ≡ surplus_of (answers_at answers.entry.now.chains.items i)) setup.entry.now.chains.items seen.1.items) }
     ensures told { IfErr result (IsToldIn setup.entry.now) }
 {
     let mut chains = Vec::with_capacity(alloc, setup.chains.len())?;
@@ -157,7 +159,7 @@ fn seen_clients<'a>(
     answers: &'a SavedAnswers,
     chains: &[SeenChain<'a>],
 ) -> Result<Vec<SeenClient<'a>>, ImportError<'a>>
-    ensures seen { IfOk result (λ clients. AreSeenClients setup.entry.now answers.entry.now.clients.items clients.items) }
+    ensures seen { IfOk result (λ clients. AreSeenClients setup.entry.now answers.entry.now.clients.items chains.now clients.items) }
     ensures told { IfErr result (IsToldIn setup.entry.now) }
 {
     let mut clients = Vec::with_capacity(alloc, setup.clients.len())?;
@@ -167,29 +169,47 @@ fn seen_clients<'a>(
         };
         let saved = answers_at(&answers.clients, place);
         let seen = seen_client(alloc, client, tracked, saved)?;
-        if let Some(chain) = chains.get(client.tracks) {
-            judge_records(alloc, client.id.as_str(), chain, seen.stored.as_slice())?;
-        }
+        judge_client(alloc, client, chains, seen.stored.as_slice())?;
         clients.push(seen)?;
     }
     Ok(clients)
 }
 
+/// Refuses a client's record that isn't as the header of its height, of the chain that the client tracks.
+fn judge_client<'a>(
+    alloc: Global,
+    client: &'a ClientSetup,
+    chains: &[SeenChain<'a>],
+    stored: &[Stored<'a>],
+) -> Result<(), ImportError<'a>>
+    ensures accord { OnOk result (AgreesWithChain chains.now client.entry.now stored.now) }
+    ensures told { IfErr result (IsToldOf client.entry.now.id) }
+{
+    match chains.get(client.tracks) {
+        Some(chain) => judge_records(alloc, client.id.as_str(), chain, stored),
+        None => Ok(()),
+    }
+}
+
+/// What was seen of each path, by its place; of one whose destination is no chain of the setup nothing is, nor of those
+/// behind.
 #[tactic(auto, using(crate::proofs::Told::naming))]
 fn seen_paths<'a>(
     alloc: Global,
     setup: &'a Setup,
     answers: &'a SavedAnswers,
 ) -> Result<Vec<Vec<SeenPacket<'a>>>, ImportError<'a>>
-    ensures { IfErr result (IsToldIn setup.entry.now) }
+    ensures seen { IfOk result (λ paths. AreSeenPaths setup.entry.now answers.entry.now.paths.items paths.items) }
+    ensures told { IfErr result (IsToldIn setup.entry.now) }
 {
     let mut paths = Vec::with_capacity(alloc, setup.paths.len())?;
     for (place, path) in setup.paths.iter().enumerate() {
-        if let Some(dest) = setup.chains.get(path.dest) {
-            let saved = answers_at(&answers.paths, place);
-            let seen = seen_packets(alloc, path, dest, saved)?;
-            paths.push(seen)?;
-        }
+        let Some(dest) = setup.chains.get(path.dest) else {
+            return Ok(paths);
+        };
+        let saved = answers_at(&answers.paths, place);
+        let seen = seen_packets(alloc, path, dest, saved)?;
+        paths.push(seen)?;
     }
     Ok(paths)
 }

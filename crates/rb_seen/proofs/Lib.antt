@@ -2,3 +2,5 @@ pub mod Sorting
 pub mod SetsLemmas
 pub mod ReasonsLemmas
 pub mod Accords
+pub mod Heights
+pub mod Pages

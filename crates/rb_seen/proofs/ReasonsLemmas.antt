@@ -43,7 +43,7 @@ other_revision id n m is other also = other (same_number (at_last_dash id) m n I
 any_there : {A : Type 0} (P : A → Type 0) (x : A) (xs : List A) → Any P xs → Any P (x ∷ xs)
 any_there P x xs (k, y, small, is, p) = (suc k, y, omega arith, is, p)
 
-any_left : {A : Type 0} (P : A → Type 0) (xs ys : List A) → Any P xs → Any P (xs ++ ys)
+pub any_left : {A : Type 0} (P : A → Type 0) (xs ys : List A) → Any P xs → Any P (xs ++ ys)
 any_left P [] ys (k, y, small, is, p) = absurd (omega arith)
 any_left P (x ∷ xs) ys (zero, y, small, is, p) = (zero, y, omega arith, is, p)
 any_left P (x ∷ xs) ys (suc k, y, small, is, p) = any_there P x (xs ++ ys) (any_left P xs ys (k, y, omega arith, is, p))

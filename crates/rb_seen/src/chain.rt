@@ -1,9 +1,10 @@
 //! The sets and headers of a chain: each height once, rising, and each header with its set.
-ghost use Rattle.std.specs.Prelude.{◌≡◌, ◌<◌, length, map, All, Contains, IfOk, IfErr, OnOk, IfSome, IfNone};
-ghost use Rattle.std.specs.List.Sorted.{IsStrictlyIncreasing};
-ghost use Rattle.rb_valset.specs.ValidatorSet.{set_hash};
+ghost use Rattle.std.specs.Prelude.{◌≡◌, ◌≤◌, ◌==◌, ℕ, List, length, map, filter, All, IfOk, IfErr, OnOk, IfSome, IfNone};
+ghost use Rattle.std.specs.List.Sorted.{IsNonDecreasingBy, IsStrictlyIncreasing};
+ghost use Rattle.rb_valset.specs.ValidatorSet.{set_hash, in_set_order};
 ghost use Rattle.rb_seen.specs.Problems.{IsToldOf};
-ghost use Rattle.rb_seen.specs.Chains.{HaveHeaders, HasSet, IsOfChain, headers_of};
+ghost use Rattle.rb_seen.specs.Sets.{WasSeen};
+ghost use Rattle.rb_seen.specs.Chains.{AreAllPages, HaveHeaders, HaveSets, HasSet, IsOfChain, TakesSetOf, headers_of, pages_at, pages_of, validators_of, without_files};
 
 use crate::error::{ImportError, ProblemName};
 use crate::repeat::repeated;
@@ -36,8 +37,8 @@ pub struct SeenChain<'a> {
     ghost rising: { IsStrictlyIncreasing (map (λ c. c.header.now.height) commits.items) },
 }
 
-/// What the answers of a chain tell, by its identifier: each header once, by rising heights, and the
-/// set of each.
+/// What the answers of a chain tell, by its identifier: each header once, by rising heights, the set of
+/// each, and that of each other height whose validators are all there.
 pub fn seen_chain<'a>(
     alloc: Global,
     id: &'a str,
@@ -47,14 +48,13 @@ pub fn seen_chain<'a>(
     ensures rising { IfOk result (λ chain. IsStrictlyIncreasing (map (λ c. c.header.now.height) chain.commits.items)) }
     ensures chain { IfOk result (λ chain. All (IsOfChain id.entry.now) chain.commits.items) }
     ensures sets { IfOk result (λ chain. All (HasSet chain.sets.sets.items) chain.commits.items) }
+    ensures all_sets { IfOk result (λ chain. HaveSets answers.entry.now chain.sets.sets.items) }
     ensures told { IfErr result (IsToldOf id.entry.now) }
 {
     let commits = commits_of(alloc, id, answers)?;
     judge_chains(id, commits.as_slice())?;
     judge_heights(alloc, id, commits.as_slice())?;
-    let pages = pages_of(alloc, answers)?;
-    let mut sets = SeenSets::new(alloc);
-    add_sets(alloc, id, pages.as_slice(), commits.as_slice(), &mut sets)?;
+    let sets = sets_of(alloc, id, answers, commits.as_slice())?;
     judge_signatures(id, commits.as_slice(), &sets)?;
     Ok(SeenChain { commits, sets })
 }
@@ -153,8 +153,21 @@ fn two_commits<'a>(id: &'a str, commit: &Commit<'a>, other: &Commit<'a>) -> Impo
     ImportError::between(ProblemName::TwoAnswers, id, height, commit.file, other.file)
 }
 
-/// The pages by rising height.
-fn pages_of<'a>(alloc: Global, answers: &'a [Saved]) -> Result<Vec<Page<'a>>, AllocError> {
+/// The pages of validators by rising height, those of one height in the order of the answers.
+fn pages_of<'a>(alloc: Global, answers: &'a [Saved]) -> Result<Vec<Page<'a>>, AllocError>
+    ensures order { IfOk result (λ pages. IsNonDecreasingBy (λ p. p.page.now.height) pages.items) }
+    ensures same { IfOk result (λ pages. (height : ℕ) → without_files (filter (λ p. p.page.now.height == height) pages.items) ≡ pages_at answers.entry.now height) }
+{
+    let mut pages = all_pages(alloc, answers)?;
+    pages.sort_by_key(|page: &Page| page.page.height)?;
+    Ok(pages)
+}
+
+/// The pages of validators in the order of the answers.
+#[tactic(auto, using(crate::proofs::Sorting::taking))]
+fn all_pages<'a>(alloc: Global, answers: &'a [Saved]) -> Result<Vec<Page<'a>>, AllocError>
+    ensures { IfOk result (λ pages. without_files pages.items ≡ pages_of answers.entry.now) }
+{
     let mut pages = Vec::new(alloc);
     for saved in answers {
         if let Answer::Validators(page) = &saved.answer {
@@ -162,7 +175,6 @@ fn pages_of<'a>(alloc: Global, answers: &'a [Saved]) -> Result<Vec<Page<'a>>, Al
             pages.push(Page { file, page })?;
         }
     }
-    pages.sort_by_key(|page: &Page| page.page.height)?;
     Ok(pages)
 }
 
@@ -174,46 +186,40 @@ fn commit_of<'a>(commits: &[Commit<'a>], page: &Page<'a>) -> Option<Commit<'a>> 
     commits.get(place).copied()
 }
 
-/// The first of these pages and those after it that are of its height.
-fn of_height<'a, 'b>(pages: &'b [Page<'a>]) -> &'b [Page<'a>] {
-    let Some(first) = pages.first() else {
-        return pages;
-    };
-    let count = pages
-        .iter()
-        .take_while(|page| page.page.height == first.page.height)
-        .count();
-    pages.get(..count).unwrap_or(pages)
-}
-
-/// Whether the page before is of another height.
-fn is_first(pages: &[Page], place: usize) -> bool
-    requires { place < length pages.now }
+/// Of pages that stand by rising height those of this one.
+fn of_height<'a, 'b>(pages: &'b [Page<'a>], height: Height) -> &'b [Page<'a>]
+    requires { IsNonDecreasingBy (λ p. p.page.now.height) pages.now }
+    ensures { result.now ≡ filter (λ p. p.page.now.height == height) pages.now }
 {
-    if place == 0 {
-        return true;
-    }
-    let before = pages[place - 1].page;
-    let page = pages[place].page;
-    before.height != page.height
+    let start = pages.partition_point(|page: &Page| page.page.height < height);
+    let (_, rest) = pages.split_at(start);
+    let count = rest.partition_point(|page: &Page| page.page.height <= height);
+    let (same, _) = rest.split_at(count);
+    same
 }
 
-/// Adds the sets of pages that stand by rising height.
-fn add_sets<'a>(
+/// The sets that the pages of validators tell of.
+fn sets_of<'a>(
     alloc: Global,
     id: &'a str,
-    pages: &[Page<'a>],
+    answers: &'a [Saved],
     commits: &[Commit<'a>],
-    sets: &mut SeenSets<'a>,
-) -> Result<(), ImportError<'a>>
-    ensures { IfErr result (IsToldOf id.entry.now) }
+) -> Result<SeenSets<'a>, ImportError<'a>>
+    ensures sets { IfOk result (λ sets. HaveSets answers.entry.now sets.sets.items) }
+    ensures told { IfErr result (IsToldOf id.entry.now) }
 {
-    for place in 0..pages.len() {
-        if is_first(pages, place) {
-            add_set(alloc, id, of_height(&pages[place..]), commits, sets)?;
+    let pages = pages_of(alloc, answers)?;
+    let mut sets = SeenSets::new(alloc);
+    let mut last = None;
+    for page in &pages {
+        let height = page.page.height;
+        if last != Some(height) {
+            let same = of_height(pages.as_slice(), height);
+            add_set(alloc, id, same, commits, &mut sets)?;
+            last = Some(height);
         }
     }
-    Ok(())
+    Ok(sets)
 }
 
 /// Adds the set of the pages of one height. Pages that are missing are asked for only where there is
@@ -225,7 +231,10 @@ fn add_set<'a>(
     commits: &[Commit<'a>],
     sets: &mut SeenSets<'a>,
 ) -> Result<(), ImportError<'a>>
-    ensures { IfErr result (IsToldOf id.entry.now) }
+    ensures kept { OnOk result ((hash : List ℕ) → WasSeen sets.old.sets.items hash → WasSeen sets.new.sets.items hash) }
+    ensures sets { OnOk result (TakesSetOf (without_files pages.now) sets.old.sets.items sets.new.sets.items) }
+    ensures seen { OnOk result (AreAllPages (without_files pages.now) → WasSeen sets.new.sets.items (set_hash (in_set_order (validators_of (without_files pages.now))))) }
+    ensures told { IfErr result (IsToldOf id.entry.now) }
 {
     let Some(first) = pages.first() else {
         return Ok(());
@@ -264,22 +273,21 @@ fn missing_page<'a>(
     }
 }
 
-/// The validators of pages of one height, at most as many as they tell.
+/// The validators of pages of one height, at most as many as each of them tells.
 fn members_of<'a>(
     alloc: Global,
     id: &'a str,
     pages: &[Page<'a>],
 ) -> Result<Vec<Validator>, ImportError<'a>>
-    ensures { IfErr result (IsToldOf id.entry.now) }
+    ensures members { IfOk result (λ members. members.items ≡ validators_of (without_files pages.now)) }
+    ensures total { OnOk result ((total : ℕ) × All (λ p. p.page.now.total ≡ total) pages.now) }
+    ensures few { IfOk result (λ members. All (λ p. length members.items ≤ p.page.now.total) pages.now) }
+    ensures told { IfErr result (IsToldOf id.entry.now) }
 {
     let mut members = Vec::new(alloc);
     let mut before: Option<Page<'a>> = None;
     for page in pages {
-        if let Some(lower) = before {
-            if lower.page.total != page.page.total {
-                return Err(two_pages(ProblemName::OtherTotal, id, &lower, page));
-            }
-        }
+        judge_total(id, before, page)?;
         members.extend_from_slice(page.page.validators.as_slice())?;
         if members.len() as u64 > page.page.total {
             let lower = before.unwrap_or(*page);
@@ -288,6 +296,23 @@ fn members_of<'a>(
         before = Some(*page);
     }
     Ok(members)
+}
+
+/// Refuses a page that tells another total than the one before it.
+fn judge_total<'a>(
+    id: &'a str,
+    before: Option<Page<'a>>,
+    page: &Page<'a>,
+) -> Result<(), ImportError<'a>>
+    ensures total { OnOk result (IfSome before.entry (λ lower. lower.page.now.total ≡ page.now.page.now.total)) }
+    ensures told { IfErr result (IsToldOf id.entry.now) }
+{
+    match before {
+        Some(lower) if lower.page.total != page.page.total => {
+            Err(two_pages(ProblemName::OtherTotal, id, &lower, page))
+        }
+        _ => Ok(()),
+    }
 }
 
 fn two_pages<'a>(
@@ -307,7 +332,8 @@ fn set_of<'a>(
     page: &Page<'a>,
     members: Vec<Validator>,
 ) -> Result<ValidatorSet, ImportError<'a>>
-    ensures { IfErr result (IsToldOf id.entry.now) }
+    ensures set { IfOk result (λ set. set ≡ in_set_order members.items) }
+    ensures told { IfErr result (IsToldOf id.entry.now) }
 {
     match ValidatorSet::new(alloc, members) {
         Ok(set) => Ok(set),

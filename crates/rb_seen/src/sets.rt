@@ -1,7 +1,7 @@
 //! The sets that were seen of a chain, each found by its hash.
-ghost use Rattle.std.specs.Prelude.{◌≡◌, ◌++◌, ◌∷◌, [], ◌↔◌, ℕ, Contains, IsSome, IfSome, OnOk};
+ghost use Rattle.std.specs.Prelude.{◌≡◌, ◌↔◌, [], ℕ, Contains, IsSome, IfSome, OnOk, OnErr};
 ghost use Rattle.rb_valset.specs.ValidatorSet.{set_hash};
-ghost use Rattle.rb_seen.specs.Sets.{AreIndexed, IsPlaceOf, WasSeen};
+ghost use Rattle.rb_seen.specs.Sets.{AreIndexed, IsPlaceOf, KeepsSet, WasSeen};
 
 use rb_valset::ValidatorSet;
 use std::alloc::{AllocError, Global};
@@ -74,7 +74,9 @@ impl<'a> SeenSets<'a> {
     /// Keeps a set, if none of its hash was seen.
     #[tactic(auto, using(crate::proofs::SetsLemmas::indexing))]
     pub fn add(&mut self, seen: SeenSet<'a>) -> Result<(), AllocError>
-        ensures { OnOk result (WasSeen self.new.sets.items (set_hash seen.entry.set)) }
+        ensures seen { OnOk result (WasSeen self.new.sets.items (set_hash seen.entry.set)) }
+        ensures unchanged { OnErr result (self.new.sets.items ≡ self.old.sets.items) }
+        ensures kept { OnOk result (KeepsSet seen.entry self.old.sets.items self.new.sets.items) }
     {
         let hash = *seen.set.hash();
         if self.with_hash(&hash).is_some() {

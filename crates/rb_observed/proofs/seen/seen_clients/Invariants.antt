@@ -8,4 +8,4 @@ use Rattle.rb_observed.proofs.seen.seen_clients.Given as goal
 -- each of those so far is what was seen of the client at its place
 abbrev pub invariant-loop-place : goal.invariant-loop-place
 invariant-loop-place l =
-    AtEachBefore l.place (λ (i : ℕ) (x : ClientSetup) (client : SeenClient). IsSeenClient l.setup.chains.items x (answers_at l.answers.clients.items i) client) l.setup.clients.items l.clients.items
+    AtEachBefore l.place (λ (i : ℕ) (x : ClientSetup) (client : SeenClient). IsSeenClient l.setup.chains.items l.chains x (answers_at l.answers.clients.items i) client) l.setup.clients.items l.clients.items

@@ -1,7 +1,7 @@
-use Rattle.std.proofs.Common.{All}
-use Rattle.rb_observed.specs.Room.{FitsSets}
+use Rattle.rb_observed.specs.Sets.{AreKeptSets}
+use Rattle.rb_observed.proofs.Rooms.{AtEachBefore}
 use Rattle.rb_observed.proofs.sets.kept_sets.Given as goal
 
--- a book has room for those so far
+-- those so far are kept of the chains at their places
 abbrev pub invariant-loop-place : goal.invariant-loop-place
-invariant-loop-place l = All FitsSets l.kept.items
+invariant-loop-place l = AtEachBefore l.place (AreKeptSets l.setup l.records) l.chains l.kept.items
