@@ -411,6 +411,10 @@ NOTICES = [
     (0, swapped("at_least = 80", "exactly = 79"), removed(), [GOAL % (79, "at the goal's", 79, 79)]),
     (0, str, removed(COMMIT_FILE), []),  # height 80 is stored
     (0, str, padded(COMMIT_FILE, 2**24), []),
+    # the lowest set is the highest one again: it stands where it was seen first
+    (0, str, in_turn(*(step for page in (1, 2) for step in (
+        moved(f"hub-4/validators-1-{page}.json", f"hub-4/validators-90-{page}.json", copy=True),
+        edited(f"hub-4/validators-90-{page}.json", put("result.block_height", "90"))))), []),
     (0, str, in_turn(removed(COMMIT_FILE), edited(STORED_FILE, gone("consensus_states[1]"))), [GOAL % (80, "at or above the goal's", 80, 80)]),
     (0, swapped(SETTING, SETTING + "period_ns = 1\n"), removed(), [EXPIRED % "all 2 stored records have expired at the window's end"]),
     (0, swapped(SETTING, SETTING + "period_ns = 563_000_000_000\n"), removed(), []),  # record 80 is trusted until 12:17:55.3
