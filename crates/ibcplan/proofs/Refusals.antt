@@ -3,9 +3,9 @@ use Rattle.std.specs.Prelude.{◌≡◌, ℕ, Bool, true, false, List, [], ◌�
 use Rattle.std.specs.List.{list_any, sum_by}
 use Rattle.std.proofs.Common.{refl, ap, sym}
 use Rattle.std.proofs.lemmas.List.{length-map}
-use Rattle.rb_phases.specs.Views.{refused_view, settlement_view, turn_report_view}
+use Rattle.rb_super_turn.specs.Views.{refused_view, settlement_view, turn_report_view}
 use Rattle.ibcplan.specs.Status.{has_refusal}
-use Rattle.rb_phases.specs.declared.report.TurnReport.{TurnReport as CodeTurnReport}
+use Rattle.rb_super_turn.specs.declared.report.TurnReport.{TurnReport as CodeTurnReport}
 
 pub any-map : {X Y : Type 0} (p : Y → Bool) (f : X → Y) (xs : List X) → list_any p (map f xs) ≡ list_any (λ x. p (f x)) xs
 any-map p f [] = refl

@@ -1,8 +1,8 @@
 -- What the program tells and ends with where it fails.
 use Rattle.std.specs.Prelude.{◌≡◌, ◌⊎◌, ℕ, Bool, true, false, Option, Some, None}
-use Rattle.rb_fields.specs.Faults.{Fault, fault_view}
-use Rattle.rb_fields.specs.declared.fault.RunError.{RunError}
-use Rattle.rb_fields.specs.declared.fault.RunError.TheVariants as errors
+use Rattle.rb_script_toml.specs.Faults.{Fault, fault_view}
+use Rattle.rb_script_toml.specs.declared.fault.RunError.{RunError}
+use Rattle.rb_script_toml.specs.declared.fault.RunError.TheVariants as errors
 use Rattle.ibcplan.specs.declared.failure.Failure.{Failure}
 use Rattle.ibcplan.specs.declared.failure.Failure.TheVariants.{Refused, RefusedAnswers, NoSuchTurn, Unreadable, UnreadableAnswers, Unwritten, NoMemory}
 

@@ -1,7 +1,7 @@
 -- What the program's exit status says of the files that it read, and of what it wrote.
 use Rattle.std.specs.Prelude.{◌≡◌, ◌||◌, ◌&&◌, ◌-◌, ◌^◌, ℕ, Bool, true, false, if◌then◌else◌, List, length, nat_lt, min, Option, is_some}
 use Rattle.std.specs.List.{list_any, sum_by}
-use Rattle.rb_phases.specs.Report.{TurnReport, Report}
+use Rattle.rb_super_turn.specs.Report.{TurnReport, Report}
 use Rattle.rb_text.specs.Headline.{WritesReport}
 use Rattle.rb_text.specs.Verdicts.{WritesVerdict, IsCertified}
 

@@ -1,5 +1,5 @@
 //! What a file should have in the place of a fault.
-use rb_fields::FaultName;
+use rb_script_toml::FaultName;
 
 /// Which kinds of events there are.
 const KINDS: &str =

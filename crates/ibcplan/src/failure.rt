@@ -1,13 +1,13 @@
 //! Why the program gave no result: the line that says so, and what to do about it.
 ghost use Rattle.std.specs.Prelude.{◌≡◌, true, None};
-ghost use Rattle.rb_fields.specs.Faults.{status_of};
+ghost use Rattle.rb_script_toml.specs.Faults.{status_of};
 ghost use Rattle.ibcplan.specs.Failures.{failure_status, IsFailureStatus, told_fault, is_unwritten, error_fault, is_device};
 
 use crate::flaw::{Flaw, flaw_of};
 use crate::input::Input;
 use crate::shown::{Shown, shown_text};
 use crate::status;
-use rb_fields::{Fault, RunError};
+use rb_script_toml::{Fault, RunError};
 use std::alloc::Global;
 use std::{fmt, io};
 use thiserror::Error;

@@ -1,11 +1,11 @@
 //! What is wrong with a file that is refused.
 ghost use Rattle.std.specs.Prelude.{◌≡◌};
-ghost use Rattle.rb_fields.specs.Faults.{fault_view};
+ghost use Rattle.rb_script_toml.specs.Faults.{fault_view};
 
 use crate::advice::{advice_for, type_words};
 use crate::input::Input;
 use crate::shown::Shown;
-use rb_fields::{Fault, FaultName};
+use rb_script_toml::{Fault, FaultName};
 use std::str;
 use thiserror::Error;
 

@@ -1,16 +1,16 @@
 //! The report of a script in other forms than its own: JSON, and the commands that submit its updates.
-ghost use Rattle.rb_events.specs.Script.{script_view, IsReadScript};
+ghost use Rattle.rb_script_types.specs.Script.{script_view, IsReadScript};
 
 use crate::failure::{Failure, Turns};
 use crate::input::Input;
 use crate::reporting::plan_status;
 use crate::task::WantedTurns;
 use crate::workers::Workers;
-use rb_events::Script;
-use rb_fields::RunError;
 use rb_gang::Gate;
-use rb_output::{Setting, commands_of, json_of};
+use rb_script_toml::RunError;
+use rb_script_types::Script;
 use rb_text::{read_script, report_of};
+use rb_text_export::{Setting, commands_of, json_of};
 use std::alloc::{AllocError, Global};
 use std::sync::{Arc, Wait};
 use std::thread::Threads;

@@ -4,7 +4,7 @@ use crate::host::Host;
 use crate::input::{Input, bytes_of};
 use crate::shown::shown_text;
 use rb_import::{Composed, ImportError, Saved, SavedAnswers, SavedError, compose, read_saved};
-use rb_setup::{Setup, read_setup};
+use rb_import_setup::{Setup, read_setup};
 use std::alloc::{AllocError, Global};
 use std::fs::File;
 use std::{fs, io};

@@ -4,7 +4,7 @@ ghost use Rattle.std.specs.Prelude.{◌≡◌, ℕ, List};
 use crate::failure::Failure;
 use crate::host::Host;
 use crate::shown::Shown;
-use rb_fields::MAX_BYTES;
+use rb_script_toml::MAX_BYTES;
 use std::alloc::Global;
 use std::fs::File;
 use std::io;

@@ -1,5 +1,5 @@
 //! ibcplan plans the client updates of an IBC relayer's script, and judges plans that others made.
-//! What it does stands in `rb_text`, `rb_import` and `rb_output`; here are the command line, the files,
+//! What it does stands in `rb_text`, `rb_import` and `rb_text_export`; here are the command line, the files,
 //! the statuses (of a plan with `--strict` by whether its report tells of something refused) and the words
 //! for the operator.
 #![tactic(auto)]

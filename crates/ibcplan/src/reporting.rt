@@ -1,11 +1,11 @@
 //! What a report says of refusals, and the status of a plan by that.
 ghost use Rattle.std.specs.Prelude.{◌≡◌, ◌-◌, ◌^◌, min, is_some};
 ghost use Rattle.std.specs.List.{list_any};
-ghost use Rattle.rb_phases.specs.Views.{settlement_view, turn_report_view, report_view};
+ghost use Rattle.rb_super_turn.specs.Views.{settlement_view, turn_report_view, report_view};
 ghost use Rattle.ibcplan.specs.Status.{has_refusal, plan_status, refused_events};
 
 use crate::status;
-use rb_phases::{Report, SettlementReport, TurnReport};
+use rb_super_turn::{Report, SettlementReport, TurnReport};
 
 /// Whether one of a turn's settlements is refused.
 fn settlements_have_refusal(settlements: &[SettlementReport]) -> bool

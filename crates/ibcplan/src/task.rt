@@ -3,7 +3,7 @@ use crate::input::STANDARD_INPUT;
 use crate::workers::Workers;
 use clap::error::ErrorKind;
 use clap::{Arg, ArgAction, ArgMatches, Command, Error, value_parser};
-use rb_events::MAX_TURNS;
+use rb_script_types::MAX_TURNS;
 use std::alloc::{AllocError, Global};
 
 /// What the program is asked to do, with the paths of its files.

@@ -12,12 +12,12 @@ use Rattle.atomic_table.proofs.Lists.{at_set, at_snoc}
 use Rattle.rb_core.specs.Follower.{Past, Follower, IsOfLog, Told, events_in, followed, follows, told_of}
 use Rattle.rb_core.proofs.Entries.{after_free, events-append, events_grow}
 use Rattle.rb_core.proofs.Unjudged.{told_back}
-use Rattle.rb_events.specs.Config.{Config}
-use Rattle.rb_machine.specs.Config.{IsSetUp}
-use Rattle.rb_machine.specs.Entry.{Logged, events_of}
-use Rattle.rb_machine.specs.Event.{Event, IsEvent}
-use Rattle.rb_machine.specs.Log.{IsLog}
-use Rattle.rb_machine.specs.Machine.{State, opening, after, refusal_of, state_of}
+use Rattle.rb_script_types.specs.Config.{Config}
+use Rattle.rb_core_model.specs.Config.{IsSetUp}
+use Rattle.rb_core_model.specs.Entry.{Logged, events_of}
+use Rattle.rb_core_model.specs.Event.{Event, IsEvent}
+use Rattle.rb_core_model.specs.Log.{IsLog}
+use Rattle.rb_core_model.specs.Machine.{State, opening, after, refusal_of, state_of}
 use Rattle.rb_board.specs.Knowledge.{Knowledge, nothing_yet, Begins}
 use Rattle.rb_board.specs.Ends.{Desk}
 use Rattle.rb_board.specs.Kept.{IsKnown, Known, Sees, config_or, followed_on, knowledge_of, past_of}

@@ -1,7 +1,7 @@
 -- What contracts see of the pen and of a desk.
 use Rattle.std.specs.Prelude.{ℕ, List}
-use Rattle.rb_events.specs.Config.{Config}
-use Rattle.rb_machine.specs.Event.{Event}
+use Rattle.rb_script_types.specs.Config.{Config}
+use Rattle.rb_core_model.specs.Event.{Event}
 
 -- the most desks of a board (own choice)
 abbrev pub max_desks : ℕ

@@ -10,9 +10,9 @@ use Rattle.left_right.specs.declared.part.Part.{Part}
 use Rattle.left_right.specs.declared.reader.Reader.{Reader}
 use Rattle.left_right.specs.declared.writer.Writer.{Writer}
 use Rattle.rb_core.specs.Follower.{Past, Follower, IsOfLog, Told, events_in, follows}
-use Rattle.rb_events.specs.Config.{Config}
-use Rattle.rb_machine.specs.Event.{Event}
-use Rattle.rb_machine.specs.Machine.{state_of}
+use Rattle.rb_script_types.specs.Config.{Config}
+use Rattle.rb_core_model.specs.Event.{Event}
+use Rattle.rb_core_model.specs.Machine.{state_of}
 use Rattle.rb_board.specs.Knowledge.{Knowledge, nothing_yet, Begins}
 use Rattle.rb_board.specs.declared.held.Held.{Held}
 

@@ -1,8 +1,8 @@
 -- What is known at a place of the board.
 use Rattle.std.specs.Prelude.{◌≡◌, ◌⊎◌, List, [], Option, None}
 use mathlib.Core.List.{IsPrefix}
-use Rattle.rb_events.specs.Config.{Config}
-use Rattle.rb_machine.specs.Entry.{Logged}
+use Rattle.rb_script_types.specs.Config.{Config}
+use Rattle.rb_core_model.specs.Entry.{Logged}
 
 -- how the board's core is configured, and the entries of a beginning of the board's log
 pub record Knowledge : Type 0 where

@@ -1,8 +1,8 @@
 -- Why a desk has no answer.
 use Rattle.std.specs.Prelude.{◌≡◌, ◌<◌, length, Option, Some}
-use Rattle.rb_events.specs.declared.refusal.Refusal.{Refusal}
-use Rattle.rb_machine.specs.declared.error.CoreError.{CoreError}
-use Rattle.rb_machine.specs.declared.error.CoreError.TheVariants as core
+use Rattle.rb_script_types.specs.declared.refusal.Refusal.{Refusal}
+use Rattle.rb_core_model.specs.declared.error.CoreError.{CoreError}
+use Rattle.rb_core_model.specs.declared.error.CoreError.TheVariants as core
 use Rattle.rb_board.specs.Ends.{Desk}
 use Rattle.rb_board.specs.declared.error.DeskError.{DeskError}
 use Rattle.rb_board.specs.declared.error.DeskError.TheVariants.{Behind, Refused, NoMemory}

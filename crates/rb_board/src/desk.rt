@@ -2,8 +2,8 @@
 ghost use Rattle.std.specs.Prelude.{◌≡◌, ◌≤◌, ◌<◌, length, max, Some, IsSome, IfOk, IfErr, IfNone, IfSome, OnOk};
 ghost use mathlib.Core.List.{IsPrefix};
 ghost use Rattle.rb_core.specs.Follower.{IsOfLog, events_in, state_after};
-ghost use Rattle.rb_machine.specs.Machine.{client_view, client_view_refusal, path_view_refusal, state_of};
-ghost use Rattle.rb_machine.specs.Standing.{path_view};
+ghost use Rattle.rb_core_model.specs.Machine.{client_view, client_view_refusal, path_view_refusal, state_of};
+ghost use Rattle.rb_core_model.specs.Standing.{path_view};
 ghost use Rattle.rb_board.specs.Kept.{Sees, known_by, known_of, past_of};
 ghost use Rattle.rb_board.specs.Unseen.{IsUnseen};
 

@@ -1,6 +1,6 @@
 //! Why a desk has no answer.
 use rb_core::CoreError;
-use rb_events::Refusal;
+use rb_script_types::Refusal;
 use thiserror::Error;
 
 /// Why a desk has no answer.

@@ -1,13 +1,13 @@
 //! The pen.
 ghost use Rattle.std.specs.Prelude.{◌≡◌, ◌++◌, ◌∷◌, [], ◌<◌, ◌^◌, length, All, None, IfOk, IfErr, OnOk, MatchResult};
 ghost use mathlib.Core.List.{IsPrefix};
-ghost use Rattle.rb_machine.specs.Config.{IsSetUp};
-ghost use Rattle.rb_machine.specs.Event.{IsEvent};
-ghost use Rattle.rb_machine.specs.Log.{IsLog};
-ghost use Rattle.rb_machine.specs.Machine.{refusal_of, reply_of, state_of};
-ghost use Rattle.rb_machine.specs.Refused.{IsRefusal};
-ghost use Rattle.rb_machine.specs.Replied.{reply_view};
-ghost use Rattle.rb_machine.specs.Seen.{event_view};
+ghost use Rattle.rb_core_model.specs.Config.{IsSetUp};
+ghost use Rattle.rb_core_model.specs.Event.{IsEvent};
+ghost use Rattle.rb_core_model.specs.Log.{IsLog};
+ghost use Rattle.rb_core_model.specs.Machine.{refusal_of, reply_of, state_of};
+ghost use Rattle.rb_core_model.specs.Refused.{IsRefusal};
+ghost use Rattle.rb_core_model.specs.Replied.{reply_view};
+ghost use Rattle.rb_core_model.specs.Seen.{event_view};
 ghost use Rattle.rb_board.specs.Kept.{pending};
 
 use crate::desk::Desk;

@@ -6,7 +6,7 @@ use crate::held::Held;
 use atomic_table::{Join, Split};
 use crossbeam_utils::rule::{Outcome, Protocol};
 use rb_core::SharedEntry;
-use rb_events::Config;
+use rb_script_types::Config;
 use std::alloc::Allocator;
 use std::collections::LinkedList;
 use std::marker::Model;
@@ -20,7 +20,7 @@ pub(crate) struct Knows {
 
 impl Model for Knows {
     ghost use Rattle.std.specs.Option.{option_map};
-    ghost use Rattle.rb_events.specs.Config.{config_view};
+    ghost use Rattle.rb_script_types.specs.Config.{config_view};
     ghost use Rattle.rb_board.specs.Knowledge.{Knowledge};
 
     ghost Value = { Knowledge };

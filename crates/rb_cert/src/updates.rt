@@ -2,7 +2,7 @@
 ghost use Rattle.std.specs.Prelude.{◌≡◌, Some, OnOk, IfOk, IfErr, IfSome, IfNone};
 ghost use Rattle.rb_step.specs.LightClient.{IsAcceptable};
 ghost use Rattle.rb_step.specs.View.{IsView, client_of};
-ghost use Rattle.rb_events.specs.declared.goal.Goal.{Goal};
+ghost use Rattle.rb_script_types.specs.declared.goal.Goal.{Goal};
 ghost use Rattle.rb_plan.specs.Goal.{Meets};
 ghost use Rattle.rb_plan.specs.Order.{cost_of};
 ghost use Rattle.rb_plan.specs.Labelling.{Labels, label_of};

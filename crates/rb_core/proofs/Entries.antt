@@ -5,20 +5,20 @@ use Rattle.std.specs.Option.{option_map, option_map_or}
 use Rattle.std.proofs.lemmas.Bool.{leb-false, not-false}
 use Rattle.std.proofs.lemmas.List.Elements.{All-append, All-cons, All-nil}
 use Rattle.std.proofs.lemmas.List.Sums.{fold-append}
-use Rattle.rb_events.specs.Config.{Config}
-use Rattle.rb_events.specs.declared.refusal.Refusal.{Refusal}
-use Rattle.rb_events.specs.declared.refusal.Refusal.TheVariants.{UnknownObject, Stale, Busy, Repeat, OutOfOrder, NotOwed, LogFull}
+use Rattle.rb_script_types.specs.Config.{Config}
+use Rattle.rb_script_types.specs.declared.refusal.Refusal.{Refusal}
+use Rattle.rb_script_types.specs.declared.refusal.Refusal.TheVariants.{UnknownObject, Stale, Busy, Repeat, OutOfOrder, NotOwed, LogFull}
 use Rattle.rb_scan.specs.Same.{same_path, same_path-Decides}
 use Rattle.rb_core.specs.Core.{IsFold}
-use Rattle.rb_task.specs.Draft.{Draft}
-use Rattle.rb_machine.specs.Entry.{Logged, logged_of, event_of, events_of}
-use Rattle.rb_machine.specs.Event.{Event, IsEvent, Window, Asked, SetSeen, HeaderSeen, StoredSeen, Sent, Received, AckWritten, Cleared, Closed, Scanned, Planned, Settled}
-use Rattle.rb_machine.specs.Log.{accepted_from}
-use Rattle.rb_machine.specs.Machine.{State, opening, plan_number, is_held, all_scanned, is_view, is_job, client_view, max_events, is_known, refusal_beside, refusal_of, accepted, after, state_of}
-use Rattle.rb_task.specs.Same.{same_job, same_job-Decides}
-use Rattle.rb_machine.specs.Scan.{Scan}
-use Rattle.rb_machine.specs.Standing.{path_view}
-use Rattle.rb_machine.proofs.Options.{passes, tested}
+use Rattle.rb_plan_client.specs.Draft.{Draft}
+use Rattle.rb_core_model.specs.Entry.{Logged, logged_of, event_of, events_of}
+use Rattle.rb_core_model.specs.Event.{Event, IsEvent, Window, Asked, SetSeen, HeaderSeen, StoredSeen, Sent, Received, AckWritten, Cleared, Closed, Scanned, Planned, Settled}
+use Rattle.rb_core_model.specs.Log.{accepted_from}
+use Rattle.rb_core_model.specs.Machine.{State, opening, plan_number, is_held, all_scanned, is_view, is_job, client_view, max_events, is_known, refusal_beside, refusal_of, accepted, after, state_of}
+use Rattle.rb_plan_client.specs.Same.{same_job, same_job-Decides}
+use Rattle.rb_core_model.specs.Scan.{Scan}
+use Rattle.rb_core_model.specs.Standing.{path_view}
+use Rattle.rb_core_model.proofs.Options.{passes, tested}
 
 -- ---- events that aren't refused
 

@@ -5,20 +5,20 @@ use Rattle.std.specs.Option.{option_and_then}
 use Rattle.std.proofs.lemmas.List.Elements.{All-nil}
 use Rattle.rb_book.specs.Shared.{Shared}
 use Rattle.rb_base.specs.Fee.{IsFeeTable}
-use Rattle.rb_events.specs.Config.{Config, IsConfig}
-use Rattle.rb_events.specs.declared.config.ClientConfig.{ClientConfig}
+use Rattle.rb_script_types.specs.Config.{Config, IsConfig}
+use Rattle.rb_script_types.specs.declared.config.ClientConfig.{ClientConfig}
 use Rattle.rb_core.specs.Core.{Core, Room, room_of, state_in, refusal_in, HasOwnRoom, IsReady, IsFold}
-use Rattle.rb_machine.specs.Entry.{Logged, events_of}
-use Rattle.rb_machine.specs.Event.{Event, IsEvent, Window, Asked, SetSeen, HeaderSeen, StoredSeen, Sent, Received, AckWritten, Cleared, Closed, Scanned, Planned, Settled}
-use Rattle.rb_known.specs.Held.{HeldClient, HeldPath, clients_of, HasSettleRoom}
-use Rattle.rb_machine.specs.Judged.{Ready}
+use Rattle.rb_core_model.specs.Entry.{Logged, events_of}
+use Rattle.rb_core_model.specs.Event.{Event, IsEvent, Window, Asked, SetSeen, HeaderSeen, StoredSeen, Sent, Received, AckWritten, Cleared, Closed, Scanned, Planned, Settled}
+use Rattle.rb_core_state.specs.Held.{HeldClient, HeldPath, clients_of, HasSettleRoom}
+use Rattle.rb_core_model.specs.Judged.{Ready}
 use Rattle.rb_core.specs.Known.{state_view, HasRoom}
-use Rattle.rb_machine.specs.Log.{log_of}
-use Rattle.rb_machine.specs.Machine.{State, opening, state_of, refusal_of}
-use Rattle.rb_machine.specs.Standing.{OpenBatch, KnownClient}
-use Rattle.rb_machine.specs.declared.error.CoreError.{CoreError}
+use Rattle.rb_core_model.specs.Log.{log_of}
+use Rattle.rb_core_model.specs.Machine.{State, opening, state_of, refusal_of}
+use Rattle.rb_core_model.specs.Standing.{OpenBatch, KnownClient}
+use Rattle.rb_core_model.specs.declared.error.CoreError.{CoreError}
 use Rattle.rb_core.specs.declared.known.Known.{Known}
-use Rattle.rb_machine.proofs.Logs.{states_of_logs}
+use Rattle.rb_core_model.proofs.Logs.{states_of_logs}
 
 -- the front of the fold of a log is its length
 pub long : (config : Config) (log : List Event) (s : State) → IsFold config log s → s.front ≡ length log

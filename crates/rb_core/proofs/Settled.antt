@@ -2,9 +2,9 @@
 use Rattle.std.proofs.Common.{◌≡◌, ℕ, Bool, true, false, cond, eqb, leb, ◌&&◌, Option, Some, None, refl, sym, ap, ◌∙◌}
 use Rattle.std.specs.Option.{option_and_then}
 use Rattle.std.proofs.lemmas.Option.{none-some}
-use Rattle.rb_events.specs.declared.refusal.Refusal.TheVariants.{Repeat, OutOfOrder}
-use Rattle.rb_machine.specs.Standing.{OpenBatch, KnownClient, open_batch, settled_refusal, settled_refusal_of}
-use Rattle.rb_machine.proofs.Options.{passes}
+use Rattle.rb_script_types.specs.declared.refusal.Refusal.TheVariants.{Repeat, OutOfOrder}
+use Rattle.rb_core_model.specs.Standing.{OpenBatch, KnownClient, open_batch, settled_refusal, settled_refusal_of}
+use Rattle.rb_core_model.proofs.Options.{passes}
 
 pub settled_batch : (o : Option KnownClient) (number done : ℕ) (b : OpenBatch) → option_and_then (λ (c : KnownClient). settled_refusal c number done) o ≡ None
     → option_and_then (λ (c : KnownClient). c.batch) o ≡ Some b → option_and_then (λ (c : KnownClient). open_batch c number) o ≡ Some b

@@ -11,13 +11,13 @@ use Rattle.rb_book.specs.Book.{Book, same_book}
 use Rattle.rb_scan.specs.Path.{Path}
 use Rattle.rb_scan.specs.Same.{same_path, same_path-Decides}
 use Rattle.rb_step.specs.View.{View}
-use Rattle.rb_machine.proofs.Options.{tested}
+use Rattle.rb_core_model.proofs.Options.{tested}
 use Rattle.rb_scan.specs.declared.scan.Part.{Part}
 use Rattle.rb_scan.specs.declared.scan.Part.TheVariants.{Packets, Channel}
-use Rattle.rb_machine.specs.Machine.{State, is_view, no_scans, scan_of, client_view, job_of}
-use Rattle.rb_task.specs.Same.{same_fees, same_options, same_span, same_view}
-use Rattle.rb_machine.specs.Scan.{Scan}
-use Rattle.rb_machine.specs.Standing.{KnownClient, path_view, view_of}
+use Rattle.rb_core_model.specs.Machine.{State, is_view, no_scans, scan_of, client_view, job_of}
+use Rattle.rb_plan_client.specs.Same.{same_fees, same_options, same_span, same_view}
+use Rattle.rb_core_model.specs.Scan.{Scan}
+use Rattle.rb_core_model.specs.Standing.{KnownClient, path_view, view_of}
 
 -- the last scan of a part, by those of a path
 pub no_scan : (part : Part) → scan_of no_scans part ≡ None

@@ -4,22 +4,22 @@ use Rattle.std.specs.Option.{option_map_or}
 use Rattle.std.proofs.lemmas.Option.{none-some}
 use Rattle.std.proofs.lemmas.Result.{IfErr-weaker}
 use Rattle.rb_base.specs.Window.{Span}
-use Rattle.rb_events.specs.Config.{Config}
-use Rattle.rb_events.specs.declared.refusal.Refusal.{Refusal}
-use Rattle.rb_events.specs.declared.refusal.Refusal.TheVariants.{UnknownObject, LogFull, OutOfOrder}
+use Rattle.rb_script_types.specs.Config.{Config}
+use Rattle.rb_script_types.specs.declared.refusal.Refusal.{Refusal}
+use Rattle.rb_script_types.specs.declared.refusal.Refusal.TheVariants.{UnknownObject, LogFull, OutOfOrder}
 use Rattle.rb_core.specs.Follower.{Past, Follower, IsOfLog, Told, after_entry, entry_refusal, events_in, followed, followed_as, judged_again, refused_first, state_after, told_of}
-use Rattle.rb_machine.specs.Entry as entries
-use Rattle.rb_machine.specs.Entry.{Logged, event_of, logged_of}
-use Rattle.rb_machine.specs.Scan.{Scan}
-use Rattle.rb_machine.specs.Event.{Event, Window, Asked, SetSeen, HeaderSeen, StoredSeen, Sent, Received, AckWritten, Cleared, Closed, Scanned, Planned, Settled}
-use Rattle.rb_machine.specs.Kept.{IsKept}
-use Rattle.rb_machine.specs.Machine.{State, max_events, is_known, knows_client, knows_path, refusal_of, refusal_beside, accepted}
-use Rattle.rb_machine.specs.Refusal.{refused_if}
-use Rattle.rb_machine.specs.Refused.{IsRefusal}
-use Rattle.rb_machine.specs.declared.error.CoreError.{CoreError}
-use Rattle.rb_machine.specs.declared.error.CoreError.TheVariants.{Refused, NoMemory}
-use Rattle.rb_machine.proofs.Options.{passes, chained}
-use Rattle.rb_machine.proofs.Keeping.{accepted_kept}
+use Rattle.rb_core_model.specs.Entry as entries
+use Rattle.rb_core_model.specs.Entry.{Logged, event_of, logged_of}
+use Rattle.rb_core_model.specs.Scan.{Scan}
+use Rattle.rb_core_model.specs.Event.{Event, Window, Asked, SetSeen, HeaderSeen, StoredSeen, Sent, Received, AckWritten, Cleared, Closed, Scanned, Planned, Settled}
+use Rattle.rb_core_model.specs.Kept.{IsKept}
+use Rattle.rb_core_model.specs.Machine.{State, max_events, is_known, knows_client, knows_path, refusal_of, refusal_beside, accepted}
+use Rattle.rb_core_model.specs.Refusal.{refused_if}
+use Rattle.rb_core_model.specs.Refused.{IsRefusal}
+use Rattle.rb_core_model.specs.declared.error.CoreError.{CoreError}
+use Rattle.rb_core_model.specs.declared.error.CoreError.TheVariants.{Refused, NoMemory}
+use Rattle.rb_core_model.proofs.Options.{passes, chained}
+use Rattle.rb_core_model.proofs.Keeping.{accepted_kept}
 use Rattle.rb_core.proofs.Entries.{draft_seen, event_back, free}
 use Rattle.rb_core.proofs.Rooms.{long}
 

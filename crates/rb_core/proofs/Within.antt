@@ -3,10 +3,10 @@ use Rattle.std.proofs.Common.{◌≡◌, ℕ, ◌<◌, true, nat_lt, List, lengt
 use Rattle.std.proofs.lemmas.Bool.{ltb-true}
 use Rattle.std.proofs.lemmas.List.{length-map}
 use Rattle.rb_book.specs.Shared.{Shared}
-use Rattle.rb_machine.specs.Event.{Event, Window, Asked, SetSeen, HeaderSeen, StoredSeen, Sent, Received, AckWritten, Cleared, Closed, Scanned, Planned, Settled}
-use Rattle.rb_known.specs.Held.{HeldClient, HeldPath, books_of, clients_of, paths_of, IsApart, HasStoredRoom, HasSettleRoom, HasPacketRoom}
+use Rattle.rb_core_model.specs.Event.{Event, Window, Asked, SetSeen, HeaderSeen, StoredSeen, Sent, Received, AckWritten, Cleared, Closed, Scanned, Planned, Settled}
+use Rattle.rb_core_state.specs.Held.{HeldClient, HeldPath, books_of, clients_of, paths_of, IsApart, HasStoredRoom, HasSettleRoom, HasPacketRoom}
 use Rattle.rb_core.specs.Known.{HasRoom, standing_view}
-use Rattle.rb_machine.specs.Standing.{AreTracked, KnownClient, tracked}
+use Rattle.rb_core_model.specs.Standing.{AreTracked, KnownClient, tracked}
 use Rattle.rb_core.specs.declared.known.Known.{Known}
 
 pub within : {X Y : Type 0} (view : X → Y) (xs : List X) (n : ℕ) → nat_lt n (length (map view xs)) ≡ true → n < length xs

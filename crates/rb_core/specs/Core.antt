@@ -1,16 +1,16 @@
 -- A core: the fold of its log.
 use Rattle.std.specs.Prelude.{◌≡◌, ℕ, ◌<◌, ◌≤◌, Bool, true, List, length, map, slice_get, All, Option, None, IsSomeAnd}
 use Rattle.rb_book.specs.Shared.{Shared}
-use Rattle.rb_events.specs.Config.{Config}
-use Rattle.rb_events.specs.declared.refusal.Refusal.{Refusal}
-use Rattle.rb_machine.specs.Batches.{batch_open}
-use Rattle.rb_machine.specs.Config.{IsSetUp}
-use Rattle.rb_machine.specs.Event.{Event, IsEvent, SetSeen, HeaderSeen, StoredSeen, Sent, Settled}
-use Rattle.rb_known.specs.Held.{HeldClient, HeldPath}
-use Rattle.rb_machine.specs.Judged.{Ready}
-use Rattle.rb_machine.specs.Log.{IsLog}
-use Rattle.rb_machine.specs.Machine.{State, state_of, refusal_of}
-use Rattle.rb_machine.specs.Standing.{OpenBatch, tracked}
+use Rattle.rb_script_types.specs.Config.{Config}
+use Rattle.rb_script_types.specs.declared.refusal.Refusal.{Refusal}
+use Rattle.rb_core_model.specs.Batches.{batch_open}
+use Rattle.rb_core_model.specs.Config.{IsSetUp}
+use Rattle.rb_core_model.specs.Event.{Event, IsEvent, SetSeen, HeaderSeen, StoredSeen, Sent, Settled}
+use Rattle.rb_core_state.specs.Held.{HeldClient, HeldPath}
+use Rattle.rb_core_model.specs.Judged.{Ready}
+use Rattle.rb_core_model.specs.Log.{IsLog}
+use Rattle.rb_core_model.specs.Machine.{State, state_of, refusal_of}
+use Rattle.rb_core_model.specs.Standing.{OpenBatch, tracked}
 use Rattle.rb_core.specs.declared.known.Known.{Known}
 
 -- for how many more there is room: events in the log, stored heights of each client, packets of each path; and whether

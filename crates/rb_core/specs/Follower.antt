@@ -2,18 +2,18 @@
 -- for isn't compared again, and what was received, written or cleared isn't judged again; the rest is, since taking it in asks for it.
 use Rattle.std.specs.Prelude.{◌≡◌, Bool, not, nat_le, List, [], ◌∷◌, ◌++◌, All, Option, Some, None, IsSomeAnd, is_none}
 use Rattle.std.specs.Option.{option_map_or}
-use Rattle.rb_events.specs.Config.{Config}
-use Rattle.rb_events.specs.declared.refusal.Refusal.{Refusal}
-use Rattle.rb_events.specs.declared.refusal.Refusal.TheVariants.{UnknownObject, LogFull, OutOfOrder}
-use Rattle.rb_machine.specs.Config.{IsSetUp}
-use Rattle.rb_machine.specs.Entry as entries
-use Rattle.rb_machine.specs.Entry.{Logged, logged_of, event_of, events_of}
-use Rattle.rb_machine.specs.Event.{Event, IsEvent, Received, AckWritten, Cleared, Scanned}
-use Rattle.rb_machine.specs.Log.{IsLog}
-use Rattle.rb_machine.specs.Machine.{State, opening, knows_client, knows_path, is_known, max_events, accepted, state_of}
-use Rattle.rb_machine.specs.Refusal.{refused_if}
-use Rattle.rb_machine.specs.Standing.{Standing, judged}
-use Rattle.rb_machine.specs.Scan.{Scan}
+use Rattle.rb_script_types.specs.Config.{Config}
+use Rattle.rb_script_types.specs.declared.refusal.Refusal.{Refusal}
+use Rattle.rb_script_types.specs.declared.refusal.Refusal.TheVariants.{UnknownObject, LogFull, OutOfOrder}
+use Rattle.rb_core_model.specs.Config.{IsSetUp}
+use Rattle.rb_core_model.specs.Entry as entries
+use Rattle.rb_core_model.specs.Entry.{Logged, logged_of, event_of, events_of}
+use Rattle.rb_core_model.specs.Event.{Event, IsEvent, Received, AckWritten, Cleared, Scanned}
+use Rattle.rb_core_model.specs.Log.{IsLog}
+use Rattle.rb_core_model.specs.Machine.{State, opening, knows_client, knows_path, is_known, max_events, accepted, state_of}
+use Rattle.rb_core_model.specs.Refusal.{refused_if}
+use Rattle.rb_core_model.specs.Standing.{Standing, judged}
+use Rattle.rb_core_model.specs.Scan.{Scan}
 
 -- how a relayer is configured, and the entries of a log
 pub record Past : Type 0 where

@@ -1,9 +1,9 @@
 -- What the code knows, as a state, and where it has room for an event.
 use Rattle.rb_core.specs.declared.known.Known.{Known}
-use Rattle.rb_machine.specs.Event.{Event, SetSeen, HeaderSeen, StoredSeen, Sent, Settled}
-use Rattle.rb_known.specs.Held.{books_of, clients_of, paths_of, IsApart, HasStoredRoom, HasSettleRoom, HasPacketRoom}
-use Rattle.rb_machine.specs.Machine.{State}
-use Rattle.rb_machine.specs.Standing.{Standing, tracked}
+use Rattle.rb_core_model.specs.Event.{Event, SetSeen, HeaderSeen, StoredSeen, Sent, Settled}
+use Rattle.rb_core_state.specs.Held.{books_of, clients_of, paths_of, IsApart, HasStoredRoom, HasSettleRoom, HasPacketRoom}
+use Rattle.rb_core_model.specs.Machine.{State}
+use Rattle.rb_core_model.specs.Standing.{Standing, tracked}
 
 abbrev pub standing_view : {A : Type 0} → Known A → Standing
 standing_view k = record { window = k.window; books = books_of k.books.items; clients = clients_of k.clients.items; paths = paths_of k.paths.items }

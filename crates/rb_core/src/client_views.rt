@@ -5,25 +5,25 @@ ghost use Rattle.std.specs.Option.{option_to_list};
 ghost use Rattle.std.proofs.Common.{nat_eq};
 ghost use Rattle.rb_book.specs.Book.{same_book};
 ghost use Rattle.rb_step.specs.View.{IsView};
-ghost use Rattle.rb_task.specs.Draft.{Job};
-ghost use Rattle.rb_known.specs.Held.{books_of};
+ghost use Rattle.rb_plan_client.specs.Draft.{Job};
+ghost use Rattle.rb_core_state.specs.Held.{books_of};
 ghost use Rattle.rb_core.specs.Known.{standing_view, state_view};
-ghost use Rattle.rb_machine.specs.Machine.{job_of, client_view, client_view_refusal, is_job, plan_number, seen_owed};
-ghost use Rattle.rb_machine.specs.Refused.{IsRefusal};
-ghost use Rattle.rb_task.specs.Same.{same_fees, same_job, same_options, same_path_task, same_span, same_task, same_view};
-ghost use Rattle.rb_machine.specs.Standing.{book_at, empty_book, path_task, path_tasks, view_of};
+ghost use Rattle.rb_core_model.specs.Machine.{job_of, client_view, client_view_refusal, is_job, plan_number, seen_owed};
+ghost use Rattle.rb_core_model.specs.Refused.{IsRefusal};
+ghost use Rattle.rb_plan_client.specs.Same.{same_fees, same_job, same_options, same_path_task, same_span, same_task, same_view};
+ghost use Rattle.rb_core_model.specs.Standing.{book_at, empty_book, path_task, path_tasks, view_of};
 
 use crate::known::Known;
 use crate::path_views::{part_for, seen_owed};
 use rb_base::Window;
 use rb_book::{ChainBook, SharedBook};
-use rb_events::{PathConfig, Refusal};
-use rb_known::views::find_book;
-use rb_known::{KnownClient, KnownPath};
-use rb_machine::CoreError;
+use rb_core_model::CoreError;
+use rb_core_state::views::find_book;
+use rb_core_state::{KnownClient, KnownPath};
+use rb_plan_client::{JobView, NextPlan, PathTask, Task, same_heights, same_messages};
 use rb_scan::Part;
+use rb_script_types::{PathConfig, Refusal};
 use rb_step::ClientView;
-use rb_task::{JobView, NextPlan, PathTask, Task, same_heights, same_messages};
 use std::alloc::{AllocError, Allocator};
 
 /// A client, if there is one at this place.

@@ -1,15 +1,15 @@
 //! New and copied parts of a core.
 ghost use Rattle.std.specs.Prelude.{◌≡◌, ◌≤◌, IfOk, replicate};
-ghost use Rattle.rb_events.specs.Config.{config_view};
+ghost use Rattle.rb_script_types.specs.Config.{config_view};
 ghost use Rattle.rb_core.specs.Known.{state_view};
-ghost use Rattle.rb_machine.specs.Machine.{opening, no_scans};
+ghost use Rattle.rb_core_model.specs.Machine.{opening, no_scans};
 
 use crate::known::Known;
-use rb_events::Config;
-use rb_known::books::{new_books, share_books};
-use rb_known::clients::{copy_clients, new_clients};
-use rb_known::paths::{copy_paths, new_paths};
-use rb_machine::Scans;
+use rb_core_model::Scans;
+use rb_core_state::books::{new_books, share_books};
+use rb_core_state::clients::{copy_clients, new_clients};
+use rb_core_state::paths::{copy_paths, new_paths};
+use rb_script_types::Config;
 use std::alloc::{AllocError, Allocator};
 
 fn new_plans<A: Allocator + Copy>(alloc: A, clients: usize) -> Result<Vec<usize, A>, AllocError>

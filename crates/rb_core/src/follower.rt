@@ -1,14 +1,14 @@
 //! Followers of a core's log.
 ghost use Rattle.std.specs.Prelude.{◌≡◌, length, None, Some, IfOk, IfErr, OnErr, OnOk};
-ghost use Rattle.rb_events.specs.Config.{config_view};
+ghost use Rattle.rb_script_types.specs.Config.{config_view};
 ghost use Rattle.rb_core.specs.Follower.{IsOfLog, entry_refusal, events_in, follows, state_after, told_of};
 ghost use Rattle.rb_core.specs.Known.{state_view};
-ghost use Rattle.rb_machine.specs.Event.{Event};
-ghost use Rattle.rb_machine.specs.Kept.{IsKept};
-ghost use Rattle.rb_machine.specs.Machine.{client_view, client_view_refusal, path_view_refusal, refusal_of};
-ghost use Rattle.rb_machine.specs.Refused.{IsRefusal};
-ghost use Rattle.rb_machine.specs.Standing.{path_view};
-ghost use Rattle.rb_machine.specs.declared.error.CoreError.TheVariants as errors;
+ghost use Rattle.rb_core_model.specs.Event.{Event};
+ghost use Rattle.rb_core_model.specs.Kept.{IsKept};
+ghost use Rattle.rb_core_model.specs.Machine.{client_view, client_view_refusal, path_view_refusal, refusal_of};
+ghost use Rattle.rb_core_model.specs.Refused.{IsRefusal};
+ghost use Rattle.rb_core_model.specs.Standing.{path_view};
+ghost use Rattle.rb_core_model.specs.declared.error.CoreError.TheVariants as errors;
 
 use crate::client_views::client_view;
 use crate::copies::copy_known;
@@ -16,11 +16,11 @@ use crate::following::follow_told;
 use crate::known::Known;
 use crate::path_views::path_view;
 use crate::told::Told;
-use rb_events::Config;
-use rb_machine::laws::client_views_are_views;
-use rb_machine::{CoreError, SharedEntry, share_entries};
+use rb_core_model::laws::client_views_are_views;
+use rb_core_model::{CoreError, SharedEntry, share_entries};
+use rb_plan_client::JobView;
 use rb_scan::PathView;
-use rb_task::JobView;
+use rb_script_types::Config;
 use std::alloc::{AllocError, Allocator, Global};
 use std::marker::Model;
 
@@ -37,10 +37,10 @@ pub struct Follower<A: Allocator = Global> {
 }
 
 impl<A: Allocator> Model for Follower<A> {
-    ghost use Rattle.rb_events.specs.Config.{config_view};
+    ghost use Rattle.rb_script_types.specs.Config.{config_view};
     ghost use Rattle.rb_core.specs.Follower as followers;
     ghost use Rattle.rb_core.specs.Known.{state_view};
-    ghost use Rattle.rb_machine.specs.Kept.{IsKept};
+    ghost use Rattle.rb_core_model.specs.Kept.{IsKept};
 
     ghost Value = { followers.Follower };
 

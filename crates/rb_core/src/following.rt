@@ -4,23 +4,23 @@ ghost use Rattle.std.specs.Prelude.{◌≡◌, suc, IfErr, None, OnErr, OnOk};
 ghost use Rattle.std.specs.Option.{option_copied};
 ghost use Rattle.rb_core.specs.Follower.{IsTold, after_entry, entry_refusal, followed, followed_as, refused_first};
 ghost use Rattle.rb_core.specs.Known.{standing_view, state_view};
-ghost use Rattle.rb_known.specs.Marked.{mark_by};
-ghost use Rattle.rb_machine.specs.Entry.{entry_view, plan, whole};
-ghost use Rattle.rb_machine.specs.Kept.{IsKept};
-ghost use Rattle.rb_machine.specs.Machine.{accepted, is_known, knows_path};
-ghost use Rattle.rb_machine.specs.Refused.{IsRefusal};
-ghost use Rattle.rb_machine.specs.Seen.{event_view, observed};
-ghost use Rattle.rb_machine.specs.Standing.{judged, with_mark, with_path};
+ghost use Rattle.rb_core_state.specs.Marked.{mark_by};
+ghost use Rattle.rb_core_model.specs.Entry.{entry_view, plan, whole};
+ghost use Rattle.rb_core_model.specs.Kept.{IsKept};
+ghost use Rattle.rb_core_model.specs.Machine.{accepted, is_known, knows_path};
+ghost use Rattle.rb_core_model.specs.Refused.{IsRefusal};
+ghost use Rattle.rb_core_model.specs.Seen.{event_view, observed};
+ghost use Rattle.rb_core_model.specs.Standing.{judged, with_mark, with_path};
 
 use crate::known::Known;
 use crate::refusing::{refuse_answer, refuse_mark, refuse_unseen};
 use crate::taking::{make_room, put};
 use crate::told::Told;
-use rb_events::Observation;
-use rb_known::Mark;
-use rb_machine::{CoreError, Entry, Event, Scan};
+use rb_core_model::{CoreError, Entry, Event, Scan};
+use rb_core_state::Mark;
+use rb_plan_client::{Planned, copy_answer};
 use rb_scan::Sequence;
-use rb_task::{Planned, copy_answer};
+use rb_script_types::Observation;
 use std::alloc::Allocator;
 
 /// Takes in an event, if how things stand allows it. What was seen isn't compared.

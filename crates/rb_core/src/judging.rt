@@ -1,19 +1,19 @@
 //! Events are judged, and then taken in.
 ghost use Rattle.std.specs.Prelude.{◌≡◌, ◌<◌, ◌++◌, ◌∷◌, [], vec_len, vec_capacity, None, IfOk, IfErr};
-ghost use Rattle.rb_machine.specs.Entry.{logged_of};
-ghost use Rattle.rb_machine.specs.Event as events;
-ghost use Rattle.rb_machine.specs.Event.{IsEvent};
-ghost use Rattle.rb_machine.specs.Kept.{IsKept};
+ghost use Rattle.rb_core_model.specs.Entry.{logged_of};
+ghost use Rattle.rb_core_model.specs.Event as events;
+ghost use Rattle.rb_core_model.specs.Event.{IsEvent};
+ghost use Rattle.rb_core_model.specs.Kept.{IsKept};
 ghost use Rattle.rb_core.specs.Known.{state_view, HasRoom};
-ghost use Rattle.rb_machine.specs.Machine.{refusal_of, accepted, reply_of};
-ghost use Rattle.rb_machine.specs.Refused.{IsRefusal};
-ghost use Rattle.rb_machine.specs.Replied.{reply_view};
-ghost use Rattle.rb_machine.specs.Seen.{event_view};
+ghost use Rattle.rb_core_model.specs.Machine.{refusal_of, accepted, reply_of};
+ghost use Rattle.rb_core_model.specs.Refused.{IsRefusal};
+ghost use Rattle.rb_core_model.specs.Replied.{reply_view};
+ghost use Rattle.rb_core_model.specs.Seen.{event_view};
 
 use crate::known::Known;
 use crate::refusing::refuse;
 use crate::taking::{make_room, put};
-use rb_machine::{CoreError, Event, Ready, Reply, SharedEntry};
+use rb_core_model::{CoreError, Event, Ready, Reply, SharedEntry};
 use std::alloc::Allocator;
 
 /// Judges an event, and makes what taking it in takes.

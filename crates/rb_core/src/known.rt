@@ -1,35 +1,35 @@
 //! What a relayer knows between two events, and what it makes of what is observed.
 ghost use Rattle.std.specs.Prelude.{◌≡◌, ◌<◌, suc, true, None, IfSome, IsSome, IsSomeAnd, OnOk, length, slice_get, slice_set, slice_index_or};
 ghost use Rattle.std.specs.Option.{option_and_then};
-ghost use Rattle.rb_machine.specs.Event as events;
-ghost use Rattle.rb_machine.specs.Event.{Event};
-ghost use Rattle.rb_known.specs.Held.{HasSettleRoom};
-ghost use Rattle.rb_known.specs.Marked.{mark_by};
+ghost use Rattle.rb_core_model.specs.Event as events;
+ghost use Rattle.rb_core_model.specs.Event.{Event};
+ghost use Rattle.rb_core_state.specs.Held.{HasSettleRoom};
+ghost use Rattle.rb_core_state.specs.Marked.{mark_by};
 ghost use Rattle.rb_core.specs.Known.{standing_view, state_view, HasRoom};
-ghost use Rattle.rb_machine.specs.Machine.{is_known, max_events, no_scans, plan_number, reply_for, with_scan};
-ghost use Rattle.rb_machine.specs.Replied.{reply_view};
-ghost use Rattle.rb_machine.specs.Seen.{observed};
-ghost use Rattle.rb_machine.specs.Standing as standings;
-ghost use Rattle.rb_machine.specs.Standing.{AreTracked, goes_back, judged, changed, with_client, with_mark, with_path, after_answer, batch_opened};
+ghost use Rattle.rb_core_model.specs.Machine.{is_known, max_events, no_scans, plan_number, reply_for, with_scan};
+ghost use Rattle.rb_core_model.specs.Replied.{reply_view};
+ghost use Rattle.rb_core_model.specs.Seen.{observed};
+ghost use Rattle.rb_core_model.specs.Standing as standings;
+ghost use Rattle.rb_core_model.specs.Standing.{AreTracked, goes_back, judged, changed, with_client, with_mark, with_path, after_answer, batch_opened};
 
 use rb_base::Window;
 use rb_book::SharedBook;
-use rb_events::{Asked, Observation, Refusal, Settlement};
-use rb_known::books::{
+use rb_core_model::{Reply, Scan, Scans};
+use rb_core_state::books::{
     put_header, put_record, put_set, refuse_header, refuse_record, refuse_set, set_apart,
     set_apart_for,
 };
-use rb_known::clients::{
+use rb_core_state::clients::{
     ask, make_settle_room, make_stored_room, open, refuse_settled, settle, store, tracked,
 };
-use rb_known::paths::{
+use rb_core_state::paths::{
     close, make_packet_room, put_mark, put_sent, refuse_cleared, refuse_closed, refuse_received,
     refuse_sent, refuse_written, settle_messages,
 };
-use rb_known::{KnownClient, KnownPath, Mark, settled_messages};
-use rb_machine::{Reply, Scan, Scans};
+use rb_core_state::{KnownClient, KnownPath, Mark, settled_messages};
+use rb_plan_client::Planned;
 use rb_scan::{Packet, Sequence};
-use rb_task::Planned;
+use rb_script_types::{Asked, Observation, Refusal, Settlement};
 use std::alloc::{AllocError, Allocator, Global};
 
 /// The window, a book for each chain, the clients, the paths, the number of each client's next plan,

@@ -3,7 +3,7 @@
 //! compared again there, and what was received, written or cleared isn't judged again; the rest is, since
 //! taking it in asks for it.
 //!
-//! A core is the fold of its log: its state is what the definitions of `rb_machine` make of the events
+//! A core is the fold of its log: its state is what the definitions of `rb_core_model` make of the events
 //! that it has taken in, from which its views, replies and refusals follow.
 #![tactic(auto)]
 
@@ -21,9 +21,9 @@ mod told;
 
 pub use follower::Follower;
 pub use machine::Core;
-pub use rb_known::OpenBatch;
-pub use rb_machine::{CoreError, Entry, Event, Ready, Reply, Scan, SharedEntry, scan};
-pub use rb_task::{
+pub use rb_core_model::{CoreError, Entry, Event, Ready, Reply, Scan, SharedEntry, scan};
+pub use rb_core_state::OpenBatch;
+pub use rb_plan_client::{
     Batch, Draft, JobView, Message, PathTask, Plan, Planned, Sending, Task, answer, draft,
 };
 pub use told::Told;

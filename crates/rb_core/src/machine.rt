@@ -1,20 +1,20 @@
 //! The relayer machine.
 ghost use Rattle.std.specs.Prelude.{◌≡◌, ◌++◌, ◌∷◌, [], All, length, Some, IfOk, IfErr};
 ghost use Rattle.std.specs.Option.{option_copied};
-ghost use Rattle.rb_events.specs.Config.{config_view, IsConfig};
-ghost use Rattle.rb_machine.specs.Batches.{batch_open};
-ghost use Rattle.rb_machine.specs.Config.{IsSetUp};
+ghost use Rattle.rb_script_types.specs.Config.{config_view, IsConfig};
+ghost use Rattle.rb_core_model.specs.Batches.{batch_open};
+ghost use Rattle.rb_core_model.specs.Config.{IsSetUp};
 ghost use Rattle.rb_core.specs.Core.{state_in, refusal_in, IsReady};
 ghost use Rattle.rb_core.specs.Follower.{IsOfLog, events_in};
-ghost use Rattle.rb_machine.specs.Entry.{log_from};
-ghost use Rattle.rb_machine.specs.Event.{IsEvent};
-ghost use Rattle.rb_machine.specs.Judged as judged;
-ghost use Rattle.rb_machine.specs.Log.{IsLog};
-ghost use Rattle.rb_machine.specs.Machine.{client_view, client_view_refusal, is_scanned, path_view_refusal, reply_of};
-ghost use Rattle.rb_machine.specs.Refused.{IsRefusal};
-ghost use Rattle.rb_machine.specs.Replied.{reply_view};
-ghost use Rattle.rb_machine.specs.Seen.{event_view};
-ghost use Rattle.rb_machine.specs.Standing.{book_at, path_view};
+ghost use Rattle.rb_core_model.specs.Entry.{log_from};
+ghost use Rattle.rb_core_model.specs.Event.{IsEvent};
+ghost use Rattle.rb_core_model.specs.Judged as judged;
+ghost use Rattle.rb_core_model.specs.Log.{IsLog};
+ghost use Rattle.rb_core_model.specs.Machine.{client_view, client_view_refusal, is_scanned, path_view_refusal, reply_of};
+ghost use Rattle.rb_core_model.specs.Refused.{IsRefusal};
+ghost use Rattle.rb_core_model.specs.Replied.{reply_view};
+ghost use Rattle.rb_core_model.specs.Seen.{event_view};
+ghost use Rattle.rb_core_model.specs.Standing.{book_at, path_view};
 
 use crate::client_views::{book_of, client_view};
 use crate::copies::{copy_known, new_known};
@@ -23,14 +23,14 @@ use crate::judging::{make_ready, take_in};
 use crate::known::Known;
 use crate::path_views::{is_scanned, path_view};
 use rb_book::SharedBook;
-use rb_events::Config;
-use rb_known::OpenBatch;
-use rb_known::clients::open_batch;
-use rb_machine::laws::client_views_are_views;
-use rb_machine::rules::fee_tables;
-use rb_machine::{CoreError, Event, Ready, Reply, SharedEntry, share_entries};
+use rb_core_model::laws::client_views_are_views;
+use rb_core_model::rules::fee_tables;
+use rb_core_model::{CoreError, Event, Ready, Reply, SharedEntry, share_entries};
+use rb_core_state::OpenBatch;
+use rb_core_state::clients::open_batch;
+use rb_plan_client::JobView;
 use rb_scan::{Part, PathView};
-use rb_task::JobView;
+use rb_script_types::Config;
 use std::alloc::{AllocError, Allocator, Global};
 use std::marker::Model;
 
@@ -46,10 +46,10 @@ pub struct Core<A: Allocator = Global> {
 
 impl<A: Allocator> Model for Core<A> {
     ghost use Rattle.std.specs.Prelude.{◌-◌, vec_len, vec_capacity};
-    ghost use Rattle.rb_events.specs.Config.{config_view};
+    ghost use Rattle.rb_script_types.specs.Config.{config_view};
     ghost use Rattle.rb_core.specs.Core as cores;
     ghost use Rattle.rb_core.specs.Core.{IsFold};
-    ghost use Rattle.rb_machine.specs.Entry.{log_from};
+    ghost use Rattle.rb_core_model.specs.Entry.{log_from};
     ghost use Rattle.rb_core.specs.Known.{state_view};
 
     ghost Value = { cores.Core };

@@ -1,17 +1,17 @@
 //! What is seen of paths.
 ghost use Rattle.std.specs.Prelude.{◌≡◌, is_some, slice_get, slice_index_or, IfSome, IfOk, IfErr, MatchOption, Some, None};
-ghost use Rattle.rb_machine.specs.Config.{part_for};
+ghost use Rattle.rb_core_model.specs.Config.{part_for};
 ghost use Rattle.rb_core.specs.Known.{standing_view, state_view};
-ghost use Rattle.rb_machine.specs.Machine.{no_scans, scan_of, is_view, is_scanned, is_missed, all_scanned, seen_owed, path_view_refusal};
-ghost use Rattle.rb_machine.specs.Refused.{IsRefusal};
-ghost use Rattle.rb_machine.specs.Standing.{path_view};
+ghost use Rattle.rb_core_model.specs.Machine.{no_scans, scan_of, is_view, is_scanned, is_missed, all_scanned, seen_owed, path_view_refusal};
+ghost use Rattle.rb_core_model.specs.Refused.{IsRefusal};
+ghost use Rattle.rb_core_model.specs.Standing.{path_view};
 
 use crate::known::Known;
-use rb_events::{PathConfig, Refusal};
-use rb_known::KnownPath;
-use rb_known::views::{is_as_seen, view_of};
-use rb_machine::{CoreError, Scan};
+use rb_core_model::{CoreError, Scan};
+use rb_core_state::KnownPath;
+use rb_core_state::views::{is_as_seen, view_of};
 use rb_scan::{PacketMsg, Part, PathView};
+use rb_script_types::{PathConfig, Refusal};
 use std::alloc::Allocator;
 
 /// A path, if there is one at this place.

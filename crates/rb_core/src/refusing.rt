@@ -1,20 +1,20 @@
 //! Why an event is refused.
 ghost use Rattle.std.specs.Prelude.{◌≡◌, ◌<◌, true, length, None, Some, is_none, IfNone, IfSome, IsSome};
-ghost use Rattle.rb_events.specs.declared.refusal.Refusal.TheVariants as refusals;
-ghost use Rattle.rb_machine.specs.Kept.{IsKept};
+ghost use Rattle.rb_script_types.specs.declared.refusal.Refusal.TheVariants as refusals;
+ghost use Rattle.rb_core_model.specs.Kept.{IsKept};
 ghost use Rattle.rb_core.specs.Follower.{refused_first};
 ghost use Rattle.rb_core.specs.Known.{standing_view, state_view};
-ghost use Rattle.rb_machine.specs.Machine.{is_known, knows_client, knows_path, is_held, max_events, scan_refusal, draft_refusal, refusal_beside, refusal_of};
-ghost use Rattle.rb_machine.specs.Refusal.{refused_if};
-ghost use Rattle.rb_machine.specs.Seen.{event_view};
-ghost use Rattle.rb_machine.specs.Standing.{judged};
+ghost use Rattle.rb_core_model.specs.Machine.{is_known, knows_client, knows_path, is_held, max_events, scan_refusal, draft_refusal, refusal_beside, refusal_of};
+ghost use Rattle.rb_core_model.specs.Refusal.{refused_if};
+ghost use Rattle.rb_core_model.specs.Seen.{event_view};
+ghost use Rattle.rb_core_model.specs.Standing.{judged};
 
 use crate::client_views::{is_job, plan_number};
 use crate::known::Known;
 use crate::path_views::{all_scanned, is_scanned, is_view};
-use rb_events::Refusal;
-use rb_machine::{Event, Scan};
-use rb_task::Draft;
+use rb_core_model::{Event, Scan};
+use rb_plan_client::Draft;
+use rb_script_types::Refusal;
 use std::alloc::Allocator;
 
 /// The most events that are taken in.

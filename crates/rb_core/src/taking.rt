@@ -1,15 +1,15 @@
 //! Events are taken in.
 ghost use Rattle.std.specs.Prelude.{◌≡◌, ◌<◌, true, None, IfSome, IsSome, IsSomeAnd, OnOk, length, slice_get};
-ghost use Rattle.rb_machine.specs.Event as events;
-ghost use Rattle.rb_machine.specs.Kept.{IsKept};
+ghost use Rattle.rb_core_model.specs.Event as events;
+ghost use Rattle.rb_core_model.specs.Kept.{IsKept};
 ghost use Rattle.rb_core.specs.Known.{standing_view, state_view, HasRoom};
-ghost use Rattle.rb_machine.specs.Machine.{is_known, max_events, accepted, reply_of};
-ghost use Rattle.rb_machine.specs.Replied.{reply_view};
-ghost use Rattle.rb_machine.specs.Seen.{event_view};
-ghost use Rattle.rb_machine.specs.Standing.{judged};
+ghost use Rattle.rb_core_model.specs.Machine.{is_known, max_events, accepted, reply_of};
+ghost use Rattle.rb_core_model.specs.Replied.{reply_view};
+ghost use Rattle.rb_core_model.specs.Seen.{event_view};
+ghost use Rattle.rb_core_model.specs.Standing.{judged};
 
 use crate::known::Known;
-use rb_machine::{Event, Reply};
+use rb_core_model::{Event, Reply};
 use std::alloc::{AllocError, Allocator};
 
 /// Makes what taking in an event that is not refused takes.

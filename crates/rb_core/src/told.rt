@@ -2,9 +2,9 @@
 ghost use Rattle.std.specs.Prelude.{◌≡◌, IfOk};
 ghost use Rattle.std.specs.Option.{option_copied};
 ghost use Rattle.rb_core.specs.Follower.{IsTold, scan_in, told_of};
-ghost use Rattle.rb_machine.specs.Seen.{event_view};
+ghost use Rattle.rb_core_model.specs.Seen.{event_view};
 
-use rb_machine::{Event, Ready, Scan, SharedEntry};
+use rb_core_model::{Event, Ready, Scan, SharedEntry};
 use std::alloc::{AllocError, Allocator, Global};
 use std::marker::Model;
 

@@ -18,7 +18,7 @@ use Rattle.rb_graph.proofs.Filtered.{low-within}
 use Rattle.rb_graph.proofs.Headers.{backed_at}
 use Rattle.rb_graph.proofs.Into.{accepted_is, step_is}
 use Rattle.rb_graph.proofs.Known.{no_header}
-use Rattle.rb_kept.proofs.Rising.{heights_up}
+use Rattle.rb_graph_rows.proofs.Rising.{heights_up}
 use Rattle.rb_graph.proofs.Lower.{lower-at, length-lower}
 use Rattle.rb_graph.proofs.Members.{find-In, in_at}
 

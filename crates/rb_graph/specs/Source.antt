@@ -12,7 +12,7 @@ use Rattle.rb_step.specs.Answer.{answer_within}
 use Rattle.rb_step.specs.declared.verdict.Verdict.{Verdict}
 use Rattle.rb_step.specs.declared.verdict.Verdict.TheVariants.{Success, NotEnoughTrust, Invalid}
 use Rattle.rb_graph.specs.StepTable.{Cell, Row, cell_of, lower_records, row_of}
-use Rattle.rb_kept.specs.Kept.{own_set}
+use Rattle.rb_graph_rows.specs.Kept.{own_set}
 
 -- a header in its book
 pub record Source : Type 0 where

@@ -5,7 +5,7 @@ ghost use Rattle.rb_book.specs.Intake.{record_refusal, header_refusal, set_refus
 use crate::graph::Graph;
 use rb_base::Height;
 use rb_book::{BookError, Header, Record};
-use rb_kept::{
+use rb_graph_rows::{
     enter_powers, enter_record, enter_set, first_naming, late_powers, lower_headers, lower_sets,
     move_places, new_row,
 };

@@ -9,7 +9,7 @@ use crate::cause::Cause;
 use crate::frame::Frame;
 use crate::frame_row::FrameRow;
 use crate::graph::Graph;
-use rb_kept::{Kept, Lanes};
+use rb_graph_rows::{Kept, Lanes};
 use std::alloc::{Allocator, Global};
 
 impl<A: Allocator + Copy> Frame<A> {

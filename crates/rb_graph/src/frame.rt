@@ -1,13 +1,13 @@
 //! A book whose rows are to be made.
 ghost use Rattle.std.specs.Prelude.{◌≡◌, ◌<◌, All, IfOk, Some, length, map, slice_get};
 ghost use Rattle.rb_book.specs.Invariant.{IsBacked};
-ghost use Rattle.rb_kept.specs.Kept.{first_naming};
+ghost use Rattle.rb_graph_rows.specs.Kept.{first_naming};
 ghost use Rattle.rb_graph.specs.Frame.{IsRowOf, IsWhole};
 
 use crate::frame_row::FrameRow;
 use rb_base::Height;
 use rb_book::{ChainBook, Header};
-use rb_kept::{first_namings, kept_of, next_places, number_sets, tallies_of};
+use rb_graph_rows::{first_namings, kept_of, next_places, number_sets, tallies_of};
 use rb_lanes::{Columns, Tally};
 use std::alloc::{AllocError, Allocator, Global};
 use std::marker::Model;
@@ -26,8 +26,8 @@ pub struct Frame<A: Allocator = Global> {
 impl<A: Allocator> Model for Frame<A> {
     ghost use Rattle.std.specs.Prelude.{◌≡◌, map, All};
     ghost use Rattle.rb_book.specs.Book.{Book};
-    ghost use Rattle.rb_kept.specs.Kept as tables;
-    ghost use Rattle.rb_kept.specs.Numbering as numbers;
+    ghost use Rattle.rb_graph_rows.specs.Kept as tables;
+    ghost use Rattle.rb_graph_rows.specs.Numbering as numbers;
 
     ghost Value = { Book };
 

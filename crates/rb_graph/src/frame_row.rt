@@ -3,7 +3,7 @@ ghost use Rattle.std.specs.Prelude.{◌≡◌, ◌↔◌, IsTrue};
 ghost use Rattle.rb_graph.specs.Frame.{IsRowOf};
 
 use crate::frame::Frame;
-use rb_kept::{Kept, is_kept_of};
+use rb_graph_rows::{Kept, is_kept_of};
 use std::alloc::{Allocator, Global};
 use std::marker::Model;
 

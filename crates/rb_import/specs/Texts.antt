@@ -1,8 +1,8 @@
 -- The text of a script that was made of answers.
 use Rattle.std.specs.Prelude.{ℕ, List, [], ◌∷◌, ◌++◌, codes, Bool, ◌&&◌, if◌then◌else◌}
-use Rattle.rb_setup.specs.declared.setup.PathSetup.{PathSetup}
-use Rattle.rb_observed.specs.declared.packets.SeenPacket.{SeenPacket}
-use Rattle.rb_observed.specs.Packets.{some_timed_out}
+use Rattle.rb_import_setup.specs.declared.setup.PathSetup.{PathSetup}
+use Rattle.rb_import_merge.specs.declared.packets.SeenPacket.{SeenPacket}
+use Rattle.rb_import_merge.specs.Packets.{some_timed_out}
 
 -- the line that it begins with
 abbrev pub warning : List ℕ

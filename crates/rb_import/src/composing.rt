@@ -1,16 +1,16 @@
 //! The script of a setup and of answers.
 ghost use Rattle.std.specs.Prelude.{◌≡◌, ◌≤◌, ◌++◌, ℕ, List, length, IfOk, IfErr, string_bytes};
-ghost use Rattle.rb_setup.specs.Documents.{max_bytes};
-ghost use Rattle.rb_observed.specs.Problems.{IsToldIn};
-ghost use Rattle.rb_observed.specs.Seen.{HoldsOfSeen};
-ghost use Rattle.rb_notices.specs.Whole.{AreNoticesOf};
+ghost use Rattle.rb_import_setup.specs.Documents.{max_bytes};
+ghost use Rattle.rb_import_merge.specs.Problems.{IsToldIn};
+ghost use Rattle.rb_import_merge.specs.Seen.{HoldsOfSeen};
+ghost use Rattle.rb_import_notices.specs.Whole.{AreNoticesOf};
 ghost use Rattle.rb_import.specs.Texts.{warning};
 
 use crate::text::push_script;
-use rb_notices::{Notices, notices_of};
-use rb_observed::seen_in;
-use rb_seen::{ImportError, ProblemName, SavedAnswers};
-use rb_setup::{MAX_BYTES, Setup};
+use rb_import_check::{ImportError, ProblemName, SavedAnswers};
+use rb_import_merge::seen_in;
+use rb_import_notices::{Notices, notices_of};
+use rb_import_setup::{MAX_BYTES, Setup};
 use std::alloc::{AllocError, Global};
 
 /// The line that a script of answers begins with.

@@ -1,14 +1,14 @@
 //! The text of what was seen.
 ghost use Rattle.std.specs.Prelude.{◌≡◌, ◌++◌, map, OnOk, string_bytes};
-ghost use Rattle.rb_answers.specs.Votes.{letter_of};
+ghost use Rattle.rb_import_answers.specs.Votes.{letter_of};
 ghost use Rattle.rb_import.specs.Texts.{closed, closing, is_closed};
 
 use crate::text::push_time;
 use jiff::Timestamp;
-use rb_answers::{PacketKind, Signature};
-use rb_observed::{SeenPacket, some_timed_out};
-use rb_seen::{Commit, Stored};
-use rb_setup::PathSetup;
+use rb_import_answers::{PacketKind, Signature};
+use rb_import_check::{Commit, Stored};
+use rb_import_merge::{SeenPacket, some_timed_out};
+use rb_import_setup::PathSetup;
 use rb_valset::{Validator, ValidatorSet};
 use std::alloc::AllocError;
 

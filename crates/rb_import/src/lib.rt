@@ -1,5 +1,5 @@
-//! From a setup and the answers of nodes to a script: what they tell (`rb_seen`, `rb_observed`) is written, beside the
-//! notices of what isn't (`rb_notices`).
+//! From a setup and the answers of nodes to a script: what they tell (`rb_import_check`, `rb_import_merge`) is written, beside the
+//! notices of what isn't (`rb_import_notices`).
 #![tactic(auto)]
 
 mod composing;
@@ -7,9 +7,11 @@ mod event_text;
 mod text;
 
 pub use composing::{Composed, compose};
-pub use rb_notices::{
+pub use rb_import_check::{
+    ImportError, Problem, ProblemName, Saved, SavedAnswers, SavedError, read_saved,
+};
+pub use rb_import_notices::{
     FutureHeaders, MissingHeaders, MissingNextSet, MissingSearches, NothingFresh, NothingTrusted,
     Notices, OtherChannel, SeveralCounterparties, TooManyHeaders, TooManyPackets, TooManyRecords,
     TooManySets, UnseenGoal,
 };
-pub use rb_seen::{ImportError, Problem, ProblemName, Saved, SavedAnswers, SavedError, read_saved};

@@ -2,9 +2,9 @@
 use crate::event_text::{push_closing, push_header, push_packet, push_set, push_stored};
 use jiff::Timestamp;
 use rb_base::Moment;
-use rb_observed::Seen;
-use rb_seen::{SeenChain, SeenClient, Stored};
-use rb_setup::{Asked, ClientSetup, Goal, PathSetup, Settlement, Setup, TurnSetup};
+use rb_import_check::{SeenChain, SeenClient, Stored};
+use rb_import_merge::Seen;
+use rb_import_setup::{Asked, ClientSetup, Goal, PathSetup, Settlement, Setup, TurnSetup};
 use std::alloc::AllocError;
 
 const HEAD: &str = "# Written by ibcplan import.

@@ -16,11 +16,11 @@ use Rattle.rb_base.specs.Window.{IsWithin}
 use Rattle.rb_book.specs.Book.{Book, Known, height_of, time_of, heights_of, is_at, set_of, record_at, header_at}
 use Rattle.rb_book.specs.Header.{Record, Header, is_commit}
 use Rattle.rb_book.specs.Invariant.{IsBacked}
-use Rattle.rb_kept.specs.Kept.{own_set}
+use Rattle.rb_graph_rows.specs.Kept.{own_set}
 use Rattle.rb_graph.specs.StepTable.{IsStepFee}
 use Rattle.rb_graph.proofs.Headers.{backed_at}
 use Rattle.rb_graph.proofs.Known.{known_step}
-use Rattle.rb_kept.proofs.Rising.{heights_up}
+use Rattle.rb_graph_rows.proofs.Rising.{heights_up}
 use Rattle.rb_graph.proofs.Members.{find-In, in_at}
 use Rattle.rb_base.specs.Fraction.{Exceeds}
 use Rattle.rb_base.specs.Fee.{charge_of}

@@ -2,17 +2,17 @@
 use Rattle.std.proofs.Common.{◌≡◌, ℕ, ◌+◌, ◌<◌, ◌≤◌, List, length, get_or, take, All, ap, subst, ◌∙◌, arith}
 use Rattle.std.proofs.lemmas.List.Elements.{All-map, All-more}
 use Rattle.std.proofs.Math.Seq.{take-length}
-use Rattle.rb_events.specs.declared.observation.Observation.{Observation}
-use Rattle.rb_events.specs.declared.observation.Observation.TheVariants.{SetSeen, HeaderSeen, StoredSeen, Sent, Received, AckWritten, Cleared, Closed}
-use Rattle.rb_events.specs.declared.script.Script.{Script as CodeScript}
-use Rattle.rb_events.specs.declared.script.Turn.{Turn as CodeTurn}
-use Rattle.rb_events.specs.Config.{Config}
-use Rattle.rb_events.specs.Script.{IsReadScript, IsReadObservation, IsReadTurn, script_view, turn_view}
-use Rattle.rb_events.proofs.Turns.{its_turns}
-use Rattle.rb_machine.specs.Config.{IsSetUp}
-use Rattle.rb_machine.specs.Event.{IsEvent}
-use Rattle.rb_machine.specs.Seen.{observed}
-use Rattle.rb_phases.specs.Script.{IsScript, IsSeen, IsTurn}
+use Rattle.rb_script_types.specs.declared.observation.Observation.{Observation}
+use Rattle.rb_script_types.specs.declared.observation.Observation.TheVariants.{SetSeen, HeaderSeen, StoredSeen, Sent, Received, AckWritten, Cleared, Closed}
+use Rattle.rb_script_types.specs.declared.script.Script.{Script as CodeScript}
+use Rattle.rb_script_types.specs.declared.script.Turn.{Turn as CodeTurn}
+use Rattle.rb_script_types.specs.Config.{Config}
+use Rattle.rb_script_types.specs.Script.{IsReadScript, IsReadObservation, IsReadTurn, script_view, turn_view}
+use Rattle.rb_script_types.proofs.Turns.{its_turns}
+use Rattle.rb_core_model.specs.Config.{IsSetUp}
+use Rattle.rb_core_model.specs.Event.{IsEvent}
+use Rattle.rb_core_model.specs.Seen.{observed}
+use Rattle.rb_super_turn.specs.Script.{IsScript, IsSeen, IsTurn}
 use Rattle.rb_super.specs.AsEvents.{as_events, code_turn_as_events, turn_as_events}
 
 -- one element more, and all

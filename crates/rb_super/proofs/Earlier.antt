@@ -6,16 +6,16 @@ use Rattle.std.proofs.lemmas.List.Elements.{All-take, All-get_or}
 use Rattle.std.proofs.lemmas.List.Sums.{sum_by-take-le, sum_by_more_le}
 use Rattle.std.proofs.lemmas.Option.{slice_get-get_or, same_Some}
 use Rattle.rb_core.specs.Core.{Core}
-use Rattle.rb_machine.specs.Standing.{Standing}
-use Rattle.rb_known.proofs.Places.{found_seen}
-use Rattle.rb_events.specs.Config.{Config}
-use Rattle.rb_events.specs.Script.{Script, turn_view, IsReadScript}
-use Rattle.rb_events.specs.declared.script.Turn.{Turn as CodeTurn}
+use Rattle.rb_core_model.specs.Standing.{Standing}
+use Rattle.rb_core_state.proofs.Places.{found_seen}
+use Rattle.rb_script_types.specs.Config.{Config}
+use Rattle.rb_script_types.specs.Script.{Script, turn_view, IsReadScript}
+use Rattle.rb_script_types.specs.declared.script.Turn.{Turn as CodeTurn}
 use Rattle.rb_super.specs.Judging.{Leads, IsPlanPhase}
-use Rattle.rb_phases.specs.Phases.{standing_in, HasLogRoom, IsLater}
-use Rattle.rb_phases.specs.Script.{Turn}
+use Rattle.rb_super_turn.specs.Phases.{standing_in, HasLogRoom, IsLater}
+use Rattle.rb_super_turn.specs.Script.{Turn}
 use Rattle.rb_super.specs.AsEvents.{turn_as_events, as_events, code_turn_as_events, IsTurnFor, most_events}
-use Rattle.rb_phases.specs.Turns.{before_plans}
+use Rattle.rb_super_turn.specs.Turns.{before_plans}
 use Rattle.rb_super.proofs.Runs.{opened_standing, turns_fit, turns_for, turns_as_events}
 
 -- what stands at a place

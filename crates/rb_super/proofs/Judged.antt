@@ -7,23 +7,23 @@ use Rattle.std.specs.declared.alloc.AllocError.{AllocError}
 use Rattle.std.proofs.lemmas.Option.{none-some, same_Some}
 use Rattle.rb_cert.specs.declared.verdict.Judgement.{Judgement}
 use Rattle.rb_cert.specs.declared.verdict.Judgement.TheVariants.{Yes}
-use Rattle.rb_machine.specs.Batches.{batch_open}
+use Rattle.rb_core_model.specs.Batches.{batch_open}
 use Rattle.rb_core.specs.Core.{Core, state_in}
-use Rattle.rb_task.specs.Draft.{Job, Draft}
-use Rattle.rb_machine.specs.Machine.{client_view}
-use Rattle.rb_machine.specs.Standing.{OpenBatch, KnownClient, Standing, task_in}
-use Rattle.rb_task.specs.Task.{Task, goal_of}
-use Rattle.rb_machine.proofs.Drafted.{drafted}
-use Rattle.rb_machine.proofs.Options.{some_from}
-use Rattle.rb_events.specs.declared.goal.Goal.{Goal}
+use Rattle.rb_plan_client.specs.Draft.{Job, Draft}
+use Rattle.rb_core_model.specs.Machine.{client_view}
+use Rattle.rb_core_model.specs.Standing.{OpenBatch, KnownClient, Standing, task_in}
+use Rattle.rb_plan_client.specs.Task.{Task, goal_of}
+use Rattle.rb_core_model.proofs.Drafted.{drafted}
+use Rattle.rb_core_model.proofs.Options.{some_from}
+use Rattle.rb_script_types.specs.declared.goal.Goal.{Goal}
 use Rattle.rb_plan.specs.Answer.{Shows}
 use Rattle.rb_plan.specs.Labelling.{Labels, IsSound, IsExact}
 use Rattle.rb_step.specs.LightClient.{Update}
 use Rattle.rb_step.specs.View.{client_of}
 use Rattle.rb_super.specs.Judging.{IsClientIn, IsWanted, IsPlannedGoal, IsVerdictFor, IsVerdictIn, IsRightAs, IsExactAs}
-use Rattle.rb_phases.specs.Phases.{standing_in, HasLogRoom, IsPlannable}
+use Rattle.rb_super_turn.specs.Phases.{standing_in, HasLogRoom, IsPlannable}
 use Rattle.rb_super.proofs.OneReport.{one_reach}
-use Rattle.rb_phases.proofs.Plans.{known_at, client_of_view, draft_accepted}
+use Rattle.rb_super_turn.proofs.Plans.{known_at, client_of_view, draft_accepted}
 
 -- ---- the client is one, and so is its goal
 

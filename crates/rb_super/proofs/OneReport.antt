@@ -11,20 +11,20 @@ use Rattle.rb_batch.specs.Cut.{FollowOn, IsTransaction, IsLeastCut, IsFirstTooBi
 use Rattle.rb_batch.specs.Laws.{LeastCutIsOne}
 use Rattle.rb_batch.specs.Limits.{TransactionLimits, IsTooBig}
 use Rattle.rb_batch.specs.declared.transaction.Transaction.{Transaction}
-use Rattle.rb_events.specs.declared.goal.Goal.{Goal}
+use Rattle.rb_script_types.specs.declared.goal.Goal.{Goal}
 use Rattle.rb_plan.specs.Labelling.{label_of}
 use Rattle.rb_plan.specs.Laws.{AnswersAreOne}
 use Rattle.rb_plan.specs.Least.{IsUnreachable}
 use Rattle.rb_plan.specs.ProofHeight.{IsProofHeight}
 use Rattle.rb_step.specs.LightClient.{Update, Client}
 use Rattle.rb_step.specs.View.{client_of}
-use Rattle.rb_task.specs.Draft.{Batch, Sending, nothing, too_big, batched, Plan, Planned as Answer, IsBatch, IsSending, IsPlan, IsPlanned, IsIdle}
-use Rattle.rb_task.specs.Reach.{IsReach}
-use Rattle.rb_machine.specs.Standing.{OpenBatch, KnownClient, Standing, task_in}
-use Rattle.rb_task.specs.Task.{Task, Message, goal_of, messages_of, gas_of, gases}
-use Rattle.rb_phases.specs.Report.{Outcome, held, idle, planned, ClientReport, TurnReport}
-use Rattle.rb_phases.specs.Script.{Turn}
-use Rattle.rb_phases.specs.Turns.{reported, IsOutcome, IsClientReport, before_plans, after_plans, settlement_reports, IsTurnReport}
+use Rattle.rb_plan_client.specs.Draft.{Batch, Sending, nothing, too_big, batched, Plan, Planned as Answer, IsBatch, IsSending, IsPlan, IsPlanned, IsIdle}
+use Rattle.rb_plan_client.specs.Reach.{IsReach}
+use Rattle.rb_core_model.specs.Standing.{OpenBatch, KnownClient, Standing, task_in}
+use Rattle.rb_plan_client.specs.Task.{Task, Message, goal_of, messages_of, gas_of, gases}
+use Rattle.rb_super_turn.specs.Report.{Outcome, held, idle, planned, ClientReport, TurnReport}
+use Rattle.rb_super_turn.specs.Script.{Turn}
+use Rattle.rb_super_turn.specs.Turns.{reported, IsOutcome, IsClientReport, before_plans, after_plans, settlement_reports, IsTurnReport}
 use Rattle.rb_super.proofs.OneLabelling.{one_labelling}
 
 -- ---- no message of a division is too big alone

@@ -4,10 +4,10 @@ use Rattle.std.specs.List.{AllZip, enumerate_from}
 use Rattle.std.specs.Option.{option_map}
 use Rattle.std.proofs.lemmas.Option.{same_Some}
 use Rattle.rb_batch.specs.Laws.{LeastCutIsOne}
-use Rattle.rb_task.specs.Draft.{Plan as SentPlan, Planned as Answer, IsPlan}
-use Rattle.rb_machine.specs.Standing.{Standing, opening_standing, task_in}
-use Rattle.rb_task.specs.Task.{Task, messages_of}
-use Rattle.rb_events.specs.declared.goal.Goal.{Goal}
+use Rattle.rb_plan_client.specs.Draft.{Plan as SentPlan, Planned as Answer, IsPlan}
+use Rattle.rb_core_model.specs.Standing.{Standing, opening_standing, task_in}
+use Rattle.rb_plan_client.specs.Task.{Task, messages_of}
+use Rattle.rb_script_types.specs.declared.goal.Goal.{Goal}
 use Rattle.rb_plan.specs.Answer.{Shows}
 use Rattle.rb_plan.specs.Labelling.{Labels, IsExact, label_of}
 use Rattle.rb_plan.specs.Laws.{AnswersAreOne}
@@ -15,11 +15,11 @@ use Rattle.rb_plan.specs.Least.{IsUnreachable}
 use Rattle.rb_step.specs.LightClient.{Update}
 use Rattle.rb_step.specs.View.{client_of}
 use Rattle.rb_super.specs.Judging.{Leads, IsPlanPhase, IsWanted, IsPlannedGoal, IsExactAs, claim_in, IsReported}
-use Rattle.rb_phases.specs.Report.{PlanReport, PlannedReport, planned, TurnReport, Report}
-use Rattle.rb_phases.specs.Script.{Turn, Script}
-use Rattle.rb_phases.specs.Turns.{update_of, reported, reported_plan, IsOutcome, IsClientReport, IsTurnReport, AreTurnReports, IsReportOf, after_turn}
+use Rattle.rb_super_turn.specs.Report.{PlanReport, PlannedReport, planned, TurnReport, Report}
+use Rattle.rb_super_turn.specs.Script.{Turn, Script}
+use Rattle.rb_super_turn.specs.Turns.{update_of, reported, reported_plan, IsOutcome, IsClientReport, IsTurnReport, AreTurnReports, IsReportOf, after_turn}
 use Rattle.rb_super.proofs.OneReport.{one_turn}
-use Rattle.rb_phases.proofs.Reported.{updates_back}
+use Rattle.rb_super_turn.proofs.Reported.{updates_back}
 
 -- what stands beside an element of the second list
 zipped_in : {X Y : Type 0} (R : ℕ × X → Y → Type 0) (m : ℕ) (xs : List X) (ys : List Y) (i n : ℕ) (y : Y) → n ≡ m + i → AllZip R (enumerate_from m xs) ys → slice_get ys i ≡ Some y

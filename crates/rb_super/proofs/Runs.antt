@@ -4,16 +4,16 @@ use Rattle.std.specs.List.{sum_by, fold}
 use Rattle.std.proofs.lemmas.List.{length-map, get_or-map}
 use Rattle.std.proofs.lemmas.List.Sums.{sum_by-cons}
 use Rattle.rb_core.specs.Core.{Core, state_in}
-use Rattle.rb_machine.specs.Machine.{opening, after}
-use Rattle.rb_machine.specs.Standing.{Standing, opening_standing}
-use Rattle.rb_events.specs.Config.{Config}
-use Rattle.rb_events.specs.Script.{Script, turn_view, entry_count, IsReadTurn, IsReadScript}
-use Rattle.rb_events.specs.declared.script.Turn.{Turn as CodeTurn}
+use Rattle.rb_core_model.specs.Machine.{opening, after}
+use Rattle.rb_core_model.specs.Standing.{Standing, opening_standing}
+use Rattle.rb_script_types.specs.Config.{Config}
+use Rattle.rb_script_types.specs.Script.{Script, turn_view, entry_count, IsReadTurn, IsReadScript}
+use Rattle.rb_script_types.specs.declared.script.Turn.{Turn as CodeTurn}
 use Rattle.rb_super.specs.Judging.{Leads}
-use Rattle.rb_phases.specs.Report.{TurnReport, Report}
-use Rattle.rb_phases.specs.Script.{Turn}
-use Rattle.rb_phases.specs.Turns.{IsTurnReport, AreTurnReports, after_turn}
-use Rattle.rb_phases.specs.Phases.{standing_in, HasLogRoom}
+use Rattle.rb_super_turn.specs.Report.{TurnReport, Report}
+use Rattle.rb_super_turn.specs.Script.{Turn}
+use Rattle.rb_super_turn.specs.Turns.{IsTurnReport, AreTurnReports, after_turn}
+use Rattle.rb_super_turn.specs.Phases.{standing_in, HasLogRoom}
 use Rattle.rb_super.specs.AsEvents.{turn_as_events, code_turn_as_events, IsTurnFor, most_events}
 
 -- the turns, reported so, lead from the one standing to the other

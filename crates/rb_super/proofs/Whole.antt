@@ -2,16 +2,16 @@
 use Rattle.std.proofs.Common.{◌≡◌, Bool, List, length, ap, ◌∙◌}
 use Rattle.std.specs.List.{fold}
 use Rattle.rb_core.specs.Core.{Core}
-use Rattle.rb_machine.specs.Standing.{goes_back}
-use Rattle.rb_events.specs.declared.script.Asked.{Asked}
-use Rattle.rb_events.specs.declared.script.Settlement.{Settlement}
-use Rattle.rb_events.specs.declared.script.Turn.{Turn as CodeTurn}
-use Rattle.rb_phases.specs.Phases.{standing_in, turn_heard, AreReported}
-use Rattle.rb_phases.specs.Report.{RefusedEvent, ClientReport, SettlementReport, TurnReport}
+use Rattle.rb_core_model.specs.Standing.{goes_back}
+use Rattle.rb_script_types.specs.declared.script.Asked.{Asked}
+use Rattle.rb_script_types.specs.declared.script.Settlement.{Settlement}
+use Rattle.rb_script_types.specs.declared.script.Turn.{Turn as CodeTurn}
+use Rattle.rb_super_turn.specs.Phases.{standing_in, turn_heard, AreReported}
+use Rattle.rb_super_turn.specs.Report.{RefusedEvent, ClientReport, SettlementReport, TurnReport}
 use Rattle.rb_super.specs.AsEvents.{code_turn_as_events}
-use Rattle.rb_phases.specs.Turns.{before_plans, refusals_in, after_settlement, settlement_reports, IsTurnReport, after_turn}
-use Rattle.rb_phases.proofs.Phases.{turn_reported}
-use Rattle.rb_phases.proofs.Steps.{sizes_in}
+use Rattle.rb_super_turn.specs.Turns.{before_plans, refusals_in, after_settlement, settlement_reports, IsTurnReport, after_turn}
+use Rattle.rb_super_turn.proofs.Phases.{turn_reported}
+use Rattle.rb_super_turn.proofs.Steps.{sizes_in}
 
 pub turn_done : {A : Type 0} (self b d e : Core) (t : CodeTurn A) (goals : List Asked) (xs : List Settlement) (back : Bool) (refused : List RefusedEvent) (clients : List ClientReport) (settlements : List SettlementReport)
     → goals ≡ t.goals.items → xs ≡ t.settlements.items

@@ -1,10 +1,10 @@
 -- Scripts as turns tell them: what was observed, as events.
 use Rattle.std.specs.Prelude.{ℕ, ◌+◌, ◌*◌, map, length}
-use Rattle.rb_events.specs.Config.{Config}
-use Rattle.rb_events.specs.Script.{Turn as SeenTurn, Script as SeenScript, turn_view, entry_count, IsReadTurn}
-use Rattle.rb_events.specs.declared.script.Turn.{Turn as CodeTurn}
-use Rattle.rb_machine.specs.Seen.{observed}
-use Rattle.rb_phases.specs.Script.{Turn, Script}
+use Rattle.rb_script_types.specs.Config.{Config}
+use Rattle.rb_script_types.specs.Script.{Turn as SeenTurn, Script as SeenScript, turn_view, entry_count, IsReadTurn}
+use Rattle.rb_script_types.specs.declared.script.Turn.{Turn as CodeTurn}
+use Rattle.rb_core_model.specs.Seen.{observed}
+use Rattle.rb_super_turn.specs.Script.{Turn, Script}
 
 abbrev pub turn_as_events : {A : Type 0} → SeenTurn A → Turn
 turn_as_events t = record { window = t.window; goals = t.goals; events = map observed t.events; settlements = t.settlements }

@@ -4,17 +4,17 @@ use Rattle.std.specs.Prelude.{◌≡◌, ℕ, List, [], ◌∷◌, take, map, sl
 use Rattle.rb_base.specs.Window.{Span}
 use Rattle.rb_cert.specs.declared.verdict.Judgement.{Judgement}
 use Rattle.rb_cert.specs.Judgement.{Judges}
-use Rattle.rb_task.specs.Reach.{IsReach}
-use Rattle.rb_machine.specs.Standing.{KnownClient, Standing, opening_standing, task_in}
-use Rattle.rb_task.specs.Task.{Task, goal_of}
-use Rattle.rb_events.specs.declared.goal.Goal.{Goal}
+use Rattle.rb_plan_client.specs.Reach.{IsReach}
+use Rattle.rb_core_model.specs.Standing.{KnownClient, Standing, opening_standing, task_in}
+use Rattle.rb_plan_client.specs.Task.{Task, goal_of}
+use Rattle.rb_script_types.specs.declared.goal.Goal.{Goal}
 use Rattle.rb_plan.specs.Answer.{Shows}
 use Rattle.rb_plan.specs.Labelling.{Labels, IsSound, IsExact, label_of}
 use Rattle.rb_step.specs.LightClient.{Update}
 use Rattle.rb_step.specs.View.{View, client_of}
-use Rattle.rb_phases.specs.Report.{PlanReport, PlannedReport, planned, ClientReport, TurnReport, Report}
-use Rattle.rb_phases.specs.Script.{Turn, Script}
-use Rattle.rb_phases.specs.Turns.{before_plans, update_of, IsTurnReport, after_turn}
+use Rattle.rb_super_turn.specs.Report.{PlanReport, PlannedReport, planned, ClientReport, TurnReport, Report}
+use Rattle.rb_super_turn.specs.Script.{Turn, Script}
+use Rattle.rb_super_turn.specs.Turns.{before_plans, update_of, IsTurnReport, after_turn}
 
 -- ---- where a client stands
 

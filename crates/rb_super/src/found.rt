@@ -1,9 +1,9 @@
 //! What workers find, where they are told to look.
 use rb_core::{Draft, Scan};
 use rb_gang::{Gate, Place};
-use rb_phases::Found;
 use rb_scan::Part;
-use rb_worker::{Held, Order, Team};
+use rb_super_turn::Found;
+use rb_super_worker::{Held, Order, Team};
 use std::alloc::{AllocError, Global};
 use std::sync::Wait;
 

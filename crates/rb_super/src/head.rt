@@ -1,16 +1,16 @@
 //! The pen of a board, as a machine that takes events in.
 ghost use Rattle.std.specs.Prelude.{◌≡◌, ◌++◌, ◌∷◌, [], None, IfOk, IfErr, OnOk, OnErr, length, replicate};
 ghost use Rattle.rb_core.specs.Core.{refusal_in, state_in};
-ghost use Rattle.rb_machine.specs.Machine.{reply_of};
-ghost use Rattle.rb_machine.specs.Refused.{IsRefusal};
-ghost use Rattle.rb_machine.specs.Replied.{reply_view};
-ghost use Rattle.rb_phases.specs.Slots.{event_in};
+ghost use Rattle.rb_core_model.specs.Machine.{reply_of};
+ghost use Rattle.rb_core_model.specs.Refused.{IsRefusal};
+ghost use Rattle.rb_core_model.specs.Replied.{reply_view};
+ghost use Rattle.rb_super_turn.specs.Slots.{event_in};
 ghost use Rattle.rb_super.specs.Heads.{head_of};
 
 use rb_board::Pen;
 use rb_core::{Core, CoreError, Event, Reply};
 use rb_graph::SharedGraph;
-use rb_phases::{Machine, Relayer};
+use rb_super_turn::{Machine, Relayer};
 use std::alloc::{AllocError, Global};
 use std::marker::Model;
 use std::sync::Wait;

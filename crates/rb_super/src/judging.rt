@@ -1,31 +1,31 @@
 //! The judgement of an answer that was made for a client in a turn of a script.
 ghost use Rattle.std.specs.Prelude.{◌≡◌, ◌<◌, Ok, Some, None, length, take, slice_get, IfOk};
 ghost use denote.Param.Send.{Frees};
-ghost use Rattle.rb_machine.specs.Batches.{batch_open};
+ghost use Rattle.rb_core_model.specs.Batches.{batch_open};
 ghost use Rattle.rb_core.specs.Core.{state_in};
-ghost use Rattle.rb_machine.specs.Machine.{client_view};
-ghost use Rattle.rb_events.specs.declared.goal.Goal.{Goal as AnyGoal};
-ghost use Rattle.rb_events.specs.Script.{script_view, IsReadScript};
+ghost use Rattle.rb_core_model.specs.Machine.{client_view};
+ghost use Rattle.rb_script_types.specs.declared.goal.Goal.{Goal as AnyGoal};
+ghost use Rattle.rb_script_types.specs.Script.{script_view, IsReadScript};
 ghost use Rattle.rb_plan.specs.Answer.{labels_of, claim_of, Shows};
 ghost use Rattle.rb_plan.specs.Labelling.{IsSound, IsExact};
 ghost use Rattle.rb_step.specs.View.{client_of};
 ghost use Rattle.rb_super.specs.Judging.{IsPlanPhase, IsWanted, IsVerdictFor, IsVerdictIn, IsRightAs, IsExactAs, IsVerdictOn, IsRightIn, IsReported};
-ghost use Rattle.rb_phases.specs.Phases.{standing_in, HasLogRoom, IsPlannable};
-ghost use Rattle.rb_phases.specs.Report.{Report};
+ghost use Rattle.rb_super_turn.specs.Phases.{standing_in, HasLogRoom, IsPlannable};
+ghost use Rattle.rb_super_turn.specs.Report.{Report};
 ghost use Rattle.rb_super.specs.AsEvents.{as_events};
-ghost use Rattle.rb_phases.specs.Turns.{IsReportOf};
+ghost use Rattle.rb_super_turn.specs.Turns.{IsReportOf};
 
 use crate::run::run_turns;
 use crate::supervisor::Supervisor;
 use rb_batch::laws::least_cut_is_one;
 use rb_cert::{Judgement, certify_par};
 use rb_core::JobView;
-use rb_events::{Script, Turn};
 use rb_gang::{Gate, OpenGate};
-use rb_phases::{Crew, Relayer, draft_of, view_of};
 use rb_plan::laws::answers_are_one;
 use rb_plan::{Answer, Goal};
+use rb_script_types::{Script, Turn};
 use rb_step::ClientView;
+use rb_super_turn::{Crew, Relayer, draft_of, view_of};
 use std::alloc::{AllocError, Allocator};
 use std::thread::Threads;
 

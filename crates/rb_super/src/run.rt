@@ -1,20 +1,20 @@
 //! The run of a script.
 ghost use Rattle.std.specs.Prelude.{◌≡◌, ◌≤◌, ◌++◌, ◌∷◌, [], Ok, map, sum_by, All, IfOk, OnOk};
 ghost use denote.Param.Send.{Frees};
-ghost use Rattle.rb_events.specs.declared.config.PathConfig.{PathConfig};
-ghost use Rattle.rb_events.specs.Script.{script_view, IsReadScript};
+ghost use Rattle.rb_script_types.specs.declared.config.PathConfig.{PathConfig};
+ghost use Rattle.rb_script_types.specs.Script.{script_view, IsReadScript};
 ghost use Rattle.rb_super.specs.Judging.{Leads};
-ghost use Rattle.rb_phases.specs.Turns.{AreTurnReports, IsReportOf};
-ghost use Rattle.rb_phases.specs.Phases.{standing_in, HasLogRoom, IsLater};
-ghost use Rattle.rb_phases.specs.Views.{turn_report_view, report_view};
+ghost use Rattle.rb_super_turn.specs.Turns.{AreTurnReports, IsReportOf};
+ghost use Rattle.rb_super_turn.specs.Phases.{standing_in, HasLogRoom, IsLater};
+ghost use Rattle.rb_super_turn.specs.Views.{turn_report_view, report_view};
 ghost use Rattle.rb_super.specs.AsEvents.{code_turn_as_events, as_events, IsTurnFor, most_events};
 
 use crate::supervisor::Supervisor;
 use crate::workers::Workers;
 use rb_base::PathId;
-use rb_events::{PathConfig, Script, Turn};
 use rb_gang::Gate;
-use rb_phases::{Crew, Report, TurnReport};
+use rb_script_types::{PathConfig, Script, Turn};
+use rb_super_turn::{Crew, Report, TurnReport};
 use std::alloc::{AllocError, Allocator, Global};
 use std::sync::{Arc, Wait};
 use std::thread::Threads;

@@ -1,25 +1,25 @@
 //! The supervisor: a relayer that is led through turns.
 ghost use Rattle.std.specs.Prelude.{◌≡◌, ◌<◌, ◌+◌, ◌*◌, ◌++◌, ◌∷◌, [], true, length, None, is_some, IfOk, IfErr, OnOk, OnErr, All, map};
 ghost use denote.Param.Send.{Frees};
-ghost use Rattle.rb_events.specs.Config.{config_view, IsConfig};
-ghost use Rattle.rb_events.specs.Script.{IsReadObservation};
+ghost use Rattle.rb_script_types.specs.Config.{config_view, IsConfig};
+ghost use Rattle.rb_script_types.specs.Script.{IsReadObservation};
 ghost use Rattle.rb_core.specs.Core.{refusal_in, state_in};
-ghost use Rattle.rb_machine.specs.Machine.{reply_of};
-ghost use Rattle.rb_machine.specs.Refused.{IsRefusal};
-ghost use Rattle.rb_machine.specs.Replied.{reply_view};
-ghost use Rattle.rb_machine.specs.Seen.{event_view};
-ghost use Rattle.rb_machine.specs.Standing.{goes_back};
-ghost use Rattle.rb_phases.specs.Drafts.{AreDrafts};
-ghost use Rattle.rb_phases.specs.Turns.{before_plans, refusals_in, IsTurnReport, after_turn};
-ghost use Rattle.rb_phases.specs.Phases.{standing_in, HasLogRoom, IsLater, turn_heard, IsPlannable};
-ghost use Rattle.rb_phases.specs.Views.{refused_view, turn_report_view};
+ghost use Rattle.rb_core_model.specs.Machine.{reply_of};
+ghost use Rattle.rb_core_model.specs.Refused.{IsRefusal};
+ghost use Rattle.rb_core_model.specs.Replied.{reply_view};
+ghost use Rattle.rb_core_model.specs.Seen.{event_view};
+ghost use Rattle.rb_core_model.specs.Standing.{goes_back};
+ghost use Rattle.rb_super_turn.specs.Drafts.{AreDrafts};
+ghost use Rattle.rb_super_turn.specs.Turns.{before_plans, refusals_in, IsTurnReport, after_turn};
+ghost use Rattle.rb_super_turn.specs.Phases.{standing_in, HasLogRoom, IsLater, turn_heard, IsPlannable};
+ghost use Rattle.rb_super_turn.specs.Views.{refused_view, turn_report_view};
 ghost use Rattle.rb_super.specs.AsEvents.{code_turn_as_events, IsTurnFor, most_events};
 
 use rb_base::Window;
 use rb_core::{Core, CoreError, Draft, Event, Reply};
-use rb_events::{Asked, Config, Observation, Turn};
 use rb_gang::Gate;
-use rb_phases::{
+use rb_script_types::{Asked, Config, Observation, Turn};
+use rb_super_turn::{
     Crew, Nothing, RefusedEvent, Relayer, TurnReport, drafts_of, hear_all, plan_all, scan_all,
     settle_all,
 };

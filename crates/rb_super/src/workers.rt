@@ -1,11 +1,11 @@
 //! The supervisor with workers.
 ghost use Rattle.std.specs.Prelude.{◌≡◌, ◌<◌, ◌≤◌, ◌+◌, ◌*◌, [], Ok, length, IfOk, OnOk, All, map};
-ghost use Rattle.rb_events.specs.Config.{config_view, IsConfig};
-ghost use Rattle.rb_events.specs.Script.{IsReadObservation};
-ghost use Rattle.rb_machine.specs.Standing.{goes_back};
-ghost use Rattle.rb_phases.specs.Turns.{before_plans, refusals_in, IsTurnReport, after_turn};
-ghost use Rattle.rb_phases.specs.Phases.{standing_in, HasLogRoom, IsLater, turn_heard, IsAllScanned, IsPlannable, AreReported};
-ghost use Rattle.rb_phases.specs.Views.{refused_view, client_report_view, turn_report_view};
+ghost use Rattle.rb_script_types.specs.Config.{config_view, IsConfig};
+ghost use Rattle.rb_script_types.specs.Script.{IsReadObservation};
+ghost use Rattle.rb_core_model.specs.Standing.{goes_back};
+ghost use Rattle.rb_super_turn.specs.Turns.{before_plans, refusals_in, IsTurnReport, after_turn};
+ghost use Rattle.rb_super_turn.specs.Phases.{standing_in, HasLogRoom, IsLater, turn_heard, IsAllScanned, IsPlannable, AreReported};
+ghost use Rattle.rb_super_turn.specs.Views.{refused_view, client_report_view, turn_report_view};
 ghost use Rattle.rb_super.specs.AsEvents.{code_turn_as_events, IsTurnFor, most_events};
 
 use crate::found::FoundByWorkers;
@@ -14,13 +14,13 @@ use crate::orders::{order_plans, order_scans};
 use rb_base::Window;
 use rb_board::open;
 use rb_core::Core;
-use rb_events::{Asked, Config, Observation, Turn};
 use rb_gang::Gate;
-use rb_phases::{
+use rb_script_types::{Asked, Config, Observation, Turn};
+use rb_super_turn::{
     ClientReport, Crew, RefusedEvent, Relayer, TurnReport, hear_all, no_tables, plan_all, scan_all,
     settle_all,
 };
-use rb_worker::{Held, Team};
+use rb_super_worker::{Held, Team};
 use std::alloc::{AllocError, Global};
 use std::marker::Model;
 use std::sync::{Arc, Wait};

@@ -8,13 +8,13 @@ use Rattle.std.specs.Str.{bytes_eq}
 use Rattle.std.proofs.lemmas.Bool.{lt-ltb, false≢true}
 use Rattle.rb_cert.specs.declared.verdict.Judgement.{Judgement}
 use Rattle.rb_cert.specs.declared.verdict.Judgement.TheVariants.{Yes, No}
-use Rattle.rb_fields.specs.Faults.{Fault, ◌>>=◌, fault, check}
-use Rattle.rb_fields.specs.declared.fault.FaultName.TheVariants.{NoSuchTurn, UnknownIdentifier}
-use Rattle.rb_fields.specs.declared.fault.RunError.{RunError}
-use Rattle.rb_events.specs.declared.config.ClientConfig.{ClientConfig}
-use Rattle.rb_events.specs.Script.{Script}
+use Rattle.rb_script_toml.specs.Faults.{Fault, ◌>>=◌, fault, check}
+use Rattle.rb_script_toml.specs.declared.fault.FaultName.TheVariants.{NoSuchTurn, UnknownIdentifier}
+use Rattle.rb_script_toml.specs.declared.fault.RunError.{RunError}
+use Rattle.rb_script_types.specs.declared.config.ClientConfig.{ClientConfig}
+use Rattle.rb_script_types.specs.Script.{Script}
 use Rattle.rb_text.specs.Certificates.{Certificate}
-use Rattle.rb_config.specs.Named.{known}
+use Rattle.rb_script_config.specs.Named.{known}
 use Rattle.rb_text.specs.Verdicts.{Case, case_in, case_of, is_yes, IsRightCase, IsCertified}
 
 abbrev made : Script Global → Certificate → ℕ → ℕ → Case

@@ -5,14 +5,14 @@ use Rattle.toml.specs.Data.{Items, no_items, item}
 use Rattle.rb_plan.specs.LightClient.{Update}
 use Rattle.rb_plan.specs.declared.labelling.Label.{Label}
 use Rattle.rb_plan.specs.Answer.{claim_of, labelling_of}
-use Rattle.rb_fields.specs.Faults.{Fault, ◌>>=◌, fault, check}
-use Rattle.rb_fields.specs.Places.{child, element}
-use Rattle.rb_fields.specs.Fields.{Field, Section, field_at, only, needs, optional, or_default, text, identifier, number, within, items, two_integers, three_integers, max_number}
-use Rattle.rb_fields.specs.declared.fault.FaultName.TheVariants.{BadVersion, OutOfRange, BadAnswer, LabelOrder}
+use Rattle.rb_script_toml.specs.Faults.{Fault, ◌>>=◌, fault, check}
+use Rattle.rb_script_toml.specs.Places.{child, element}
+use Rattle.rb_script_toml.specs.Fields.{Field, Section, field_at, only, needs, optional, or_default, text, identifier, number, within, items, two_integers, three_integers, max_number}
+use Rattle.rb_script_toml.specs.declared.fault.FaultName.TheVariants.{BadVersion, OutOfRange, BadAnswer, LabelOrder}
 use Rattle.rb_text.specs.declared.certificate.AnswerKind.{AnswerKind}
 use Rattle.rb_text.specs.declared.certificate.AnswerKind.TheVariants.{Plan, Unreachable}
 use Rattle.rb_text.specs.declared.certificate.Certificate.{Certificate as CodeCertificate}
-use Rattle.rb_fields.specs.Documents.{document}
+use Rattle.rb_script_toml.specs.Documents.{document}
 
 -- the turn by its number from 1, the client, the list of updates that is claimed to be the least or that there is none, and the labels
 pub record Certificate : Type 0 where

@@ -3,13 +3,13 @@ use Rattle.std.specs.Prelude.{◌≡◌, ℕ, List, Option, Ok}
 use Rattle.std.specs.declared.alloc.Global.{Global}
 use Rattle.std.specs.Io.KnownBytes.{Appends}
 use Rattle.rb_base.specs.Sink.{AppendsBeginning}
-use Rattle.rb_events.specs.Script.{Script}
-use Rattle.rb_config.specs.Paths.{path_ids}
-use Rattle.rb_script.specs.Scripts.{script_of}
-use Rattle.rb_phases.specs.Report.{Report}
-use Rattle.rb_phases.specs.Script.{IsScript}
+use Rattle.rb_script_types.specs.Script.{Script}
+use Rattle.rb_script_config.specs.Paths.{path_ids}
+use Rattle.rb_script_read.specs.Scripts.{script_of}
+use Rattle.rb_super_turn.specs.Report.{Report}
+use Rattle.rb_super_turn.specs.Script.{IsScript}
 use Rattle.rb_super.specs.AsEvents.{as_events}
-use Rattle.rb_phases.specs.Turns.{IsReportOf}
+use Rattle.rb_super_turn.specs.Turns.{IsReportOf}
 use Rattle.rb_text.specs.Report.{text}
 
 -- the bytes hold the script, which is one of a relayer that is set up, and this is its report: for each client and turn the

@@ -3,16 +3,16 @@ use Rattle.std.specs.Prelude.{ℕ, ◌+◌, Bool, if◌then◌else◌, List, [],
 use Rattle.std.specs.Fmt.{decimal}
 use Rattle.std.specs.List.{flat_map}
 use Rattle.rb_batch.specs.declared.transaction.Transaction.{Transaction}
-use Rattle.rb_events.specs.Refusal.{number_of, name_of}
+use Rattle.rb_script_types.specs.Refusal.{number_of, name_of}
 use Rattle.rb_plan.specs.declared.cost.Cost.{Cost}
-use Rattle.rb_events.specs.declared.goal.Goal.{Goal}
-use Rattle.rb_events.specs.declared.goal.Goal.TheVariants.{Exactly, AtLeast}
+use Rattle.rb_script_types.specs.declared.goal.Goal.{Goal}
+use Rattle.rb_script_types.specs.declared.goal.Goal.TheVariants.{Exactly, AtLeast}
 use Rattle.rb_plan.specs.declared.labelling.Label.{Label}
-use Rattle.rb_events.specs.declared.refusal.Refusal.{Refusal}
+use Rattle.rb_script_types.specs.declared.refusal.Refusal.{Refusal}
 use Rattle.rb_scan.specs.declared.message.Kind.{Kind}
 use Rattle.rb_scan.specs.declared.message.Kind.TheVariants.{Receive, Acknowledge, Timeout}
-use Rattle.rb_task.specs.Task.{Message}
-use Rattle.rb_phases.specs.Report.{RefusedEvent, PricedUpdate, SendingReport, nothing, too_big, batched, PlanReport, Outcome, held, idle, planned, ClientReport, SettlementReport, TurnReport, Report}
+use Rattle.rb_plan_client.specs.Task.{Message}
+use Rattle.rb_super_turn.specs.Report.{RefusedEvent, PricedUpdate, SendingReport, nothing, too_big, batched, PlanReport, Outcome, held, idle, planned, ClientReport, SettlementReport, TurnReport, Report}
 
 -- ---- lines
 

@@ -11,20 +11,20 @@ use Rattle.rb_cert.specs.declared.verdict.Reason.{Reason}
 use Rattle.rb_cert.specs.declared.verdict.Reason.TheVariants.{SourceLabel, LabelTooHigh, PlanNotAccepted, PlanNotTight, NotTheTie, GoalLabelled, GoalMissed}
 use Rattle.rb_cert.specs.declared.verdict.Judgement.{Judgement}
 use Rattle.rb_cert.specs.declared.verdict.Judgement.TheVariants.{Yes, No}
-use Rattle.rb_fields.specs.Faults.{Fault, ◌>>=◌, check}
-use Rattle.rb_fields.specs.declared.fault.FaultName.TheVariants.{NoSuchTurn, NoGoal}
+use Rattle.rb_script_toml.specs.Faults.{Fault, ◌>>=◌, check}
+use Rattle.rb_script_toml.specs.declared.fault.FaultName.TheVariants.{NoSuchTurn, NoGoal}
 use Rattle.rb_plan.specs.Labelling.{label_of}
-use Rattle.rb_events.specs.declared.config.ClientConfig.{ClientConfig}
+use Rattle.rb_script_types.specs.declared.config.ClientConfig.{ClientConfig}
 use Rattle.rb_super.specs.Judging.{IsVerdictOn, IsRightIn, IsReported}
-use Rattle.rb_phases.specs.Report.{Report}
+use Rattle.rb_super_turn.specs.Report.{Report}
 use Rattle.rb_super.specs.AsEvents.{as_events}
-use Rattle.rb_events.specs.Script.{Script, script_view}
-use Rattle.rb_fields.specs.declared.fault.RunError.{RunError}
+use Rattle.rb_script_types.specs.Script.{Script, script_view}
+use Rattle.rb_script_toml.specs.declared.fault.RunError.{RunError}
 use Rattle.rb_text.specs.declared.case.Case.{Case as CodeCase}
 use Rattle.rb_text.specs.declared.refusal.CertifyError.{CertifyError}
 use Rattle.rb_text.specs.Certificates.{Certificate, certificate_of, certificate_view}
-use Rattle.rb_config.specs.Named.{known}
-use Rattle.rb_script.specs.Scripts.{script_of}
+use Rattle.rb_script_config.specs.Named.{known}
+use Rattle.rb_script_read.specs.Scripts.{script_of}
 
 -- ---- the line of a verdict
 

@@ -1,20 +1,20 @@
 //! What is judged: a certificate for a script.
 ghost use Rattle.std.specs.Prelude.{◌≡◌, ◌<◌, Ok, Some, None, length, IfOk, IsErrOf};
-ghost use Rattle.rb_fields.specs.declared.fault.Fault.{Fault as CodeFault};
-ghost use Rattle.rb_fields.specs.Faults.{Gives, fault_view};
-ghost use Rattle.rb_phases.specs.Report.{Report};
-ghost use Rattle.rb_events.specs.Script.{IsReadScript, script_view};
+ghost use Rattle.rb_script_toml.specs.declared.fault.Fault.{Fault as CodeFault};
+ghost use Rattle.rb_script_toml.specs.Faults.{Gives, fault_view};
+ghost use Rattle.rb_super_turn.specs.Report.{Report};
+ghost use Rattle.rb_script_types.specs.Script.{IsReadScript, script_view};
 ghost use Rattle.rb_super.specs.AsEvents.{as_events};
-ghost use Rattle.rb_phases.specs.Turns.{IsReportOf};
+ghost use Rattle.rb_super_turn.specs.Turns.{IsReportOf};
 ghost use Rattle.rb_text.specs.Certificates.{certificate_view};
 ghost use Rattle.rb_text.specs.Verdicts.{case_view, case_in, case_of, plain, IsVerdictOf, IsRightCase, IsReportedCase, no_goal};
 
 use crate::certificate::{Certificate, read_certificate};
 use crate::refusal::{CertifyError, Source};
 use rb_cert::Judgement;
-use rb_events::Script;
-use rb_fields::{FaultName, RunError, fault_at};
-use rb_script::{place_of, read_script};
+use rb_script_read::{place_of, read_script};
+use rb_script_toml::{FaultName, RunError, fault_at};
+use rb_script_types::Script;
 use rb_super::judge;
 use std::alloc::Global;
 use std::thread::Threads;
@@ -29,7 +29,7 @@ pub struct Case {
 }
 
 /// Looks up the certificate's turn, and then its client.
-#[tactic(auto, using(rb_fields::proofs::Steps::steps), unfolding(crate::specs::Verdicts::case_in))]
+#[tactic(auto, using(rb_script_toml::proofs::Steps::steps), unfolding(crate::specs::Verdicts::case_in))]
 fn case_in(alloc: Global, script: Script, certificate: Certificate) -> Result<Case, RunError>
     ensures read { Gives case_view result (case_in (script_view script) (certificate_view certificate)) }
     ensures script { IfOk result (λ c. c.script ≡ script) }
@@ -56,7 +56,7 @@ fn case_in(alloc: Global, script: Script, certificate: Certificate) -> Result<Ca
 
 /// Reads both texts, the script first, and looks up what the certificate names; or answers the
 /// first fault.
-#[tactic(auto, using(rb_fields::proofs::Steps::steps), unfolding(crate::specs::Verdicts::case_of))]
+#[tactic(auto, using(rb_script_toml::proofs::Steps::steps), unfolding(crate::specs::Verdicts::case_of))]
 pub(crate) fn read_case(
     alloc: Global,
     script: &[u8],

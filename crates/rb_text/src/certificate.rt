@@ -2,14 +2,16 @@
 ghost use Rattle.std.specs.Prelude.{◌<◌, ◌^◌, [], IfOk, OnOk, All, codes, map};
 ghost use Rattle.std.specs.List.Sorted.{IsStrictlyIncreasing};
 ghost use Rattle.toml.specs.View.{view, items_view};
-ghost use Rattle.rb_fields.specs.Faults.{Gives};
-ghost use Rattle.rb_fields.specs.Places.{element};
-ghost use Rattle.rb_fields.specs.Fields.{field_view, section_view, field_at, only, needs, optional, or_default, identifier, two_integers, three_integers};
+ghost use Rattle.rb_script_toml.specs.Faults.{Gives};
+ghost use Rattle.rb_script_toml.specs.Places.{element};
+ghost use Rattle.rb_script_toml.specs.Fields.{field_view, section_view, field_at, only, needs, optional, or_default, identifier, two_integers, three_integers};
 ghost use Rattle.rb_text.specs.Certificates.{answer, update, updates, label, labels, each, typed_from, rising, certificate_keys, certificate, certificate_of, certificate_view};
 
 use rb_base::{ClientId, Height};
-use rb_fields::{FaultName, Field, MAX_NUMBER, Place, RunError, Section, element_path, read_table};
 use rb_plan::{Answer, Cost, Label, Labelling, Update};
+use rb_script_toml::{
+    FaultName, Field, MAX_NUMBER, Place, RunError, Section, element_path, read_table,
+};
 use std::alloc::Global;
 use toml::Value;
 
@@ -29,7 +31,7 @@ pub enum AnswerKind {
     Unreachable,
 }
 
-#[tactic(auto, using(rb_fields::proofs::Steps::steps), unfolding(crate::specs::Certificates::answer))]
+#[tactic(auto, using(rb_script_toml::proofs::Steps::steps), unfolding(crate::specs::Certificates::answer))]
 fn read_answer(field: &Field<'_>) -> Result<AnswerKind, RunError>
     ensures { Gives (λ k. k) result (answer (field_view field.now)) }
 {
@@ -40,14 +42,14 @@ fn read_answer(field: &Field<'_>) -> Result<AnswerKind, RunError>
     }
 }
 
-#[tactic(auto, using(rb_fields::proofs::Steps::steps))]
+#[tactic(auto, using(rb_script_toml::proofs::Steps::steps))]
 fn needed_answer(section: &Section<'_>) -> Result<AnswerKind, RunError>
     ensures { Gives (λ k. k) result (needs (codes "answer") answer (section_view section.now)) }
 {
     read_answer(&section.required("answer")?)
 }
 
-#[tactic(auto, using(rb_fields::proofs::Steps::steps))]
+#[tactic(auto, using(rb_script_toml::proofs::Steps::steps))]
 fn pair_at(alloc: Global, index: usize, value: &Value) -> Result<(i64, i64), RunError>
     ensures { Gives (λ n. n) result (two_integers (field_at (element (codes "updates") index) (view value.now))) }
 {
@@ -74,7 +76,7 @@ fn judge_pairs(alloc: Global, items: &[Value]) -> Result<(), RunError>
     Ok(())
 }
 
-#[tactic(auto, using(rb_fields::proofs::Steps::steps), unfolding(crate::specs::Certificates::update))]
+#[tactic(auto, using(rb_script_toml::proofs::Steps::steps), unfolding(crate::specs::Certificates::update))]
 fn read_update(field: &Field<'_>) -> Result<Update, RunError>
     ensures { Gives (λ u. u) result (update (field_view field.now)) }
 {
@@ -84,7 +86,7 @@ fn read_update(field: &Field<'_>) -> Result<Update, RunError>
     Ok(Update::new(Height::new(height).unwrap(), Height::new(trusted).unwrap()))
 }
 
-#[tactic(auto, using(rb_fields::proofs::Steps::steps))]
+#[tactic(auto, using(rb_script_toml::proofs::Steps::steps))]
 fn read_update_at(alloc: Global, index: usize, value: &Value) -> Result<Update, RunError>
     ensures { Gives (λ u. u) result (update (field_at (element (codes "updates") index) (view value.now))) }
 {
@@ -112,7 +114,7 @@ fn read_updates(alloc: Global, items: &[Value]) -> Result<Vec<Update>, RunError>
     Ok(updates)
 }
 
-#[tactic(auto, using(rb_fields::proofs::Steps::steps), unfolding(crate::specs::Certificates::updates))]
+#[tactic(auto, using(rb_script_toml::proofs::Steps::steps), unfolding(crate::specs::Certificates::updates))]
 fn updates(field: &Field<'_>) -> Result<Vec<Update>, RunError>
     ensures { Gives (λ v. v.items) result (updates (field_view field.now)) }
 {
@@ -121,7 +123,7 @@ fn updates(field: &Field<'_>) -> Result<Vec<Update>, RunError>
     read_updates(field.alloc, items)
 }
 
-#[tactic(auto, using(rb_fields::proofs::Steps::steps))]
+#[tactic(auto, using(rb_script_toml::proofs::Steps::steps))]
 fn updates_or_none(section: &Section<'_>) -> Result<Vec<Update>, RunError>
     ensures { Gives (λ v. v.items) result (or_default [] updates (optional (codes "updates") (section_view section.now))) }
 {
@@ -131,7 +133,7 @@ fn updates_or_none(section: &Section<'_>) -> Result<Vec<Update>, RunError>
     }
 }
 
-#[tactic(auto, using(rb_fields::proofs::Steps::steps))]
+#[tactic(auto, using(rb_script_toml::proofs::Steps::steps))]
 fn triple_at(alloc: Global, index: usize, value: &Value) -> Result<(i64, i64, i64), RunError>
     ensures { Gives (λ n. n) result (three_integers (field_at (element (codes "labels") index) (view value.now))) }
 {
@@ -158,7 +160,7 @@ fn judge_triples(alloc: Global, items: &[Value]) -> Result<(), RunError>
     Ok(())
 }
 
-#[tactic(auto, using(rb_fields::proofs::Steps::steps), unfolding(crate::specs::Certificates::label))]
+#[tactic(auto, using(rb_script_toml::proofs::Steps::steps), unfolding(crate::specs::Certificates::label))]
 fn read_label(field: &Field<'_>) -> Result<Label, RunError>
     ensures read { Gives (λ l. l) result (label (field_view field.now)) }
     ensures small { IfOk result (λ l. (l.cost.fee < 2 ^ 63) × (l.cost.count < 2 ^ 63)) }
@@ -173,7 +175,7 @@ fn read_label(field: &Field<'_>) -> Result<Label, RunError>
     })
 }
 
-#[tactic(auto, using(rb_fields::proofs::Steps::steps))]
+#[tactic(auto, using(rb_script_toml::proofs::Steps::steps))]
 fn read_label_at(alloc: Global, index: usize, value: &Value) -> Result<Label, RunError>
     ensures read { Gives (λ l. l) result (label (field_at (element (codes "labels") index) (view value.now))) }
     ensures small { IfOk result (λ l. (l.cost.fee < 2 ^ 63) × (l.cost.count < 2 ^ 63)) }
@@ -223,7 +225,7 @@ fn judge_order(alloc: Global, labels: &[Label]) -> Result<(), RunError>
     Ok(())
 }
 
-#[tactic(auto, using(rb_fields::proofs::Steps::steps), unfolding(crate::specs::Certificates::labels))]
+#[tactic(auto, using(rb_script_toml::proofs::Steps::steps), unfolding(crate::specs::Certificates::labels))]
 fn labels(field: &Field<'_>) -> Result<Labelling, RunError>
     ensures { Gives (λ l. l) result (labels (field_view field.now)) }
 {
@@ -234,7 +236,7 @@ fn labels(field: &Field<'_>) -> Result<Labelling, RunError>
     Ok(Labelling::new(labels)?)
 }
 
-#[tactic(auto, using(rb_fields::proofs::Steps::steps))]
+#[tactic(auto, using(rb_script_toml::proofs::Steps::steps))]
 fn needed_labels(section: &Section<'_>) -> Result<Labelling, RunError>
     ensures { Gives (λ l. l) result (needs (codes "labels") labels (section_view section.now)) }
 {
@@ -247,7 +249,7 @@ fn only_certificate_keys(section: &Section<'_>) -> Result<(), RunError>
     section.only(&["version", "turn", "client", "answer", "updates", "labels"])
 }
 
-#[tactic(auto, using(rb_fields::proofs::Steps::steps))]
+#[tactic(auto, using(rb_script_toml::proofs::Steps::steps))]
 fn needed_client(section: &Section<'_>) -> Result<ClientId, RunError>
     ensures { Gives (λ c. c) result (needs (codes "client") identifier (section_view section.now)) }
 {
@@ -255,7 +257,7 @@ fn needed_client(section: &Section<'_>) -> Result<ClientId, RunError>
     Ok(ClientId::new(id).unwrap())
 }
 
-#[tactic(auto, using(rb_fields::proofs::Steps::steps), unfolding(crate::specs::Certificates::certificate))]
+#[tactic(auto, using(rb_script_toml::proofs::Steps::steps), unfolding(crate::specs::Certificates::certificate))]
 fn read_document(section: &Section<'_>) -> Result<Certificate, RunError>
     ensures { Gives certificate_view result (certificate (section_view section.now)) }
 {
@@ -285,7 +287,7 @@ fn read_document(section: &Section<'_>) -> Result<Certificate, RunError>
 
 /// Reads a certificate, or answers the first fault of its text. Whether the script has its turn and
 /// its client is not judged here.
-#[tactic(auto, using(rb_fields::proofs::Steps::steps), unfolding(crate::specs::Certificates::certificate_of))]
+#[tactic(auto, using(rb_script_toml::proofs::Steps::steps), unfolding(crate::specs::Certificates::certificate_of))]
 pub fn read_certificate(alloc: Global, bytes: &[u8]) -> Result<Certificate, RunError>
     ensures { Gives certificate_view result (certificate_of bytes.now) }
 {

@@ -2,11 +2,11 @@
 ghost use Rattle.std.specs.Prelude.{◌≡◌, ◌↔◌, ◌⊎◌, Ok, true, false, IfOk, OnErr, OnOk, IfErr, IsErrOf};
 ghost use Rattle.std.specs.Io.KnownBytes.{Appends};
 ghost use Rattle.rb_base.specs.Sink.{AppendsBeginning};
-ghost use Rattle.rb_fields.specs.declared.fault.Fault.{Fault as CodeFault};
-ghost use Rattle.rb_fields.specs.Faults.{fault_view};
-ghost use Rattle.rb_phases.specs.Report.{Report};
+ghost use Rattle.rb_script_toml.specs.declared.fault.Fault.{Fault as CodeFault};
+ghost use Rattle.rb_script_toml.specs.Faults.{fault_view};
+ghost use Rattle.rb_super_turn.specs.Report.{Report};
 ghost use Rattle.rb_super.specs.AsEvents.{as_events};
-ghost use Rattle.rb_phases.specs.Turns.{IsReportOf};
+ghost use Rattle.rb_super_turn.specs.Turns.{IsReportOf};
 ghost use Rattle.rb_text.specs.Verdicts.{Case, case_of, plain, verdict_line, IsReportedCase, IsFaultFor, WritesVerdict, BeginsVerdict, IsCertified};
 ghost use Rattle.rb_text.specs.Written.{IsWriteError};
 
@@ -16,7 +16,7 @@ use crate::verdict::{is_yes, push_verdict};
 use crate::write::put;
 use rb_base::Sink;
 use rb_cert::Judgement;
-use rb_fields::RunError;
+use rb_script_toml::RunError;
 use std::alloc::Global;
 use std::thread::Threads;
 

@@ -1,5 +1,5 @@
 //! Which of two texts an error is of.
-use rb_fields::RunError;
+use rb_script_toml::RunError;
 
 /// The two texts of a certification.
 #[derive(Clone, Copy, Debug, PartialEq, Eq)]

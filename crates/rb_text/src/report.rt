@@ -2,20 +2,20 @@
 ghost use Rattle.std.specs.Prelude.{◌≡◌, ◌++◌, [], map, slice_index_or, OnOk, string_bytes};
 ghost use Rattle.std.specs.List.{flat_map};
 ghost use Rattle.std.specs.Option.{option_map};
-ghost use Rattle.rb_phases.specs.Views.{refused_view, priced_view, sending_view, plan_view, planned_view, client_report_view, settlement_view, turn_report_view};
-ghost use Rattle.rb_phases.specs.Report.{planned as outcome_planned};
+ghost use Rattle.rb_super_turn.specs.Views.{refused_view, priced_view, sending_view, plan_view, planned_view, client_report_view, settlement_view, turn_report_view};
+ghost use Rattle.rb_super_turn.specs.Report.{planned as outcome_planned};
 ghost use Rattle.rb_text.specs.Report.{refused_line, goal_line, label_line, update_line, total_line, kind_name, message_line, batch_line, transaction_line, numbered_lines, sending_text, plan_text, outcome_text, client_text, settled_line, refusal_text, refused_settle_line, settlement_text, head_text, turn_text};
 
 use rb_base::{Height, PathId};
 use rb_batch::Transaction;
 use rb_core::Message;
-use rb_events::Refusal;
-use rb_phases::{
+use rb_plan::{Cost, Goal, Label};
+use rb_scan::Kind;
+use rb_script_types::Refusal;
+use rb_super_turn::{
     ClientReport, Outcome, Plan, Planned, PricedUpdate, RefusedEvent, Sending, SettlementReport,
     TurnReport,
 };
-use rb_plan::{Cost, Goal, Label};
-use rb_scan::Kind;
 use std::alloc::AllocError;
 
 fn push_refused(text: &mut String, refused: &RefusedEvent) -> Result<(), AllocError>

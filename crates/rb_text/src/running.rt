@@ -1,24 +1,24 @@
 //! The run over a text: read it, run it, write its report.
 ghost use Rattle.std.specs.Prelude.{◌≡◌, ◌≤◌, ◌↔◌, ◌⊎◌, Err, true, false, map, IfOk, OnOk, OnErr, IsErrOf};
-ghost use Rattle.rb_events.specs.Script.{script_view, IsReadScript};
-ghost use Rattle.rb_events.specs.declared.config.PathConfig.{PathConfig};
-ghost use Rattle.rb_fields.specs.declared.fault.Fault.{Fault as CodeFault};
-ghost use Rattle.rb_fields.specs.Faults.{fault_view};
-ghost use Rattle.rb_script.specs.Scripts.{script_of};
+ghost use Rattle.rb_script_types.specs.Script.{script_view, IsReadScript};
+ghost use Rattle.rb_script_types.specs.declared.config.PathConfig.{PathConfig};
+ghost use Rattle.rb_script_toml.specs.declared.fault.Fault.{Fault as CodeFault};
+ghost use Rattle.rb_script_toml.specs.Faults.{fault_view};
+ghost use Rattle.rb_script_read.specs.Scripts.{script_of};
 ghost use Rattle.rb_super.specs.AsEvents.{as_events};
-ghost use Rattle.rb_phases.specs.Script as relayed;
-ghost use Rattle.rb_phases.specs.Turns.{IsReportOf};
-ghost use Rattle.rb_phases.specs.Views.{report_view};
+ghost use Rattle.rb_super_turn.specs.Script as relayed;
+ghost use Rattle.rb_super_turn.specs.Turns.{IsReportOf};
+ghost use Rattle.rb_super_turn.specs.Views.{report_view};
 ghost use Rattle.rb_text.specs.Headline.{WritesReport, WritesThisReport, BeginsReport};
 
 use crate::write::write_report;
 use rb_base::Sink;
-use rb_events::Script;
-use rb_fields::RunError;
 use rb_gang::Gate;
-use rb_phases::Report;
-use rb_script::read_script;
+use rb_script_read::read_script;
+use rb_script_toml::RunError;
+use rb_script_types::Script;
 use rb_super::{read_scripts_are_scripts, run_by_workers, run_script};
+use rb_super_turn::Report;
 use std::alloc::{AllocError, Global};
 use std::sync::{Arc, Wait};
 use std::thread::Threads;

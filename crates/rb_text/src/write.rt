@@ -2,14 +2,14 @@
 ghost use Rattle.std.specs.Prelude.{◌≡◌, false, map, OnOk, OnErr, IfErr};
 ghost use Rattle.std.specs.Io.KnownBytes.{Appends};
 ghost use Rattle.rb_base.specs.Sink.{AppendsBeginning};
-ghost use Rattle.rb_phases.specs.Views.{turn_report_view, report_view};
+ghost use Rattle.rb_super_turn.specs.Views.{turn_report_view, report_view};
 ghost use Rattle.rb_text.specs.Report.{text, turn_text, numbered_lines};
 ghost use Rattle.rb_text.specs.Written.{IsWriteError};
 
 use crate::report::push_turn;
 use rb_base::{Device, PathId, Sink, write_whole};
-use rb_fields::RunError;
-use rb_phases::{Report, TurnReport};
+use rb_script_toml::RunError;
+use rb_super_turn::{Report, TurnReport};
 use std::alloc::Global;
 
 /// Writes all of the bytes, or fails with the writer.

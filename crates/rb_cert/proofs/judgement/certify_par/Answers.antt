@@ -2,7 +2,7 @@ use Rattle.std.proofs.Common.{◌≡◌, ◌∙◌, ap, sym, subst}
 use Rattle.std.specs.Prelude.{IfErr, List, Option}
 use Rattle.rb_step.specs.LightClient.{Update}
 use Rattle.rb_step.specs.View.{client_of}
-use Rattle.rb_events.specs.declared.goal.Goal.{Goal}
+use Rattle.rb_script_types.specs.declared.goal.Goal.{Goal}
 use Rattle.rb_plan.specs.Labelling.{Labels, label_of}
 use Rattle.rb_plan.specs.Answer.{labels_of, claim_of}
 use Rattle.rb_cert.specs.Refusal.{IsFirst}

@@ -1,11 +1,11 @@
 use Rattle.std.proofs.Common.{◌≡◌, map, drop}
 use Rattle.std.specs.Cmp.Lexicographic.{pointwise}
 use Rattle.std.specs.List.{enumerate_from, filter_map}
-use Rattle.rb_known.specs.Held.{HeldPath}
+use Rattle.rb_core_state.specs.Held.{HeldPath}
 use Rattle.rb_core.specs.Known.{standing_view, state_view}
-use Rattle.rb_machine.specs.Machine.{seen_owed}
-use Rattle.rb_task.specs.Same.{same_path_task}
-use Rattle.rb_machine.specs.Standing.{path_task, path_tasks}
+use Rattle.rb_core_model.specs.Machine.{seen_owed}
+use Rattle.rb_plan_client.specs.Same.{same_path_task}
+use Rattle.rb_core_model.specs.Standing.{path_task, path_tasks}
 use Rattle.rb_core.proofs.client_views.are_tasks_of.Given as goal
 
 abbrev pub invariant-loop-place : goal.invariant-loop-place

@@ -1,7 +1,7 @@
 use Rattle.std.proofs.Common.{◌≡◌, Some, sym, ap, ◌∙◌}
-use Rattle.rb_task.specs.Draft.{Job}
+use Rattle.rb_plan_client.specs.Draft.{Job}
 use Rattle.rb_core.specs.Known.{state_view}
-use Rattle.rb_machine.specs.Machine.{job_of}
+use Rattle.rb_core_model.specs.Machine.{job_of}
 use Rattle.rb_core.proofs.Shown.{client_seen}
 use Rattle.rb_core.proofs.client_views.client_view.Goals as goal
 

@@ -1,9 +1,9 @@
 use Rattle.std.proofs.Common.{◌≡◌, List, true, sym, ap, ◌∙◌}
 use Rattle.rb_book.specs.Book.{Book, same_book}
 use Rattle.rb_book.specs.Shared.{Shared}
-use Rattle.rb_events.specs.declared.config.ClientConfig.{ClientConfig}
-use Rattle.rb_known.specs.Held.{books_of}
-use Rattle.rb_machine.specs.Standing.{book_at}
+use Rattle.rb_script_types.specs.declared.config.ClientConfig.{ClientConfig}
+use Rattle.rb_core_state.specs.Held.{books_of}
+use Rattle.rb_core_model.specs.Standing.{book_at}
 use Rattle.rb_core.proofs.Shown.{view_made}
 use Rattle.rb_core.proofs.client_views.is_view_of.Goals as goal
 

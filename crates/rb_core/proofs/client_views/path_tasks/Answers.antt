@@ -1,11 +1,11 @@
 use Rattle.std.proofs.Common.{◌≡◌, ◌++◌, ◌+◌, ℕ, List, Some, slice_get, drop, map, sym, ap, ◌∙◌, subst}
 use Rattle.std.specs.List.{enumerate_from, filter_map}
-use Rattle.rb_known.specs.Held.{HeldPath}
+use Rattle.rb_core_state.specs.Held.{HeldPath}
 use Rattle.rb_core.specs.Known.{state_view}
-use Rattle.rb_machine.specs.Machine.{seen_owed}
-use Rattle.rb_machine.specs.Standing.{KnownPath, path_task}
-use Rattle.rb_task.specs.Task.{PathTask}
-use Rattle.rb_known.proofs.Found.{get-from_get_or}
+use Rattle.rb_core_model.specs.Machine.{seen_owed}
+use Rattle.rb_core_model.specs.Standing.{KnownPath, path_task}
+use Rattle.rb_plan_client.specs.Task.{PathTask}
+use Rattle.rb_core_state.proofs.Found.{get-from_get_or}
 use Rattle.rb_core.proofs.Shown.{next_place, walked}
 use Rattle.rb_core.proofs.client_views.path_tasks.Goals as goal
 

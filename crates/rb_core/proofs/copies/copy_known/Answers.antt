@@ -1,5 +1,5 @@
 use Rattle.std.proofs.Common.{ap, ◌∙◌}
-use Rattle.rb_known.specs.Held.{books_of, clients_of, paths_of}
+use Rattle.rb_core_state.specs.Held.{books_of, clients_of, paths_of}
 use Rattle.rb_core.proofs.copies.copy_known.Goals as goal
 
 pub returns : goal.returns

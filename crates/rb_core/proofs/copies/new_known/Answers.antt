@@ -1,8 +1,8 @@
 use Rattle.std.proofs.Common.{◌≡◌, ℕ, List, None, length, map, replicate, ap, ◌∙◌, arith}
-use Rattle.rb_events.specs.declared.config.ClientConfig.{ClientConfig}
-use Rattle.rb_events.specs.declared.config.PathConfig.{PathConfig}
-use Rattle.rb_machine.specs.Machine.{no_scans}
-use Rattle.rb_machine.specs.Standing.{empty_book, new_client, new_path}
+use Rattle.rb_script_types.specs.declared.config.ClientConfig.{ClientConfig}
+use Rattle.rb_script_types.specs.declared.config.PathConfig.{PathConfig}
+use Rattle.rb_core_model.specs.Machine.{no_scans}
+use Rattle.rb_core_model.specs.Standing.{empty_book, new_client, new_path}
 use Rattle.rb_core.proofs.copies.new_known.Goals as goal
 
 pub returns : goal.returns

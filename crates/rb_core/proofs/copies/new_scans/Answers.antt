@@ -1,5 +1,5 @@
 use Rattle.std.proofs.Common.{◌≡◌, ℕ, replicate, ap, ◌∙◌, arith}
-use Rattle.rb_machine.specs.Machine.{no_scans}
+use Rattle.rb_core_model.specs.Machine.{no_scans}
 use Rattle.rb_core.proofs.copies.new_scans.Goals as goal
 
 pub returns : goal.returns

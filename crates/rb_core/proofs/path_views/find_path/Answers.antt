@@ -1,7 +1,7 @@
 use Rattle.std.proofs.Common.{List, subst}
 use Rattle.std.specs.Slice.{IsItemAt}
-use Rattle.rb_known.specs.Held.{HeldPath}
-use Rattle.rb_known.proofs.Found.{view_found}
+use Rattle.rb_core_state.specs.Held.{HeldPath}
+use Rattle.rb_core_state.proofs.Found.{view_found}
 use Rattle.rb_core.proofs.path_views.find_path.Goals as goal
 
 pub returns : goal.returns

@@ -2,8 +2,8 @@ use Rattle.std.proofs.Common.{◌≡◌, List, Option, false, sym, ap, ◌∙◌
 use Rattle.std.specs.Option.{option_map, option_map_or}
 use Rattle.rb_book.specs.Shared.{Shared}
 use Rattle.rb_scan.specs.Same.{same_path}
-use Rattle.rb_known.specs.Held.{books_of}
-use Rattle.rb_machine.specs.Standing.{KnownPath, view_of_path}
+use Rattle.rb_core_state.specs.Held.{books_of}
+use Rattle.rb_core_model.specs.Standing.{KnownPath, view_of_path}
 use Rattle.rb_core.proofs.path_views.is_view.Goals as goal
 
 pub returns-in-Some : goal.returns-in-Some

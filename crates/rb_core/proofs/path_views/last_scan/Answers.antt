@@ -1,9 +1,9 @@
 use Rattle.std.proofs.Common.{◌≡◌, List, Option, Some, None, slice_get, get_or, sym, ap, ◌∙◌}
 use Rattle.std.specs.Option.{option_map}
 use Rattle.rb_scan.specs.Path.{Path}
-use Rattle.rb_machine.specs.Machine.{Scans, no_scans, scan_of}
-use Rattle.rb_machine.specs.Scan.{Scan}
-use Rattle.rb_known.proofs.Found.{index_or-found, index_or-none, looked_up}
+use Rattle.rb_core_model.specs.Machine.{Scans, no_scans, scan_of}
+use Rattle.rb_core_model.specs.Scan.{Scan}
+use Rattle.rb_core_state.proofs.Found.{index_or-found, index_or-none, looked_up}
 use Rattle.rb_core.proofs.Shown.{no_scan, scan_found}
 use Rattle.rb_core.proofs.path_views.last_scan.Goals as goal
 

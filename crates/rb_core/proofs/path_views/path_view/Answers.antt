@@ -2,8 +2,8 @@ use Rattle.std.proofs.Common.{◌≡◌, List, Some, sym, ap, ◌∙◌}
 use Rattle.std.specs.Option.{option_map}
 use Rattle.rb_book.specs.Shared.{Shared}
 use Rattle.rb_scan.specs.Path.{Path}
-use Rattle.rb_known.specs.Held.{books_of}
-use Rattle.rb_machine.specs.Standing.{view_of_path}
+use Rattle.rb_core_state.specs.Held.{books_of}
+use Rattle.rb_core_model.specs.Standing.{view_of_path}
 use Rattle.rb_core.proofs.path_views.path_view.Goals as goal
 
 pub returns-clause-view : goal.returns-clause-view

@@ -1,7 +1,7 @@
 use Rattle.std.proofs.Common.{◌≡◌, sym, ap, ◌∙◌}
 use Rattle.rb_scan.specs.Path.{Path}
 use Rattle.rb_core.specs.Known.{state_view}
-use Rattle.rb_machine.specs.Machine.{is_view}
+use Rattle.rb_core_model.specs.Machine.{is_view}
 use Rattle.rb_core.proofs.Shown.{seen_is}
 use Rattle.rb_core.proofs.path_views.valid_scan.Goals as goal
 

@@ -1,7 +1,7 @@
 use Rattle.std.proofs.Common.{◌≡◌, ◌++◌, take, string_bytes}
 use Rattle.std.specs.Prelude.{map}
-use Rattle.rb_answers.specs.Votes.{letter_of}
-use Rattle.rb_answers.specs.declared.commit.Signature.{Signature}
+use Rattle.rb_import_answers.specs.Votes.{letter_of}
+use Rattle.rb_import_answers.specs.declared.commit.Signature.{Signature}
 use Rattle.rb_import.proofs.event_text.push_votes.Given as goal
 
 -- the letters of the signatures so far stand at the end

@@ -1,6 +1,6 @@
 use Rattle.std.proofs.Common.{length, refl, sym, subst}
-use Rattle.rb_phases.proofs.Kept.{tables_none}
-use Rattle.rb_phases.specs.Tables.{AreTables}
+use Rattle.rb_super_turn.proofs.Kept.{tables_none}
+use Rattle.rb_super_turn.specs.Tables.{AreTables}
 use Rattle.rb_super.specs.Heads.{head_of}
 use Rattle.rb_super.proofs.head.relayer_over.Goals as goal
 

@@ -1,7 +1,7 @@
 use Rattle.std.proofs.Common.{length, refl, sym, ap, ◌∙◌, subst}
-use Rattle.rb_events.specs.Config.{Config}
-use Rattle.rb_events.specs.Script.{script_view}
-use Rattle.rb_phases.specs.Phases.{standing_in, HasLogRoom}
+use Rattle.rb_script_types.specs.Config.{Config}
+use Rattle.rb_script_types.specs.Script.{script_view}
+use Rattle.rb_super_turn.specs.Phases.{standing_in, HasLogRoom}
 use Rattle.rb_super.proofs.Earlier.{earlier_for, earlier_fit, this_for, this_fits, phase_there}
 use Rattle.rb_super.proofs.judging.plan_phase.Goals as goal
 

@@ -1,6 +1,6 @@
 use Rattle.std.proofs.Common.{take, ap, ◌∙◌, arith}
 use Rattle.std.proofs.lemmas.List.{take_at, length-take}
-use Rattle.rb_known.proofs.Places.{found}
+use Rattle.rb_core_state.proofs.Places.{found}
 use Rattle.rb_super.proofs.judging.turns_to.Goals as goal
 
 pub returns-clause-before : goal.returns-clause-before

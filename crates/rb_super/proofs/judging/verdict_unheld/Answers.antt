@@ -1,6 +1,6 @@
 use Rattle.std.proofs.Common.{◌≡◌, Some, subst}
 use Rattle.rb_cert.specs.declared.verdict.Judgement.TheVariants.{Yes}
-use Rattle.rb_events.specs.declared.goal.Goal.{Goal}
+use Rattle.rb_script_types.specs.declared.goal.Goal.{Goal}
 use Rattle.rb_plan.specs.Answer.{labels_of, claim_of, Shows}
 use Rattle.rb_plan.specs.Labelling.{IsSound, IsExact}
 use Rattle.rb_step.specs.View.{View, client_of}

@@ -1,5 +1,5 @@
 use Rattle.std.proofs.Common.{◌≡◌, map, take}
-use Rattle.rb_events.specs.declared.config.PathConfig.{PathConfig}
+use Rattle.rb_script_types.specs.declared.config.PathConfig.{PathConfig}
 use Rattle.rb_super.proofs.run.path_ids.Given as goal
 
 abbrev pub invariant-loop-path : goal.invariant-loop-path

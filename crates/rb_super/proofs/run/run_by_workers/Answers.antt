@@ -1,10 +1,10 @@
 use Rattle.std.proofs.Common.{List, map, refl, sym, subst}
-use Rattle.rb_machine.specs.Standing.{Standing}
-use Rattle.rb_events.specs.Config.{config_view}
-use Rattle.rb_events.specs.Script.{script_view}
-use Rattle.rb_phases.specs.Script.{Turn}
-use Rattle.rb_phases.specs.Turns.{AreTurnReports}
-use Rattle.rb_phases.specs.Views.{turn_report_view}
+use Rattle.rb_core_model.specs.Standing.{Standing}
+use Rattle.rb_script_types.specs.Config.{config_view}
+use Rattle.rb_script_types.specs.Script.{script_view}
+use Rattle.rb_super_turn.specs.Script.{Turn}
+use Rattle.rb_super_turn.specs.Turns.{AreTurnReports}
+use Rattle.rb_super_turn.specs.Views.{turn_report_view}
 use Rattle.rb_super.proofs.Runs.{opened_standing, turns_fit, turns_for, turns_as_events}
 use Rattle.rb_super.proofs.run.run_by_workers.Goals as goal
 

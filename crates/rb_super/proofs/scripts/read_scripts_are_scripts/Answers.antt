@@ -1,6 +1,6 @@
 use Rattle.std.proofs.Common.{List, All, subst}
 use Rattle.rb_base.specs.Fee.{IsFeeTable}
-use Rattle.rb_events.specs.declared.config.ClientConfig.{ClientConfig}
+use Rattle.rb_script_types.specs.declared.config.ClientConfig.{ClientConfig}
 use Rattle.rb_super.proofs.AsEventsLemmas.{script}
 use Rattle.rb_super.proofs.scripts.read_scripts_are_scripts.Goals as goal
 

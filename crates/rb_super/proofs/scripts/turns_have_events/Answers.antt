@@ -1,8 +1,8 @@
 use Rattle.std.proofs.Common.{List, All, subst}
-use Rattle.rb_events.specs.declared.observation.Observation.{Observation}
-use Rattle.rb_events.specs.declared.script.Turn.{Turn}
-use Rattle.rb_machine.specs.Event.{IsEvent}
-use Rattle.rb_machine.specs.Seen.{observed}
+use Rattle.rb_script_types.specs.declared.observation.Observation.{Observation}
+use Rattle.rb_script_types.specs.declared.script.Turn.{Turn}
+use Rattle.rb_core_model.specs.Event.{IsEvent}
+use Rattle.rb_core_model.specs.Seen.{observed}
 use Rattle.rb_super.proofs.AsEventsLemmas.{all_taken, one_more}
 use Rattle.rb_super.proofs.scripts.turns_have_events.Goals as goal
 

@@ -1,6 +1,6 @@
 use Rattle.std.proofs.Common.{◌≡◌, is_some, length, ap, ◌∙◌, arith}
-use Rattle.rb_machine.specs.Standing.{Standing}
-use Rattle.rb_events.specs.Config.{Config}
+use Rattle.rb_core_model.specs.Standing.{Standing}
+use Rattle.rb_script_types.specs.Config.{Config}
 use Rattle.rb_super.proofs.supervisor.prepare.Goals as goal
 
 pub scan_all-requires-clause-room : goal.scan_all-requires-clause-room

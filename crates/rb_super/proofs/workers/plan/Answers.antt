@@ -1,8 +1,8 @@
 use Rattle.std.proofs.Common.{◌≡◌, IfOk, length, map, sym, ◌∙◌, subst}
 use Rattle.std.proofs.Crossing.{frees}
 use Rattle.rb_core.specs.Core.{Core}
-use Rattle.rb_phases.specs.Phases.{standing_in, HasLogRoom, IsLater, IsPlannable, AreReported}
-use Rattle.rb_phases.specs.Views.{client_report_view}
+use Rattle.rb_super_turn.specs.Phases.{standing_in, HasLogRoom, IsLater, IsPlannable, AreReported}
+use Rattle.rb_super_turn.specs.Views.{client_report_view}
 use Rattle.rb_super.proofs.Ended.{ended}
 use Rattle.rb_super.proofs.workers.plan.Goals as goal
 

@@ -1,11 +1,11 @@
 use Rattle.std.proofs.Common.{◌≡◌, ◌+◌, ◌*◌, true, is_some, length, map, sym, ap, ◌∙◌, subst, arith, IfOk}
 use Rattle.std.specs.Result.{OnOk}
 use Rattle.rb_core.specs.Core.{Core}
-use Rattle.rb_machine.specs.Standing.{Standing, goes_back}
-use Rattle.rb_events.specs.Config.{Config}
-use Rattle.rb_phases.specs.Phases.{standing_in, HasLogRoom, IsLater, turn_heard, IsAllScanned, IsPlannable}
-use Rattle.rb_phases.specs.Turns.{before_plans, refusals_in}
-use Rattle.rb_phases.specs.Views.{refused_view}
+use Rattle.rb_core_model.specs.Standing.{Standing, goes_back}
+use Rattle.rb_script_types.specs.Config.{Config}
+use Rattle.rb_super_turn.specs.Phases.{standing_in, HasLogRoom, IsLater, turn_heard, IsAllScanned, IsPlannable}
+use Rattle.rb_super_turn.specs.Turns.{before_plans, refusals_in}
+use Rattle.rb_super_turn.specs.Views.{refused_view}
 use Rattle.rb_super.proofs.workers.prepare.Goals as goal
 
 pub scan_all-scanned-requires-clause-room : goal.scan_all-scanned-requires-clause-room

@@ -1,6 +1,6 @@
 use Rattle.std.proofs.Common.{◌≡◌, codes, drop}
 use Rattle.toml.specs.View.{items_view}
-use Rattle.rb_fields.specs.Fields.{three_integers}
+use Rattle.rb_script_toml.specs.Fields.{three_integers}
 use Rattle.rb_text.specs.Certificates.{typed_from}
 use Rattle.rb_text.proofs.certificate.judge_triples.Given as goal
 

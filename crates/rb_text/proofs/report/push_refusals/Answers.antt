@@ -1,6 +1,6 @@
 use Rattle.std.proofs.Common.{◌++◌, ap, sym, ◌∙◌, append_assoc, map, string_bytes, take}
 use Rattle.std.specs.List.{flat_map}
-use Rattle.rb_phases.specs.Views.{refused_view}
+use Rattle.rb_super_turn.specs.Views.{refused_view}
 use Rattle.rb_text.specs.Report.{refused_line}
 use Rattle.rb_text.proofs.Numbered.{flat_map_more}
 use Rattle.rb_text.proofs.report.push_refusals.Goals as goal

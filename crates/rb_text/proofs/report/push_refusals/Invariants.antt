@@ -1,6 +1,6 @@
 use Rattle.std.proofs.Common.{◌≡◌, ◌++◌, take, map, string_bytes}
 use Rattle.std.specs.List.{flat_map}
-use Rattle.rb_phases.specs.Views.{refused_view}
+use Rattle.rb_super_turn.specs.Views.{refused_view}
 use Rattle.rb_text.specs.Report.{refused_line}
 use Rattle.rb_text.proofs.report.push_refusals.Given as goal
 

@@ -1,5 +1,5 @@
 use Rattle.std.proofs.Common.{◌≡◌, ◌++◌, drop, map, string_bytes}
-use Rattle.rb_phases.specs.Views.{settlement_view}
+use Rattle.rb_super_turn.specs.Views.{settlement_view}
 use Rattle.rb_text.specs.Report.{numbered_lines, settlement_text}
 use Rattle.rb_text.proofs.report.push_settlements.Given as goal
 

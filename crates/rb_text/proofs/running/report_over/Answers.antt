@@ -1,6 +1,6 @@
 use Rattle.std.proofs.Common.{refl, rules}
-use Rattle.rb_events.specs.Script.{script_view}
-use Rattle.rb_phases.specs.Views.{report_view}
+use Rattle.rb_script_types.specs.Script.{script_view}
+use Rattle.rb_super_turn.specs.Views.{report_view}
 use Rattle.rb_text.proofs.running.report_over.Goals as goal
 
 -- the report that was written is the one that is answered

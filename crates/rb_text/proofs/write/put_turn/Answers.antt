@@ -1,6 +1,6 @@
 use Rattle.std.proofs.Common.{◌≡◌, List, ℕ, ◌++◌, ap, ◌∙◌, subst, OnErr}
 use Rattle.rb_base.specs.Sink.{AppendsBeginning}
-use Rattle.rb_phases.specs.Views.{turn_report_view}
+use Rattle.rb_super_turn.specs.Views.{turn_report_view}
 use Rattle.rb_text.specs.Report.{turn_text}
 use Rattle.rb_text.proofs.write.put_turn.Goals as goal
 

@@ -1,6 +1,6 @@
 use Rattle.std.proofs.Common.{◌≡◌, ◌+◌, ◌++◌, drop, map, sym, ap, ◌∙◌, subst, append_assoc}
 use Rattle.rb_base.specs.Sink.{AppendsBeginning}
-use Rattle.rb_phases.specs.Views.{turn_report_view}
+use Rattle.rb_super_turn.specs.Views.{turn_report_view}
 use Rattle.rb_text.specs.Report.{numbered_lines, turn_text}
 use Rattle.rb_text.proofs.Beginnings.{appends-then, beginning-first, beginning-then, on_err}
 use Rattle.rb_text.proofs.Numbered.{numbered_more}

@@ -1,6 +1,6 @@
 use Rattle.std.proofs.Common.{◌≡◌, ℕ, List, ◌+◌, ◌++◌, drop, map, false}
 use Rattle.std.specs.Io.KnownBytes.{Appends}
-use Rattle.rb_phases.specs.Views.{turn_report_view}
+use Rattle.rb_super_turn.specs.Views.{turn_report_view}
 use Rattle.rb_text.specs.Report.{numbered_lines, turn_text}
 use Rattle.rb_text.proofs.write.put_turns.Given as goal
 

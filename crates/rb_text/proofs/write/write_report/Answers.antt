@@ -3,8 +3,8 @@ use Rattle.std.proofs.lemmas.Result.{on_err_weaker}
 use Rattle.std.specs.declared.alloc.Global.{Global}
 use Rattle.std.specs.Io.KnownBytes.{Appends}
 use Rattle.rb_base.specs.Sink.{AppendsBeginning}
-use Rattle.rb_phases.specs.declared.report.TurnReport.{TurnReport as CodeTurnReport}
-use Rattle.rb_phases.specs.Views.{turn_report_view}
+use Rattle.rb_super_turn.specs.declared.report.TurnReport.{TurnReport as CodeTurnReport}
+use Rattle.rb_super_turn.specs.Views.{turn_report_view}
 use Rattle.rb_text.specs.Report.{numbered_lines, turn_text}
 use Rattle.rb_text.proofs.Beginnings.{appends-then, beginning-first, beginning-then, on_err}
 use Rattle.rb_text.proofs.write.write_report.Goals as goal

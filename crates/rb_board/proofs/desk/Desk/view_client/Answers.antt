@@ -1,6 +1,6 @@
 use Rattle.std.proofs.Common.{◌≡◌, ◌∙◌, sym, subst}
 use Rattle.std.specs.Prelude.{Some, IfOk, IfErr}
-use Rattle.rb_machine.specs.Machine.{client_view, client_view_refusal}
+use Rattle.rb_core_model.specs.Machine.{client_view, client_view_refusal}
 use Rattle.left_right.specs.Sides.{view}
 use Rattle.rb_core.specs.Follower.{Past, IsOfLog, events_in, state_after}
 use Rattle.rb_board.specs.Kept.{known_of}

@@ -1,7 +1,7 @@
 use Rattle.std.proofs.Common.{◌≡◌, ◌∙◌, sym, subst}
 use Rattle.std.specs.Prelude.{Some, IfOk, IfErr}
-use Rattle.rb_machine.specs.Machine.{path_view_refusal}
-use Rattle.rb_machine.specs.Standing.{path_view}
+use Rattle.rb_core_model.specs.Machine.{path_view_refusal}
+use Rattle.rb_core_model.specs.Standing.{path_view}
 use Rattle.left_right.specs.Sides.{view}
 use Rattle.rb_core.specs.Follower.{Past, IsOfLog, events_in, state_after}
 use Rattle.rb_board.specs.Kept.{known_of}

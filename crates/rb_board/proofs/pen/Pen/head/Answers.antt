@@ -1,7 +1,7 @@
 use Rattle.std.proofs.Common.{sym, subst}
 use Rattle.std.specs.Prelude.{List}
 use mathlib.Core.List.{IsPrefix}
-use Rattle.rb_machine.specs.Event.{Event}
+use Rattle.rb_core_model.specs.Event.{Event}
 use Rattle.rb_board.specs.Ends.{Pen}
 use Rattle.rb_board.specs.Kept.{pending}
 use Rattle.rb_core.specs.Follower.{events_in}

@@ -2,8 +2,8 @@ use Rattle.std.proofs.Common.{◌≡◌, Some, subst}
 use Rattle.std.specs.Prelude.{IfOk, IfErr}
 use Rattle.rb_core.specs.Follower.{events_in, state_after}
 use Rattle.rb_core.specs.Known.{state_view}
-use Rattle.rb_machine.specs.Machine.{State, client_view, client_view_refusal}
-use Rattle.rb_machine.specs.Refused.{IsRefusal}
+use Rattle.rb_core_model.specs.Machine.{State, client_view, client_view_refusal}
+use Rattle.rb_core_model.specs.Refused.{IsRefusal}
 use Rattle.rb_core.proofs.Unjudged.{known_after}
 use Rattle.rb_core.proofs.follower.Follower.client_view.Goals as goal
 

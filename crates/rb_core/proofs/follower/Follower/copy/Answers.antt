@@ -1,5 +1,5 @@
 use Rattle.std.proofs.Common.{sym, ◌∙◌, subst}
-use Rattle.rb_machine.specs.Kept.{IsKept}
+use Rattle.rb_core_model.specs.Kept.{IsKept}
 use Rattle.rb_core.proofs.follower.Follower.copy.Goals as goal
 
 pub invariant_of-result : goal.invariant_of-result

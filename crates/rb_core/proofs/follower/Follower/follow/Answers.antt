@@ -1,10 +1,10 @@
 use Rattle.std.proofs.Common.{rules, ◌≡◌, ◌++◌, ◌∷◌, [], IfErr, sym, ap, ◌∙◌, subst}
-use Rattle.rb_events.specs.Config.{config_view}
+use Rattle.rb_script_types.specs.Config.{config_view}
 use Rattle.rb_core.specs.Follower.{Follower, entry_refusal, follows}
 use Rattle.rb_core.specs.Known.{state_view}
-use Rattle.rb_machine.specs.Kept.{IsKept}
-use Rattle.rb_machine.specs.Machine.{State}
-use Rattle.rb_machine.specs.Refused.{IsRefusal}
+use Rattle.rb_core_model.specs.Kept.{IsKept}
+use Rattle.rb_core_model.specs.Machine.{State}
+use Rattle.rb_core_model.specs.Refused.{IsRefusal}
 use Rattle.rb_core.proofs.Unjudged.{followed_kept, only_memory}
 use Rattle.rb_core.proofs.follower.Follower.follow.Goals as goal
 

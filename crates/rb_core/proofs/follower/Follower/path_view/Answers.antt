@@ -1,8 +1,8 @@
 use Rattle.std.proofs.Common.{◌≡◌, Some, subst}
 use Rattle.std.specs.Prelude.{IfOk, IfErr}
-use Rattle.rb_machine.specs.Machine.{State, path_view_refusal}
-use Rattle.rb_machine.specs.Refused.{IsRefusal}
-use Rattle.rb_machine.specs.Standing.{path_view}
+use Rattle.rb_core_model.specs.Machine.{State, path_view_refusal}
+use Rattle.rb_core_model.specs.Refused.{IsRefusal}
+use Rattle.rb_core_model.specs.Standing.{path_view}
 use Rattle.rb_core.proofs.Unjudged.{known_after}
 use Rattle.rb_core.proofs.follower.Follower.path_view.Goals as goal
 

@@ -1,7 +1,7 @@
 use Rattle.std.proofs.Common.{◌≡◌, ◌<◌, ℕ, List, length, sym, ap, ◌∙◌, subst}
 use Rattle.std.proofs.lemmas.Result.{on_ok_weaker}
-use Rattle.rb_known.specs.Held.{HeldClient, clients_of, IsApart}
-use Rattle.rb_machine.specs.Standing.{KnownClient, tracked}
+use Rattle.rb_core_state.specs.Held.{HeldClient, clients_of, IsApart}
+use Rattle.rb_core_model.specs.Standing.{KnownClient, tracked}
 use Rattle.rb_core.specs.declared.known.Known.{Known}
 use Rattle.rb_core.proofs.Within.{within, tracked_within, room_kept}
 use Rattle.rb_core.proofs.known.Known.make_room_for.Goals as goal

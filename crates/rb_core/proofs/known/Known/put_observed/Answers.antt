@@ -1,10 +1,10 @@
 use Rattle.std.proofs.Common.{◌≡◌, ◌<◌, ℕ, None, length, sym, ap, ◌∙◌}
 use Rattle.std.specs.Option.{option_and_then}
 use Rattle.rb_book.specs.Intake.{record_refusal}
-use Rattle.rb_events.specs.Refusal.{of_book}
-use Rattle.rb_known.specs.Held.{HeldClient, books_of, clients_of}
-use Rattle.rb_machine.specs.Standing.{book_at, tracked}
-use Rattle.rb_machine.proofs.Intake.{record_accepted}
+use Rattle.rb_script_types.specs.Refusal.{of_book}
+use Rattle.rb_core_state.specs.Held.{HeldClient, books_of, clients_of}
+use Rattle.rb_core_model.specs.Standing.{book_at, tracked}
+use Rattle.rb_core_model.proofs.Intake.{record_accepted}
 use Rattle.rb_core.proofs.Within.{within, tracked_within}
 use Rattle.rb_core.proofs.known.Known.put_observed.Goals as goal
 

@@ -1,10 +1,10 @@
 use Rattle.std.proofs.Common.{◌≡◌, Option, Some, sym, ap, ◌∙◌}
 use Rattle.std.specs.Option.{option_and_then}
 use Rattle.std.specs.List.{slice_get}
-use Rattle.rb_known.specs.Held.{clients_of, paths_of}
+use Rattle.rb_core_state.specs.Held.{clients_of, paths_of}
 use Rattle.rb_core.specs.Known.{standing_view, state_view}
-use Rattle.rb_machine.specs.Machine.{State}
-use Rattle.rb_machine.specs.Standing.{OpenBatch, KnownClient, Standing, after_messages, after_settled, open_batch}
+use Rattle.rb_core_model.specs.Machine.{State}
+use Rattle.rb_core_model.specs.Standing.{OpenBatch, KnownClient, Standing, after_messages, after_settled, open_batch}
 use Rattle.rb_core.proofs.Settled.{settled_batch}
 use Rattle.rb_core.proofs.known.Known.put_settled.Goals as goal
 

@@ -1,7 +1,7 @@
 use Rattle.std.proofs.Common.{◌≡◌, Some, subst}
-use Rattle.rb_events.specs.Config.{config_view}
-use Rattle.rb_machine.specs.Entry.{log_from}
-use Rattle.rb_machine.specs.Machine.{State, client_view}
+use Rattle.rb_script_types.specs.Config.{config_view}
+use Rattle.rb_core_model.specs.Entry.{log_from}
+use Rattle.rb_core_model.specs.Machine.{State, client_view}
 use Rattle.rb_core.proofs.machine.Core.client_view.Goals as goal
 
 pub client_view-requires : goal.client_view-requires

@@ -1,8 +1,8 @@
 use Rattle.std.proofs.Common.{List, sym, ap, ◌∙◌, subst}
-use Rattle.rb_events.specs.Config.{Config}
+use Rattle.rb_script_types.specs.Config.{Config}
 use Rattle.rb_core.specs.Core.{Core, IsFold}
-use Rattle.rb_machine.specs.Entry.{Logged, events_of}
-use Rattle.rb_machine.specs.Machine.{State, opening}
+use Rattle.rb_core_model.specs.Entry.{Logged, events_of}
+use Rattle.rb_core_model.specs.Machine.{State, opening}
 use Rattle.rb_core.proofs.machine.Core.copy.Goals as goal
 
 pub invariant_of-result : goal.invariant_of-result

@@ -1,12 +1,12 @@
 use Rattle.std.proofs.Common.{◌≡◌, sym, ap, ◌∙◌, subst}
-use Rattle.rb_events.specs.Config.{config_view}
+use Rattle.rb_script_types.specs.Config.{config_view}
 use Rattle.rb_core.specs.Core.{Core}
 use Rattle.rb_core.specs.Follower.{Follower, IsOfLog, events_in}
 use Rattle.rb_core.specs.Known.{state_view}
-use Rattle.rb_machine.specs.Entry.{log_from, events_of}
-use Rattle.rb_machine.specs.Kept.{IsKept}
-use Rattle.rb_machine.specs.Machine.{opening}
-use Rattle.rb_machine.proofs.Keeping.{kept_of_events}
+use Rattle.rb_core_model.specs.Entry.{log_from, events_of}
+use Rattle.rb_core_model.specs.Kept.{IsKept}
+use Rattle.rb_core_model.specs.Machine.{opening}
+use Rattle.rb_core_model.proofs.Keeping.{kept_of_events}
 use Rattle.rb_core.proofs.machine.Core.follower.Goals as goal
 
 pub new-requires : goal.new-requires

@@ -1,11 +1,11 @@
 use Rattle.std.proofs.Common.{ap, ◌∙◌, subst, length, All}
-use Rattle.rb_events.specs.Config.{config_view}
+use Rattle.rb_script_types.specs.Config.{config_view}
 use Rattle.rb_core.specs.Core.{Core, state_in}
-use Rattle.rb_machine.specs.Entry.{log_from}
-use Rattle.rb_machine.specs.Event.{IsEvent}
+use Rattle.rb_core_model.specs.Entry.{log_from}
+use Rattle.rb_core_model.specs.Event.{IsEvent}
 use Rattle.rb_core.specs.Known.{state_view}
-use Rattle.rb_machine.specs.Log.{IsLog}
-use Rattle.rb_machine.specs.Machine.{State}
+use Rattle.rb_core_model.specs.Log.{IsLog}
+use Rattle.rb_core_model.specs.Machine.{State}
 use Rattle.rb_core.proofs.Rooms.{long}
 use Rattle.rb_core.proofs.machine.Core.front.Goals as goal
 

@@ -1,15 +1,15 @@
 use Rattle.std.proofs.Common.{◌≡◌, List, Option, IfErr, refl, sym, ap, ◌∙◌, subst, arith}
-use Rattle.rb_events.specs.Config.{config_view}
-use Rattle.rb_events.specs.declared.refusal.Refusal.{Refusal}
+use Rattle.rb_script_types.specs.Config.{config_view}
+use Rattle.rb_script_types.specs.declared.refusal.Refusal.{Refusal}
 use Rattle.rb_core.specs.Core.{Core, state_in, refusal_in, IsFold}
-use Rattle.rb_machine.specs.Entry.{log_from}
-use Rattle.rb_machine.specs.Event.{Event}
-use Rattle.rb_machine.specs.Kept.{IsKept}
+use Rattle.rb_core_model.specs.Entry.{log_from}
+use Rattle.rb_core_model.specs.Event.{Event}
+use Rattle.rb_core_model.specs.Kept.{IsKept}
 use Rattle.rb_core.specs.Known.{state_view}
-use Rattle.rb_machine.specs.Machine.{State, refusal_of}
-use Rattle.rb_machine.specs.Refused.{IsRefusal}
-use Rattle.rb_machine.specs.Seen.{event_view}
-use Rattle.rb_machine.proofs.Keeping.{kept_of_events}
+use Rattle.rb_core_model.specs.Machine.{State, refusal_of}
+use Rattle.rb_core_model.specs.Refused.{IsRefusal}
+use Rattle.rb_core_model.specs.Seen.{event_view}
+use Rattle.rb_core_model.proofs.Keeping.{kept_of_events}
 use Rattle.rb_core.proofs.Rooms.{is_ready, judged_event, ready_kept}
 use Rattle.rb_core.proofs.machine.Core.judge.Goals as goal
 

@@ -1,6 +1,6 @@
 use Rattle.std.proofs.Common.{sym, ap, ◌∙◌}
 use Rattle.rb_core.specs.Core.{Core}
-use Rattle.rb_machine.specs.Entry.{log_from}
+use Rattle.rb_core_model.specs.Entry.{log_from}
 use Rattle.rb_core.proofs.machine.Core.log.Goals as goal
 
 pub returns : goal.returns

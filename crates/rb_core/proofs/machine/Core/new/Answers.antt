@@ -1,7 +1,7 @@
 use Rattle.std.proofs.Common.{List, All, subst}
 use Rattle.rb_base.specs.Fee.{IsFeeTable}
-use Rattle.rb_events.specs.Config.{config_view}
-use Rattle.rb_events.specs.declared.config.ClientConfig.{ClientConfig}
+use Rattle.rb_script_types.specs.Config.{config_view}
+use Rattle.rb_script_types.specs.declared.config.ClientConfig.{ClientConfig}
 use Rattle.rb_core.proofs.Rooms.{new_fold}
 use Rattle.rb_core.proofs.machine.Core.new.Goals as goal
 

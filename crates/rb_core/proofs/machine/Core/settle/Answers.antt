@@ -1,12 +1,12 @@
 use Rattle.std.proofs.Common.{◌≡◌, ◌++◌, ◌∷◌, ◌<◌, [], None, sym, ap, ◌∙◌, subst, arith}
-use Rattle.rb_events.specs.Config.{config_view}
+use Rattle.rb_script_types.specs.Config.{config_view}
 use Rattle.rb_core.specs.Core.{Core, Room, state_in}
-use Rattle.rb_machine.specs.Entry.{log_from}
-use Rattle.rb_machine.specs.Kept.{IsKept}
+use Rattle.rb_core_model.specs.Entry.{log_from}
+use Rattle.rb_core_model.specs.Kept.{IsKept}
 use Rattle.rb_core.specs.Known.{state_view}
-use Rattle.rb_machine.specs.Machine.{State, refusal_of, reply_of}
+use Rattle.rb_core_model.specs.Machine.{State, refusal_of, reply_of}
 use Rattle.rb_core.proofs.Entries.{settled}
-use Rattle.rb_machine.proofs.Keeping.{kept_of_events}
+use Rattle.rb_core_model.proofs.Keeping.{kept_of_events}
 use Rattle.rb_core.proofs.Rooms.{has_room}
 use Rattle.rb_core.proofs.machine.Core.settle.Goals as goal
 

@@ -7,10 +7,10 @@ use Rattle.std.proofs.lemmas.List.{length-map}
 use Rattle.rb_book.specs.Book.{Book, header_at, header_is_below}
 use Rattle.rb_book.specs.Header.{Header}
 use Rattle.rb_book.specs.Intake.{header_refusal, after_record}
-use Rattle.rb_kept.specs.Kept.{Kept, next_places, first_naming, kept_of}
-use Rattle.rb_kept.specs.Numbering.{AreLanesOf}
-use Rattle.rb_kept.proofs.Inserted.{written_over}
-use Rattle.rb_kept.proofs.Entered.{some_map, none_from, places_with_header, sets_with_header, lowest_with_header, rows_with_header}
+use Rattle.rb_graph_rows.specs.Kept.{Kept, next_places, first_naming, kept_of}
+use Rattle.rb_graph_rows.specs.Numbering.{AreLanesOf}
+use Rattle.rb_graph_rows.proofs.Inserted.{written_over}
+use Rattle.rb_graph_rows.proofs.Entered.{some_map, none_from, places_with_header, sets_with_header, lowest_with_header, rows_with_header}
 use Rattle.rb_graph.proofs.graph.Graph.add_header.Goals as goal
 
 length_of : {xs ys : List Kept} → xs ≡ ys → length xs ≡ length ys

@@ -7,10 +7,10 @@ use Rattle.rb_valset.specs.ValidatorSet.{set_hash}
 use Rattle.rb_book.specs.Header.{Header}
 use Rattle.rb_book.specs.Book.{Book, set_of, is_before}
 use Rattle.rb_book.specs.Intake.{with_set, after_set}
-use Rattle.rb_kept.specs.Kept.{Kept, next_places, first_naming, kept_power, kept_of}
-use Rattle.rb_kept.specs.Numbering.{AreLanesOf}
-use Rattle.rb_kept.proofs.Inserted.{written_over}
-use Rattle.rb_kept.proofs.Entered.{none_from, set_comes, lowest_with_set}
+use Rattle.rb_graph_rows.specs.Kept.{Kept, next_places, first_naming, kept_power, kept_of}
+use Rattle.rb_graph_rows.specs.Numbering.{AreLanesOf}
+use Rattle.rb_graph_rows.proofs.Inserted.{written_over}
+use Rattle.rb_graph_rows.proofs.Entered.{none_from, set_comes, lowest_with_set}
 use Rattle.rb_graph.proofs.graph.Graph.add_set.Goals as goal
 
 length_of : {xs ys : List Kept} → xs ≡ ys → length xs ≡ length ys

@@ -1,6 +1,6 @@
 use Rattle.std.proofs.Common.{subst}
-use Rattle.rb_machine.specs.Standing.{Standing}
-use Rattle.rb_phases.specs.Drafts.{AreDrafts}
+use Rattle.rb_core_model.specs.Standing.{Standing}
+use Rattle.rb_super_turn.specs.Drafts.{AreDrafts}
 use Rattle.rb_super.proofs.supervisor.Supervisor.drafts.Goals as goal
 
 pub returns : goal.returns

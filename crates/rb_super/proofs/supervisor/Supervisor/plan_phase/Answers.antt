@@ -1,11 +1,11 @@
 use Rattle.std.proofs.Common.{◌≡◌, ◌<◌, List, length, sym, ap, ◌∙◌, subst, arith}
 use Rattle.std.specs.List.{All}
 use Rattle.rb_core.specs.Core.{Core}
-use Rattle.rb_events.specs.Script.{IsReadObservation}
-use Rattle.rb_events.specs.declared.script.Asked.{Asked}
-use Rattle.rb_phases.specs.Phases.{standing_in, HasLogRoom, turn_heard}
+use Rattle.rb_script_types.specs.Script.{IsReadObservation}
+use Rattle.rb_script_types.specs.declared.script.Asked.{Asked}
+use Rattle.rb_super_turn.specs.Phases.{standing_in, HasLogRoom, turn_heard}
 use Rattle.rb_super.specs.AsEvents.{code_turn_as_events, most_events}
-use Rattle.rb_phases.specs.Turns.{before_plans}
+use Rattle.rb_super_turn.specs.Turns.{before_plans}
 use Rattle.rb_super.proofs.supervisor.Supervisor.plan_phase.Goals as goal
 
 pub prepare-requires-clause-goals : goal.prepare-requires-clause-goals

@@ -1,10 +1,10 @@
 use Rattle.std.proofs.Common.{◌≡◌, ◌++◌, ◌∷◌, [], None, IfOk, IfErr, ap, ◌∙◌, subst}
 use Rattle.std.specs.Result.{OnOk, OnErr}
 use Rattle.rb_core.specs.Core.{Core, state_in, refusal_in}
-use Rattle.rb_machine.specs.Machine.{reply_of}
-use Rattle.rb_machine.specs.Refused.{IsRefusal}
-use Rattle.rb_machine.specs.Replied.{reply_view}
-use Rattle.rb_machine.specs.Seen.{event_view}
+use Rattle.rb_core_model.specs.Machine.{reply_of}
+use Rattle.rb_core_model.specs.Refused.{IsRefusal}
+use Rattle.rb_core_model.specs.Replied.{reply_view}
+use Rattle.rb_core_model.specs.Seen.{event_view}
 use Rattle.rb_super.proofs.supervisor.Supervisor.take_in.Goals as goal
 
 pub returns-clause-config : goal.returns-clause-config

@@ -1,14 +1,14 @@
 use Rattle.std.proofs.Common.{◌≡◌, ◌<◌, List, length, map, sym, ap, ◌∙◌, subst, arith}
 use Rattle.std.specs.List.{All}
 use Rattle.std.proofs.lemmas.List.{length-map}
-use Rattle.rb_events.specs.Script.{IsReadObservation}
-use Rattle.rb_events.specs.declared.script.Asked.{Asked}
-use Rattle.rb_events.specs.declared.script.Settlement.{Settlement}
-use Rattle.rb_phases.specs.Phases.{HasLogRoom, IsLater}
+use Rattle.rb_script_types.specs.Script.{IsReadObservation}
+use Rattle.rb_script_types.specs.declared.script.Asked.{Asked}
+use Rattle.rb_script_types.specs.declared.script.Settlement.{Settlement}
+use Rattle.rb_super_turn.specs.Phases.{HasLogRoom, IsLater}
 use Rattle.rb_super.specs.AsEvents.{most_events}
 use Rattle.rb_core.specs.Core.{Core}
-use Rattle.rb_events.specs.Config.{Config}
-use Rattle.rb_phases.specs.Views.{refused_view, client_report_view, settlement_view}
+use Rattle.rb_script_types.specs.Config.{Config}
+use Rattle.rb_super_turn.specs.Views.{refused_view, client_report_view, settlement_view}
 use Rattle.rb_super.proofs.Whole.{turn_done}
 use Rattle.rb_super.proofs.supervisor.Supervisor.turn.Goals as goal
 

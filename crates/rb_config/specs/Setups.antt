@@ -1,6 +1,0 @@
--- What a script is set up with, as it is read.
-use Rattle.rb_events.specs.Config.{Config}
-use Rattle.rb_config.specs.declared.setup.Setup.{Setup}
-
-abbrev pub setup_view : Setup → Config
-setup_view s = record { limit = s.limit; chains = s.chains; clients = s.clients; paths = s.paths }

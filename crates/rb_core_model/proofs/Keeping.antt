@@ -1,0 +1,260 @@
+-- What is kept after every list of events.
+use Rattle.std.proofs.Common.{◌≡◌, ℕ, zero, suc, ◌+◌, ◌<◌, ◌≤◌, Bool, true, false, cond, List, [], ◌∷◌, length, map, get_or, set, replicate, Option, Some, None, is_some, refl, sym, ap, ◌∙◌, subst, inl, inr, arith}
+use Rattle.std.specs.Prelude.{IfSome}
+use Rattle.std.specs.List.{fold, slice_get}
+use Rattle.std.specs.Option.{option_map, option_map_or, option_and_then}
+use Rattle.std.proofs.lemmas.List.{length-set, length-map, length-replicate}
+use Rattle.std.proofs.lemmas.List.Elements.{recursion_from_All}
+use Rattle.std.proofs.lemmas.Option.{none-some}
+use Rattle.rb_script_types.specs.Config.{Config, IsClient}
+use Rattle.rb_script_types.specs.declared.config.ClientConfig.{ClientConfig}
+use Rattle.rb_core_model.specs.Config.{IsSetUp}
+use Rattle.rb_plan_client.specs.Draft.{Planned as Answer}
+use Rattle.rb_core_model.specs.Event.{Event, Window, Asked, SetSeen, HeaderSeen, StoredSeen, Sent, Received, AckWritten, Cleared, Closed, Scanned, Planned, Settled}
+use Rattle.rb_core_model.specs.Kept.{IsKept}
+use Rattle.rb_core_model.specs.Machine.{State, opening, no_scans, plan_number, plans_after, scans_after, refusal_of, accepted, after, state_of}
+use Rattle.rb_core_model.specs.Standing.{OpenBatch, KnownClient, Standing, empty_book, new_client, new_path, tracked, changed_at, changed, batch_opened, with_batch, after_answer, after_batch, open_batch, after_settled}
+use Rattle.rb_core_model.proofs.Lengths.{lengths_changed}
+use Rattle.rb_core_model.proofs.Marks.{all_at}
+use Rattle.rb_core_model.proofs.Options.{mapped, get_changed}
+use Rattle.rb_core_model.proofs.Right.{opens}
+
+-- ---- what an event makes of a client
+
+-- it tracks the same chain, and has opened at most one batch more
+record Grows (c d : KnownClient) : Type 0 where
+  tracks : d.config.tracks ≡ c.config.tracks
+  batches : d.batches ≤ suc c.batches
+
+stays : (c : KnownClient) → Grows c c
+stays c = record { tracks = refl; batches = omega arith }
+
+answered : (answer : Option Answer) (c : KnownClient) → Grows c (after_answer answer c)
+answered answer c = go (batch_opened c answer) refl
+  where
+    go : (o : Option OpenBatch) → batch_opened c answer ≡ o → Grows c (with_batch c o)
+    go None e = record { tracks = refl; batches = omega arith }
+    go (Some b) e =
+        let number : b.number ≡ c.batches + 1 = ap (λ (x : OpenBatch). x.number) (opens (c.batches + 1) answer b e).is in
+        record { tracks = refl; batches = omega (arith, number) }
+
+-- the client at a place of a list that an event leaves was there before it
+record Was (cs : List KnownClient) (place : ℕ) (d : KnownClient) : Type 0 where
+  client : KnownClient
+  found : slice_get cs place ≡ Some client
+  grows : Grows client d
+
+Keeps : List KnownClient → List KnownClient → Type 0
+Keeps cs ds = (place : ℕ) (d : KnownClient) → slice_get ds place ≡ Some d → Was cs place d
+
+all_stay : (cs : List KnownClient) → Keeps cs cs
+unfolding Keeps
+all_stay cs place d at = record { client = d; found = at; grows = stays d }
+
+one_grows : (f : KnownClient → KnownClient) → ((c : KnownClient) → Grows c (f c)) → (cs : List KnownClient) (client : ℕ) → Keeps cs (changed_at f cs client)
+unfolding Keeps
+one_grows f grows cs client place d at =
+    let was = get_changed f cs client place d at in
+    record {
+      client = was.0;
+      found = was.1;
+      grows = elim was.2 [
+        | inl here ↦ subst (Grows was.0) (sym here.1) (grows was.0)
+        | inr other ↦ subst (Grows was.0) (sym other.1) (stays was.0)
+      ];
+    }
+
+settled_keeps : (s : Standing) (client done : ℕ) (o : Option OpenBatch) → Keeps s.clients (after_settled s client done o).clients
+settled_keeps s client done None = all_stay s.clients
+settled_keeps s client done (Some b) = one_grows (after_batch b done) (λ c. record { tracks = refl; batches = omega arith }) s.clients client
+
+keeps : (s : Standing) (e : Event) → Keeps s.clients (changed s e).clients
+keeps s (Window window) = all_stay s.clients
+keeps s (Asked client goal) = one_grows _ (λ c. record { tracks = refl; batches = omega arith }) s.clients client
+keeps s (SetSeen chain x) = all_stay s.clients
+keeps s (HeaderSeen chain header) = all_stay s.clients
+keeps s (StoredSeen client height r) = one_grows _ (λ c. record { tracks = refl; batches = omega arith }) s.clients client
+keeps s (Sent path sequence block timeout_height timeout_time) = all_stay s.clients
+keeps s (Received path sequence block) = all_stay s.clients
+keeps s (AckWritten path sequence block) = all_stay s.clients
+keeps s (Cleared path sequence) = all_stay s.clients
+keeps s (Closed path) = all_stay s.clients
+keeps s (Scanned path scan) = all_stay s.clients
+keeps s (Planned d) = one_grows (after_answer d.answer) (answered d.answer) s.clients d.job.client
+keeps s (Settled client number done) = settled_keeps s client done (option_and_then (λ c. open_batch c number) (slice_get s.clients client))
+
+-- ---- plan numbers and scans
+
+plans_long : (s : State) (e : Event) → length (plans_after s e) ≡ length s.plans
+plans_long s (Window window) = refl
+plans_long s (Asked client goal) = refl
+plans_long s (SetSeen chain x) = refl
+plans_long s (HeaderSeen chain header) = refl
+plans_long s (StoredSeen client height r) = refl
+plans_long s (Sent path sequence block timeout_height timeout_time) = refl
+plans_long s (Received path sequence block) = refl
+plans_long s (AckWritten path sequence block) = refl
+plans_long s (Cleared path sequence) = refl
+plans_long s (Closed path) = refl
+plans_long s (Scanned path scan) = refl
+plans_long s (Planned d) = length-set s.plans d.job.client _
+plans_long s (Settled client number done) = refl
+
+pub scans_long : (s : State) (e : Event) → length (scans_after s e) ≡ length s.scans
+scans_long s (Window window) = refl
+scans_long s (Asked client goal) = refl
+scans_long s (SetSeen chain x) = refl
+scans_long s (HeaderSeen chain header) = refl
+scans_long s (StoredSeen client height r) = refl
+scans_long s (Sent path sequence block timeout_height timeout_time) = refl
+scans_long s (Received path sequence block) = refl
+scans_long s (AckWritten path sequence block) = refl
+scans_long s (Cleared path sequence) = refl
+scans_long s (Closed path) = refl
+scans_long s (Scanned path scan) = length-set s.scans path _
+scans_long s (Planned d) = refl
+scans_long s (Settled client number done) = refl
+
+set_within : (xs : List ℕ) (i j n most : ℕ) → n ≤ most → get_or xs j 0 ≤ most → get_or (set xs i n) j 0 ≤ most
+set_within [] i j n most new old = old
+set_within (x ∷ xs) zero zero n most new old = new
+set_within (x ∷ xs) zero (suc j) n most new old = old
+set_within (x ∷ xs) (suc i) zero n most new old = old
+set_within (x ∷ xs) (suc i) (suc j) n most new old = set_within xs i j n most new old
+
+one_more : (n most : ℕ) → n ≤ most → n ≤ suc most
+one_more n most le = omega (arith, le)
+
+two_more : (n m most : ℕ) → n ≤ suc m → m ≤ most → n ≤ suc most
+two_more n m most few le = omega (arith, few, le)
+
+suc_within : (n most : ℕ) → n ≤ most → suc n ≤ suc most
+suc_within n most le = omega (arith, le)
+
+numbers_within : (s : State) (e : Event) → ((client : ℕ) → plan_number s client ≤ s.front) → (client : ℕ) → get_or (plans_after s e) client 0 ≤ suc s.front
+numbers_within s (Window window) all client = one_more (plan_number s client) s.front (all client)
+numbers_within s (Asked place goal) all client = one_more (plan_number s client) s.front (all client)
+numbers_within s (SetSeen chain x) all client = one_more (plan_number s client) s.front (all client)
+numbers_within s (HeaderSeen chain header) all client = one_more (plan_number s client) s.front (all client)
+numbers_within s (StoredSeen place height r) all client = one_more (plan_number s client) s.front (all client)
+numbers_within s (Sent path sequence block timeout_height timeout_time) all client = one_more (plan_number s client) s.front (all client)
+numbers_within s (Received path sequence block) all client = one_more (plan_number s client) s.front (all client)
+numbers_within s (AckWritten path sequence block) all client = one_more (plan_number s client) s.front (all client)
+numbers_within s (Cleared path sequence) all client = one_more (plan_number s client) s.front (all client)
+numbers_within s (Closed path) all client = one_more (plan_number s client) s.front (all client)
+numbers_within s (Scanned path scan) all client = one_more (plan_number s client) s.front (all client)
+numbers_within s (Planned d) all client =
+    set_within s.plans d.job.client client (suc (plan_number s d.job.client)) (suc s.front)
+    (suc_within (plan_number s d.job.client) s.front (all d.job.client)) (one_more (plan_number s client) s.front (all client))
+numbers_within s (Settled place number done) all client = one_more (plan_number s client) s.front (all client)
+
+-- ---- every event
+
+-- what is kept, by the clients at their places
+pub record IsTended (s : State) : Type 0 where
+  tracks : (place : ℕ) (c : KnownClient) → slice_get s.standing.clients place ≡ Some c → c.config.tracks < length s.standing.books
+  plans : length s.plans ≡ length s.standing.clients
+  scans : length s.scans ≡ length s.standing.paths
+  batches : (place : ℕ) (c : KnownClient) → slice_get s.standing.clients place ≡ Some c → c.batches ≤ s.front
+  numbers : (client : ℕ) → plan_number s client ≤ s.front
+
+pub accepted_tended : (s : State) (e : Event) → IsTended s → IsTended (accepted s e)
+unfolding Keeps
+accepted_tended s e is =
+    let long = lengths_changed s.standing e in
+    record {
+      tracks = λ place d at.
+          let was = keeps s.standing e place d at in
+          subst (λ n. d.config.tracks < n) (sym long.books) (subst (λ n. n < length s.standing.books) (sym was.grows.tracks) (is.tracks place was.client was.found));
+      plans = plans_long s e ∙ is.plans ∙ sym long.clients;
+      scans = scans_long s e ∙ is.scans ∙ sym long.paths;
+      batches = λ place d at.
+          let was = keeps s.standing e place d at in
+          two_more d.batches was.client.batches s.front was.grows.batches (is.batches place was.client was.found);
+      numbers = numbers_within s e is.numbers;
+    }
+
+after_tended : (s : State) (e : Event) → IsTended s → IsTended (after s e)
+after_tended s e is = go (is_some (refusal_of s e))
+  where
+    go : (b : Bool) → IsTended (cond b s (accepted s e))
+    go true = is
+    go false = accepted_tended s e is
+
+events_tended : (s : State) (es : List Event) → IsTended s → IsTended (fold after s es)
+events_tended s [] is = is
+events_tended s (e ∷ es) is = events_tended (after s e) es (after_tended s e is)
+
+-- ---- before the first event
+
+zeros : (n i : ℕ) → get_or (replicate n 0) i 0 ≤ 0
+zeros zero i = omega arith
+zeros (suc n) zero = omega arith
+zeros (suc n) (suc i) = zeros n i
+
+get_new : (cs : List ClientConfig) (place : ℕ) → slice_get (map new_client cs) place ≡ option_map new_client (slice_get cs place)
+get_new [] place = refl
+get_new (c ∷ cs) zero = refl
+get_new (c ∷ cs) (suc place) = get_new cs place
+
+pub opening_tended : (config : Config) → IsSetUp config → IsTended (opening config)
+opening_tended config is = record {
+  tracks = λ place c at.
+      let m = mapped new_client (slice_get config.clients place) c (sym (get_new config.clients place) ∙ at) in
+      let client = all_at (IsClient (length config.chains)) config.clients place m.0 (recursion_from_All (IsClient (length config.chains)) config.clients is.rules.clients) m.1 in
+      let same : m.0.tracks ≡ c.config.tracks = ap (λ (k : KnownClient). k.config.tracks) m.2 in
+      subst (λ n. c.config.tracks < n) (sym (length-replicate (length config.chains) (empty_book config.limit))) (subst (λ n. n < length config.chains) same client.tracks);
+  plans = length-replicate (length config.clients) 0 ∙ sym (length-map config.clients new_client);
+  scans = length-replicate (length config.paths) no_scans ∙ sym (length-map config.paths new_path);
+  batches = λ place c at.
+      let m = mapped new_client (slice_get config.clients place) c (sym (get_new config.clients place) ∙ at) in
+      let none : 0 ≡ c.batches = ap (λ (k : KnownClient). k.batches) m.2 in
+      subst (λ n. n ≤ 0) none (omega arith);
+  numbers = zeros (length config.clients);
+}
+
+-- ---- every list of events
+
+if_some : {X : Type 0} (P : X → Type 0) (o : Option X) → ((x : X) → o ≡ Some x → P x) → IfSome o P
+if_some P None h = tt
+if_some P (Some x) h = h x refl
+
+tracked_there : (cs : List KnownClient) (most : ℕ) → ((place : ℕ) (c : KnownClient) → slice_get cs place ≡ Some c → c.config.tracks < most)
+    → (client : ℕ) → client < length cs → tracked cs client < most
+tracked_there [] most all client lt = absurd (omega (arith, lt))
+tracked_there (c ∷ cs) most all zero lt = all 0 c refl
+tracked_there (c ∷ cs) most all (suc client) lt = tracked_there cs most (λ place d at. all (suc place) d at) client (omega (arith, lt))
+
+pub kept : (s : State) → IsTended s → IsKept s
+kept s is = record {
+  tracked = tracked_there s.standing.clients (length s.standing.books) is.tracks;
+  plans = is.plans;
+  scans = is.scans;
+  batches = λ client. if_some (λ (c : KnownClient). c.batches ≤ s.front) (slice_get s.standing.clients client) (is.batches client);
+  numbers = is.numbers;
+}
+
+pub kept_of_events : (config : Config) (events : List Event) → IsSetUp config → IsKept (state_of config events)
+kept_of_events config events is = kept (state_of config events) (events_tended (opening config) events (opening_tended config is))
+
+-- ---- one event more
+
+some_within : {X : Type 0} (xs : List X) (i : ℕ) (x : X) → slice_get xs i ≡ Some x → i < length xs
+some_within [] i x e = absurd (none-some x e)
+some_within (y ∷ xs) zero x e = omega arith
+some_within (y ∷ xs) (suc i) x e = omega (arith, some_within xs i x e)
+
+tended : (s : State) → IsKept s → IsTended s
+tended s is = record {
+  tracks = λ place c at.
+      let there : tracked s.standing.clients place ≡ c.config.tracks = ap (λ (o : Option KnownClient). option_map_or (λ (d : KnownClient). d.config.tracks) o 0) at in
+      subst (λ n. n < length s.standing.books) there (is.tracked place (some_within s.standing.clients place c at));
+  plans = is.plans;
+  scans = is.scans;
+  batches = λ place c at. subst (λ (o : Option KnownClient). IfSome o (λ (d : KnownClient). d.batches ≤ s.front)) at (is.batches place);
+  numbers = is.numbers;
+}
+
+-- what is kept is kept by whatever is taken in, judged or not
+pub accepted_kept : (s : State) (e : Event) → IsKept s → IsKept (accepted s e)
+accepted_kept s e is = kept (accepted s e) (accepted_tended s e (tended s is))

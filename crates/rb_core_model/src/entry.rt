@@ -1,0 +1,57 @@
+//! What a log keeps of an event.
+ghost use Rattle.std.specs.Prelude.{◌≡◌, IfOk};
+ghost use Rattle.rb_core_model.specs.Entry.{entry_view, logged_of};
+ghost use Rattle.rb_core_model.specs.Seen.{event_view};
+
+use crate::event::Event;
+use rb_base::Window;
+use rb_plan_client::{Planned, copy_answer};
+use rb_scan::Part;
+use rb_script_types::{Asked, Observation, Settlement};
+use std::alloc::{AllocError, Allocator, Global};
+
+/// An event; of a scan and a plan what is left to say where the log before it is known: the path and
+/// the client are seen as they are after that log. So a log keeps no book alive.
+#[derive(Drop)]
+pub enum Entry<A: Allocator = Global> {
+    /// The window in which updates may be submitted.
+    Window(Window),
+    /// What a client is to be brought to.
+    Asked(Asked),
+    /// What was seen of a chain, a client or a path.
+    Observed(Observation<A>),
+    /// A scan of a part of a path, as the path is after the log before it.
+    Scan {
+        path: usize,
+        part: Part,
+    },
+    /// What was planned for a client, as it is seen after the log before it.
+    Plan {
+        client: usize,
+        answer: Option<Planned<A>>,
+    },
+    /// So many transactions of a client's batch, by its number, were taken.
+    Settled(Settlement),
+}
+
+impl<A: Allocator + Copy> Entry<A> {
+    /// What a log keeps of an event. An error comes only where a growth is refused.
+    pub fn of(event: &Event<A>) -> Result<Entry<A>, AllocError>
+        ensures { IfOk result (λ entry. entry_view entry ≡ logged_of (event_view event.now)) }
+    {
+        Ok(match event {
+            Event::Window(window) => Entry::Window(*window),
+            Event::Asked(asked) => Entry::Asked(*asked),
+            Event::Observed(observation) => Entry::Observed(observation.copy()?),
+            Event::Scanned { path, scan } => Entry::Scan {
+                path: *path,
+                part: scan.part(),
+            },
+            Event::Planned(draft) => Entry::Plan {
+                client: draft.job().client(),
+                answer: copy_answer(draft.answer())?,
+            },
+            Event::Settled(settlement) => Entry::Settled(*settlement),
+        })
+    }
+}

@@ -1,0 +1,65 @@
+//! What happens to a relayer.
+ghost use Rattle.std.specs.Prelude.{◌≡◌, IfOk};
+ghost use Rattle.rb_core_model.specs.Event.{IsEvent};
+ghost use Rattle.rb_core_model.specs.Seen.{event_view};
+
+use crate::path_scan::Scan;
+use crate::rules::observation_is_event;
+use rb_base::Window;
+use rb_plan_client::Draft;
+use rb_script_types::{Asked, Observation, Settlement};
+use std::alloc::{AllocError, Allocator, Global};
+
+/// What happens to a relayer, and what it makes out itself. Chains, clients and paths are named by
+/// their places.
+#[derive(Drop)]
+pub enum Event<A: Allocator = Global> {
+    /// The window in which updates may be submitted.
+    Window(Window),
+    /// What a client is to be brought to.
+    Asked(Asked),
+    /// What was seen of a chain, a client or a path.
+    Observed(Observation<A>),
+    /// What a part of a path owes, with the path as it was seen.
+    Scanned { path: usize, scan: Scan<A> },
+    /// What was planned for a client, with the client as it was seen.
+    Planned(Draft<A>),
+    /// So many transactions of a client's batch, by its number, were taken.
+    Settled(Settlement),
+}
+
+impl<A: Allocator + Copy> Event<A> {
+    /// An equal event, on the allocator of this one; a scan and the book of a plan are shared. An
+    /// error comes only where a growth is refused.
+    pub fn copy(&self) -> Result<Event<A>, AllocError>
+        ensures { IfOk result (λ event. event_view event ≡ event_view self.now) }
+    {
+        Ok(match self {
+            Event::Window(window) => Event::Window(*window),
+            Event::Asked(asked) => Event::Asked(*asked),
+            Event::Observed(observation) => Event::Observed(observation.copy()?),
+            Event::Scanned { path, scan } => Event::Scanned {
+                path: *path,
+                scan: scan.share()?,
+            },
+            Event::Planned(draft) => Event::Planned(draft.copy()?),
+            Event::Settled(settlement) => Event::Settled(*settlement),
+        })
+    }
+
+    /// Tells what every event keeps. Takes no memory.
+    pub(crate) fn rules(&self)
+        ensures { IsEvent (event_view self.now) }
+    {
+        match self {
+            Event::Window(window) => {
+                window.until();
+            }
+            Event::Observed(observation) => observation_is_event(observation),
+            Event::Planned(draft) => {
+                draft.answer();
+            }
+            _ => {}
+        }
+    }
+}

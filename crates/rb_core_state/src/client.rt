@@ -1,0 +1,253 @@
+//! A client as it is known.
+ghost use Rattle.std.specs.Prelude.{◌≡◌, ◌==◌, ◌≤◌, ◌<◌, ◌+◌, ℕ, fold, length, nat_lt, Some, None, IfOk, OnOk, is_some, vec_len, vec_capacity};
+ghost use Rattle.std.specs.List.Sorted.{IsStrictlyIncreasing};
+ghost use Rattle.std.specs.Option.{option_map, option_map_or, option_copied};
+ghost use Rattle.rb_core_model.specs.Machine.{max_events};
+ghost use Rattle.rb_book.specs.Search.{IsPlace};
+ghost use Rattle.rb_step.specs.LightClient.{Update};
+ghost use Rattle.rb_core_model.specs.Standing as standings;
+ghost use Rattle.rb_core_model.specs.Standing.{new_client, open_batch, settled_refusal, with_height, batch_opened, after_answer};
+
+use crate::opened::{OpenBatch, batch_of};
+use rb_base::Height;
+use rb_plan::Update;
+use rb_plan_client::Planned;
+use rb_script_types::{ClientConfig, Goal, Refusal};
+use std::alloc::{AllocError, Allocator, Global};
+use std::marker::Model;
+
+/// A client: its configuration, the heights that it has stored, rising, the goal that it was asked
+/// for, how many batches it has opened, and the one that is open. A contract also sees for how many
+/// more stored heights there is room.
+#[derive(Drop)]
+pub struct KnownClient<A: Allocator = Global> {
+    config: ClientConfig,
+    stored: Vec<Height, A>,
+    asked: Option<Goal>,
+    batches: u64,
+    batch: Option<OpenBatch<A>>,
+}
+
+impl<A: Allocator> Model for KnownClient<A> {
+    ghost use Rattle.std.specs.Prelude.{◌-◌, vec_len, vec_capacity};
+    ghost use Rattle.std.specs.List.Sorted.{IsStrictlyIncreasing};
+    ghost use Rattle.rb_core_state.specs.Held as held;
+
+    ghost Value = { held.HeldClient };
+
+    ghost view = { λ c. record {
+      client = record { config = c.config; stored = c.stored.items; asked = c.asked; batches = c.batches; batch = c.batch };
+      room = vec_capacity c.stored - vec_len c.stored;
+    } };
+
+    ghost invariant = { λ c. IsStrictlyIncreasing c.stored.items };
+}
+
+impl<A: Allocator> KnownClient<A> {
+    /// A client to which nothing has happened.
+    pub fn new(alloc: A, config: ClientConfig) -> KnownClient<A>
+        ensures { result.client ≡ new_client config }
+    {
+        KnownClient {
+            config,
+            stored: Vec::new(alloc),
+            asked: None,
+            batches: 0,
+            batch: None,
+        }
+    }
+
+    /// Its configuration.
+    pub fn config(&self) -> &ClientConfig
+        ensures { result.now ≡ self.now.client.config }
+    {
+        &self.config
+    }
+
+    /// The heights that it has stored.
+    pub fn stored(&self) -> &[Height]
+        ensures value { result.now ≡ self.now.client.stored }
+        ensures rising { IsStrictlyIncreasing self.now.client.stored }
+    {
+        self.stored.as_slice()
+    }
+
+    /// The goal that it was asked for.
+    pub fn asked(&self) -> Option<Goal>
+        ensures { result ≡ self.now.client.asked }
+    {
+        self.asked
+    }
+
+    /// The batch that is open.
+    pub(crate) fn batch(&self) -> Option<&OpenBatch<A>>
+        ensures { option_copied result ≡ self.now.client.batch }
+    {
+        self.batch.as_ref()
+    }
+
+    /// Whether a batch is open.
+    pub fn is_held(&self) -> bool
+        ensures { result ≡ is_some self.now.client.batch }
+    {
+        self.batch.is_some()
+    }
+
+    /// The batch with this number, if it is the open one.
+    fn open_batch(&self, number: u64) -> Option<&OpenBatch<A>>
+        ensures { option_copied result ≡ open_batch self.now.client number }
+    {
+        let batch = self.batch.as_ref()?;
+        if batch.number() == number {
+            Some(batch)
+        } else {
+            None
+        }
+    }
+
+    /// Why the settlement of so many transactions of a batch would be refused. Takes no memory.
+    pub(crate) fn refuse_settled(&self, number: u64, done: u64) -> Option<Refusal>
+        ensures { result ≡ settled_refusal self.now.client number done }
+    {
+        match self.open_batch(number) {
+            Some(batch) if (batch.transactions().len() as u64) < done => Some(Refusal::OutOfOrder),
+            Some(_) => None,
+            None if 1 <= number && number <= self.batches => Some(Refusal::Repeat),
+            None => Some(Refusal::OutOfOrder),
+        }
+    }
+
+    /// Asks for a goal. Takes no memory.
+    pub(crate) fn ask(&mut self, goal: Goal)
+        ensures client { self.new.client ≡ record self.old.client { asked = Some goal } }
+        ensures room { self.new.room ≡ self.old.room }
+    {
+        self.asked = Some(goal);
+    }
+
+    /// How many updates the open batch has.
+    pub(crate) fn update_count(&self) -> usize
+        ensures { result ≡ option_map_or (λ (b : standings.OpenBatch). length b.updates) self.now.client.batch 0 }
+    {
+        match &self.batch {
+            Some(batch) => batch.updates().len(),
+            None => 0,
+        }
+    }
+
+    /// Makes room for so many more stored heights.
+    pub(crate) fn make_room(&mut self, count: usize) -> Result<(), AllocError>
+        ensures same { self.new.client ≡ self.old.client }
+        ensures room { OnOk result (count ≤ self.new.room) }
+        ensures kept { (some : ℕ) → some ≤ self.old.room → some ≤ self.new.room }
+    {
+        self.stored.reserve(count)
+    }
+
+    /// Stores a height, which may be stored already. Takes no memory.
+    pub(crate) fn store(&mut self, height: Height)
+        requires { 0 < self.old.room }
+        ensures client { self.new.client ≡ record self.old.client { stored = with_height height self.old.client.stored } }
+        ensures room { self.old.room ≤ self.new.room + 1 }
+    {
+        put_height(&mut self.stored, height);
+    }
+
+    /// Drops what was asked for, and opens the next batch, if a plan opens one, whose number is then
+    /// the answer. Takes no memory.
+    pub(crate) fn open(&mut self, answer: Option<Planned<A>>) -> Option<u64>
+        requires { self.old.client.batches < max_events }
+        ensures client { self.new.client ≡ after_answer answer self.old.client }
+        ensures number { result ≡ option_map (λ (b : standings.OpenBatch). b.number) (batch_opened self.old.client answer) }
+        ensures room { self.new.room ≡ self.old.room }
+    {
+        self.asked = None;
+        self.batch = batch_of(self.batches + 1, answer);
+        let number = self.batch.as_ref()?.number();
+        self.batches = number;
+        Some(number)
+    }
+
+    /// Stores the heights of updates. Takes no memory.
+    pub(crate) fn store_all(&mut self, updates: &[Update])
+        requires { length updates.now ≤ self.old.room }
+        ensures { self.new.client ≡ record self.old.client { stored = fold (λ heights (u : Update). with_height u.height heights) self.old.client.stored updates.now } }
+    {
+        put_heights(&mut self.stored, updates);
+    }
+
+    /// Closes the batch that is open. Takes no memory.
+    pub(crate) fn close(&mut self) -> Option<OpenBatch<A>>
+        ensures batch { result ≡ self.old.client.batch }
+        ensures client { self.new.client ≡ record self.old.client { batch = None } }
+        ensures room { self.new.room ≡ self.old.room }
+    {
+        self.batch.take()
+    }
+}
+
+/// The place of a height among rising ones, or else the place where it belongs.
+fn place(heights: &[Height], height: Height) -> Result<usize, usize>
+    requires { IsStrictlyIncreasing heights.now }
+    ensures { IsPlace (λ h. h == height) (λ h. nat_lt h height) heights.now result }
+{
+    heights.binary_search_by_key(
+        &height,
+        |stored: &Height| -> Height
+            ensures { result ≡ stored.now }
+        { *stored },
+    )
+}
+
+/// Puts a height in its place among rising ones, unless it is there already. Takes no memory.
+fn put_height<A: Allocator>(heights: &mut Vec<Height, A>, height: Height)
+    requires rising { IsStrictlyIncreasing heights.old.items }
+    requires room { vec_len heights.old < vec_capacity heights.old }
+    ensures items { heights.new.items ≡ with_height height heights.old.items }
+    ensures rising { IsStrictlyIncreasing heights.new.items }
+    ensures len { vec_len heights.new ≤ vec_len heights.old + 1 }
+    ensures capacity { vec_capacity heights.old ≤ vec_capacity heights.new }
+{
+    if let Err(place) = place(heights.as_slice(), height) {
+        heights.insert(place, height).unwrap();
+    }
+}
+
+/// Puts the heights of updates in their places. Takes no memory.
+fn put_heights<A: Allocator>(heights: &mut Vec<Height, A>, updates: &[Update])
+    requires rising { IsStrictlyIncreasing heights.old.items }
+    requires room { vec_len heights.old + length updates.now ≤ vec_capacity heights.old }
+    ensures items { heights.new.items ≡ fold (λ heights (u : Update). with_height u.height heights) heights.old.items updates.now }
+    ensures rising { IsStrictlyIncreasing heights.new.items }
+{
+    for update in updates {
+        put_height(heights, update.height());
+    }
+}
+
+/// An equal batch, if there is one.
+fn copy_batch<A: Allocator + Copy>(
+    batch: &Option<OpenBatch<A>>,
+) -> Result<Option<OpenBatch<A>>, AllocError>
+    ensures { IfOk result (λ copy. copy ≡ batch.now) }
+{
+    Ok(match batch {
+        Some(batch) => Some(batch.copy()?),
+        None => None,
+    })
+}
+
+impl<A: Allocator + Copy> KnownClient<A> {
+    /// An equal client.
+    pub fn copy(&self) -> Result<KnownClient<A>, AllocError>
+        ensures { IfOk result (λ copy. copy.client ≡ self.now.client) }
+    {
+        Ok(KnownClient {
+            config: self.config,
+            stored: Vec::from_slice(*self.stored.allocator(), self.stored.as_slice())?,
+            asked: self.asked,
+            batches: self.batches,
+            batch: copy_batch(&self.batch)?,
+        })
+    }
+}

@@ -1,0 +1,112 @@
+//! Batches that are open.
+ghost use Rattle.std.specs.Prelude.{◌≡◌, IfOk};
+ghost use Rattle.rb_core_model.specs.Standing.{batch_of};
+
+use rb_base::Height;
+use rb_batch::Transaction;
+use rb_plan::Update;
+use rb_plan_client::{Batch, Message, Planned, Sending};
+use std::alloc::{AllocError, Allocator, Global};
+use std::marker::Model;
+
+/// A batch that was opened: its number, its messages, the updates first, the height that it proves
+/// its packets at, and its transactions.
+#[derive(Debug, Drop)]
+pub struct OpenBatch<A: Allocator = Global> {
+    number: u64,
+    updates: Vec<Update, A>,
+    messages: Vec<Message, A>,
+    batch: Batch<A>,
+}
+
+impl<A: Allocator> Model for OpenBatch<A> {
+    ghost use Rattle.rb_core_model.specs.Standing as standings;
+
+    ghost Value = { standings.OpenBatch };
+
+    ghost view = { λ b. record { number = b.number; proof = b.batch.proof; updates = b.updates.items; messages = b.messages.items; transactions = b.batch.transactions } };
+}
+
+impl<A: Allocator> OpenBatch<A> {
+    /// The batch of these under a number.
+    pub(crate) fn new(
+        number: u64,
+        updates: Vec<Update, A>,
+        messages: Vec<Message, A>,
+        batch: Batch<A>,
+    ) -> OpenBatch<A>
+        ensures { result ≡ record { number = number; proof = batch.proof; updates = updates.items; messages = messages.items; transactions = batch.transactions } }
+    {
+        OpenBatch {
+            number,
+            updates,
+            messages,
+            batch,
+        }
+    }
+
+    /// Its number.
+    pub fn number(&self) -> u64
+        ensures { result ≡ self.now.number }
+    {
+        self.number
+    }
+
+    /// The height that it proves its packets at.
+    pub fn proof(&self) -> Height
+        ensures { result ≡ self.now.proof }
+    {
+        self.batch.proof()
+    }
+
+    /// Its updates, in their order.
+    pub fn updates(&self) -> &[Update]
+        ensures { result.now ≡ self.now.updates }
+    {
+        self.updates.as_slice()
+    }
+
+    /// Its packet messages, which follow the updates.
+    pub fn messages(&self) -> &[Message]
+        ensures { result.now ≡ self.now.messages }
+    {
+        self.messages.as_slice()
+    }
+
+    /// Its transactions, in their order.
+    pub fn transactions(&self) -> &[Transaction]
+        ensures { result.now ≡ self.now.transactions }
+    {
+        self.batch.transactions()
+    }
+}
+
+impl<A: Allocator + Copy> OpenBatch<A> {
+    /// An equal batch, on the same allocator. An error comes only where a growth is refused.
+    pub fn copy(&self) -> Result<OpenBatch<A>, AllocError>
+        ensures { IfOk result (λ copy. copy ≡ self.now) }
+    {
+        let alloc = *self.updates.allocator();
+        Ok(OpenBatch {
+            number: self.number,
+            updates: Vec::from_slice(alloc, self.updates.as_slice())?,
+            messages: Vec::from_slice(alloc, self.messages.as_slice())?,
+            batch: self.batch.copy()?,
+        })
+    }
+}
+
+/// The batch that a plan opens under a number, if it opens one. Takes no memory.
+pub(crate) fn batch_of<A: Allocator>(
+    number: u64,
+    answer: Option<Planned<A>>,
+) -> Option<OpenBatch<A>>
+    ensures { result ≡ batch_of number answer }
+{
+    let plan = answer?.into_plan()?;
+    let (updates, messages, sending) = plan.into_parts();
+    match sending {
+        Sending::Batched(batch) => Some(OpenBatch::new(number, updates, messages, batch)),
+        Sending::Nothing | Sending::TooBig(_) => None,
+    }
+}

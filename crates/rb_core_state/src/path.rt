@@ -1,0 +1,260 @@
+//! A path as it is known.
+ghost use Rattle.std.specs.Prelude.{◌≡◌, ◌+◌, ◌<◌, ◌≤◌, ◌==◌, [], length, find, Some, None, true, OnOk, IfOk};
+ghost use Rattle.std.specs.List.Sorted.{IsStrictlyIncreasing};
+ghost use Rattle.std.specs.Option.{option_copied};
+ghost use Rattle.rb_scan.specs.Owed.{packet_at};
+ghost use Rattle.rb_scan.specs.Packet.{Packet};
+ghost use Rattle.rb_scan.specs.Path.{sequences_of, AreFrom};
+ghost use Rattle.rb_core_state.specs.Held.{next_among};
+ghost use Rattle.rb_core_state.specs.Marked.{mark_by};
+ghost use Rattle.rb_core_model.specs.Refusal.{refused_if};
+ghost use Rattle.rb_core_model.specs.Standing.{max_packets, view_of_path, new_path, sent_refusal, comes_early, received_refusal, written_refusal, cleared_refusal, with_packet, with_mark, after_message};
+
+use crate::mark::Mark;
+use crate::packets::{is_finished, packet, place, put_mark};
+use rb_base::Height;
+use rb_scan::{Kind, Order, Packet, PacketMsg, Sequence};
+use rb_script_types::{PathConfig, Refusal};
+use std::alloc::{AllocError, Allocator, Global};
+use std::marker::Model;
+
+/// The most packets of a path.
+const MAX_PACKETS: usize = 4096;
+
+/// A path: its configuration, the packets that were sent, by rising sequence, how many sequences
+/// from the first on are finished, as far as it was counted, and whether it is closed. A contract
+/// sees for how many more packets there is room, and not how far was counted.
+#[derive(Drop)]
+pub struct KnownPath<A: Allocator = Global> {
+    config: PathConfig,
+    packets: Vec<Packet, A>,
+    run: usize,
+    closed: bool,
+}
+
+impl<A: Allocator> Model for KnownPath<A> {
+    ghost use Rattle.std.specs.Prelude.{◌-◌, vec_len, vec_capacity};
+    ghost use Rattle.rb_core_state.specs.Held as held;
+
+    ghost Value = { held.HeldPath };
+
+    ghost view = { λ p. record {
+      path = record { config = p.config; packets = p.packets.items; closed = p.closed };
+      room = vec_capacity p.packets - vec_len p.packets;
+    } };
+
+    ghost invariant = { λ p. held.IsHeldPath (record { config = p.config; packets = p.packets.items; closed = p.closed }) p.run };
+}
+
+/// Counts on how many sequences from the first on are finished. Takes no memory.
+fn count_run(packets: &[Packet], first: Sequence, run: usize) -> usize
+    requires rising { IsStrictlyIncreasing (sequences_of packets.now) }
+    requires few { length packets.now ≤ max_packets }
+    requires run { first + run ≤ next_among first packets.now }
+    ensures next { next_among first packets.now ≡ first + result }
+    ensures few { result ≤ max_packets }
+{
+    let mut run = run;
+    while run < packets.len() && is_finished(packets, first.get() + run as u64) {
+        run += 1;
+    }
+    run
+}
+
+impl<A: Allocator> KnownPath<A> {
+    /// A path on which nothing has happened.
+    pub fn new(alloc: A, config: PathConfig) -> KnownPath<A>
+        ensures { result.path ≡ new_path config }
+    {
+        KnownPath {
+            config,
+            packets: Vec::new(alloc),
+            run: 0,
+            closed: false,
+        }
+    }
+
+    /// Its configuration.
+    pub fn config(&self) -> &PathConfig
+        ensures { result.now ≡ self.now.path.config }
+    {
+        &self.config
+    }
+
+    /// The packets that were sent, by rising sequence.
+    pub fn packets(&self) -> &[Packet]
+        ensures value { result.now ≡ self.now.path.packets }
+        ensures rising { IsStrictlyIncreasing (sequences_of self.now.path.packets) }
+        ensures from_first { AreFrom self.now.path.config.first self.now.path.packets }
+        ensures few { length self.now.path.packets ≤ max_packets }
+    {
+        self.packets.as_slice()
+    }
+
+    /// Whether it is closed.
+    pub fn is_closed(&self) -> bool
+        ensures { result ≡ self.now.path.closed }
+    {
+        self.closed
+    }
+
+    /// The packet with this sequence.
+    fn packet(&self, sequence: Sequence) -> Option<&Packet>
+        ensures { option_copied result ≡ find (λ (p : Packet). p.sequence == sequence) self.now.path.packets }
+    {
+        packet(self.packets.as_slice(), sequence.get())
+    }
+
+    /// Whether a lower sequence of an ORDERED path is not finished.
+    fn comes_early(&self, sequence: Sequence) -> bool
+        ensures { result ≡ comes_early (view_of_path [] self.now.path) sequence }
+    {
+        if self.config.order == Order::Unordered {
+            return false;
+        }
+        let run = count_run(self.packets.as_slice(), self.config.first, self.run);
+        self.config.first.get() + (run as u64) < sequence.get()
+    }
+
+    /// Why a packet that was sent would be refused. Takes no memory.
+    pub(crate) fn refuse_sent(&self, sequence: Sequence) -> Option<Refusal>
+        ensures { result ≡ sent_refusal (view_of_path [] self.now.path) sequence }
+    {
+        if sequence < self.config.first {
+            return Some(Refusal::OutOfOrder);
+        }
+        if self.packet(sequence).is_some() {
+            return Some(Refusal::Repeat);
+        }
+        if self.packets.len() >= MAX_PACKETS {
+            return Some(Refusal::Full);
+        }
+        None
+    }
+
+    /// Why a packet that was received would be refused. Takes no memory.
+    pub(crate) fn refuse_received(&self, sequence: Sequence) -> Option<Refusal>
+        ensures { result ≡ received_refusal (view_of_path [] self.now.path) sequence (packet_at (view_of_path [] self.now.path) sequence) }
+    {
+        let Some(packet) = self.packet(sequence) else {
+            return Some(Refusal::OutOfOrder);
+        };
+        if self.comes_early(sequence) {
+            return Some(Refusal::OutOfOrder);
+        }
+        if packet.received().is_some() {
+            return Some(Refusal::Repeat);
+        }
+        None
+    }
+
+    /// Why an acknowledgement that was written would be refused. Takes no memory.
+    pub(crate) fn refuse_written(&self, sequence: Sequence, block: Height) -> Option<Refusal>
+        ensures { result ≡ written_refusal block (packet_at (view_of_path [] self.now.path) sequence) }
+    {
+        let Some(packet) = self.packet(sequence) else {
+            return Some(Refusal::OutOfOrder);
+        };
+        match packet.received() {
+            Some(received) if received <= block => {}
+            _ => return Some(Refusal::OutOfOrder),
+        }
+        if packet.written().is_some() {
+            return Some(Refusal::Repeat);
+        }
+        None
+    }
+
+    /// Why a packet that was cleared would be refused. Takes no memory.
+    pub(crate) fn refuse_cleared(&self, sequence: Sequence) -> Option<Refusal>
+        ensures { result ≡ cleared_refusal (packet_at (view_of_path [] self.now.path) sequence) }
+    {
+        let Some(packet) = self.packet(sequence) else {
+            return Some(Refusal::OutOfOrder);
+        };
+        if packet.is_cleared() {
+            return Some(Refusal::Repeat);
+        }
+        None
+    }
+
+    /// Why the path's being closed would be refused. Takes no memory.
+    pub(crate) fn refuse_closed(&self) -> Option<Refusal>
+        ensures { result ≡ refused_if self.now.path.closed Refusal.Repeat None }
+    {
+        if self.closed {
+            return Some(Refusal::Repeat);
+        }
+        None
+    }
+
+    /// Makes room for one more packet.
+    pub(crate) fn make_room(&mut self) -> Result<(), AllocError>
+        ensures same { self.new.path ≡ self.old.path }
+        ensures room { OnOk result (0 < self.new.room) }
+        ensures kept { 0 < self.old.room → 0 < self.new.room }
+    {
+        self.packets.reserve(1)
+    }
+
+    /// Puts a packet that is not refused in its place. Takes no memory.
+    pub(crate) fn put_sent(&mut self, packet: Packet)
+        requires accepted { sent_refusal (view_of_path [] self.old.path) packet.sequence ≡ None }
+        requires room { 0 < self.old.room }
+        ensures { self.new.path ≡ with_packet packet self.old.path }
+    {
+        let sequence = packet.sequence().get();
+        if let Err(place) = place(self.packets.as_slice(), sequence) {
+            self.packets.insert(place, packet).unwrap();
+        }
+    }
+
+    /// Puts a mark on the packet with this sequence, if there is one. Takes no memory.
+    pub(crate) fn put_mark(&mut self, sequence: Sequence, mark: Mark)
+        ensures path { self.new.path ≡ with_mark (mark_by mark) sequence self.old.path }
+        ensures room { self.new.room ≡ self.old.room }
+    {
+        put_mark(&mut self.packets, sequence.get(), mark);
+    }
+
+    /// Counts on how many sequences are finished. Takes no memory.
+    pub(crate) fn count_on(&mut self)
+        ensures { self.new ≡ self.old }
+    {
+        self.run = count_run(self.packets.as_slice(), self.config.first, self.run);
+    }
+
+    /// Closes the path. Takes no memory.
+    pub(crate) fn close(&mut self)
+        ensures path { self.new.path ≡ record self.old.path { closed = true } }
+        ensures room { self.new.room ≡ self.old.room }
+    {
+        self.closed = true;
+    }
+
+    /// Marks the packet of a message that was settled; a settled timeout closes an ORDERED path.
+    /// Takes no memory.
+    pub(crate) fn settle(&mut self, message: PacketMsg)
+        ensures path { self.new.path ≡ after_message message self.old.path }
+        ensures room { self.new.room ≡ self.old.room }
+    {
+        self.put_mark(message.sequence, Mark::Settled(message.kind));
+        if message.kind == Kind::Timeout && self.config.order == Order::Ordered {
+            self.close();
+        }
+    }
+}
+
+impl<A: Allocator + Copy> KnownPath<A> {
+    /// An equal path.
+    pub fn copy(&self) -> Result<KnownPath<A>, AllocError>
+        ensures { IfOk result (λ copy. copy.path ≡ self.now.path) }
+    {
+        Ok(KnownPath {
+            config: self.config,
+            packets: Vec::from_slice(*self.packets.allocator(), self.packets.as_slice())?,
+            run: self.run,
+            closed: self.closed,
+        })
+    }
+}

@@ -1,6 +1,0 @@
-use Rattle.std.proofs.Common.{All}
-use Rattle.rb_graph.specs.Frame.{IsRowOf}
-use Rattle.rb_graph_cases.proofs.gang.rows_of.Given as goal
-
-abbrev pub invariant-loop-n : goal.invariant-loop-n
-invariant-loop-n l = All (IsRowOf l.frame) l.rows.items

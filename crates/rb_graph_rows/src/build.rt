@@ -1,0 +1,248 @@
+//! What a step table keeps, made from its book.
+ghost use Rattle.std.specs.Prelude.{◌≡◌, ◌<◌, map, length, slice_get, IfOk, Some, All, Contains, IsTrue, ◌↔◌};
+ghost use Rattle.std.specs.Option.{option_copied, option_map};
+ghost use Rattle.rb_book.specs.Invariant.{IsBook, IsBacked};
+ghost use Rattle.rb_book.specs.Header.{IsSignedBy};
+ghost use Rattle.rb_graph_rows.specs.Kept.{own_set, next_place, next_places, first_naming, kept_power, kept_of};
+ghost use Rattle.rb_graph_rows.specs.Numbering.{AreNumbered, entries_of, IsVotersPlane};
+
+use crate::kept::Kept;
+use crate::numbers::{tallied, voters_plane};
+use rb_base::{Fraction, Height};
+use rb_book::{ChainBook, Header, Known};
+use rb_lanes::{Columns, Plane, Tally};
+use rb_step::{is_signed_by_two_thirds, signed_power};
+use rb_valset::ValidatorSet;
+use std::alloc::{AllocError, Allocator};
+
+/// For each known record, by its place, the place of its next set, where that is known.
+pub fn next_places<A: Allocator + Copy>(
+    alloc: A,
+    book: &ChainBook<A>,
+) -> Result<Vec<Option<usize>, A>, AllocError>
+    ensures { IfOk result (λ places. places.items ≡ next_places book.now) }
+{
+    book.records()
+        .iter()
+        .map(
+            |known: &Known| -> Option<usize>
+                ensures { result ≡ next_place book.entry.now known.now }
+            { book.set_place(known.record().next()) },
+        )
+        .collect(alloc)
+}
+
+/// The height of the lowest known record that names the set as its next.
+pub fn first_naming<A: Allocator + Copy>(
+    book: &ChainBook<A>,
+    set: &ValidatorSet<A>,
+) -> Option<Height>
+    ensures { result ≡ first_naming book.now set.now }
+{
+    book.records()
+        .iter()
+        .find(|known| set.hash() == known.record().next())
+        .map(|known| known.height())
+}
+
+/// For each set of the book, by its place, the height of the lowest known record that names it as its
+/// next.
+pub fn first_namings<A: Allocator + Copy>(
+    alloc: A,
+    book: &ChainBook<A>,
+) -> Result<Vec<Option<Height>, A>, AllocError>
+    ensures { IfOk result (λ heights. heights.items ≡ map (first_naming book.now) book.now.sets) }
+{
+    book.sets()
+        .iter()
+        .map(
+            |set: &ValidatorSet<A>| -> Option<Height>
+                ensures { result ≡ first_naming book.entry.now set.now }
+            { first_naming(book, set) },
+        )
+        .collect(alloc)
+}
+
+/// The header's own set, which the book knows.
+pub fn own_set<'a, A: Allocator + Copy>(
+    book: &'a ChainBook<A>,
+    header: &Header<A>,
+) -> &'a ValidatorSet<A>
+    requires { IsBacked book.now header.now }
+    ensures own { result.now ≡ own_set book.entry.now header.now }
+    ensures signed { IsSignedBy header.now result.now }
+{
+    book.set(header.set_hash()).unwrap()
+}
+
+/// The place of the header's own set among the book's sets.
+fn own_place<A: Allocator + Copy>(book: &ChainBook<A>, header: &Header<A>) -> usize
+    requires { IsBacked book.now header.now }
+    ensures place { slice_get book.now.sets result ≡ Some (own_set book.now header.now) }
+    ensures signed { IsSignedBy header.now (own_set book.now header.now) }
+{
+    book.set_place(header.set_hash()).unwrap()
+}
+
+/// The header's own set, which stands at this place.
+fn own_at<'a, A: Allocator + Copy>(
+    book: &'a ChainBook<A>,
+    header: &Header<A>,
+    place: usize,
+) -> &'a ValidatorSet<A>
+    requires { slice_get book.now.sets place ≡ Some (own_set book.now header.now) }
+    ensures own { result.now ≡ own_set book.entry.now header.now }
+{
+    &book.sets()[place]
+}
+
+/// The signed power of a header in a set, where a lower record names the set. `tally` is the set's,
+/// and `plane` has the bits of the header's commit voters.
+#[tactic(auto, unfolding(crate::specs::Kept::kept_power))]
+fn kept_power<A: Allocator + Copy>(
+    book: &ChainBook<A>,
+    header: &Header<A>,
+    own: &ValidatorSet<A>,
+    set: &ValidatorSet<A>,
+    lowest: Option<Height>,
+    columns: &Columns<A>,
+    tally: &Tally<A>,
+    plane: &Plane<A>,
+) -> Option<u64>
+    requires own { own.now ≡ own_set book.now header.now }
+    requires lowest { lowest ≡ first_naming book.now set.now }
+    requires numbered { AreNumbered columns.now set.now }
+    requires tally { tally.now ≡ entries_of columns.now set.now }
+    requires plane { IsVotersPlane columns.now own.now header.now plane.now }
+    ensures { result ≡ kept_power book.now header.now set.now }
+{
+    match lowest {
+        Some(lowest) if lowest < header.height() => {
+            Some(tallied(columns, set, tally, own, header, plane))
+        }
+        _ => None,
+    }
+}
+
+/// What is kept of a header whose own set stands at a place: all its sums are read from one plane of
+/// its commit voters.
+#[tactic(auto, unfolding(crate::specs::Kept::kept_of))]
+pub fn kept_by_lanes<A: Allocator + Copy>(
+    alloc: A,
+    book: &ChainBook<A>,
+    header: &Header<A>,
+    own_place: usize,
+    lowest: &[Option<Height>],
+    columns: &Columns<A>,
+    tallies: &[Tally<A>],
+) -> Result<Kept<A>, AllocError>
+    requires own { slice_get book.now.sets own_place ≡ Some (own_set book.now header.now) }
+    requires signed { IsSignedBy header.now (own_set book.now header.now) }
+    requires lowest { lowest.now ≡ map (first_naming book.now) book.now.sets }
+    requires numbered { All (AreNumbered columns.now) book.now.sets }
+    requires tallies { tallies.now ≡ map (entries_of columns.now) book.now.sets }
+    ensures { IfOk result (λ kept. kept ≡ kept_of book.now header.now) }
+{
+    let own = own_at(book, header, own_place);
+    let own_tally = &tallies[own_place];
+    let plane = voters_plane(alloc, columns, own, own_tally, header)?;
+    let own_signed = tallied(columns, own, own_tally, own, header, &plane);
+    let is_signed = Fraction::two_thirds().is_exceeded_by(own_signed, own.total());
+    let mut signed = Vec::with_capacity(alloc, lowest.len())?;
+    for (place, set) in book.sets().iter().enumerate() {
+        signed.push(kept_power(
+            book,
+            header,
+            own,
+            set,
+            lowest[place],
+            columns,
+            &tallies[place],
+            &plane,
+        ))?;
+    }
+    Ok(Kept::new(own.size(), is_signed, signed))
+}
+
+/// What is kept of a header of the book, made by columns: `lowest` has for each set the height of the
+/// lowest record that names it, `columns` and `tallies` have the sets' members and powers.
+pub fn kept_of<A: Allocator + Copy>(
+    alloc: A,
+    book: &ChainBook<A>,
+    header: &Header<A>,
+    lowest: &[Option<Height>],
+    columns: &Columns<A>,
+    tallies: &[Tally<A>],
+) -> Result<Kept<A>, AllocError>
+    requires backed { IsBacked book.now header.now }
+    requires lowest { lowest.now ≡ map (first_naming book.now) book.now.sets }
+    requires numbered { All (AreNumbered columns.now) book.now.sets }
+    requires tallies { tallies.now ≡ map (entries_of columns.now) book.now.sets }
+    ensures { IfOk result (λ kept. kept ≡ kept_of book.now header.now) }
+{
+    let place = own_place(book, header);
+    kept_by_lanes(alloc, book, header, place, lowest, columns, tallies)
+}
+
+/// The signed power of a header in a set, where a lower record names the set, by the members one
+/// after the other.
+#[tactic(auto, unfolding(crate::specs::Kept::kept_power))]
+fn plain_power<A: Allocator + Copy>(
+    book: &ChainBook<A>,
+    header: &Header<A>,
+    own: &ValidatorSet<A>,
+    set: &ValidatorSet<A>,
+    lowest: Option<Height>,
+) -> Option<u64>
+    requires own { own.now ≡ own_set book.now header.now }
+    requires signed { IsSignedBy header.now own.now }
+    requires lowest { lowest ≡ first_naming book.now set.now }
+    ensures { result ≡ kept_power book.now header.now set.now }
+{
+    match lowest {
+        Some(lowest) if lowest < header.height() => Some(signed_power(set, own, header)),
+        _ => None,
+    }
+}
+
+/// Whether these are the signed powers of a header, one for each set of the book.
+fn are_powers<A: Allocator + Copy>(
+    book: &ChainBook<A>,
+    header: &Header<A>,
+    own: &ValidatorSet<A>,
+    lowest: &[Option<Height>],
+    signed: &[Option<u64>],
+) -> bool
+    requires own { own.now ≡ own_set book.now header.now }
+    requires signed { IsSignedBy header.now own.now }
+    requires lowest { lowest.now ≡ map (first_naming book.now) book.now.sets }
+    ensures { IsTrue result ↔ (signed.now ≡ map (kept_power book.now header.now) book.now.sets) }
+{
+    if signed.len() != lowest.len() {
+        return false;
+    }
+    for (place, set) in book.sets().iter().enumerate() {
+        if signed[place] != plain_power(book, header, own, set, lowest[place]) {
+            return false;
+        }
+    }
+    true
+}
+
+/// Whether this is what is kept of a header. Takes no memory.
+#[tactic(auto, unfolding(crate::specs::Kept::kept_of))]
+pub fn is_kept_of<A: Allocator + Copy>(
+    book: &ChainBook<A>,
+    header: &Header<A>,
+    lowest: &[Option<Height>],
+    kept: &Kept<A>,
+) -> bool
+    requires backed { IsBacked book.now header.now }
+    requires lowest { lowest.now ≡ map (first_naming book.now) book.now.sets }
+    ensures { IsTrue result ↔ (kept.now ≡ kept_of book.now header.now) }
+{
+    let own = own_set(book, header);
+    kept.size() == own.size()
+        && kept.is_signed() == is_signed_by_two_thirds(header, own)
+        && are_powers(book, header, own, lowest, kept.signed())
+}

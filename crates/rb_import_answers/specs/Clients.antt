@@ -1,0 +1,111 @@
+-- The answers of ibc-go's gateway on a client: `client_states/ID` and `consensus_states/ID` (ICS 2, ICS 7).
+use Rattle.std.specs.Prelude.{ℕ, ◌*◌, ◌^◌, List, [], Bool, Option, Some, None, is_some, option_and_then, Result, Ok, codes, ⊤, ◌==◌, ◌&&◌, nat_le, nat_lt, if◌then◌else◌}
+use Rattle.std.specs.Str.{bytes_eq}
+use Rattle.serde_json.specs.Find.{as_null}
+use Rattle.rb_import_answers.specs.declared.client.ClientState.{ClientState}
+use Rattle.rb_import_answers.specs.declared.client.ConsensusPage.{ConsensusPage}
+use Rattle.rb_import_answers.specs.declared.client.ConsensusState.{ConsensusState}
+use Rattle.rb_import_answers.specs.declared.client.TrustLevel.{TrustLevel}
+use Rattle.rb_import_json.specs.declared.flaw.Flaw.{Flaw}
+use Rattle.rb_import_json.specs.declared.flaw.FlawName.TheVariants.{ForeignClient, FrozenClient, BadTrust, BadDuration}
+use Rattle.rb_import_json.specs.declared.place.Key.{Key}
+use Rattle.rb_import_json.specs.declared.place.Part.{Part}
+use Rattle.rb_import_json.specs.Flaws.{◌>>=◌, or_flaw, must}
+use Rattle.rb_import_json.specs.Fields.{Object, flaw_at, field, inner, object, items, text, number, height, chain, time, hex, base64, each}
+use Rattle.rb_import_answers.specs.Durations.{nanoseconds_of}
+use Rattle.rb_import_answers.specs.Numbers.{script_number}
+
+-- only Tendermint's light clients are read
+unfoldable pub tendermint : Object → Result ⊤ Flaw
+tendermint state = do
+  kind ← text Key.TypeUrl state
+  must (flaw_at state Key.TypeUrl ForeignClient) (bytes_eq kind (codes "/ibc.lightclients.tendermint.v1.ClientState"))
+
+-- the height at which a client is frozen is 0-0 where it isn't
+unfoldable pub live : Object → Result ⊤ Flaw
+live state = do
+  frozen ← object Key.FrozenHeight Part.FrozenHeight state
+  revision ← number Key.RevisionNumber frozen
+  at ← number Key.RevisionHeight frozen
+  must (flaw_at state Key.FrozenHeight FrozenClient) (revision == 0 && at == 0)
+
+-- the revision number of the chain that a client tracks is that of its latest height
+unfoldable pub revision : Object → Result ℕ Flaw
+revision state = do
+  latest ← object Key.LatestHeight Part.LatestHeight state
+  number Key.RevisionNumber latest
+
+-- a trust level is from a third to one, in numbers that a script takes
+unfoldable pub trust : Object → Result TrustLevel Flaw
+trust state = do
+  level ← object Key.TrustLevel Part.TrustLevel state
+  numerator ← script_number Key.Numerator level
+  denominator ← script_number Key.Denominator level
+  _ ← must (flaw_at state Key.TrustLevel BadTrust) (nat_lt 0 denominator && nat_le denominator (3 * numerator) && nat_le numerator denominator)
+  Ok (record { numerator = numerator; denominator = denominator })
+
+unfoldable pub period_of : ℕ → Option ℕ
+period_of n = if nat_le 1 n && nat_lt n (2 ^ 63) then Some n else None
+
+unfoldable pub period : Object → Result ℕ Flaw
+period state = do
+  t ← text Key.TrustingPeriod state
+  or_flaw (flaw_at state Key.TrustingPeriod BadDuration) (option_and_then period_of (nanoseconds_of t))
+
+unfoldable pub drift_of : ℕ → Option ℕ
+drift_of n = if nat_lt n (2 ^ 63) then Some n else None
+
+unfoldable pub drift : Object → Result ℕ Flaw
+drift state = do
+  t ← text Key.MaxClockDrift state
+  or_flaw (flaw_at state Key.MaxClockDrift BadDuration) (option_and_then drift_of (nanoseconds_of t))
+
+unfoldable pub client_state : Object → Result ClientState Flaw
+client_state answer = do
+  state ← object Key.ClientState Part.ClientState answer
+  _ ← tendermint state
+  _ ← live state
+  id ← chain Key.ChainId state
+  n ← revision state
+  level ← trust state
+  long ← period state
+  skew ← drift state
+  Ok (record { chain = id; revision = n; trust = level; period = long; drift = skew })
+
+unfoldable pub root : Object → Result (List ℕ) Flaw
+root state = do
+  r ← inner Key.Root state
+  base64 Key.Hash r
+
+-- an entry of `consensus_states`: the revision number and the height that it is stored at, and what it holds
+unfoldable pub consensus_state : Object → Result ConsensusState Flaw
+consensus_state o = do
+  at ← inner Key.Height o
+  state ← inner Key.ConsensusState o
+  n ← number Key.RevisionNumber at
+  h ← height Key.RevisionHeight at
+  moment ← time Key.Timestamp state
+  bytes ← root state
+  next ← hex 32 Key.NextValidatorsHash state
+  Ok (record { revision = n; height = h; time = moment; root = bytes; next = next })
+
+-- the states of a page, and whether no page follows: the key of the next one is null
+pub record States : Type 0 where
+  pub states : List ConsensusState
+  pub is_last : Bool
+
+abbrev pub states_view : ConsensusPage → States
+states_view p = record { states = p.states.items; is_last = p.is_last }
+
+unfoldable pub is_last : Object → Result Bool Flaw
+is_last answer = do
+  pagination ← object Key.Pagination Part.Pagination answer
+  next ← field Key.NextKey pagination
+  Ok (is_some (as_null next))
+
+unfoldable pub states : Object → Result States Flaw
+states answer = do
+  last ← is_last answer
+  entries ← items Key.ConsensusStates answer
+  read ← each consensus_state Part.ConsensusStates [] entries
+  Ok (record { states = read; is_last = last })

@@ -1,0 +1,47 @@
+-- The answer of CometBFT's `/validators`: a page of the validators at a height.
+use Rattle.std.specs.Prelude.{ℕ, List, [], Option, Some, None, Result, Ok, ◌&&◌, nat_lt, nat_le, if◌then◌else◌, codes}
+use Rattle.std.specs.Str.{bytes_eq}
+use Rattle.rb_valset.specs.Validator.{Member, max_power}
+use Rattle.rb_import_answers.specs.declared.validators.ValidatorsPage.{ValidatorsPage}
+use Rattle.rb_import_json.specs.declared.flaw.Flaw.{Flaw}
+use Rattle.rb_import_json.specs.declared.flaw.FlawName.TheVariants.{ForeignKey, BadPower}
+use Rattle.rb_import_json.specs.declared.place.Key.{Key}
+use Rattle.rb_import_json.specs.declared.place.Part.{Part}
+use Rattle.rb_import_json.specs.Flaws.{◌>>=◌, or_flaw, must}
+use Rattle.rb_import_json.specs.Fields.{Object, flaw_at, inner, items, text, number, height, base64, each}
+
+-- a validator's key, which has to be of ed25519
+unfoldable pub key : Object → Result (List ℕ) Flaw
+key o = do
+  k ← inner Key.PubKey o
+  kind ← text Key.Type k
+  _ ← must (flaw_at k Key.Type ForeignKey) (bytes_eq kind (codes "tendermint/PubKeyEd25519"))
+  base64 Key.Value k
+
+-- a validator has a power, and not too much
+unfoldable pub member_of : List ℕ → ℕ → Option Member
+member_of key power = if nat_lt 0 power && nat_le power max_power then Some (record { key = key; power = power }) else None
+
+-- an entry of `validators`: the key and the power
+unfoldable pub validator : Object → Result Member Flaw
+validator o = do
+  k ← key o
+  power ← number Key.VotingPower o
+  or_flaw (flaw_at o Key.VotingPower BadPower) (member_of k power)
+
+-- validators of a height, and how many there are on all of its pages
+pub record Page : Type 0 where
+  pub height : ℕ
+  pub total : ℕ
+  pub validators : List Member
+
+abbrev pub page_view : ValidatorsPage → Page
+page_view p = record { height = p.height; total = p.total; validators = p.validators.items }
+
+unfoldable pub page : Object → Result Page Flaw
+page result = do
+  at ← height Key.BlockHeight result
+  total ← number Key.Total result
+  entries ← items Key.Validators result
+  validators ← each validator Part.Validators [] entries
+  Ok (record { height = at; total = total; validators = validators })

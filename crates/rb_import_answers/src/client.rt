@@ -1,0 +1,225 @@
+//! The answers of ibc-go's REST gateway on a client: its state, and the consensus states that it
+//! has stored.
+ghost use Rattle.std.specs.Prelude.{◌≡◌, []};
+ghost use Rattle.serde_json.specs.View.{items_view};
+ghost use Rattle.rb_import_json.specs.Flaws.{Reads, Gives};
+ghost use Rattle.rb_import_json.specs.Fields.{object_view, each};
+ghost use Rattle.rb_import_answers.specs.Clients.{tendermint, live, revision, trust, period_of, period, drift_of, drift, client_state, root, consensus_state, is_last, states, states_view};
+
+use crate::duration::nanoseconds_of;
+use crate::number::{MAX_NUMBER, script_number};
+use rb_base::{ChainId, Fraction, Height, Moment, Period};
+use rb_import_json::{AnswerError, Flaw, FlawName, Key, Object, Part};
+use serde_json::Value;
+use std::alloc::Global;
+
+/// The part of a trusted set that has to have signed: from a third to one, in numbers below 2^63.
+#[derive(Clone, Copy)]
+pub struct TrustLevel {
+    pub numerator: u64,
+    pub denominator: u64,
+}
+
+/// How a Tendermint client judges headers (ICS 7): the chain that it tracks, that chain's revision
+/// number, its trust level, its trusting period, and the clock drift in nanoseconds.
+#[derive(Clone, Copy)]
+pub struct ClientState {
+    pub chain: ChainId,
+    pub revision: u64,
+    pub trust: TrustLevel,
+    pub period: Period,
+    pub drift: u64,
+}
+
+/// What a client has stored at a height.
+#[derive(Clone, Copy)]
+pub struct ConsensusState {
+    pub revision: u64,
+    pub height: Height,
+    pub time: Moment,
+    pub root: [u8; 32],
+    pub next: [u8; 32],
+}
+
+/// Consensus states of a client, and whether they end the list.
+#[derive(Drop)]
+pub struct ConsensusPage {
+    pub states: Vec<ConsensusState>,
+    pub is_last: bool,
+}
+
+/// Reads an answer of `client_states/ID`.
+#[tactic(auto, using(rb_import_json::proofs::Steps::steps), unfolding(crate::specs::Clients::client_state))]
+pub(crate) fn read_client_state(answer: &Object<'_>) -> Result<ClientState, Flaw>
+    ensures { Reads (λ s. s) result (client_state (object_view answer.now)) }
+{
+    let state = answer.object(Key::ClientState, Part::ClientState)?;
+    judge_type(&state)?;
+    judge_frozen(&state)?;
+    let chain = state.chain(Key::ChainId)?;
+    let revision = read_revision(&state)?;
+    let trust = read_trust(&state)?;
+    let period = read_period(&state)?;
+    let drift = read_drift(&state)?;
+    Ok(ClientState {
+        chain,
+        revision,
+        trust,
+        period,
+        drift,
+    })
+}
+
+/// Refuses a client that isn't Tendermint's.
+#[tactic(auto, using(rb_import_json::proofs::Steps::steps), unfolding(crate::specs::Clients::tendermint))]
+fn judge_type(state: &Object<'_>) -> Result<(), Flaw>
+    ensures { Reads (λ u. u) result (tendermint (object_view state.now)) }
+{
+    match state.text(Key::TypeUrl)? {
+        "/ibc.lightclients.tendermint.v1.ClientState" => Ok(()),
+        _ => Err(state.flaw(Key::TypeUrl, FlawName::ForeignClient)),
+    }
+}
+
+/// Refuses a client that is frozen, as its frozen height says, which is 0-0 for others.
+#[tactic(auto, using(rb_import_json::proofs::Steps::steps), unfolding(crate::specs::Clients::live))]
+fn judge_frozen(state: &Object<'_>) -> Result<(), Flaw>
+    ensures { Reads (λ u. u) result (live (object_view state.now)) }
+{
+    let frozen = state.object(Key::FrozenHeight, Part::FrozenHeight)?;
+    let revision = frozen.number(Key::RevisionNumber)?;
+    let height = frozen.number(Key::RevisionHeight)?;
+    if revision == 0 && height == 0 {
+        Ok(())
+    } else {
+        Err(state.flaw(Key::FrozenHeight, FlawName::FrozenClient))
+    }
+}
+
+/// The revision number of the chain that it tracks.
+#[tactic(auto, using(rb_import_json::proofs::Steps::steps), unfolding(crate::specs::Clients::revision))]
+fn read_revision(state: &Object<'_>) -> Result<u64, Flaw>
+    ensures { Reads (λ n. n) result (revision (object_view state.now)) }
+{
+    let latest = state.object(Key::LatestHeight, Part::LatestHeight)?;
+    latest.number(Key::RevisionNumber)
+}
+
+#[tactic(auto, using(rb_import_json::proofs::Steps::steps), unfolding(crate::specs::Clients::trust))]
+fn read_trust(state: &Object<'_>) -> Result<TrustLevel, Flaw>
+    ensures { Reads (λ t. t) result (trust (object_view state.now)) }
+{
+    let level = state.object(Key::TrustLevel, Part::TrustLevel)?;
+    let numerator = script_number(&level, Key::Numerator)?;
+    let denominator = script_number(&level, Key::Denominator)?;
+    match Fraction::new(numerator, denominator) {
+        Ok(_) => Ok(TrustLevel {
+            numerator,
+            denominator,
+        }),
+        Err(_) => Err(state.flaw(Key::TrustLevel, FlawName::BadTrust)),
+    }
+}
+
+#[tactic(auto, using(rb_import_json::proofs::Steps::steps), unfolding(crate::specs::Clients::period))]
+fn read_period(state: &Object<'_>) -> Result<Period, Flaw>
+    ensures { Reads (λ p. p) result (period (object_view state.now)) }
+{
+    match nanoseconds_of(state.text(Key::TrustingPeriod)?).and_then(period_of) {
+        Some(period) => Ok(period),
+        None => Err(state.flaw(Key::TrustingPeriod, FlawName::BadDuration)),
+    }
+}
+
+/// The period of so many nanoseconds.
+#[tactic(auto, using(crate::proofs::Values::periods), unfolding(crate::specs::Clients::period_of))]
+fn period_of(nanoseconds: u64) -> Option<Period>
+    ensures { result ≡ period_of nanoseconds }
+{
+    Period::new(nanoseconds)
+}
+
+#[tactic(auto, using(rb_import_json::proofs::Steps::steps), unfolding(crate::specs::Clients::drift))]
+fn read_drift(state: &Object<'_>) -> Result<u64, Flaw>
+    ensures { Reads (λ d. d) result (drift (object_view state.now)) }
+{
+    match nanoseconds_of(state.text(Key::MaxClockDrift)?).and_then(drift_of) {
+        Some(drift) => Ok(drift),
+        None => Err(state.flaw(Key::MaxClockDrift, FlawName::BadDuration)),
+    }
+}
+
+/// The clock drift of so many nanoseconds.
+#[tactic(auto, unfolding(crate::specs::Clients::drift_of))]
+fn drift_of(nanoseconds: u64) -> Option<u64>
+    ensures { result ≡ drift_of nanoseconds }
+{
+    if nanoseconds <= MAX_NUMBER {
+        Some(nanoseconds)
+    } else {
+        None
+    }
+}
+
+/// Reads an answer of `consensus_states/ID`.
+#[tactic(auto, using(rb_import_json::proofs::Steps::steps), unfolding(crate::specs::Clients::states))]
+pub(crate) fn read_consensus_states(
+    alloc: Global,
+    answer: &Object<'_>,
+) -> Result<ConsensusPage, AnswerError>
+    ensures { Gives (λ p. states_view p) result (states (object_view answer.now)) }
+{
+    let is_last = read_is_last(answer)?;
+    let states = read_states(alloc, answer.items(Key::ConsensusStates)?)?;
+    Ok(ConsensusPage { states, is_last })
+}
+
+#[tactic(auto, using(rb_import_json::proofs::Steps::steps))]
+fn read_states(alloc: Global, items: &[Value]) -> Result<Vec<ConsensusState>, AnswerError>
+    ensures { Gives (λ v. v.items) result (each consensus_state Part.ConsensusStates [] (items_view items.now)) }
+{
+    let mut states = Vec::with_capacity(alloc, items.len())?;
+    for value in items {
+        let entry = Object::element(value, Part::ConsensusStates, states.len());
+        states.push(read_consensus_state(&entry)?)?;
+    }
+    Ok(states)
+}
+
+/// Whether no page follows, as the key of the next one says.
+#[tactic(auto, using(rb_import_json::proofs::Steps::steps), unfolding(crate::specs::Clients::is_last))]
+fn read_is_last(answer: &Object<'_>) -> Result<bool, Flaw>
+    ensures { Reads (λ b. b) result (is_last (object_view answer.now)) }
+{
+    let pagination = answer.object(Key::Pagination, Part::Pagination)?;
+    let next = pagination.field(Key::NextKey)?;
+    Ok(next.is_null())
+}
+
+#[tactic(auto, using(rb_import_json::proofs::Steps::steps), unfolding(crate::specs::Clients::consensus_state))]
+fn read_consensus_state(entry: &Object<'_>) -> Result<ConsensusState, Flaw>
+    ensures { Reads (λ s. s) result (consensus_state (object_view entry.now)) }
+{
+    let at = entry.inner(Key::Height)?;
+    let state = entry.inner(Key::ConsensusState)?;
+    let revision = at.number(Key::RevisionNumber)?;
+    let height = at.height(Key::RevisionHeight)?;
+    let time = state.time(Key::Timestamp)?;
+    let root = read_root(&state)?;
+    let next = state.hash(Key::NextValidatorsHash)?;
+    Ok(ConsensusState {
+        revision,
+        height,
+        time,
+        root,
+        next,
+    })
+}
+
+#[tactic(auto, using(rb_import_json::proofs::Steps::steps), unfolding(crate::specs::Clients::root))]
+fn read_root(state: &Object<'_>) -> Result<[u8; 32], Flaw>
+    ensures { Reads (λ r. r) result (root (object_view state.now)) }
+{
+    let root = state.inner(Key::Root)?;
+    root.base64(Key::Hash)
+}

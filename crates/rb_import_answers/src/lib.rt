@@ -1,0 +1,24 @@
+//! Answers of nodes, as CometBFT's RPC and ibc-go's REST gateway give them: signed headers, pages
+//! of validators, client states, consensus states and the events of packets; or what is wrong with
+//! an answer, and where.
+#![tactic(auto)]
+
+mod answer;
+mod attributes;
+mod client;
+mod commit;
+mod duration;
+mod number;
+mod packets;
+mod revision;
+mod said;
+mod validators;
+
+pub use answer::{Answer, MAX_ANSWER_BYTES, read_answer};
+pub use client::{ClientState, ConsensusPage, ConsensusState, TrustLevel};
+pub use commit::{BlockIdFlag, Signature, SignedHeader};
+pub use packets::{PacketEvent, PacketKind, PacketPage, RevisionHeight};
+pub use rb_import_json::{AnswerError, Flaw, FlawName, Key, Part, Place};
+pub use revision::revision_of;
+pub use said::said_in;
+pub use validators::ValidatorsPage;

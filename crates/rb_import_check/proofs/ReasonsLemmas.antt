@@ -1,0 +1,226 @@
+-- What the answers of a client have that are refused.
+use Rattle.std.proofs.Common.{◌≡◌, ◌≢◌, ◌⊎◌, ℕ, zero, suc, ◌+◌, ◌<◌, ◌≤◌, ◌==◌, List, [], ◌∷◌, ◌++◌, length, get_or, take, map, filter, Option, Some, None, Bool, true, false, cond, inl, inr, refl, sym, subst, ap, ◌∙◌, All, arith, eq-eqb}
+use Rattle.std.proofs.lemmas.Bool.{leb-true}
+use Rattle.std.specs.Prelude.{Any, Contains, nat_le, MatchOption, count_by, sum_by, slice_index}
+use Rattle.std.specs.List.{flat_map}
+use Rattle.std.specs.List.Sorted.{IsNonDecreasingBy}
+use Rattle.std.specs.Str.Parse.{digits_value}
+use Rattle.std.proofs.lemmas.List.{length-append}
+use Rattle.std.proofs.lemmas.List.Sums.{sum_by-cons}
+use Rattle.std.proofs.lemmas.List.Sorted.{sum_by-IsPermutation, Contains-permutation, IsPermutation-sym}
+use Rattle.rb_import_answers.specs.Revisions.{IsRevision, IsNumbered, at_last_dash}
+use Rattle.rb_import_answers.specs.declared.answer.Answer.{Answer}
+use Rattle.rb_import_answers.specs.declared.answer.Answer.TheVariants as answers
+use Rattle.rb_import_answers.specs.declared.client.ClientState.{ClientState}
+use Rattle.rb_import_answers.specs.declared.client.ConsensusPage.{ConsensusPage}
+use Rattle.rb_import_answers.specs.declared.client.ConsensusState.{ConsensusState}
+use Rattle.rb_import_setup.specs.declared.setup.ClientSetup.{ClientSetup}
+use Rattle.rb_import_check.specs.declared.client.Stored.{Stored}
+use Rattle.rb_import_check.specs.declared.error.ProblemName.{ProblemName}
+use Rattle.rb_import_check.specs.declared.error.ImportError.{ImportError}
+use Rattle.rb_import_check.specs.declared.error.ImportError.TheVariants as errors
+use Rattle.rb_import_check.specs.declared.saved.Saved.{Saved}
+use Rattle.rb_import_check.specs.Clients.{HaveStates, HasReason, HasOtherRevision, TellsTwice, Refuses, Falls, IsOfRevision, client_states_in, client_states_of, stored_of, current_of, is_of_client}
+use Rattle.rb_import_check.specs.Problems.{IsTold}
+use Rattle.rb_import_check.proofs.Sorting.{taken}
+
+-- ---- one revision
+
+same_number : (o : Option (List ℕ × List ℕ)) (n m : ℕ) (P : List ℕ × List ℕ → Type 0) (f : List ℕ × List ℕ → ℕ)
+    → MatchOption o (n ≡ 0) (λ parts. (P parts × (n ≡ f parts)) ⊎ ((¬ P parts) × (n ≡ 0)))
+    → MatchOption o (m ≡ 0) (λ parts. (P parts × (m ≡ f parts)) ⊎ ((¬ P parts) × (m ≡ 0))) → n ≡ m
+same_number None n m P f a b = a ∙ sym b
+same_number (Some parts) n m P f (inl a) (inl b) = a.1 ∙ sym b.1
+same_number (Some parts) n m P f (inl a) (inr b) = absurd (b.0 a.0)
+same_number (Some parts) n m P f (inr a) (inl b) = absurd (a.0 b.0)
+same_number (Some parts) n m P f (inr a) (inr b) = a.1 ∙ sym b.1
+
+pub other_revision : (id : List ℕ) (n m : ℕ) → IsRevision id n → m ≢ n → IsRevision id m → ⊥
+other_revision id n m is other also = other (same_number (at_last_dash id) m n IsNumbered (λ parts. digits_value 10 parts.1) also is)
+
+-- ---- some element
+
+any_there : {A : Type 0} (P : A → Type 0) (x : A) (xs : List A) → Any P xs → Any P (x ∷ xs)
+any_there P x xs (k, y, small, is, p) = (suc k, y, omega arith, is, p)
+
+pub any_left : {A : Type 0} (P : A → Type 0) (xs ys : List A) → Any P xs → Any P (xs ++ ys)
+any_left P [] ys (k, y, small, is, p) = absurd (omega arith)
+any_left P (x ∷ xs) ys (zero, y, small, is, p) = (zero, y, omega arith, is, p)
+any_left P (x ∷ xs) ys (suc k, y, small, is, p) = any_there P x (xs ++ ys) (any_left P xs ys (k, y, omega arith, is, p))
+
+any_right : {A : Type 0} (P : A → Type 0) (xs ys : List A) → Any P ys → Any P (xs ++ ys)
+any_right P [] ys w = w
+any_right P (x ∷ xs) ys w = any_there P x (xs ++ ys) (any_right P xs ys w)
+
+-- what is in an element is in all
+any_in : {X A : Type 0} (P : A → Type 0) (f : X → List A) (xs : List X) (i : ℕ) (x : X) → i < length xs → get_or xs i x ≡ x → Any P (f x) → Any P (flat_map f xs)
+any_in P f [] i x small is w = absurd (omega arith)
+any_in P f (y ∷ xs) zero x small is w = any_left P (f y) (flat_map f xs) (subst (λ z. Any P (f z)) (sym is) w)
+any_in P f (y ∷ xs) (suc i) x small is w = any_right P (f y) (flat_map f xs) (any_in P f xs i x (omega arith) is w)
+
+pub any_one : {X A : Type 0} (P : A → Type 0) (f : X → List A) (xs : List X) (i : ℕ) (x : X) (a : A) → i < length xs → x ≡ get_or xs i x → f x ≡ a ∷ [] → P a → Any P (flat_map f xs)
+any_one P f xs i x a small is there p = any_in P f xs i x small (sym is) (subst (Any P) (sym there) (zero, a, omega arith, refl, p))
+
+-- ---- what belongs elsewhere
+
+pub is_foreign : (a : Answer) → ((state : ClientState) → a ≡ answers.ClientState state → ⊥) → ((page : ConsensusPage) → a ≡ answers.ConsensusStates page → ⊥) → is_of_client a ≡ false
+is_foreign (answers.Commit header) first second = refl
+is_foreign (answers.Validators page) first second = refl
+is_foreign (answers.ClientState state) first second = absurd (first state refl)
+is_foreign (answers.ConsensusStates page) first second = absurd (second page refl)
+is_foreign (answers.Transactions page) first second = refl
+
+-- ---- what the client's states have
+
+pub other_chain : (tracked : List ℕ) (saved : List Saved) (i : ℕ) (s : Saved) (x : ClientState) → i < length saved → s ≡ get_or saved i s → client_states_in s.answer ≡ x ∷ []
+    → x.chain ≢ tracked → Any (λ state. state.chain ≢ tracked) (client_states_of saved)
+other_chain tracked saved i s x small is there other = any_one (λ (state : ClientState). state.chain ≢ tracked) (λ (t : Saved). client_states_in t.answer) saved i s x small is there other
+
+pub other_state : (tracked : List ℕ) (saved : List Saved) (i : ℕ) (s : Saved) (x : ClientState) (n : ℕ) → i < length saved → s ≡ get_or saved i s → client_states_in s.answer ≡ x ∷ []
+    → IsRevision tracked n → x.revision ≢ n → HasOtherRevision tracked saved
+other_state tracked saved i s x n small is there number other =
+    inl (any_one (λ (state : ClientState). ¬ IsRevision tracked state.revision) (λ (t : Saved). client_states_in t.answer) saved i s x small is there (other_revision tracked n x.revision number other))
+
+longer : {X A : Type 0} (f : X → List A) (xs : List X) (i : ℕ) → length (flat_map f (take i xs)) ≤ length (flat_map f xs)
+longer f [] zero = omega arith
+longer f [] (suc i) = omega arith
+longer f (x ∷ xs) zero = omega arith
+longer f (x ∷ xs) (suc i) =
+    let more : length (flat_map f (take i xs)) ≤ length (flat_map f xs) = longer f xs i in
+    let short : length (f x ++ flat_map f (take i xs)) ≡ length (f x) + length (flat_map f (take i xs)) = length-append (f x) _ in
+    let long : length (f x ++ flat_map f xs) ≡ length (f x) + length (flat_map f xs) = length-append (f x) _ in
+    omega arith
+
+pub two_states : (tracked : List ℕ) (saved : List Saved) (i : ℕ) (s : Saved) (x y : ClientState) → i < length saved → s ≡ get_or saved i s → x ∷ [] ≡ client_states_of (take i saved)
+    → client_states_in s.answer ≡ y ∷ [] → TellsTwice tracked saved
+two_states tracked saved i s x y small is before there =
+    let f : Saved → List ClientState = λ t. client_states_in t.answer in
+    let both : flat_map f (take (i + 1) saved) ≡ x ∷ y ∷ [] = taken f saved i s small is ∙ ap (λ l. l ++ f s) (sym before) ∙ ap (λ l. x ∷ l) there in
+    let two : length (flat_map f (take (i + 1) saved)) ≡ 2 = ap length both in
+    let most : length (flat_map f (take (i + 1) saved)) ≤ length (flat_map f saved) = longer f saved (i + 1) in
+    inl (omega arith)
+
+-- ---- what its records have
+
+abbrev pub height_of : Stored → ℕ
+height_of s = s.state.now.height
+
+abbrev pub at_height : ℕ → ConsensusState → Bool
+at_height h s = s.height == h
+
+in_map : (P : ConsensusState → Type 0) (stored : List Stored) → Any (λ (s : Stored). P s.state.now) stored → (s : ConsensusState) × Contains (map (λ (t : Stored). t.state.now) stored) s × P s
+in_map P [] (k, s, small, is, p) = absurd (omega arith)
+in_map P (x ∷ xs) (zero, s, small, is, p) = (s.state.now, (zero, omega arith, ap (λ (t : Stored). t.state.now) is), p)
+in_map P (x ∷ xs) (suc k, s, small, is, p) =
+    let w = in_map P xs (k, s, omega arith, is, p) in
+    (w.0, (suc w.1.0, omega arith, w.1.2), w.2)
+
+above : (m n : ℕ) → m ≤ n → n ≢ m → m < n
+above zero zero le other = absurd (other refl)
+above zero (suc n) le other = omega arith
+above (suc m) zero le other = absurd (omega (arith, le))
+above (suc m) (suc n) le other = let w = above m n (omega (arith, le)) (λ e. other (ap (λ k. suc k) e)) in omega (arith, w)
+
+in_states : (P : ConsensusState → Type 0) (states : List ConsensusState) (stored : List Stored) → HaveStates states stored → Any (λ (s : Stored). P s.state.now) stored → Any P states
+in_states P states stored same w =
+    let found = in_map P stored w in
+    let there = Contains-permutation _ states found.0 (IsPermutation-sym states _ same) found.1 in
+    (there.0, found.0, there.1, there.2, found.2)
+
+-- as many records are of a height, in whatever order
+sum_map : (h : ℕ) (stored : List Stored) → count_by (at_height h) (map (λ (t : Stored). t.state.now) stored) ≡ count_by (λ s. height_of s == h) stored
+sum_map h [] = refl
+sum_map h (x ∷ xs) =
+    sum_by-cons (λ s. cond (at_height h s) 1 0) x.state.now (map (λ (t : Stored). t.state.now) xs)
+    ∙ ap (λ n. cond (height_of x == h) 1 0 + n) (sum_map h xs) ∙ sym (sum_by-cons (λ s. cond (height_of s == h) 1 0) x xs)
+
+more : (b : Bool) (n : ℕ) → n ≤ cond b 1 0 + n
+more true n = omega arith
+more false n = omega arith
+
+two_at : (h : ℕ) (xs : List Stored) (i : ℕ) (d : Stored) → i + 1 < length xs → height_of (get_or xs i d) ≡ h → height_of (get_or xs (i + 1) d) ≡ h → 1 < count_by (λ s. height_of s == h) xs
+two_at h [] i d small one two = absurd (omega arith)
+two_at h (x ∷ []) i d small one two = absurd (omega arith)
+two_at h (x ∷ y ∷ xs) zero d small one two =
+    let f : Stored → ℕ = λ s. cond (height_of s == h) 1 0 in
+    let first : f x ≡ 1 = ap (λ b. cond b 1 0) (eq-eqb (height_of x) h one) in
+    let second : f y ≡ 1 = ap (λ b. cond b 1 0) (eq-eqb (height_of y) h two) in
+    let whole : sum_by f (x ∷ y ∷ xs) ≡ f x + sum_by f (y ∷ xs) = sum_by-cons f x (y ∷ xs) in
+    let rest : sum_by f (y ∷ xs) ≡ f y + sum_by f xs = sum_by-cons f y xs in
+    omega arith
+two_at h (x ∷ y ∷ xs) (suc i) d small one two =
+    let f : Stored → ℕ = λ s. cond (height_of s == h) 1 0 in
+    let next : suc i + 1 ≡ suc (i + 1) = omega arith in
+    let below : 1 < sum_by f (y ∷ xs) = two_at h (y ∷ xs) i d (omega arith) one (subst (λ k. height_of (get_or (x ∷ y ∷ xs) k d) ≡ h) next two) in
+    let whole : sum_by f (x ∷ y ∷ xs) ≡ f x + sum_by f (y ∷ xs) = sum_by-cons f x (y ∷ xs) in
+    omega arith
+
+index_map : (xs : List Stored) (k : ℕ) (d : Stored) → k < length xs → slice_index (map height_of xs) k ≡ height_of (get_or xs k d)
+index_map [] k d small = absurd (omega arith)
+index_map (x ∷ xs) zero d small = refl
+index_map (x ∷ xs) (suc k) d small = index_map xs k d (omega arith)
+
+length_map : (xs : List Stored) → length (map height_of xs) ≡ length xs
+length_map [] = refl
+length_map (x ∷ xs) = ap (λ n. suc n) (length_map xs)
+
+two_records : (states : List ConsensusState) (stored : List Stored) → HaveStates states stored → IsNonDecreasingBy height_of stored → Falls (map height_of stored) → (h : ℕ) × (1 < count_by (at_height h) states)
+two_records states [] same order (i, small, low) = absurd (omega arith)
+two_records states (x ∷ xs) same order (i, small, low) =
+    let stored : List Stored = x ∷ xs in
+    let in_range : i + 1 < length stored = subst (λ n. i + 1 < n) (length_map stored) small in
+    let one : slice_index (map height_of stored) i ≡ height_of (get_or stored i x) = index_map stored i x (omega arith) in
+    let two : slice_index (map height_of stored) (i + 1) ≡ height_of (get_or stored (i + 1) x) = index_map stored (i + 1) x in_range in
+    let rising : height_of (get_or stored i x) ≤ height_of (get_or stored (i + 1) x) = order i (i + 1) x (omega arith) in_range in
+    let both : height_of (get_or stored (i + 1) x) ≡ height_of (get_or stored i x) = omega arith in
+    let h : ℕ = height_of (get_or stored i x) in
+    let many : 1 < count_by (λ s. height_of s == h) stored = two_at h stored i x in_range refl both in
+    (h, subst (λ n. 1 < n) (sym (sum_map h stored) ∙ sum_by-IsPermutation (λ s. cond (at_height h s) 1 0) states _ same) many)
+
+-- ---- the reasons of the errors
+
+pub tells_foreign : (setup : ClientSetup) (tracked : List ℕ) (saved : List Saved) (e : ImportError) → IsTold ProblemName.WrongFolder (Any (λ s. is_of_client s.answer ≡ false) saved) e
+    → HasReason setup tracked saved e
+tells_foreign setup tracked saved (errors.Problem p) w = subst (λ name. Refuses name setup tracked saved) (sym w.0) w.1
+tells_foreign setup tracked saved errors.NoMemory w = tt
+
+from_at : (p : ConsensusState → Bool) (Q : ConsensusState → Type 0) (b : Bool) (x : ConsensusState) (xs ys : List ConsensusState) → p x ≡ b
+    → (Any Q xs → Any (λ s. (p s ≡ true) × Q s) ys) → Any Q (cond b (x ∷ xs) xs) → Any (λ s. (p s ≡ true) × Q s) (x ∷ ys)
+from_at p Q true x xs ys e next (zero, y, small, is, q) = (zero, x, omega arith, refl, (e, subst Q (sym is) q))
+from_at p Q true x xs ys e next (suc k, y, small, is, q) = any_there (λ s. (p s ≡ true) × Q s) x ys (next (k, y, omega arith, is, q))
+from_at p Q false x xs ys e next w = any_there (λ s. (p s ≡ true) × Q s) x ys (next w)
+
+-- some of those that pass is one of all, and passes
+from_filter : (p : ConsensusState → Bool) (Q : ConsensusState → Type 0) (xs : List ConsensusState) → Any Q (filter p xs) → Any (λ s. (p s ≡ true) × Q s) xs
+from_filter p Q [] (k, y, small, is, q) = absurd (omega (arith, small))
+from_filter p Q (x ∷ xs) w = from_at p Q (p x) x (filter p xs) xs refl (from_filter p Q xs) w
+
+any_so : (P Q : ConsensusState → Type 0) (xs : List ConsensusState) → ((s : ConsensusState) → P s → Q s) → Any P xs → Any Q xs
+any_so P Q xs f (k, y, small, is, p) = (k, y, small, is, f y p)
+
+-- one that isn't earlier, and of another revision, is of a later one
+later : (revision : ℕ) (saved : List Saved) → Any (λ s. s.revision ≢ revision) (current_of revision saved) → Any (λ s. revision < s.revision) (stored_of saved)
+later revision saved w =
+    any_so (λ (s : ConsensusState). (nat_le revision s.revision ≡ true) × (s.revision ≢ revision)) (λ (s : ConsensusState). revision < s.revision) (stored_of saved)
+    (λ s h. let low : revision ≤ s.revision = leb-true revision s.revision h.0 in above revision s.revision low h.1)
+    (from_filter (λ (s : ConsensusState). nat_le revision s.revision) (λ (s : ConsensusState). s.revision ≢ revision) (stored_of saved) w)
+
+pub tells_revision : (setup : ClientSetup) (tracked : List ℕ) (saved : List Saved) (revision : ℕ) (stored : List Stored) (e : ImportError) → IsRevision tracked revision
+    → HaveStates (current_of revision saved) stored → IsTold ProblemName.OtherRevision (Any (λ s. s.state.now.revision ≢ revision) stored) e → HasReason setup tracked saved e
+tells_revision setup tracked saved revision stored (errors.Problem p) is same w =
+    subst (λ name. Refuses name setup tracked saved) (sym w.0)
+    (inr (revision, is, later revision saved (in_states (λ (s : ConsensusState). s.revision ≢ revision) (current_of revision saved) stored same w.1)))
+tells_revision setup tracked saved revision stored errors.NoMemory is same w = tt
+
+pub tells_twice : (setup : ClientSetup) (tracked : List ℕ) (saved : List Saved) (revision : ℕ) (stored : List Stored) (e : ImportError) → IsRevision tracked revision
+    → HaveStates (current_of revision saved) stored → IsNonDecreasingBy (λ (s : Stored). s.state.now.height) stored
+    → IsTold ProblemName.TwoAnswers (Falls (map (λ (s : Stored). s.state.now.height) stored)) e → HasReason setup tracked saved e
+tells_twice setup tracked saved revision stored (errors.Problem p) is same order w =
+    subst (λ name. Refuses name setup tracked saved) (sym w.0) (inr (revision, is, two_records (current_of revision saved) stored same order w.1))
+tells_twice setup tracked saved revision stored errors.NoMemory is same order w = tt
+
+-- records of the chain's revision number are of its revision
+pub are_of_revision : (tracked : List ℕ) (revision : ℕ) (stored : List Stored) → IsRevision tracked revision → All (λ (s : Stored). s.state.now.revision ≡ revision) stored → All (IsOfRevision tracked) stored
+are_of_revision tracked revision stored is h = λ k d small. subst (IsRevision tracked) (sym (h k d small)) is
+
+pub ruleset recording = (tells_foreign, tells_revision, tells_twice, are_of_revision)

@@ -1,0 +1,43 @@
+use Rattle.std.proofs.Common.{◌≡◌, ◌<◌, ℕ, length, map, get_or, refl, sym, ap, subst, ◌∙◌}
+use Rattle.std.specs.List.Sorted.{IsBinarySearchResult}
+use Rattle.std.specs.Ordering.{nat_cmp}
+use Rattle.std.proofs.lemmas.Bool.{true≢false}
+use Rattle.std.proofs.lemmas.List.{length-map}
+use Rattle.rb_import_check.specs.declared.error.ProblemName.{ProblemName}
+use Rattle.rb_import_check.specs.Accord.{AgreesWith}
+use Rattle.rb_import_check.specs.Problems.{IsTold}
+use Rattle.rb_import_check.proofs.Accords.{agrees_where_absent, agrees_where_found, disagrees, found_height, height_of}
+use Rattle.rb_import_check.proofs.accord.judge_record.Goals as goal
+
+pub returns-in_default-clause-accord : goal.returns-in_default-clause-accord
+returns-in_default-clause-accord c =
+    let height : ℕ = c.args.stored.now.state.now.height in
+    let among : IsBinarySearchResult (λ y. nat_cmp y height) (map height_of c.args.chain.now.commits.items) c.binary_search.result =
+    subst (λ l. IsBinarySearchResult (λ y. nat_cmp y height) l c.binary_search.result) c.requires c.binary_search.ensures.position in
+    agrees_where_absent c.args.chain.now.commits.items c.args.stored.now c.in_default.field-0 c.args.chain.now.rising
+    (subst (λ r. IsBinarySearchResult (λ y. nat_cmp y height) (map height_of c.args.chain.now.commits.items) r) c.in_default.is among)
+
+pub returns-then-is_as_header-clause-accord : goal.returns-then-is_as_header-clause-accord
+returns-then-is_as_header-clause-accord c =
+    let height : ℕ = c.args.stored.now.state.now.height in
+    let among : IsBinarySearchResult (λ y. nat_cmp y height) (map height_of c.args.chain.now.commits.items) c.binary_search.result =
+    subst (λ l. IsBinarySearchResult (λ y. nat_cmp y height) l c.binary_search.result) c.requires c.binary_search.ensures.position in
+    let found = subst (λ r. IsBinarySearchResult (λ y. nat_cmp y height) (map height_of c.args.chain.now.commits.items) r) c.in-Ok.is among in
+    let long : length c.args.heights.now ≡ length c.args.chain.now.commits.items = ap length c.requires ∙ length-map c.args.chain.now.commits.items height_of in
+    let small : c.in-Ok.place < length c.args.chain.now.commits.items = subst (λ n. c.in-Ok.place < n) long c.in-Ok.ensures.bound in
+    let is : c.index-commit.result.now ≡ get_or c.args.chain.now.commits.items c.in-Ok.place c.index-commit.result.now = c.index-commit.ensures in
+    let at = found_height c.args.chain.now.commits.items c.args.stored.now c.in-Ok.place c.index-commit.result.now c.args.chain.now.rising found small is in
+    agrees_where_found c.args.chain.now.commits.items c.args.stored.now c.in-Ok.place c.index-commit.result.now c.args.chain.now.rising small is at (c.is_as_header.ensures.0 c.if-is_as_header.true)
+
+pub returns-clause-other : goal.returns-clause-other
+returns-clause-other c =
+    let height : ℕ = c.args.stored.now.state.now.height in
+    let among : IsBinarySearchResult (λ y. nat_cmp y height) (map height_of c.args.chain.now.commits.items) c.binary_search.result =
+    subst (λ l. IsBinarySearchResult (λ y. nat_cmp y height) l c.binary_search.result) c.requires c.binary_search.ensures.position in
+    let found = subst (λ r. IsBinarySearchResult (λ y. nat_cmp y height) (map height_of c.args.chain.now.commits.items) r) c.in-Ok.is among in
+    let long : length c.args.heights.now ≡ length c.args.chain.now.commits.items = ap length c.requires ∙ length-map c.args.chain.now.commits.items height_of in
+    let small : c.in-Ok.place < length c.args.chain.now.commits.items = subst (λ n. c.in-Ok.place < n) long c.in-Ok.ensures.bound in
+    let is : c.index-commit.result.now ≡ get_or c.args.chain.now.commits.items c.in-Ok.place c.index-commit.result.now = c.index-commit.ensures in
+    let at = found_height c.args.chain.now.commits.items c.args.stored.now c.in-Ok.place c.index-commit.result.now c.args.chain.now.rising found small is in
+    let other = disagrees c.args.chain.now.commits.items c.args.stored.now c.in-Ok.place c.index-commit.result.now small is at (λ w. true≢false (sym (c.is_as_header.ensures.1 w) ∙ c.if-is_as_header.false)) in
+    subst (IsTold ProblemName.OtherRecord (AgreesWith c.args.chain.now.commits.items c.args.stored.now → ⊥)) (sym c.between.ensures) (refl, other)

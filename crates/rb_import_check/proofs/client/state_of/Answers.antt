@@ -1,0 +1,31 @@
+use Rattle.std.proofs.Common.{◌≡◌, ◌≢◌, ◌<◌, [], ◌∷◌, length, take, get_or, false, arith, rules, ap, subst, sym, ◌∙◌}
+use Rattle.std.proofs.lemmas.Bool.{true≢false}
+use Rattle.std.proofs.lemmas.Grind.{common_steps}
+use Rattle.rb_import_check.specs.Clients.{HasReason, client_states_in, client_states_of}
+use Rattle.rb_import_check.proofs.ReasonsLemmas.{other_chain, other_state, two_states}
+use Rattle.rb_import_check.proofs.client.state_of.Goals as goal
+
+pub returns-then-not-is_of_chain-clause-reason : goal.returns-then-not-is_of_chain-clause-reason
+returns-then-not-is_of_chain-clause-reason c =
+    let small : c.loop-saved.saved-index < length c.args.answers.now = search rules in
+    let is : c.saved-item.result ≡ get_or c.args.answers.now c.loop-saved.saved-index c.saved-item.result = search rules in
+    let unlike : c.is_of_chain.result ≡ false = search rules in
+    let other : c.in-ClientState.state.chain ≢ c.args.tracked.now = (λ same. true≢false (sym (c.is_of_chain.ensures.1 same) ∙ unlike)) in
+    subst (HasReason c.args.setup.now c.args.tracked.now c.args.answers.now) (sym c.at.ensures)
+    (other_chain c.args.tracked.now c.args.answers.now c.loop-saved.saved-index c.saved-item.result c.in-ClientState.state small is (ap client_states_in c.in-ClientState.is) other)
+
+pub returns-then-state-revision-clause-reason : goal.returns-then-state-revision-clause-reason
+returns-then-state-revision-clause-reason c =
+    let small : c.loop-saved.saved-index < length c.args.answers.now = search rules in
+    let is : c.saved-item.result ≡ get_or c.args.answers.now c.loop-saved.saved-index c.saved-item.result = search rules in
+    let other : c.in-ClientState.state.revision ≢ c.revision_of-revision.result = grind (arith, common_steps) in
+    subst (HasReason c.args.setup.now c.args.tracked.now c.args.answers.now) (sym c.at-then-state-revision.ensures)
+    (other_state c.args.tracked.now c.args.answers.now c.loop-saved.saved-index c.saved-item.result c.in-ClientState.state c.revision_of-revision.result small is (ap client_states_in c.in-ClientState.is) (search rules) other)
+
+pub returns-in-Some-clause-reason : goal.returns-in-Some-clause-reason
+returns-in-Some-clause-reason c =
+    let small : c.loop-saved.saved-index < length c.args.answers.now = search rules in
+    let is : c.saved-item.result ≡ get_or c.args.answers.now c.loop-saved.saved-index c.saved-item.result = search rules in
+    let before : c.in-Some.field-0-1.now ∷ [] ≡ client_states_of (take c.loop-saved.saved-index c.args.answers.now) = grind (arith, common_steps) in
+    subst (HasReason c.args.setup.now c.args.tracked.now c.args.answers.now) (sym c.between.ensures)
+    (two_states c.args.tracked.now c.args.answers.now c.loop-saved.saved-index c.saved-item.result c.in-Some.field-0-1.now c.in-ClientState.state small is before (ap client_states_in c.in-ClientState.is))

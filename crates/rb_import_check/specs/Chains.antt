@@ -1,0 +1,96 @@
+-- What was seen of a chain (CometBFT's `/commit` and `/validators`).
+use Rattle.std.specs.Prelude.{◌≡◌, ◌⊎◌, ◌<◌, ◌==◌, ◌++◌, ℕ, List, [], ◌∷◌, All, Contains, length, map, filter}
+use Rattle.std.specs.List.{AllZip, flat_map}
+use Rattle.std.specs.List.Sorted.{IsPermutation, IsStrictlyIncreasing}
+use Rattle.rb_valset.specs.Validator.{Member}
+use Rattle.rb_valset.specs.ValidatorSet.{set_hash, in_set_order}
+use Rattle.rb_import_answers.specs.declared.answer.Answer.{Answer}
+use Rattle.rb_import_answers.specs.declared.answer.Answer.TheVariants as answers
+use Rattle.rb_import_answers.specs.declared.commit.SignedHeader.{SignedHeader}
+use Rattle.rb_import_answers.specs.declared.validators.ValidatorsPage.{ValidatorsPage}
+use Rattle.rb_import_check.specs.declared.saved.Saved.{Saved}
+use Rattle.rb_import_check.specs.declared.chain.Commit.{Commit}
+use Rattle.rb_import_check.specs.declared.chain.Page.{Page}
+use Rattle.rb_import_check.specs.declared.sets.SeenSet.{SeenSet}
+use Rattle.rb_import_check.specs.Sets.{WasSeen}
+
+abbrev pub headers_in : Answer → List SignedHeader
+headers_in (answers.Commit header) = header ∷ []
+headers_in (answers.Validators page) = []
+headers_in (answers.ClientState state) = []
+headers_in (answers.ConsensusStates page) = []
+headers_in (answers.Transactions page) = []
+
+-- the headers that a chain's answers tell of, in their order
+abbrev pub headers_of : List Saved → List SignedHeader
+headers_of saved = flat_map (λ s. headers_in s.answer) saved
+
+-- the commits have these headers, each once
+abbrev pub HaveHeaders : List SignedHeader → List Commit → Type 0
+HaveHeaders headers commits = IsPermutation headers (map (λ (c : Commit). c.header.now) commits)
+
+abbrev pub IsOfChain : List ℕ → Commit → Type 0
+IsOfChain id c = c.header.now.chain ≡ id
+
+-- the set that the header names was seen: its hash is `validators_hash`, and it has a member for each signature
+unfoldable pub HasSet : List SeenSet → Commit → Type 0
+HasSet sets c = (s : SeenSet) × Contains sets s × (set_hash s.set ≡ c.header.now.set) × (length c.header.now.signatures.items ≡ length s.set)
+
+-- ---- the sets of a chain
+
+-- the pages that these files hold
+abbrev pub without_files : List Page → List ValidatorsPage
+without_files pages = map (λ (p : Page). p.page.now) pages
+
+-- the validators of these pages, in their order
+abbrev pub validators_of : List ValidatorsPage → List Member
+validators_of pages = flat_map (λ p. p.validators.items) pages
+
+-- there are pages, and they have as many validators as each says that there are (CometBFT's `total`)
+abbrev pub AreAllPages : List ValidatorsPage → Type 0
+AreAllPages pages = (0 < length pages) × All (λ p. p.total ≡ length (validators_of pages)) pages
+
+-- these are all pages, and it is the set of their validators
+abbrev pub IsSetOf : List ValidatorsPage → List Member → Type 0
+IsSetOf pages set = AreAllPages pages × (set ≡ in_set_order (validators_of pages))
+
+abbrev pub pages_in : Answer → List ValidatorsPage
+pages_in (answers.Commit header) = []
+pages_in (answers.Validators page) = page ∷ []
+pages_in (answers.ClientState state) = []
+pages_in (answers.ConsensusStates page) = []
+pages_in (answers.Transactions page) = []
+
+-- the pages of validators that a chain's answers tell of, in their order
+abbrev pub pages_of : List Saved → List ValidatorsPage
+pages_of saved = flat_map (λ s. pages_in s.answer) saved
+
+-- those of a height
+abbrev pub pages_at : List Saved → ℕ → List ValidatorsPage
+pages_at saved height = filter (λ p. p.height == height) (pages_of saved)
+
+abbrev pub validators_at : List Saved → ℕ → List Member
+validators_at saved height = validators_of (pages_at saved height)
+
+-- the answers have all the validators of this height
+abbrev pub AreWhole : List Saved → ℕ → Type 0
+AreWhole saved height = AreAllPages (pages_at saved height)
+
+-- it is the set of all the validators of this height
+abbrev pub IsSetAt : List Saved → ℕ → List Member → Type 0
+IsSetAt saved height set = IsSetOf (pages_at saved height) set
+
+-- the set of these pages, which are all, came to those that were seen, or none did
+abbrev pub TakesSetOf : List ValidatorsPage → List SeenSet → List SeenSet → Type 0
+TakesSetOf pages before after = (after ≡ before) ⊎ ((s : SeenSet) × IsSetOf pages s.set × (after ≡ before ++ s ∷ []))
+
+-- each of these is the set of all the validators of a height, by rising heights
+abbrev pub AreSetsAt : List Saved → List ℕ → List SeenSet → Type 0
+AreSetsAt saved heights sets = IsStrictlyIncreasing heights × AllZip (λ height (s : SeenSet). IsSetAt saved height s.set) heights sets
+
+-- these are the sets that a chain's answers tell of: each is that of all the validators of some height, by rising heights, and where the
+-- answers have all the validators of a height, a set with the hash of theirs is among them
+unfoldable pub HaveSets : List Saved → List SeenSet → Type 0
+HaveSets saved sets =
+    ((heights : List ℕ) × AreSetsAt saved heights sets)
+    × ((height : ℕ) → AreWhole saved height → WasSeen sets (set_hash (in_set_order (validators_at saved height))))

@@ -1,0 +1,122 @@
+-- What was seen of a client (ibc-go's `client_states/ID` and `consensus_states/ID`).
+use Rattle.std.specs.Prelude.{◌≡◌, ◌≢◌, ◌⊎◌, ◌+◌, ◌<◌, ◌≤◌, ⊤, ℕ, List, [], ◌∷◌, Bool, true, false, Option, Some, None, Any, length, map, filter, count_by, ◌==◌, nat_le, slice_index}
+use Rattle.std.specs.List.{flat_map, list_any}
+use Rattle.std.specs.List.Sorted.{IsPermutation}
+use Rattle.rb_import_answers.specs.declared.answer.Answer.{Answer}
+use Rattle.rb_import_answers.specs.declared.answer.Answer.TheVariants as answers
+use Rattle.rb_import_answers.specs.declared.client.ClientState.{ClientState}
+use Rattle.rb_import_answers.specs.declared.client.ConsensusState.{ConsensusState}
+use Rattle.rb_import_answers.specs.Revisions.{IsRevision}
+use Rattle.rb_import_setup.specs.declared.setup.ClientSetup.{ClientSetup}
+use Rattle.rb_import_check.specs.declared.client.SeenClient.{SeenClient}
+use Rattle.rb_import_check.specs.declared.client.Stored.{Stored}
+use Rattle.rb_import_check.specs.declared.saved.Saved.{Saved}
+use Rattle.rb_import_check.specs.declared.error.ProblemName.{ProblemName}
+use Rattle.rb_import_check.specs.declared.error.ImportError.{ImportError}
+use Rattle.rb_import_check.specs.declared.error.ImportError.TheVariants as errors
+
+-- the record is of the revision of the chain that the client tracks (ICS 2: heights are compared within one revision)
+abbrev pub IsOfRevision : List ℕ → Stored → Type 0
+IsOfRevision tracked s = IsRevision tracked s.state.now.revision
+
+abbrev pub client_states_in : Answer → List ClientState
+client_states_in (answers.Commit header) = []
+client_states_in (answers.Validators page) = []
+client_states_in (answers.ClientState state) = state ∷ []
+client_states_in (answers.ConsensusStates page) = []
+client_states_in (answers.Transactions page) = []
+
+-- the client states that a client's answers tell of
+abbrev pub client_states_of : List Saved → List ClientState
+client_states_of saved = flat_map (λ s. client_states_in s.answer) saved
+
+-- what the setup gives, or else what the first client state gives
+abbrev pub chosen : {A : Type 0} → Option A → (ClientState → A) → List ClientState → Option A
+chosen (Some x) get states = Some x
+chosen None get [] = None
+chosen None get (s ∷ states) = Some (get s)
+
+abbrev pub JudgesAs : ClientSetup → List ClientState → SeenClient → Type 0
+JudgesAs setup states c =
+    (chosen setup.period (λ s. s.period) states ≡ Some c.period)
+    × (chosen setup.drift (λ s. s.drift) states ≡ Some c.drift)
+    × (chosen setup.trust (λ s. s.trust) states ≡ Some c.trust)
+
+abbrev pub stored_in : Answer → List ConsensusState
+stored_in (answers.Commit header) = []
+stored_in (answers.Validators page) = []
+stored_in (answers.ClientState state) = []
+stored_in (answers.ConsensusStates page) = page.states.items
+stored_in (answers.Transactions page) = []
+
+-- the records that a client's answers tell of, in their order
+abbrev pub stored_of : List Saved → List ConsensusState
+stored_of saved = flat_map (λ s. stored_in s.answer) saved
+
+-- those of the records that aren't of a revision before this one: ibc-go takes no update from such
+abbrev pub current_of : ℕ → List Saved → List ConsensusState
+current_of revision saved = filter (λ (s : ConsensusState). nat_le revision s.revision) (stored_of saved)
+
+-- this holds at the revision number of the chain that the client tracks
+abbrev pub AtRevision : List ℕ → (ℕ → Type 0) → Type 0
+AtRevision tracked P = (revision : ℕ) × IsRevision tracked revision × P revision
+
+-- these are the records, each once
+abbrev pub HaveStates : List ConsensusState → List Stored → Type 0
+HaveStates states stored = IsPermutation states (map (λ (s : Stored). s.state.now) stored)
+
+abbrev pub is_last_in : Answer → Bool
+is_last_in (answers.Commit header) = false
+is_last_in (answers.Validators page) = false
+is_last_in (answers.ClientState state) = false
+is_last_in (answers.ConsensusStates page) = page.is_last
+is_last_in (answers.Transactions page) = false
+
+-- the last page of records is among a client's answers
+abbrev pub has_last : List Saved → Bool
+has_last saved = list_any (λ s. is_last_in s.answer) saved
+
+-- ---- why a client's answers aren't taken
+
+-- whether an answer belongs into a client's folder
+abbrev pub is_of_client : Answer → Bool
+is_of_client (answers.Commit header) = false
+is_of_client (answers.Validators page) = false
+is_of_client (answers.ClientState state) = true
+is_of_client (answers.ConsensusStates page) = true
+is_of_client (answers.Transactions page) = false
+
+-- a client state is of another revision than the tracked chain's, or a record of a later one
+abbrev pub HasOtherRevision : List ℕ → List Saved → Type 0
+HasOtherRevision tracked saved =
+    Any (λ s. ¬ IsRevision tracked s.revision) (client_states_of saved)
+    ⊎ AtRevision tracked (λ revision. Any (λ s. revision < s.revision) (stored_of saved))
+
+-- there are two client states, or two records of one height that aren't of an earlier revision
+abbrev pub TellsTwice : List ℕ → List Saved → Type 0
+TellsTwice tracked saved =
+    (1 < length (client_states_of saved))
+    ⊎ AtRevision tracked (λ revision. (height : ℕ) × (1 < count_by (λ s. s.height == height) (current_of revision saved)))
+
+-- a height isn't above the one before it
+abbrev pub Falls : List ℕ → Type 0
+Falls heights = (i : ℕ) × (i + 1 < length heights) × (slice_index heights (i + 1) ≤ slice_index heights i)
+
+-- the setup leaves out what judges headers
+abbrev pub LeavesOut : ClientSetup → Type 0
+LeavesOut setup = (setup.period ≡ None) ⊎ (setup.drift ≡ None) ⊎ (setup.trust ≡ None)
+
+-- what doesn't hold of a client's answers, by the name that is told; no other name is
+abbrev pub Refuses : ProblemName → ClientSetup → List ℕ → List Saved → Type 0
+Refuses ProblemName.WrongFolder setup tracked saved = Any (λ s. is_of_client s.answer ≡ false) saved
+Refuses ProblemName.OtherChain setup tracked saved = Any (λ s. s.chain ≢ tracked) (client_states_of saved)
+Refuses ProblemName.OtherRevision setup tracked saved = HasOtherRevision tracked saved
+Refuses ProblemName.TwoAnswers setup tracked saved = TellsTwice tracked saved
+Refuses ProblemName.MissingConsensusStates setup tracked saved = has_last saved ≡ false
+Refuses ProblemName.MissingClientState setup tracked saved = LeavesOut setup × (client_states_of saved ≡ [])
+Refuses other setup tracked saved = ⊥
+
+-- the error has its reason in the answers; memory may run out at any
+abbrev pub HasReason : ClientSetup → List ℕ → List Saved → ImportError → Type 0
+HasReason setup tracked saved (errors.Problem p) = Refuses p.name setup tracked saved
+HasReason setup tracked saved errors.NoMemory = ⊤

@@ -1,0 +1,430 @@
+//! The sets and headers of a chain: each height once, rising, and each header with its set.
+ghost use Rattle.std.specs.Prelude.{◌≡◌, ◌≤◌, ◌==◌, ℕ, List, length, map, filter, All, IfOk, IfErr, OnOk, IfSome, IfNone};
+ghost use Rattle.std.specs.List.Sorted.{IsNonDecreasingBy, IsStrictlyIncreasing};
+ghost use Rattle.rb_valset.specs.ValidatorSet.{set_hash, in_set_order};
+ghost use Rattle.rb_import_check.specs.Problems.{IsToldOf};
+ghost use Rattle.rb_import_check.specs.Sets.{WasSeen};
+ghost use Rattle.rb_import_check.specs.Chains.{AreAllPages, HaveHeaders, HaveSets, HasSet, IsOfChain, TakesSetOf, headers_of, pages_at, pages_of, validators_of, without_files};
+
+use crate::error::{ImportError, ProblemName};
+use crate::repeat::repeated;
+use crate::saved::Saved;
+use crate::sets::{SeenSet, SeenSets};
+use rb_base::Height;
+use rb_import_answers::{Answer, Signature, SignedHeader, ValidatorsPage};
+use rb_valset::{Validator, ValidatorSet};
+use std::alloc::{AllocError, Global};
+
+/// An answer of `/commit` and its file.
+#[derive(Clone, Copy)]
+pub struct Commit<'a> {
+    pub file: &'a str,
+    pub header: &'a SignedHeader,
+}
+
+/// An answer of `/validators` and its file.
+#[derive(Clone, Copy)]
+struct Page<'a> {
+    file: &'a str,
+    page: &'a ValidatorsPage,
+}
+
+/// What was seen of a chain: its commits by rising height, and its sets.
+#[derive(Drop)]
+pub struct SeenChain<'a> {
+    pub commits: Vec<Commit<'a>>,
+    pub sets: SeenSets<'a>,
+    ghost rising: { IsStrictlyIncreasing (map (λ c. c.header.now.height) commits.items) },
+}
+
+/// What the answers of a chain tell, by its identifier: each header once, by rising heights, the set of
+/// each, and that of each other height whose validators are all there.
+pub fn seen_chain<'a>(
+    alloc: Global,
+    id: &'a str,
+    answers: &'a [Saved],
+) -> Result<SeenChain<'a>, ImportError<'a>>
+    ensures headers { IfOk result (λ chain. HaveHeaders (headers_of answers.entry.now) chain.commits.items) }
+    ensures rising { IfOk result (λ chain. IsStrictlyIncreasing (map (λ c. c.header.now.height) chain.commits.items)) }
+    ensures chain { IfOk result (λ chain. All (IsOfChain id.entry.now) chain.commits.items) }
+    ensures sets { IfOk result (λ chain. All (HasSet chain.sets.sets.items) chain.commits.items) }
+    ensures all_sets { IfOk result (λ chain. HaveSets answers.entry.now chain.sets.sets.items) }
+    ensures told { IfErr result (IsToldOf id.entry.now) }
+{
+    let commits = commits_of(alloc, id, answers)?;
+    judge_chains(id, commits.as_slice())?;
+    judge_heights(alloc, id, commits.as_slice())?;
+    let sets = sets_of(alloc, id, answers, commits.as_slice())?;
+    judge_signatures(id, commits.as_slice(), &sets)?;
+    Ok(SeenChain { commits, sets })
+}
+
+/// The commits by rising height.
+#[tactic(auto, using(crate::proofs::Sorting::sorting))]
+fn commits_of<'a>(
+    alloc: Global,
+    id: &'a str,
+    answers: &'a [Saved],
+) -> Result<Vec<Commit<'a>>, ImportError<'a>>
+    ensures headers { IfOk result (λ commits. HaveHeaders (headers_of answers.entry.now) commits.items) }
+    ensures told { IfErr result (IsToldOf id.entry.now) }
+{
+    let mut commits = all_commits(alloc, id, answers)?;
+    commits.sort_by_key(|commit: &Commit| commit.header.height)?;
+    Ok(commits)
+}
+
+/// The commits in the order of the answers.
+#[tactic(auto, using(crate::proofs::Sorting::taking))]
+fn all_commits<'a>(
+    alloc: Global,
+    id: &'a str,
+    answers: &'a [Saved],
+) -> Result<Vec<Commit<'a>>, ImportError<'a>>
+    ensures headers { IfOk result (λ commits. map (λ c. c.header.now) commits.items ≡ headers_of answers.entry.now) }
+    ensures told { IfErr result (IsToldOf id.entry.now) }
+{
+    let mut commits = Vec::new(alloc);
+    for saved in answers {
+        let file = saved.file.as_str();
+        match &saved.answer {
+            Answer::Commit(header) => commits.push(Commit { file, header })?,
+            Answer::Validators(_) => {}
+            _ => return Err(ImportError::at(ProblemName::WrongFolder, id, 0, file)),
+        }
+    }
+    Ok(commits)
+}
+
+/// Refuses commits of another chain.
+fn judge_chains<'a>(id: &'a str, commits: &[Commit<'a>]) -> Result<(), ImportError<'a>>
+    ensures chain { OnOk result (All (IsOfChain id.entry.now) commits.now) }
+    ensures told { IfErr result (IsToldOf id.entry.now) }
+{
+    for commit in commits {
+        judge_chain(id, commit)?;
+    }
+    Ok(())
+}
+
+/// Refuses a commit of another chain.
+fn judge_chain<'a>(id: &'a str, commit: &Commit<'a>) -> Result<(), ImportError<'a>>
+    ensures chain { OnOk result (IsOfChain id.entry.now commit.now) }
+    ensures told { IfErr result (IsToldOf id.entry.now) }
+{
+    if commit.header.chain.as_str() == id {
+        Ok(())
+    } else {
+        let height = commit.header.height.get();
+        Err(ImportError::at(ProblemName::OtherChain, id, height, commit.file))
+    }
+}
+
+/// Refuses two commits of one height.
+fn judge_heights<'a>(
+    alloc: Global,
+    id: &'a str,
+    commits: &[Commit<'a>],
+) -> Result<(), ImportError<'a>>
+    ensures rising { OnOk result (IsStrictlyIncreasing (map (λ c. c.header.now.height) commits.now)) }
+    ensures told { IfErr result (IsToldOf id.entry.now) }
+{
+    let heights = heights_of(alloc, commits)?;
+    match repeated(heights.as_slice()) {
+        Some(place) => Err(two_commits(id, &commits[place], &commits[place + 1])),
+        None => Ok(()),
+    }
+}
+
+/// The heights of commits.
+pub(crate) fn heights_of(alloc: Global, commits: &[Commit]) -> Result<Vec<Height>, AllocError>
+    ensures { IfOk result (λ heights. heights.items ≡ map (λ c. c.header.now.height) commits.now) }
+{
+    commits
+        .iter()
+        .map(|commit| commit.header.height)
+        .collect(alloc)
+}
+
+fn two_commits<'a>(id: &'a str, commit: &Commit<'a>, other: &Commit<'a>) -> ImportError<'a>
+    ensures { IsToldOf id.entry.now result }
+{
+    let height = commit.header.height.get();
+    ImportError::between(ProblemName::TwoAnswers, id, height, commit.file, other.file)
+}
+
+/// The pages of validators by rising height, those of one height in the order of the answers.
+fn pages_of<'a>(alloc: Global, answers: &'a [Saved]) -> Result<Vec<Page<'a>>, AllocError>
+    ensures order { IfOk result (λ pages. IsNonDecreasingBy (λ p. p.page.now.height) pages.items) }
+    ensures same { IfOk result (λ pages. (height : ℕ) → without_files (filter (λ p. p.page.now.height == height) pages.items) ≡ pages_at answers.entry.now height) }
+{
+    let mut pages = all_pages(alloc, answers)?;
+    pages.sort_by_key(|page: &Page| page.page.height)?;
+    Ok(pages)
+}
+
+/// The pages of validators in the order of the answers.
+#[tactic(auto, using(crate::proofs::Sorting::taking))]
+fn all_pages<'a>(alloc: Global, answers: &'a [Saved]) -> Result<Vec<Page<'a>>, AllocError>
+    ensures { IfOk result (λ pages. without_files pages.items ≡ pages_of answers.entry.now) }
+{
+    let mut pages = Vec::new(alloc);
+    for saved in answers {
+        if let Answer::Validators(page) = &saved.answer {
+            let file = saved.file.as_str();
+            pages.push(Page { file, page })?;
+        }
+    }
+    Ok(pages)
+}
+
+/// The commit at the height of a page, if there is one.
+fn commit_of<'a>(commits: &[Commit<'a>], page: &Page<'a>) -> Option<Commit<'a>> {
+    let place = commits
+        .binary_search_by_key(&page.page.height, |commit: &Commit| commit.header.height)
+        .ok()?;
+    commits.get(place).copied()
+}
+
+/// Of pages that stand by rising height those of this one.
+fn of_height<'a, 'b>(pages: &'b [Page<'a>], height: Height) -> &'b [Page<'a>]
+    requires { IsNonDecreasingBy (λ p. p.page.now.height) pages.now }
+    ensures { result.now ≡ filter (λ p. p.page.now.height == height) pages.now }
+{
+    let start = pages.partition_point(|page: &Page| page.page.height < height);
+    let (_, rest) = pages.split_at(start);
+    let count = rest.partition_point(|page: &Page| page.page.height <= height);
+    let (same, _) = rest.split_at(count);
+    same
+}
+
+/// The sets that the pages of validators tell of.
+fn sets_of<'a>(
+    alloc: Global,
+    id: &'a str,
+    answers: &'a [Saved],
+    commits: &[Commit<'a>],
+) -> Result<SeenSets<'a>, ImportError<'a>>
+    ensures sets { IfOk result (λ sets. HaveSets answers.entry.now sets.sets.items) }
+    ensures told { IfErr result (IsToldOf id.entry.now) }
+{
+    let pages = pages_of(alloc, answers)?;
+    let mut sets = SeenSets::new(alloc);
+    let mut last = None;
+    for page in &pages {
+        let height = page.page.height;
+        if last != Some(height) {
+            let same = of_height(pages.as_slice(), height);
+            add_set(alloc, id, same, commits, &mut sets)?;
+            last = Some(height);
+        }
+    }
+    Ok(sets)
+}
+
+/// Adds the set of the pages of one height. Pages that are missing are asked for only where there is
+/// a commit of that height; the set has to be that commit's.
+fn add_set<'a>(
+    alloc: Global,
+    id: &'a str,
+    pages: &[Page<'a>],
+    commits: &[Commit<'a>],
+    sets: &mut SeenSets<'a>,
+) -> Result<(), ImportError<'a>>
+    ensures kept { OnOk result ((hash : List ℕ) → WasSeen sets.old.sets.items hash → WasSeen sets.new.sets.items hash) }
+    ensures sets { OnOk result (TakesSetOf (without_files pages.now) sets.old.sets.items sets.new.sets.items) }
+    ensures seen { OnOk result (AreAllPages (without_files pages.now) → WasSeen sets.new.sets.items (set_hash (in_set_order (validators_of (without_files pages.now))))) }
+    ensures told { IfErr result (IsToldOf id.entry.now) }
+{
+    let Some(first) = pages.first() else {
+        return Ok(());
+    };
+    let commit = commit_of(commits, first);
+    let members = members_of(alloc, id, pages)?;
+    if (members.len() as u64) < first.page.total {
+        return missing_page(id, first, commit);
+    }
+    let set = set_of(alloc, id, first, members)?;
+    judge_set(id, first, commit, &set)?;
+    sets.add(SeenSet {
+        file: first.file,
+        set,
+    })?;
+    Ok(())
+}
+
+/// Pages are missing, which matters where there is a commit.
+fn missing_page<'a>(
+    id: &'a str,
+    page: &Page<'a>,
+    commit: Option<Commit<'a>>,
+) -> Result<(), ImportError<'a>>
+    ensures { IfErr result (IsToldOf id.entry.now) }
+{
+    match commit {
+        Some(commit) => Err(ImportError::between(
+            ProblemName::MissingPage,
+            id,
+            page.page.height.get(),
+            commit.file,
+            page.file,
+        )),
+        None => Ok(()),
+    }
+}
+
+/// The validators of pages of one height, at most as many as each of them tells.
+fn members_of<'a>(
+    alloc: Global,
+    id: &'a str,
+    pages: &[Page<'a>],
+) -> Result<Vec<Validator>, ImportError<'a>>
+    ensures members { IfOk result (λ members. members.items ≡ validators_of (without_files pages.now)) }
+    ensures total { OnOk result ((total : ℕ) × All (λ p. p.page.now.total ≡ total) pages.now) }
+    ensures few { IfOk result (λ members. All (λ p. length members.items ≤ p.page.now.total) pages.now) }
+    ensures told { IfErr result (IsToldOf id.entry.now) }
+{
+    let mut members = Vec::new(alloc);
+    let mut before: Option<Page<'a>> = None;
+    for page in pages {
+        judge_total(id, before, page)?;
+        members.extend_from_slice(page.page.validators.as_slice())?;
+        if members.len() as u64 > page.page.total {
+            let lower = before.unwrap_or(*page);
+            return Err(two_pages(ProblemName::TooManyValidators, id, &lower, page));
+        }
+        before = Some(*page);
+    }
+    Ok(members)
+}
+
+/// Refuses a page that tells another total than the one before it.
+fn judge_total<'a>(
+    id: &'a str,
+    before: Option<Page<'a>>,
+    page: &Page<'a>,
+) -> Result<(), ImportError<'a>>
+    ensures total { OnOk result (IfSome before.entry (λ lower. lower.page.now.total ≡ page.now.page.now.total)) }
+    ensures told { IfErr result (IsToldOf id.entry.now) }
+{
+    match before {
+        Some(lower) if lower.page.total != page.page.total => {
+            Err(two_pages(ProblemName::OtherTotal, id, &lower, page))
+        }
+        _ => Ok(()),
+    }
+}
+
+fn two_pages<'a>(
+    name: ProblemName,
+    id: &'a str,
+    page: &Page<'a>,
+    other: &Page<'a>,
+) -> ImportError<'a>
+    ensures { IsToldOf id.entry.now result }
+{
+    ImportError::between(name, id, page.page.height.get(), page.file, other.file)
+}
+
+fn set_of<'a>(
+    alloc: Global,
+    id: &'a str,
+    page: &Page<'a>,
+    members: Vec<Validator>,
+) -> Result<ValidatorSet, ImportError<'a>>
+    ensures set { IfOk result (λ set. set ≡ in_set_order members.items) }
+    ensures told { IfErr result (IsToldOf id.entry.now) }
+{
+    match ValidatorSet::new(alloc, members) {
+        Ok(set) => Ok(set),
+        Err(rb_valset::ValsetError::NoMemory) => Err(ImportError::NoMemory),
+        Err(_) => {
+            let height = page.page.height.get();
+            Err(ImportError::at(ProblemName::BadSet, id, height, page.file))
+        }
+    }
+}
+
+/// Refuses a set that isn't that of the commit at its height.
+fn judge_set<'a>(
+    id: &'a str,
+    page: &Page<'a>,
+    commit: Option<Commit<'a>>,
+    set: &ValidatorSet,
+) -> Result<(), ImportError<'a>>
+    ensures set { OnOk result (IfSome commit.entry (λ c. c.header.now.set ≡ set_hash set.now)) }
+    ensures told { IfErr result (IsToldOf id.entry.now) }
+{
+    match commit {
+        Some(commit) if commit.header.set != *set.hash() => Err(ImportError::between(
+            ProblemName::OtherSet,
+            id,
+            page.page.height.get(),
+            commit.file,
+            page.file,
+        )),
+        _ => Ok(()),
+    }
+}
+
+/// Refuses a header whose set wasn't seen or doesn't fit its signatures.
+fn judge_signatures<'a>(
+    id: &'a str,
+    commits: &[Commit<'a>],
+    sets: &SeenSets<'a>,
+) -> Result<(), ImportError<'a>>
+    ensures sets { OnOk result (All (HasSet sets.now.sets.items) commits.now) }
+    ensures told { IfErr result (IsToldOf id.entry.now) }
+{
+    for commit in commits {
+        judge_commit(id, commit, sets)?;
+    }
+    Ok(())
+}
+
+/// Refuses a header whose set wasn't seen, or which has not one signature for each of its members.
+#[tactic(auto, unfolding(crate::specs::Chains::HasSet))]
+fn judge_commit<'a>(
+    id: &'a str,
+    commit: &Commit<'a>,
+    sets: &SeenSets<'a>,
+) -> Result<(), ImportError<'a>>
+    ensures set { OnOk result (HasSet sets.now.sets.items commit.now) }
+    ensures told { IfErr result (IsToldOf id.entry.now) }
+{
+    let height = commit.header.height.get();
+    let Some(seen) = sets.with_hash(&commit.header.set) else {
+        return Err(ImportError::at(ProblemName::MissingSet, id, height, commit.file));
+    };
+    match discord(commit.header.signatures.as_slice(), &seen.set) {
+        Some(name) => Err(ImportError::between(name, id, height, commit.file, seen.file)),
+        None => Ok(()),
+    }
+}
+
+/// How signatures don't fit a set, if they don't: there is one for each member, in set order, and
+/// each that isn't absent has its member's address.
+fn discord(signatures: &[Signature], set: &ValidatorSet) -> Option<ProblemName>
+    ensures { IfNone result (length signatures.now ≡ length set.now) }
+{
+    if signatures.len() != set.size() {
+        return Some(ProblemName::SignatureCount);
+    }
+    let fits = signatures
+        .iter()
+        .zip(set.members())
+        .all(|(signature, member)| is_signer(signature, member));
+    if fits {
+        None
+    } else {
+        Some(ProblemName::OtherSigner)
+    }
+}
+
+/// Whether a signature is absent or this member's.
+fn is_signer(signature: &Signature, member: &Validator) -> bool {
+    match signature.address {
+        Some(address) => address == *member.address(),
+        None => true,
+    }
+}

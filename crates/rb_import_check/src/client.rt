@@ -1,0 +1,256 @@
+//! What a client has stored, and how it judges headers.
+ghost use Rattle.std.specs.Prelude.{◌≡◌, ◌≢◌, ◌↔◌, ◌++◌, ⊤, IsTrue, true, false, map, filter, nat_le, All, Any, IfOk, IfErr, OnOk, option_map, option_to_list};
+ghost use Rattle.rb_import_check.specs.Problems.{IsTold, IsToldOf};
+ghost use Rattle.std.specs.List.Sorted.{IsNonDecreasingBy, IsStrictlyIncreasing};
+ghost use Rattle.rb_import_check.specs.Clients.{IsOfRevision, JudgesAs, AtRevision, HaveStates, HasReason, Falls, client_states_of, current_of, is_of_client, is_last_in, has_last};
+
+use crate::error::{ImportError, ProblemName};
+use crate::repeat::repeated;
+use crate::saved::Saved;
+use rb_base::{ChainId, Height, Period};
+use rb_import_answers::{Answer, ClientState, ConsensusState, TrustLevel, revision_of};
+use rb_import_setup::ClientSetup;
+use std::alloc::{AllocError, Global};
+
+/// A record that a client has stored, and its file.
+#[derive(Clone, Copy)]
+pub struct Stored<'a> {
+    pub file: &'a str,
+    pub state: &'a ConsensusState,
+}
+
+/// What was seen of a client: its trusting period, its clock drift, its trust level, and its stored
+/// records by rising height.
+#[derive(Drop)]
+pub struct SeenClient<'a> {
+    pub period: Period,
+    pub drift: u64,
+    pub trust: TrustLevel,
+    pub stored: Vec<Stored<'a>>,
+}
+
+/// What the answers of a client tell, where the setup doesn't.
+pub fn seen_client<'a>(
+    alloc: Global,
+    setup: &'a ClientSetup,
+    tracked: &ChainId,
+    answers: &'a [Saved],
+) -> Result<SeenClient<'a>, ImportError<'a>>
+    ensures rising { IfOk result (λ client. IsStrictlyIncreasing (map (λ s. s.state.now.height) client.stored.items)) }
+    ensures revision { IfOk result (λ client. All (IsOfRevision tracked.now) client.stored.items) }
+    ensures judging { IfOk result (JudgesAs setup.entry.now (client_states_of answers.entry.now)) }
+    ensures states { IfOk result (λ client. AtRevision tracked.now (λ revision. HaveStates (current_of revision answers.entry.now) client.stored.items)) }
+    ensures last { OnOk result (has_last answers.entry.now ≡ true) }
+    ensures reason { IfErr result (HasReason setup.entry.now tracked.now answers.entry.now) }
+    ensures told { IfErr result (IsToldOf setup.entry.now.id) }
+{
+    let state = state_of(setup, tracked, answers)?;
+    let stored = stored_of(alloc, setup, tracked, answers)?;
+    let period = setup.period.or(state.map(|state| state.period));
+    let drift = setup.drift.or(state.map(|state| state.drift));
+    let trust = setup.trust.or(state.map(|state| state.trust));
+    match (period, drift, trust) {
+        (Some(period), Some(drift), Some(trust)) => Ok(SeenClient {
+            period,
+            drift,
+            trust,
+            stored,
+        }),
+        _ => Err(ImportError::of(ProblemName::MissingClientState, setup.id.as_str())),
+    }
+}
+
+/// The state of a client, of which there is at most one answer, on the chain that it tracks.
+fn state_of<'a>(
+    setup: &'a ClientSetup,
+    tracked: &ChainId,
+    answers: &'a [Saved],
+) -> Result<Option<&'a ClientState>, ImportError<'a>>
+    ensures state { IfOk result (λ state. option_to_list (option_map (λ s. s.now) state) ≡ client_states_of answers.entry.now) }
+    ensures reason { IfErr result (HasReason setup.entry.now tracked.now answers.entry.now) }
+    ensures told { IfErr result (IsToldOf setup.entry.now.id) }
+{
+    let id = setup.id.as_str();
+    let revision = revision_of(tracked.as_str());
+    let mut found: Option<(&'a str, &'a ClientState)> = None;
+    for saved in answers {
+        if let Answer::ClientState(state) = &saved.answer {
+            let file = saved.file.as_str();
+            if !is_of_chain(state, tracked) {
+                return Err(ImportError::at(ProblemName::OtherChain, id, 0, file));
+            }
+            if state.revision != revision {
+                return Err(ImportError::at(ProblemName::OtherRevision, id, 0, file));
+            }
+            if let Some((earlier, _)) = found {
+                let name = ProblemName::TwoAnswers;
+                return Err(ImportError::between(name, id, 0, earlier, file));
+            }
+            found = Some((file, state));
+        }
+    }
+    Ok(found.map(|(_, state)| state))
+}
+
+/// Whether a client state tells of this chain.
+fn is_of_chain(state: &ClientState, chain: &ChainId) -> bool
+    ensures { IsTrue result ↔ (state.now.chain ≡ chain.now) }
+{
+    state.chain.as_str() == chain.as_str()
+}
+
+/// The records of a client by rising height, which are of the tracked chain's revision; the last page
+/// has to be there. Those of an earlier revision are passed over.
+#[tactic(auto, using(crate::proofs::ReasonsLemmas::recording))]
+fn stored_of<'a>(
+    alloc: Global,
+    setup: &'a ClientSetup,
+    tracked: &ChainId,
+    answers: &'a [Saved],
+) -> Result<Vec<Stored<'a>>, ImportError<'a>>
+    ensures rising { IfOk result (λ stored. IsStrictlyIncreasing (map (λ s. s.state.now.height) stored.items)) }
+    ensures revision { IfOk result (λ stored. All (IsOfRevision tracked.now) stored.items) }
+    ensures states { IfOk result (λ stored. AtRevision tracked.now (λ revision. HaveStates (current_of revision answers.entry.now) stored.items)) }
+    ensures last { OnOk result (has_last answers.entry.now ≡ true) }
+    ensures reason { IfErr result (HasReason setup.entry.now tracked.now answers.entry.now) }
+    ensures told { IfErr result (IsToldOf setup.entry.now.id) }
+{
+    let id = setup.id.as_str();
+    let revision = revision_of(tracked.as_str());
+    let stored = sorted(current_of(alloc, id, revision, answers)?)?;
+    if !has_last(answers) {
+        return Err(ImportError::of(ProblemName::MissingConsensusStates, id));
+    }
+    judge_revisions(id, revision, stored.as_slice())?;
+    judge_heights(alloc, id, stored.as_slice())?;
+    Ok(stored)
+}
+
+/// These records by height.
+#[tactic(auto, using(crate::proofs::Sorting::sorting))]
+fn sorted<'a>(stored: Vec<Stored<'a>>) -> Result<Vec<Stored<'a>>, AllocError>
+    ensures same { IfOk result (λ sorted. HaveStates (map (λ s. s.state.now) stored.entry.items) sorted.items) }
+    ensures order { IfOk result (λ sorted. IsNonDecreasingBy (λ s. s.state.now.height) sorted.items) }
+{
+    let mut sorted = stored;
+    sorted.sort_by_key(|stored: &Stored| stored.state.height)?;
+    Ok(sorted)
+}
+
+/// Whether the last page of records is there.
+#[tactic(auto, using(crate::proofs::Sorting::taking))]
+fn has_last(answers: &[Saved]) -> bool
+    ensures { result ≡ has_last answers.now }
+{
+    let mut is_whole = false;
+    for saved in answers {
+        is_whole = is_whole || is_last_in(&saved.answer);
+    }
+    is_whole
+}
+
+/// Whether an answer is the last page of records.
+fn is_last_in(answer: &Answer) -> bool
+    ensures { result ≡ is_last_in answer.now }
+{
+    match answer {
+        Answer::ConsensusStates(page) => page.is_last,
+        _ => false,
+    }
+}
+
+/// The records of a client in the order of the answers, but for those of a revision before this one.
+#[tactic(auto, using(crate::proofs::Sorting::filtering))]
+fn current_of<'a>(
+    alloc: Global,
+    id: &'a str,
+    revision: u64,
+    answers: &'a [Saved],
+) -> Result<Vec<Stored<'a>>, ImportError<'a>>
+    ensures states { IfOk result (λ stored. map (λ s. s.state.now) stored.items ≡ current_of revision answers.entry.now) }
+    ensures foreign { IfErr result (IsTold ProblemName.WrongFolder (Any (λ s. is_of_client s.answer ≡ false) answers.entry.now)) }
+    ensures told { IfErr result (IsToldOf id.entry.now) }
+{
+    let mut stored = Vec::new(alloc);
+    for saved in answers {
+        let file = saved.file.as_str();
+        match &saved.answer {
+            Answer::ConsensusStates(page) => {
+                add_states(file, revision, page.states.as_slice(), &mut stored)?;
+            }
+            Answer::ClientState(_) => {}
+            _ => return Err(ImportError::at(ProblemName::WrongFolder, id, 0, file)),
+        }
+    }
+    Ok(stored)
+}
+
+#[tactic(auto, using(crate::proofs::Sorting::filtering))]
+fn add_states<'a>(
+    file: &'a str,
+    revision: u64,
+    states: &'a [ConsensusState],
+    stored: &mut Vec<Stored<'a>>,
+) -> Result<(), AllocError>
+    ensures { OnOk result (map (λ s. s.state.now) stored.new.items ≡ map (λ s. s.state.now) stored.old.items ++ filter (λ s. nat_le revision s.revision) states.entry.now) }
+{
+    for state in states {
+        if revision <= state.revision {
+            stored.push(Stored { file, state })?;
+        }
+    }
+    Ok(())
+}
+
+/// Refuses records of another revision than this one.
+fn judge_revisions<'a>(
+    id: &'a str,
+    revision: u64,
+    stored: &[Stored<'a>],
+) -> Result<(), ImportError<'a>>
+    ensures revision { OnOk result (All (λ s. s.state.now.revision ≡ revision) stored.now) }
+    ensures other { IfErr result (IsTold ProblemName.OtherRevision (Any (λ s. s.state.now.revision ≢ revision) stored.now)) }
+    ensures told { IfErr result (IsToldOf id.entry.now) }
+{
+    for record in stored {
+        if record.state.revision != revision {
+            let height = record.state.height.get();
+            return Err(ImportError::at(ProblemName::OtherRevision, id, height, record.file));
+        }
+    }
+    Ok(())
+}
+
+/// Refuses two records of one height, of those that stand by height.
+fn judge_heights<'a>(
+    alloc: Global,
+    id: &'a str,
+    stored: &[Stored<'a>],
+) -> Result<(), ImportError<'a>>
+    ensures rising { OnOk result (IsStrictlyIncreasing (map (λ s. s.state.now.height) stored.now)) }
+    ensures falling { IfErr result (IsTold ProblemName.TwoAnswers (Falls (map (λ s. s.state.now.height) stored.now))) }
+    ensures told { IfErr result (IsToldOf id.entry.now) }
+{
+    let heights = heights_of(alloc, stored)?;
+    match repeated(heights.as_slice()) {
+        Some(place) => Err(two_records(id, &stored[place], &stored[place + 1])),
+        None => Ok(()),
+    }
+}
+
+fn heights_of(alloc: Global, stored: &[Stored]) -> Result<Vec<Height>, AllocError>
+    ensures { IfOk result (λ heights. heights.items ≡ map (λ s. s.state.now.height) stored.now) }
+{
+    stored
+        .iter()
+        .map(|record| record.state.height)
+        .collect(alloc)
+}
+
+fn two_records<'a>(id: &'a str, record: &Stored<'a>, other: &Stored<'a>) -> ImportError<'a>
+    ensures name { IsTold ProblemName.TwoAnswers ⊤ result }
+    ensures told { IsToldOf id.entry.now result }
+{
+    let height = record.state.height.get();
+    ImportError::between(ProblemName::TwoAnswers, id, height, record.file, other.file)
+}

@@ -1,0 +1,71 @@
+//! The answers that were saved, by what they are of.
+ghost use Rattle.std.specs.Prelude.{◌≡◌, ◌≤◌, Ok, Err, length, All, IfOk, IfErr, string_bytes};
+ghost use Rattle.rb_import_answers.specs.Answers.{answer_view, told};
+ghost use Rattle.rb_import_answers.specs.Said.{IsPlain};
+ghost use Rattle.rb_import_check.specs.Saved.{IsFlawOf};
+
+use rb_import_answers::{Answer, AnswerError, Flaw, FlawName, read_answer, said_in};
+use std::alloc::{AllocError, Global};
+
+/// An answer, and the name of the file that it was saved in.
+#[derive(Drop)]
+pub struct Saved {
+    pub file: String,
+    pub answer: Answer,
+}
+
+/// The answers of each chain, of each client and of each path of a setup, in its order.
+#[derive(Drop)]
+pub struct SavedAnswers {
+    pub chains: Vec<Vec<Saved>>,
+    pub clients: Vec<Vec<Saved>>,
+    pub paths: Vec<Vec<Saved>>,
+}
+
+/// Why a saved answer isn't taken.
+#[derive(Drop)]
+pub enum SavedError {
+    /// The file's content has a flaw; where that is an error that the node answered, what the node said of it.
+    Flaw {
+        file: String,
+        flaw: Flaw,
+        said: String,
+    },
+    /// A growth was refused.
+    NoMemory,
+}
+
+/// Reads the answer that a file holds; its flaw is the first one that its content has.
+pub fn read_saved(alloc: Global, file: String, bytes: &[u8]) -> Result<Saved, SavedError>
+    ensures file { IfOk result (λ saved. saved.file ≡ file) }
+    ensures answer { IfOk result (λ saved. told bytes.now ≡ Ok (answer_view saved.answer)) }
+    ensures flaw { IfErr result (IsFlawOf file bytes.now) }
+{
+    match read_answer(alloc, bytes) {
+        Ok(answer) => Ok(Saved { file, answer }),
+        Err(AnswerError::Flaw(flaw)) => Err(flawed(alloc, file, bytes, flaw)),
+        Err(AnswerError::NoMemory) => Err(SavedError::NoMemory),
+    }
+}
+
+/// The flaw that a file's content has.
+fn flawed(alloc: Global, file: String, bytes: &[u8], flaw: Flaw) -> SavedError
+    requires { told bytes.now ≡ Err flaw }
+    ensures { IsFlawOf file bytes.now result }
+{
+    match said_of(alloc, bytes, flaw) {
+        Ok(said) => SavedError::Flaw { file, flaw, said },
+        Err(_) => SavedError::NoMemory,
+    }
+}
+
+/// What a node said, where the flaw is an error that it answered; else nothing.
+fn said_of(alloc: Global, bytes: &[u8], flaw: Flaw) -> Result<String, AllocError>
+    ensures plain { IfOk result (λ said. All IsPlain (string_bytes said)) }
+    ensures short { IfOk result (λ said. length (string_bytes said) ≤ 200) }
+{
+    match flaw.name {
+        FlawName::NodeError => said_in(alloc, bytes),
+        _ => Ok(String::new(alloc)),
+    }
+}

@@ -1,0 +1,174 @@
+//! What is wrong with an answer, and where.
+ghost use Rattle.std.specs.Prelude.{◌≡◌};
+
+use crate::place::Place;
+use std::alloc::{AllocError, AllocFailed};
+use std::fmt;
+use thiserror::Error;
+
+/// What is wrong with an answer.
+#[derive(Clone, Copy, Debug)]
+pub enum FlawName {
+    /// It has more bytes than are read.
+    TooBig,
+    /// Not UTF-8, or not JSON.
+    NotJson,
+    /// JSON, and no answer that is known.
+    UnknownShape,
+    /// The node answered that it has an error.
+    NodeError,
+    /// A field that is needed isn't there.
+    MissingField,
+    /// A value of another type.
+    WrongType,
+    /// A text that is no number, or one outside its range.
+    BadNumber,
+    /// Not the hexadecimal digits of a hash or an address.
+    BadHex,
+    /// Not the base64 text of a hash, a key or an attribute.
+    BadBase64,
+    /// Not a time, or one outside the range.
+    BadTime,
+    /// Not a duration in seconds, or one outside its range.
+    BadDuration,
+    /// Not an identifier of a chain.
+    BadIdentifier,
+    /// A flag of a signature that isn't known.
+    BadFlag,
+    /// A key that isn't of ed25519.
+    ForeignKey,
+    /// A voting power that no validator has.
+    BadPower,
+    /// A trust level that isn't from a third to one.
+    BadTrust,
+    /// A light client that isn't Tendermint's.
+    ForeignClient,
+    /// A client that is frozen.
+    FrozenClient,
+    /// The commit is of another height than the header.
+    OtherHeight,
+}
+
+impl FlawName {
+    ghost use Rattle.rb_import_json.specs.Names.{flaw_name};
+
+    /// The name.
+    pub fn name(self) -> &'static str
+        ensures { result.now ≡ flaw_name self }
+    {
+        match self {
+            FlawName::TooBig => "TooBig",
+            FlawName::NotJson => "NotJson",
+            FlawName::UnknownShape => "UnknownShape",
+            FlawName::NodeError => "NodeError",
+            FlawName::MissingField => "MissingField",
+            FlawName::WrongType => "WrongType",
+            FlawName::BadNumber => "BadNumber",
+            FlawName::BadHex => "BadHex",
+            FlawName::BadBase64 => "BadBase64",
+            FlawName::BadTime => "BadTime",
+            FlawName::BadDuration => "BadDuration",
+            FlawName::BadIdentifier => "BadIdentifier",
+            FlawName::BadFlag => "BadFlag",
+            FlawName::ForeignKey => "ForeignKey",
+            FlawName::BadPower => "BadPower",
+            FlawName::BadTrust => "BadTrust",
+            FlawName::ForeignClient => "ForeignClient",
+            FlawName::FrozenClient => "FrozenClient",
+            FlawName::OtherHeight => "OtherHeight",
+        }
+    }
+
+    /// What belongs there, or what to do.
+    pub fn advice(self) -> &'static str {
+        match self {
+            FlawName::TooBig => {
+                "an answer has at most 16,777,216 bytes; ask for fewer of them on a page (per_page=20)"
+            }
+            FlawName::NotJson => "this is no JSON in UTF-8; save the node's answer as it came",
+            FlawName::UnknownShape => {
+                "this is no answer of /commit, /validators, /tx_search, client_states or consensus_states; take the file away"
+            }
+            FlawName::NodeError => "the node answered an error; ask it again, or another node",
+            FlawName::MissingField => "this field has to be there; ask the node again",
+            FlawName::WrongType => "a value of another type belongs here; ask the node again",
+            FlawName::BadNumber => "a text of decimal digits belongs here, of a number in range",
+            FlawName::BadHex => { "hexadecimal digits belong here: 64 of a hash, 40 of an address" }
+            FlawName::BadBase64 => "base64 belongs here: of 32 bytes for a key or a root",
+            FlawName::BadTime => "a time as 2026-11-22T10:00:00Z belongs here, from 1970 on",
+            FlawName::BadDuration => "seconds as 806400s belong here, at most 2^63 - 1 ns",
+            FlawName::BadIdentifier => "an identifier of 1 to 64 characters belongs here",
+            FlawName::BadFlag => "a flag is 1 (absent), 2 (commit) or 3 (nil)",
+            FlawName::ForeignKey => "only ed25519 keys are supported",
+            FlawName::BadPower => "a voting power is from 1 to 2^60 - 1",
+            FlawName::BadTrust => "a trust level is from a third to one",
+            FlawName::ForeignClient => "only Tendermint light clients are supported",
+            FlawName::FrozenClient => "the client is frozen, so that no update helps it",
+            FlawName::OtherHeight => "the commit has to be of the header's height",
+        }
+    }
+}
+
+/// What is wrong with an answer, and where.
+#[derive(Clone, Copy, Debug)]
+pub struct Flaw {
+    pub name: FlawName,
+    pub place: Place,
+}
+
+impl fmt::Display for Flaw {
+    ghost use Rattle.std.specs.Prelude.{Some};
+    ghost use Rattle.rb_import_json.specs.Names.{flaw_text};
+
+    ghost output = { λ flaw. Some (flaw_text flaw) };
+
+    fn fmt<W: fmt::Write>(&self, f: &mut fmt::Formatter<W>) -> fmt::Result {
+        let name = self.name.name();
+        let place = self.place;
+        write!(f, "{name} at {place}")
+    }
+}
+
+/// Why an answer isn't taken.
+#[derive(Clone, Copy, Debug, Error)]
+pub enum AnswerError {
+    /// It has a flaw.
+    #[error("{0}")]
+    Flaw(Flaw),
+    /// A growth was refused.
+    #[error("no memory")]
+    NoMemory,
+}
+
+impl From<Flaw> for AnswerError {
+    ghost use Rattle.std.specs.Prelude.{◌≡◌};
+    ghost use Rattle.rb_import_json.specs.declared.flaw.AnswerError.TheVariants.{Flaw};
+
+    ghost from_gives = { λ flaw e. e ≡ Flaw flaw };
+
+    fn from(flaw: Flaw) -> AnswerError {
+        AnswerError::Flaw(flaw)
+    }
+}
+
+impl From<AllocError> for AnswerError {
+    ghost use Rattle.std.specs.Prelude.{◌≡◌};
+    ghost use Rattle.rb_import_json.specs.declared.flaw.AnswerError.TheVariants.{NoMemory};
+
+    ghost from_gives = { λ _ e. e ≡ NoMemory };
+
+    fn from(_: AllocError) -> AnswerError {
+        AnswerError::NoMemory
+    }
+}
+
+impl<T: Drop> From<AllocFailed<T>> for AnswerError {
+    ghost use Rattle.std.specs.Prelude.{◌≡◌};
+    ghost use Rattle.rb_import_json.specs.declared.flaw.AnswerError.TheVariants.{NoMemory};
+
+    ghost from_gives = { λ _ e. e ≡ NoMemory };
+
+    fn from(_: AllocFailed<T>) -> AnswerError {
+        AnswerError::NoMemory
+    }
+}

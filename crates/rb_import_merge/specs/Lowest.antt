@@ -1,0 +1,19 @@
+-- The order in which the lowest events of each kind and sequence are taken.
+use Rattle.std.specs.Prelude.{◌≡◌}
+use Rattle.std.specs.Ordering.{nat_cmp, ordering_then}
+use Rattle.std.specs.declared.cmp.Ordering.{Ordering}
+use Rattle.rb_import_answers.specs.declared.packets.PacketKind.{PacketKind}
+use Rattle.rb_import_merge.specs.declared.packets.SeenPacket.{SeenPacket}
+use Rattle.rb_import_merge.specs.Packets.{IsSameSending, place_of}
+
+-- by kind, then by sequence
+abbrev pub packet_cmp : SeenPacket → SeenPacket → Ordering
+packet_cmp p q = ordering_then (nat_cmp (place_of p.event.now.kind) (place_of q.event.now.kind)) (nat_cmp p.event.now.sequence q.event.now.sequence)
+
+-- and then by block
+abbrev pub block_cmp : SeenPacket → SeenPacket → Ordering
+block_cmp p q = ordering_then (packet_cmp p q) (nat_cmp p.event.now.block q.event.now.block)
+
+-- where two events tell of one sending, they are equal
+abbrev pub AreEqualSendings : SeenPacket → SeenPacket → Type 0
+AreEqualSendings p q = p.event.now.kind ≡ PacketKind.Sent → q.event.now.kind ≡ PacketKind.Sent → p.event.now.sequence ≡ q.event.now.sequence → IsSameSending q.event.now p.event.now

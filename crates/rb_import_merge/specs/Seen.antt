@@ -1,0 +1,131 @@
+-- What was seen in the answers that a script is made of.
+use Rattle.std.specs.Prelude.{◌≡◌, ◌<◌, ◌-◌, ℕ, List, [], Vec, Option, Some, None, IfSome, IsSomeAnd, All, Any, length, map, slice_get}
+use Rattle.std.specs.Global.{Global}
+use Rattle.std.specs.List.Sorted.{IsStrictlyIncreasing}
+use Rattle.rb_import_setup.specs.declared.setup.ClientSetup.{ClientSetup}
+use Rattle.rb_import_setup.specs.declared.setup.PathSetup.{PathSetup}
+use Rattle.rb_import_setup.specs.declared.setup.Setup.{Setup}
+use Rattle.rb_import_check.specs.declared.chain.Commit.{Commit}
+use Rattle.rb_import_check.specs.declared.chain.SeenChain.{SeenChain}
+use Rattle.rb_import_check.specs.declared.client.SeenClient.{SeenClient}
+use Rattle.rb_import_check.specs.declared.client.Stored.{Stored}
+use Rattle.rb_import_check.specs.declared.saved.Saved.{Saved}
+use Rattle.rb_import_check.specs.declared.saved.SavedAnswers.{SavedAnswers}
+use Rattle.rb_import_check.specs.Accord.{AgreesWith}
+use Rattle.rb_import_check.specs.Chains.{HaveHeaders, HaveSets, headers_of}
+use Rattle.rb_import_check.specs.Clients.{AtRevision, HaveStates, JudgesAs, client_states_of, current_of}
+use Rattle.rb_import_check.specs.Sets.{IsPlaceOf, WasSeen}
+use Rattle.rb_import_merge.specs.declared.kept.KeptSets.{KeptSets}
+use Rattle.rb_import_merge.specs.declared.packets.SeenPacket.{SeenPacket}
+use Rattle.rb_import_merge.specs.declared.seen.Seen.{Seen}
+use Rattle.rb_import_merge.specs.Packets.{Expires, HaveEvents, events_of}
+use Rattle.rb_import_merge.specs.Room.{AtEachPlace, FitBooks, FitsHeaders}
+use Rattle.rb_import_merge.specs.Sets.{AreKeptSets}
+
+abbrev items_of : Option (Vec Saved Global) → List Saved
+items_of (Some saved) = saved.items
+items_of None = []
+
+-- the answers of the object at a place; none where there are none
+abbrev pub answers_at : List (Vec Saved Global) → ℕ → List Saved
+answers_at answers place = items_of (slice_get answers place)
+
+-- of the headers that a chain's answers tell of, each once and rising, these are the highest, as many as a book has room for
+abbrev pub AreHighestHeaders : List Saved → List Commit → Type 0
+AreHighestHeaders saved kept =
+    (commits : List Commit) × HaveHeaders (headers_of saved) commits × IsStrictlyIncreasing (map (λ (c : Commit). c.header.now.height) commits)
+    × FitsHeaders commits kept
+
+-- of what a chain's answers tell of, these are the highest headers, and all sets
+abbrev pub IsSeenChain : List Saved → SeenChain → Type 0
+IsSeenChain saved chain = AreHighestHeaders saved chain.commits.items × HaveSets saved chain.sets.sets.items
+
+-- each of a client's records agrees with the headers of the chain that it tracks
+abbrev pub AgreesWithChain : List SeenChain → ClientSetup → List Stored → Type 0
+AgreesWithChain seen c stored = IfSome (slice_get seen c.tracks) (λ (chain : SeenChain). All (AgreesWith chain.commits.items) stored)
+
+-- the client judges headers as the setup says, or else its state, and its records are those that its answers tell of, without those
+-- of a revision before that of the chain that it tracks, and agree with that chain's headers
+abbrev pub IsSeenClient : List (List ℕ) → List SeenChain → ClientSetup → List Saved → SeenClient → Type 0
+IsSeenClient chains seen c saved client =
+    JudgesAs c (client_states_of saved) client
+    × IsSomeAnd (slice_get chains c.tracks) (λ tracked. AtRevision tracked (λ revision. HaveStates (current_of revision saved) client.stored.items))
+    × AgreesWithChain seen c client.stored.items
+
+-- each client tracks a chain of the setup
+abbrev pub TrackChains : Setup → Type 0
+TrackChains setup = All (λ (c : ClientSetup). c.tracks < length setup.chains.items) setup.clients.items
+
+-- each of these is what was seen of the client at its place; there is one of each client, if each tracks a chain of the setup
+unfoldable pub AreSeenClients : Setup → List (Vec Saved Global) → List SeenChain → List SeenClient → Type 0
+AreSeenClients setup answers seen clients =
+    ((i : ℕ) → (c : ClientSetup) → (client : SeenClient) → slice_get setup.clients.items i ≡ Some c → slice_get clients i ≡ Some client → IsSeenClient setup.chains.items seen c (answers_at answers i) client)
+    × (TrackChains setup → length clients ≡ length setup.clients.items)
+
+-- how many of the headers that a chain's answers tell of a book has no room for
+abbrev pub surplus_of : List Saved → ℕ
+surplus_of saved = length (headers_of saved) - 4096
+
+-- these are the path's packets that its answers tell of, each with the height of its destination, a chain of the setup, from which on it isn't received
+abbrev pub IsSeenPath : List (List ℕ) → PathSetup → List Saved → List SeenPacket → Type 0
+IsSeenPath chains path saved packets =
+    HaveEvents path (events_of saved) packets × IsSomeAnd (slice_get chains path.dest) (λ dest. All (Expires dest) packets)
+
+-- each path's destination is a chain of the setup
+abbrev pub ReachChains : Setup → Type 0
+ReachChains setup = All (λ (p : PathSetup). p.dest < length setup.chains.items) setup.paths.items
+
+-- each of these is what was seen of the path at its place; there is one of each path, if each one's destination is a chain of the setup
+unfoldable pub AreSeenPaths : Setup → List (Vec Saved Global) → List (Vec SeenPacket Global) → Type 0
+AreSeenPaths setup answers paths =
+    ((i : ℕ) → (path : PathSetup) → (packets : Vec SeenPacket Global) → slice_get setup.paths.items i ≡ Some path → slice_get paths i ≡ Some packets → IsSeenPath setup.chains.items path (answers_at answers i) packets.items)
+    × (ReachChains setup → length paths ≡ length setup.paths.items)
+
+-- this was seen of the setup's chains, clients and paths in their answers; books have room for the records, and for the sets that are kept
+unfoldable pub IsSeenIn : Setup → SavedAnswers → Seen → Type 0
+IsSeenIn setup answers seen =
+    AtEachPlace (λ i id chain. IsSeenChain (answers_at answers.chains.items i) chain) setup.chains.items seen.chains.items
+    × AtEachPlace (λ i id surplus. surplus ≡ surplus_of (answers_at answers.chains.items i)) setup.chains.items seen.surplus.items
+    × AreSeenClients setup answers.clients.items seen.chains.items seen.clients.items
+    × FitBooks setup seen.chains.items seen.clients.items seen.records.items
+    × AtEachPlace (AreKeptSets setup seen.records.items) seen.chains.items seen.sets.items
+    × AreSeenPaths setup answers.paths.items seen.paths.items
+
+-- this holds of what was seen
+abbrev pub HoldsOfSeen : Setup → SavedAnswers → (Seen → Type 0) → Type 0
+HoldsOfSeen setup answers Holds = (seen : Seen) × IsSeenIn setup answers seen × Holds seen
+
+-- ---- what is kept of it, and what is left out
+
+-- a set of this hash was seen of the chain at a place
+abbrev pub WasSeenOf : List SeenChain → ℕ → List ℕ → Type 0
+WasSeenOf chains place hash = IsSomeAnd (slice_get chains place) (λ (c : SeenChain). WasSeen c.sets.sets.items hash)
+
+-- the set of this hash is one of a chain's kept sets
+abbrev pub IsKeptSet : SeenChain → List ℕ → KeptSets → Type 0
+IsKeptSet chain hash kept = Any (IsPlaceOf chain.sets.sets.items hash) kept.places.items
+
+-- the set of this hash is written of the chain at a place
+abbrev pub IsWrittenOf : List SeenChain → List KeptSets → ℕ → List ℕ → Type 0
+IsWrittenOf chains sets place hash =
+    IsSomeAnd (slice_get chains place) (λ (c : SeenChain). IsSomeAnd (slice_get sets place) (IsKeptSet c hash))
+
+abbrev left_of_sets : Option KeptSets → ℕ
+left_of_sets (Some kept) = kept.left_out
+left_of_sets None = 0
+
+-- how many sets of the chain at a place aren't written
+abbrev pub sets_left_out : List KeptSets → ℕ → ℕ
+sets_left_out sets place = left_of_sets (slice_get sets place)
+
+-- no header was seen of the chain at a place
+abbrev pub LacksHeaders : List SeenChain → ℕ → Type 0
+LacksHeaders chains place = IsSomeAnd (slice_get chains place) (λ (c : SeenChain). length c.commits.items ≡ 0)
+
+abbrev left_of : Option SeenClient → Option (Vec Stored Global) → ℕ
+left_of (Some client) (Some records) = length client.stored.items - length records.items
+left_of client records = 0
+
+-- how many of the records that the client at a place has stored aren't written
+abbrev pub left_out : List SeenClient → List (Vec Stored Global) → ℕ → ℕ
+left_out clients records place = left_of (slice_get clients place) (slice_get records place)

@@ -1,0 +1,407 @@
+//! What was seen of a path's packets.
+ghost use Rattle.std.specs.Prelude.{◌≡◌, [], ◌∷◌, ◌++◌, if◌then◌else◌, All, IfOk, IfErr, OnOk, count_by, filter, option_map};
+ghost use Rattle.std.specs.List.{flat_map, list_any};
+ghost use Rattle.std.specs.List.Sorted.{IsPermutation};
+ghost use Rattle.rb_import_check.specs.Problems.{IsToldOf};
+ghost use Rattle.rb_import_merge.specs.Packets.{IsOfPath, HaveEvents, Expires, ExpiresAt, counterparty, expiry_at, within_heights, is_source, is_dest, is_wanted, counts_as, is_empty, lacks, one_if, some_timed_out, tells_of, events_of, seen_events};
+
+use crate::counterparties::counterparty;
+use crate::lowest::lowest_of;
+use rb_base::{ChainId, Height};
+use rb_import_answers::{Answer, PacketEvent, PacketKind, PacketPage, RevisionHeight, revision_of};
+use rb_import_check::{ImportError, ProblemName, Saved};
+use rb_import_setup::PathSetup;
+use std::alloc::{AllocError, Global};
+
+/// An event of a packet, its file, and the height of the destination's chain from which on the packet isn't
+/// received any more (0: none).
+#[derive(Clone, Copy)]
+pub struct SeenPacket<'a> {
+    pub file: &'a str,
+    pub event: &'a PacketEvent,
+    pub expiry: u64,
+}
+
+/// The height of the first block (CometBFT).
+const FIRST_HEIGHT: u64 = 1;
+
+/// Of what a path's answers tell nothing: that packets were sent, that they were received, that they were cleared;
+/// and how many answers tell of no packet at all, as those of a search that found nothing.
+#[derive(Clone, Copy, Debug)]
+pub struct Searches {
+    pub lacks_sent: bool,
+    pub lacks_received: bool,
+    pub lacks_cleared: bool,
+    pub empty: usize,
+}
+
+impl Searches {
+    ghost use Rattle.std.specs.Prelude.{◌<◌, ◌↔◌, IsTrue};
+    ghost use Rattle.rb_import_merge.specs.Packets.{lacking};
+
+    /// Whether a search isn't there: fewer answers are empty than kinds of events are lacking.
+    pub fn are_missing(&self) -> bool
+        ensures { IsTrue result ↔ (self.now.empty < lacking self.now) }
+    {
+        let lacking = one_if(self.lacks_sent)
+            + one_if(self.lacks_received)
+            + one_if(self.lacks_cleared);
+        self.empty < lacking
+    }
+}
+
+fn one_if(holds: bool) -> usize
+    ensures { result ≡ one_if holds }
+{
+    if holds { 1 } else { 0 }
+}
+
+/// A page of transactions, and its file.
+#[derive(Clone, Copy)]
+struct Page<'a> {
+    file: &'a str,
+    page: &'a PacketPage,
+}
+
+/// The events of a path's packets from its first sequence on: those that were sent, received,
+/// acknowledged and cleared, each by block. Of several of one kind and sequence the one of the lowest
+/// block; two that tell of one sending and differ are refused.
+pub fn seen_packets<'a>(
+    alloc: Global,
+    setup: &'a PathSetup,
+    dest: &ChainId,
+    answers: &'a [Saved],
+) -> Result<Vec<SeenPacket<'a>>, ImportError<'a>>
+    ensures path { IfOk result (λ packets. All (IsOfPath setup.entry.now (counterparty setup.entry.now (events_of answers.entry.now))) packets.items) }
+    ensures events { IfOk result (λ packets. HaveEvents setup.entry.now (events_of answers.entry.now) packets.items) }
+    ensures expiry { IfOk result (λ packets. All (Expires dest.now) packets.items) }
+    ensures told { IfErr result (IsToldOf setup.entry.now.id) }
+{
+    let id = setup.id.as_str();
+    let pages = pages_of(alloc, id, answers)?;
+    judge_totals(id, pages.as_slice())?;
+    let all = all_events(alloc, revision_of(dest.as_str()), pages.as_slice())?;
+    let end = counterparty(setup, answers);
+    let wanted = wanted_of(alloc, setup, end, all.as_slice())?;
+    let lowest = lowest_of(id, wanted)?;
+    judge_packets(id, lowest.as_slice())?;
+    Ok(by_block(lowest)?)
+}
+
+/// These packets by kind and block.
+fn by_block<'a>(packets: Vec<SeenPacket<'a>>) -> Result<Vec<SeenPacket<'a>>, AllocError>
+    ensures { IfOk result (λ sorted. IsPermutation packets.entry.items sorted.items) }
+{
+    let mut sorted = packets;
+    sorted.sort_by_key(|seen: &SeenPacket| (seen.event.kind, seen.event.block))?;
+    Ok(sorted)
+}
+
+/// The height of a chain of this revision from which on a packet with this timeout isn't received any more;
+/// 0 is none.
+pub fn expiry_at(revision: u64, timeout: RevisionHeight) -> u64
+    ensures { result ≡ expiry_at revision timeout }
+{
+    if timeout.revision == 0 && timeout.height == 0 || revision < timeout.revision {
+        0
+    } else if timeout.revision < revision {
+        FIRST_HEIGHT
+    } else {
+        within_heights(timeout.height)
+    }
+}
+
+/// The block's height that is nearest to a number.
+fn within_heights(number: u64) -> u64
+    ensures { result ≡ within_heights number }
+{
+    if number < FIRST_HEIGHT {
+        FIRST_HEIGHT
+    } else if number <= Height::MAX {
+        number
+    } else {
+        Height::MAX
+    }
+}
+
+/// Of what a path's answers tell nothing.
+pub fn searches_of(answers: &[Saved]) -> Searches
+    ensures sent { result.lacks_sent ≡ lacks PacketKind.Sent answers.now }
+    ensures received { result.lacks_received ≡ lacks PacketKind.Received answers.now }
+    ensures cleared { result.lacks_cleared ≡ lacks PacketKind.Cleared answers.now }
+    ensures empty { result.empty ≡ count_by (λ s. is_empty s.answer) answers.now }
+{
+    Searches {
+        lacks_sent: lacks(answers, PacketKind::Sent),
+        lacks_received: lacks(answers, PacketKind::Received),
+        lacks_cleared: lacks(answers, PacketKind::Cleared),
+        empty: answers
+            .iter()
+            .filter(|saved| is_empty(&saved.answer))
+            .count(),
+    }
+}
+
+/// Whether no answer tells of an event of this kind.
+fn lacks(answers: &[Saved], kind: PacketKind) -> bool
+    ensures { result ≡ lacks kind answers.now }
+{
+    !tell_of(answers, kind)
+}
+
+/// Whether some answer tells of an event of this kind.
+fn tell_of(answers: &[Saved], kind: PacketKind) -> bool
+    ensures { result ≡ list_any (λ s. tells_of kind s.answer) answers.now }
+{
+    answers.iter().any(|saved| tells_of(&saved.answer, kind))
+}
+
+/// Whether an answer tells of an event of this kind.
+fn tells_of(answer: &Answer, kind: PacketKind) -> bool
+    ensures { result ≡ tells_of kind answer.now }
+{
+    match answer {
+        Answer::Transactions(page) => has_kind(page.events.as_slice(), kind),
+        _ => false,
+    }
+}
+
+/// Whether one of these events is of this kind.
+fn has_kind(events: &[PacketEvent], kind: PacketKind) -> bool
+    ensures { result ≡ list_any (λ e. counts_as e.kind kind) events.now }
+{
+    events.iter().any(|event| counts_as(event.kind, kind))
+}
+
+/// Whether an event of a kind counts as one of another: a packet that timed out is cleared.
+pub fn counts_as(kind: PacketKind, other: PacketKind) -> bool
+    ensures { result ≡ counts_as kind other }
+{
+    match (kind, other) {
+        (PacketKind::Sent, PacketKind::Sent)
+        | (PacketKind::Received, PacketKind::Received)
+        | (PacketKind::AckWritten, PacketKind::AckWritten)
+        | (PacketKind::Cleared, PacketKind::Cleared)
+        | (PacketKind::TimedOut, PacketKind::Cleared)
+        | (PacketKind::TimedOut, PacketKind::TimedOut) => true,
+        _ => false,
+    }
+}
+
+/// Whether one of these packets timed out.
+pub fn some_timed_out(packets: &[SeenPacket<'_>]) -> bool
+    ensures { result ≡ some_timed_out packets.now }
+{
+    packets
+        .iter()
+        .any(|seen| counts_as(seen.event.kind, PacketKind::TimedOut))
+}
+
+/// Whether an answer tells of no packet.
+fn is_empty(answer: &Answer) -> bool
+    ensures { result ≡ is_empty answer.now }
+{
+    match answer {
+        Answer::Transactions(page) => page.events.is_empty(),
+        _ => false,
+    }
+}
+
+#[tactic(auto, using(rb_import_check::proofs::Sorting::taking))]
+fn pages_of<'a>(
+    alloc: Global,
+    id: &'a str,
+    answers: &'a [Saved],
+) -> Result<Vec<Page<'a>>, ImportError<'a>>
+    ensures events { IfOk result (λ pages. flat_map (λ p. p.page.now.events.items) pages.items ≡ events_of answers.entry.now) }
+    ensures told { IfErr result (IsToldOf id.entry.now) }
+{
+    let mut pages = Vec::new(alloc);
+    for saved in answers {
+        let file = saved.file.as_str();
+        match &saved.answer {
+            Answer::Transactions(page) => pages.push(Page { file, page })?,
+            _ => return Err(ImportError::at(ProblemName::WrongFolder, id, 0, file)),
+        }
+    }
+    Ok(pages)
+}
+
+/// Refuses pages whose transactions aren't all of some searches: those with one total are pages of
+/// searches with that total.
+fn judge_totals<'a>(id: &'a str, pages: &[Page<'a>]) -> Result<(), ImportError<'a>>
+    ensures { IfErr result (IsToldOf id.entry.now) }
+{
+    for page in pages {
+        let total = page.page.total;
+        let count = count_with(total, pages);
+        if total == 0 && count != 0 || total != 0 && count % total != 0 {
+            return Err(ImportError::at(ProblemName::MissingTransactions, id, total, page.file));
+        }
+    }
+    Ok(())
+}
+
+/// How many transactions stand on the pages with this total.
+fn count_with(total: u64, pages: &[Page]) -> u64 {
+    let mut count: u64 = 0;
+    for page in pages {
+        if page.page.total == total {
+            count = count.saturating_add(page.page.count as u64);
+        }
+    }
+    count
+}
+
+/// The events of these pages, for a destination of this revision.
+#[tactic(auto, using(rb_import_check::proofs::Sorting::taking, crate::proofs::Seeing::expiring))]
+fn all_events<'a>(
+    alloc: Global,
+    revision: u64,
+    pages: &[Page<'a>],
+) -> Result<Vec<SeenPacket<'a>>, AllocError>
+    ensures events { IfOk result (λ all. seen_events all.items ≡ flat_map (λ p. p.page.now.events.items) pages.now) }
+    ensures expiry { IfOk result (λ all. All (ExpiresAt revision) all.items) }
+{
+    let mut all = Vec::new(alloc);
+    for page in pages {
+        add_events(revision, *page, &mut all)?;
+    }
+    Ok(all)
+}
+
+#[tactic(auto, using(crate::proofs::Seeing::expiring))]
+fn add_events<'a>(
+    revision: u64,
+    page: Page<'a>,
+    all: &mut Vec<SeenPacket<'a>>,
+) -> Result<(), AllocError>
+    ensures events { OnOk result (seen_events all.new.items ≡ seen_events all.old.items ++ page.entry.page.now.events.items) }
+    ensures expiry { All (ExpiresAt revision) all.old.items → All (ExpiresAt revision) all.new.items }
+{
+    let file = page.file;
+    let events = page.page.events.as_slice();
+    for event in events {
+        let expiry = expiry_at(revision, event.timeout_height);
+        all.push(SeenPacket {
+            file,
+            event,
+            expiry,
+        })?;
+    }
+    Ok(())
+}
+
+/// Whether a packet's source is the one that the setup names, if it names one.
+pub fn is_source(setup: &PathSetup, source: &str) -> bool
+    ensures { result ≡ is_source setup.now.source_channel source.now }
+{
+    match &setup.source_channel {
+        Some(wanted) => wanted.as_str() == source,
+        None => true,
+    }
+}
+
+/// Whether a packet's destination is this one, where it is known.
+fn is_dest(end: Option<&str>, dest: &str) -> bool
+    ensures { result ≡ is_dest (option_map (λ e. e.now) end.entry) dest.now }
+{
+    match end {
+        Some(wanted) => wanted == dest,
+        None => true,
+    }
+}
+
+/// Those of the events that are of the path's packets, from its first sequence on.
+#[tactic(auto, using(crate::proofs::Seeing::wanting))]
+fn wanted_of<'a>(
+    alloc: Global,
+    setup: &'a PathSetup,
+    end: Option<&str>,
+    all: &[SeenPacket<'a>],
+) -> Result<Vec<SeenPacket<'a>>, ImportError<'a>>
+    ensures wanted { IfOk result (λ wanted. wanted.items ≡ filter (λ s. is_wanted setup.entry.now (option_map (λ e. e.now) end.entry) s.event.now) all.now) }
+    ensures told { IfErr result (IsToldOf setup.entry.now.id) }
+{
+    let mut wanted = Vec::new(alloc);
+    for seen in all {
+        add_wanted(setup, end, *seen, &mut wanted)?;
+    }
+    Ok(wanted)
+}
+
+/// Adds a packet, if it is wanted.
+fn add_wanted<'a>(
+    setup: &'a PathSetup,
+    end: Option<&str>,
+    seen: SeenPacket<'a>,
+    wanted: &mut Vec<SeenPacket<'a>>,
+) -> Result<(), ImportError<'a>>
+    ensures wanted { OnOk result (wanted.new.items ≡ wanted.old.items ++ (if is_wanted setup.entry.now (option_map (λ e. e.now) end.entry) seen.entry.event.now then seen.entry ∷ [] else [])) }
+    ensures told { IfErr result (IsToldOf setup.entry.now.id) }
+{
+    if is_wanted(setup, end, wanted.first(), &seen)? {
+        wanted.push(seen)?;
+    }
+    Ok(())
+}
+
+/// Whether a packet is the path's, and its sequence the first one or a later one. Where the setup names no
+/// source, all packets that are taken have to be of one.
+fn is_wanted<'a>(
+    setup: &'a PathSetup,
+    end: Option<&str>,
+    first: Option<&SeenPacket<'a>>,
+    seen: &SeenPacket<'a>,
+) -> Result<bool, ImportError<'a>>
+    ensures wanted { IfOk result (λ is. is ≡ is_wanted setup.entry.now (option_map (λ e. e.now) end.entry) seen.now.event.now) }
+    ensures told { IfErr result (IsToldOf setup.entry.now.id) }
+{
+    let source = seen.event.source.as_str();
+    match (&setup.source_channel, first) {
+        (None, Some(first)) if first.event.source.as_str() != source => {
+            let name = ProblemName::TwoChannels;
+            let sequence = seen.event.sequence;
+            Err(ImportError::between(name, setup.id.as_str(), sequence, first.file, seen.file))
+        }
+        _ => Ok(
+            is_source(setup, source)
+                && is_dest(end, seen.event.dest.as_str())
+                && setup.first <= seen.event.sequence,
+        ),
+    }
+}
+
+/// Refuses a packet that was received or cleared and not sent, or acknowledged and not received. They
+/// stand by kind and sequence.
+fn judge_packets<'a>(id: &'a str, packets: &[SeenPacket<'a>]) -> Result<(), ImportError<'a>>
+    ensures { IfErr result (IsToldOf id.entry.now) }
+{
+    for seen in packets {
+        if let Some(name) = flaw_of(packets, seen.event) {
+            return Err(ImportError::at(name, id, seen.event.sequence, seen.file));
+        }
+    }
+    Ok(())
+}
+
+/// What an event wants, if it wants something.
+fn flaw_of(packets: &[SeenPacket], event: &PacketEvent) -> Option<ProblemName> {
+    match event.kind {
+        PacketKind::Received | PacketKind::Cleared | PacketKind::TimedOut
+            if !was(packets, PacketKind::Sent, event.sequence) => { Some(ProblemName::MissingSend) }
+        PacketKind::AckWritten if !was(packets, PacketKind::Received, event.sequence) => {
+            Some(ProblemName::MissingReceive)
+        }
+        _ => None,
+    }
+}
+
+/// Whether there is an event of this kind with this sequence.
+fn was(packets: &[SeenPacket], kind: PacketKind, sequence: u64) -> bool {
+    packets
+        .binary_search_by_key(&(kind, sequence), |seen: &SeenPacket| {
+            (seen.event.kind, seen.event.sequence)
+        })
+        .is_ok()
+}

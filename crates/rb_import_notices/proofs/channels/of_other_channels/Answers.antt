@@ -1,0 +1,28 @@
+use Rattle.std.proofs.Common.{rules, ◌+◌, sym, subst}
+use Rattle.rb_import_notices.specs.Channels.{IsOfOthers, SaysChannels, TellChannels}
+use Rattle.rb_import_notices.proofs.Telling.{AreNoticesBefore, notices_all, notices_more, notices_none, notices_same}
+use Rattle.rb_import_notices.proofs.channels.of_other_channels.Goals as goal
+use Rattle.rb_import_notices.proofs.channels.of_other_channels.Goals.{in-Some+in_ok-push, in_default}
+
+pub loop-place-init : goal.loop-place-init
+loop-place-init c =
+    let Due = IsOfOthers c.args.answers.now.paths.items in
+    let Says = SaysChannels c.args.answers.now.paths.items in
+    subst (AreNoticesBefore 0 Due Says c.args.setup.now.paths.items) (sym c.new-found.ensures.items) (notices_none Due Says c.args.setup.now.paths.items)
+
+pub loop-place-preserved : goal.loop-place-preserved
+loop-place-preserved c =
+    let Due = IsOfOthers c.args.answers.now.paths.items in
+    let Says = SaysChannels c.args.answers.now.paths.items in
+    let xs = c.args.setup.now.paths.items in
+    elim c.match-other_of.branch [
+      | in-Some+in_ok-push w ↦ subst (λ f. AreNoticesBefore (c.loop-place.place + 1) Due Says xs f.items) (sym w.found-is)
+          (notices_more Due Says xs c.loop-place.place c.path-item.result w.in-Some.other c.loop-place.found.items _ (search rules) (search rules) w.in-Some.ensures w.in_ok-push.ensures.items c.loop-place.invariant)
+      | in_default w ↦ subst (λ f. AreNoticesBefore (c.loop-place.place + 1) Due Says xs f.items) (sym w.found-is)
+          (notices_same Due Says xs c.loop-place.place c.path-item.result c.loop-place.found.items (search rules) (search rules) w.in_default.ensures c.loop-place.invariant)
+    ]
+
+pub returns : goal.returns
+unfolding TellChannels
+returns c =
+    notices_all (IsOfOthers c.args.answers.now.paths.items) (SaysChannels c.args.answers.now.paths.items) c.args.setup.now.paths.items c.loop-place.place c.loop-place.found.items (search rules) c.loop-place.invariant

@@ -1,0 +1,32 @@
+use Rattle.std.proofs.Common.{rules, ℕ, ◌+◌, sym, subst}
+use Rattle.rb_import_setup.specs.declared.setup.ClientSetup.{ClientSetup}
+use Rattle.rb_import_notices.specs.declared.stale.NothingFresh.{NothingFresh}
+use Rattle.rb_import_notices.specs.Stale.{LacksFresh, SaysFresh, TellFresh}
+use Rattle.rb_import_notices.proofs.Telling.{AreNoticesBefore, notices_all, notices_more, notices_none, notices_same}
+use Rattle.rb_import_notices.proofs.stale.nothing_fresh.Goals as goal
+use Rattle.rb_import_notices.proofs.stale.nothing_fresh.Goals.{in-Some+in_ok-push, in_default}
+
+pub loop-place-init : goal.loop-place-init
+loop-place-init c =
+    let Due : ℕ → ClientSetup → Type 0 = λ i x. LacksFresh c.args.setup.now c.args.seen.now i x in
+    let Says : ℕ → ClientSetup → NothingFresh → Type 0 = (λ i x. SaysFresh c.args.setup.now x) in
+    subst (AreNoticesBefore 0 Due Says c.args.setup.now.clients.items) (sym c.new-found.ensures.items) (notices_none Due Says c.args.setup.now.clients.items)
+
+pub loop-place-preserved : goal.loop-place-preserved
+loop-place-preserved c =
+    let Due : ℕ → ClientSetup → Type 0 = λ i x. LacksFresh c.args.setup.now c.args.seen.now i x in
+    let Says : ℕ → ClientSetup → NothingFresh → Type 0 = (λ i x. SaysFresh c.args.setup.now x) in
+    let xs = c.args.setup.now.clients.items in
+    elim c.match-stale_at.branch [
+      | in-Some+in_ok-push w ↦ subst (λ f. AreNoticesBefore (c.loop-place.place + 1) Due Says xs f.items) (sym w.found-is)
+          (notices_more Due Says xs c.loop-place.place c.client-item.result w.in-Some.stale c.loop-place.found.items _ (search rules) (search rules) w.in-Some.ensures w.in_ok-push.ensures.items c.loop-place.invariant)
+      | in_default w ↦ subst (λ f. AreNoticesBefore (c.loop-place.place + 1) Due Says xs f.items) (sym w.found-is)
+          (notices_same Due Says xs c.loop-place.place c.client-item.result c.loop-place.found.items (search rules) (search rules) w.in_default.ensures c.loop-place.invariant)
+    ]
+
+pub returns : goal.returns
+unfolding TellFresh
+returns c =
+    let Due : ℕ → ClientSetup → Type 0 = λ i x. LacksFresh c.args.setup.now c.args.seen.now i x in
+    let Says : ℕ → ClientSetup → NothingFresh → Type 0 = (λ i x. SaysFresh c.args.setup.now x) in
+    notices_all Due Says c.args.setup.now.clients.items c.loop-place.place c.loop-place.found.items (search rules) c.loop-place.invariant

@@ -1,0 +1,91 @@
+-- What there is no room for: headers and sets of a chain, records of a client, packets of a path.
+use Rattle.std.specs.Prelude.{◌≡◌, ◌<◌, ◌-◌, ℕ, Bool, true, false, List, Vec, IsSomeAnd, count_by, filter, get_or, slice_get}
+use Rattle.std.specs.Global.{Global}
+use Rattle.rb_import_answers.specs.declared.packets.PacketKind.{PacketKind}
+use Rattle.rb_import_setup.specs.declared.setup.ClientSetup.{ClientSetup}
+use Rattle.rb_import_setup.specs.declared.setup.PathSetup.{PathSetup}
+use Rattle.rb_import_setup.specs.declared.setup.Setup.{Setup}
+use Rattle.rb_import_merge.specs.declared.packets.SeenPacket.{SeenPacket}
+use Rattle.rb_import_merge.specs.declared.seen.Seen.{Seen}
+use Rattle.rb_import_merge.specs.Seen.{left_out, sets_left_out}
+use Rattle.rb_import_notices.specs.declared.excess.TooManyHeaders.{TooManyHeaders}
+use Rattle.rb_import_notices.specs.declared.excess.TooManyPackets.{TooManyPackets}
+use Rattle.rb_import_notices.specs.declared.excess.TooManyRecords.{TooManyRecords}
+use Rattle.rb_import_notices.specs.declared.excess.TooManySets.{TooManySets}
+use Rattle.rb_import_notices.specs.Notices.{AreNotices}
+
+-- ---- headers
+
+-- headers of the chain at a place are left out
+abbrev pub LeavesHeaders : Seen → ℕ → Type 0
+LeavesHeaders seen place = 0 < get_or seen.surplus.items place 0
+
+-- it is told of this chain, and how many of its headers are left out
+abbrev pub SaysHeaders : Seen → ℕ → List ℕ → TooManyHeaders → Type 0
+SaysHeaders seen place id notice = (notice.chain.now ≡ id) × (notice.left_out ≡ get_or seen.surplus.items place 0)
+
+-- a notice for each chain of the setup of which headers are left out
+unfoldable pub TellExcessHeaders : Setup → Seen → List TooManyHeaders → Type 0
+TellExcessHeaders setup seen notices = AreNotices (λ place id. LeavesHeaders seen place) (SaysHeaders seen) setup.chains.items notices
+
+-- ---- sets
+
+-- sets of the chain at a place are left out
+abbrev pub LeavesSets : Seen → ℕ → Type 0
+LeavesSets seen place = 0 < sets_left_out seen.sets.items place
+
+-- it is told of this chain, and how many of its sets are left out
+abbrev pub SaysSets : Seen → ℕ → List ℕ → TooManySets → Type 0
+SaysSets seen place id notice = (notice.chain.now ≡ id) × (notice.left_out ≡ sets_left_out seen.sets.items place)
+
+-- a notice for each chain of the setup of which sets are left out
+unfoldable pub TellExcessSets : Setup → Seen → List TooManySets → Type 0
+TellExcessSets setup seen notices = AreNotices (λ place id. LeavesSets seen place) (SaysSets seen) setup.chains.items notices
+
+-- ---- records
+
+-- of the client at a place stored records are left out
+abbrev pub LeavesRecords : Seen → ℕ → Type 0
+LeavesRecords seen place = 0 < left_out seen.clients.items seen.records.items place
+
+-- it is told of this client, and how many of its stored records are left out
+abbrev pub SaysRecords : Seen → ℕ → ClientSetup → TooManyRecords → Type 0
+SaysRecords seen place c notice = (notice.client.now ≡ c.id) × (notice.left_out ≡ left_out seen.clients.items seen.records.items place)
+
+-- a notice for each client of the setup of which stored records are left out
+unfoldable pub TellExcessRecords : Setup → Seen → List TooManyRecords → Type 0
+TellExcessRecords setup seen notices = AreNotices (λ place c. LeavesRecords seen place) (SaysRecords seen) setup.clients.items notices
+
+-- ---- packets
+
+abbrev is_sending : PacketKind → Bool
+is_sending PacketKind.Sent = true
+is_sending other = false
+
+-- whether a packet was sent
+abbrev pub is_sent : SeenPacket → Bool
+is_sent p = is_sending p.event.now.kind
+
+-- those of these that were sent, and how many they are
+abbrev pub sent_of : List SeenPacket → List SeenPacket
+sent_of packets = filter is_sent packets
+
+abbrev pub sent_in : List SeenPacket → ℕ
+sent_in packets = count_by is_sent packets
+
+-- of the path at a place more packets were sent than a path holds
+abbrev pub LeavesPackets : Seen → ℕ → Type 0
+LeavesPackets seen place = IsSomeAnd (slice_get seen.paths.items place) (λ (packets : Vec SeenPacket Global). 4096 < sent_in packets.items)
+
+-- so many of these packets were sent, and this is the sequence of the first of the last 4,096 of them
+abbrev pub TellsSent : List SeenPacket → ℕ → ℕ → Type 0
+TellsSent packets sent first = (sent ≡ sent_in packets) × IsSomeAnd (slice_get (sent_of packets) (sent - 4096)) (λ (p : SeenPacket). first ≡ p.event.now.sequence)
+
+-- it is told of this path, and of its packets
+abbrev pub SaysPackets : Seen → ℕ → PathSetup → TooManyPackets → Type 0
+SaysPackets seen place path notice =
+    (notice.path.now ≡ path.id) × IsSomeAnd (slice_get seen.paths.items place) (λ (packets : Vec SeenPacket Global). TellsSent packets.items notice.sent notice.first)
+
+-- a notice for each path of the setup of which more packets were sent than a path holds
+unfoldable pub TellExcessPackets : Setup → Seen → List TooManyPackets → Type 0
+TellExcessPackets setup seen notices = AreNotices (λ place path. LeavesPackets seen place) (SaysPackets seen) setup.paths.items notices

@@ -1,0 +1,38 @@
+-- All notices of a setup and of the answers that a script is made of.
+use Rattle.rb_import_setup.specs.declared.setup.Setup.{Setup}
+use Rattle.rb_import_check.specs.declared.saved.SavedAnswers.{SavedAnswers}
+use Rattle.rb_import_merge.specs.declared.seen.Seen.{Seen}
+use Rattle.rb_import_notices.specs.declared.notice.Notices.{Notices}
+use Rattle.rb_import_notices.specs.Channels.{TellChannels}
+use Rattle.rb_import_notices.specs.Counterparties.{TellCounterparties}
+use Rattle.rb_import_notices.specs.Excess.{TellExcessHeaders, TellExcessPackets, TellExcessRecords, TellExcessSets}
+use Rattle.rb_import_notices.specs.Missing.{TellHeaders, TellNextSets}
+use Rattle.rb_import_notices.specs.Stale.{TellFresh}
+use Rattle.rb_import_notices.specs.Unsearched.{TellSearches}
+use Rattle.rb_import_notices.specs.Unusable.{TellFuture, TellGoals, TellUntrusted}
+
+-- they tell what isn't among the answers: headers, next sets, searches
+abbrev pub TellMissing : Setup → SavedAnswers → Seen → Notices → Type 0
+TellMissing setup answers seen n =
+    TellHeaders setup seen n.headers.items × TellNextSets setup seen n.next_sets.items × TellSearches setup answers.paths.items n.searches.items
+
+-- they tell what there is no room for: headers, sets, records, packets
+abbrev pub TellExcess : Setup → Seen → Notices → Type 0
+TellExcess setup seen n =
+    TellExcessHeaders setup seen n.too_many_headers.items × TellExcessSets setup seen n.too_many_sets.items × TellExcessRecords setup seen n.too_many.items
+    × TellExcessPackets setup seen n.too_many_packets.items
+
+-- they tell what can't be used in the last turn's window: expired records, headers from the future, goals that nothing meets, refreshes for which nothing is young enough
+abbrev pub TellUnusable : Setup → Seen → Notices → Type 0
+TellUnusable setup seen n =
+    TellUntrusted setup seen n.untrusted.items × TellFuture setup seen n.future.items × TellGoals setup seen n.goals.items × TellFresh setup seen n.stale.items
+
+-- they tell of paths that may not be those that are meant: of several destinations, and of other sources
+abbrev pub TellUnsure : Setup → SavedAnswers → Notices → Type 0
+TellUnsure setup answers n =
+    TellCounterparties setup answers.paths.items n.counterparties.items × TellChannels setup answers.paths.items n.channels.items
+
+-- these are all notices of a setup, its answers and what was seen in them
+abbrev pub AreNoticesOf : Setup → SavedAnswers → Seen → Notices → Type 0
+AreNoticesOf setup answers seen n =
+    TellMissing setup answers seen n × TellExcess setup seen n × TellUnusable setup seen n × TellUnsure setup answers n

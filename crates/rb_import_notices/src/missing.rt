@@ -1,0 +1,144 @@
+//! Notices of what isn't among the answers: a chain's headers, and the set that a record names as its next.
+ghost use Rattle.std.specs.Prelude.{◌≡◌, ◌↔◌, IsTrue, IsNone, IfSome, IfOk, MatchOption};
+ghost use Rattle.rb_import_merge.specs.Seen.{IsWrittenOf, WasSeenOf};
+ghost use Rattle.rb_import_notices.specs.Missing.{IsTracked, MissesHeaders, TellHeaders, TellNextSets, TellsRecord};
+
+use rb_import_check::Stored;
+use rb_import_merge::Seen;
+use rb_import_setup::{ClientSetup, Setup};
+use std::alloc::{AllocError, Global};
+use std::fmt;
+
+/// A chain that a client tracks, of which there is no header.
+#[derive(Clone, Copy, Debug)]
+pub struct MissingHeaders<'a> {
+    pub chain: &'a str,
+}
+
+impl fmt::Display for MissingHeaders<'_> {
+    fn fmt<W: fmt::Write>(&self, f: &mut fmt::Formatter<W>) -> fmt::Result {
+        let chain = self.chain;
+        write!(
+            f,
+            "notice MissingHeaders at {chain}: no answer is of /commit, so that there is nothing to update to; fetch /commit and /validators of some heights into files *.json of the folder {chain}"
+        )
+    }
+}
+
+/// A record that a client has stored, and the chain that the client tracks: the set of the next validators that the
+/// record names isn't written, so that no update starts from it. Either it was seen, and the chain's book has no room
+/// for it, or no answer on the chain has it.
+#[derive(Clone, Copy)]
+pub struct MissingNextSet<'a> {
+    pub client: &'a str,
+    pub stored: Stored<'a>,
+    pub chain: &'a str,
+    pub was_seen: bool,
+}
+
+impl fmt::Display for MissingNextSet<'_> {
+    fn fmt<W: fmt::Write>(&self, f: &mut fmt::Formatter<W>) -> fmt::Result {
+        let client = self.client;
+        let height = self.stored.state.height;
+        let file = self.stored.file;
+        let chain = self.chain;
+        let next = height.get().saturating_add(1);
+        write!(f, "notice MissingNextSet at {client} {height}: {file}: ")?;
+        if self.was_seen {
+            return write!(
+                f,
+                "the next validators are of a set of {chain} that is left out, so that no update starts from this record"
+            );
+        }
+        write!(
+            f,
+            "no answer has the next validators, so that no update starts from this record; fetch all pages of /validators?height={next}&per_page=100 into files *.json of the folder {chain}"
+        )
+    }
+}
+
+/// The chains that are tracked, of which there is no header.
+pub fn missing_headers<'a>(
+    alloc: Global,
+    setup: &'a Setup,
+    seen: &Seen<'a>,
+) -> Result<Vec<MissingHeaders<'a>>, AllocError>
+    ensures { IfOk result (λ found. TellHeaders setup.entry.now seen.now found.items) }
+{
+    let mut found = Vec::new(alloc);
+    for (place, id) in setup.chains.iter().enumerate() {
+        if let Some(missing) = headers_missing_at(setup, seen, place, id.as_str()) {
+            found.push(missing)?;
+        }
+    }
+    Ok(found)
+}
+
+/// The chain at a place, where it is tracked and there is no header of it.
+fn headers_missing_at<'a>(
+    setup: &Setup,
+    seen: &Seen<'_>,
+    place: usize,
+    chain: &'a str,
+) -> Option<MissingHeaders<'a>>
+    ensures { MatchOption result (¬ MissesHeaders setup.now seen.now place) (λ n. MissesHeaders setup.now seen.now place × (n.chain.now ≡ chain.entry.now)) }
+{
+    if !is_tracked(setup, place) || !seen.lacks_headers(place) {
+        return None;
+    }
+    Some(MissingHeaders { chain })
+}
+
+/// Whether a client tracks the chain at a place.
+fn is_tracked(setup: &Setup, place: usize) -> bool
+    ensures { IsTrue result ↔ IsTracked setup.now place }
+{
+    setup.clients.iter().any(|client| client.tracks == place)
+}
+
+/// The written records whose next sets aren't written, by client, of each by rising height.
+pub fn missing_next_sets<'a>(
+    alloc: Global,
+    setup: &'a Setup,
+    seen: &Seen<'a>,
+) -> Result<Vec<MissingNextSet<'a>>, AllocError>
+    ensures { IfOk result (λ found. TellNextSets setup.entry.now seen.now found.items) }
+{
+    let mut found = Vec::new(alloc);
+    for (place, client) in setup.clients.iter().enumerate() {
+        let Some(chain) = setup.chains.get(client.tracks) else {
+            continue;
+        };
+        let Some(records) = seen.records.get(place) else {
+            continue;
+        };
+        for stored in records {
+            if let Some(missing) = missing_next_set(seen, client, chain.as_str(), stored) {
+                found.push(missing)?;
+            }
+        }
+    }
+    Ok(found)
+}
+
+/// A client's record, where its next set isn't written of the chain that the client tracks.
+fn missing_next_set<'a>(
+    seen: &Seen<'a>,
+    client: &'a ClientSetup,
+    chain: &'a str,
+    stored: &Stored<'a>,
+) -> Option<MissingNextSet<'a>>
+    ensures when { IsNone result ↔ IsWrittenOf seen.now.chains.items seen.now.sets.items client.entry.now.tracks stored.now.state.now.next }
+    ensures record { IfSome result (TellsRecord client.entry.now.id chain.entry.now stored.now) }
+    ensures seen { IfSome result (λ missing. IsTrue missing.was_seen ↔ WasSeenOf seen.now.chains.items client.entry.now.tracks stored.now.state.now.next) }
+{
+    if seen.is_written(client.tracks, &stored.state.next) {
+        return None;
+    }
+    Some(MissingNextSet {
+        client: client.id.as_str(),
+        stored: *stored,
+        chain,
+        was_seen: seen.has_set(client.tracks, &stored.state.next),
+    })
+}

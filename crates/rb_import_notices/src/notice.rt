@@ -1,0 +1,113 @@
+//! What isn't among answers that make a script, what isn't written of them, and what can't be used or isn't sure: the
+//! script is written all the same, but updates may be missed.
+ghost use Rattle.std.specs.Prelude.{IfOk};
+ghost use Rattle.rb_import_notices.specs.Whole.{TellExcess, TellMissing, TellUnsure, TellUnusable};
+
+use crate::channels::{OtherChannel, of_other_channels};
+use crate::counterparties::{SeveralCounterparties, sent_to_several};
+use crate::excess::{
+    TooManyHeaders, TooManyPackets, TooManyRecords, TooManySets, too_many_headers,
+    too_many_packets, too_many_records, too_many_sets,
+};
+use crate::missing::{MissingHeaders, MissingNextSet, missing_headers, missing_next_sets};
+use crate::stale::{NothingFresh, nothing_fresh};
+use crate::unsearched::{MissingSearches, missing_searches};
+use crate::unusable::{
+    FutureHeaders, NothingTrusted, UnseenGoal, future_headers, nothing_trusted, unseen_goals,
+};
+use rb_import_check::SavedAnswers;
+use rb_import_merge::Seen;
+use rb_import_setup::Setup;
+use std::alloc::{AllocError, Global};
+use std::fmt;
+
+/// What isn't among the answers, isn't written, can't be used or isn't sure, each kind in the setup's order, of one client's
+/// written records by rising height. Shown as a line each.
+#[derive(Drop)]
+pub struct Notices<'a> {
+    pub headers: Vec<MissingHeaders<'a>>,
+    pub too_many_headers: Vec<TooManyHeaders<'a>>,
+    pub too_many_sets: Vec<TooManySets<'a>>,
+    pub too_many: Vec<TooManyRecords<'a>>,
+    pub too_many_packets: Vec<TooManyPackets<'a>>,
+    pub untrusted: Vec<NothingTrusted<'a>>,
+    pub future: Vec<FutureHeaders<'a>>,
+    pub goals: Vec<UnseenGoal<'a>>,
+    pub stale: Vec<NothingFresh<'a>>,
+    pub next_sets: Vec<MissingNextSet<'a>>,
+    pub searches: Vec<MissingSearches<'a>>,
+    pub counterparties: Vec<SeveralCounterparties<'a>>,
+    pub channels: Vec<OtherChannel<'a>>,
+}
+
+impl fmt::Display for Notices<'_> {
+    fn fmt<W: fmt::Write>(&self, f: &mut fmt::Formatter<W>) -> fmt::Result {
+        write_lines(f, self.headers.as_slice())?;
+        write_lines(f, self.too_many_headers.as_slice())?;
+        write_lines(f, self.too_many_sets.as_slice())?;
+        write_lines(f, self.too_many.as_slice())?;
+        write_lines(f, self.too_many_packets.as_slice())?;
+        write_lines(f, self.untrusted.as_slice())?;
+        write_lines(f, self.future.as_slice())?;
+        write_lines(f, self.goals.as_slice())?;
+        write_lines(f, self.stale.as_slice())?;
+        write_lines(f, self.next_sets.as_slice())?;
+        write_lines(f, self.searches.as_slice())?;
+        write_lines(f, self.counterparties.as_slice())?;
+        write_lines(f, self.channels.as_slice())
+    }
+}
+
+/// Writes a line for each of these.
+fn write_lines<T: fmt::Display, W: fmt::Write>(
+    f: &mut fmt::Formatter<W>,
+    notices: &[T],
+) -> fmt::Result {
+    for notice in notices {
+        writeln!(f, "{notice}")?;
+    }
+    Ok(())
+}
+
+/// What isn't among the answers of which this was seen, what isn't written of it, and what can't be used or isn't sure.
+/// `AllocError` comes where a growth is refused.
+pub fn notices_of<'a>(
+    alloc: Global,
+    setup: &'a Setup,
+    answers: &'a SavedAnswers,
+    seen: &Seen<'a>,
+) -> Result<Notices<'a>, AllocError>
+    ensures missing { IfOk result (TellMissing setup.entry.now answers.entry.now seen.now) }
+    ensures excess { IfOk result (TellExcess setup.entry.now seen.now) }
+    ensures unusable { IfOk result (TellUnusable setup.entry.now seen.now) }
+    ensures unsure { IfOk result (TellUnsure setup.entry.now answers.entry.now) }
+{
+    let headers = missing_headers(alloc, setup, seen)?;
+    let too_many_headers = too_many_headers(alloc, setup, seen)?;
+    let too_many_sets = too_many_sets(alloc, setup, seen)?;
+    let too_many = too_many_records(alloc, setup, seen)?;
+    let too_many_packets = too_many_packets(alloc, setup, seen)?;
+    let untrusted = nothing_trusted(alloc, setup, seen)?;
+    let future = future_headers(alloc, setup, seen)?;
+    let goals = unseen_goals(alloc, setup, seen)?;
+    let stale = nothing_fresh(alloc, setup, seen)?;
+    let next_sets = missing_next_sets(alloc, setup, seen)?;
+    let searches = missing_searches(alloc, setup, answers.paths.as_slice())?;
+    let counterparties = sent_to_several(alloc, setup, answers)?;
+    let channels = of_other_channels(alloc, setup, answers)?;
+    Ok(Notices {
+        headers,
+        too_many_headers,
+        too_many_sets,
+        too_many,
+        too_many_packets,
+        untrusted,
+        future,
+        goals,
+        stale,
+        next_sets,
+        searches,
+        counterparties,
+        channels,
+    })
+}

@@ -1,0 +1,102 @@
+//! Notices of searches for a path's packets that aren't there.
+ghost use Rattle.std.specs.Prelude.{IfOk, MatchOption};
+ghost use Rattle.rb_import_notices.specs.Unsearched.{LacksSearches, SaysSearches, TellSearches};
+
+use rb_import_check::Saved;
+use rb_import_merge::{Searches, searches_of};
+use rb_import_setup::{PathSetup, Setup};
+use std::alloc::{AllocError, Global};
+use std::fmt;
+
+/// A path, and what its answers tell nothing of; fewer answers are empty than searches for that.
+#[derive(Clone, Copy, Debug)]
+pub struct MissingSearches<'a> {
+    pub path: &'a str,
+    pub searches: Searches,
+}
+
+impl fmt::Display for MissingSearches<'_> {
+    fn fmt<W: fmt::Write>(&self, f: &mut fmt::Formatter<W>) -> fmt::Result {
+        let path = self.path;
+        write!(
+            f,
+            "notice MissingSearches at {path}: no answer of /tx_search tells of"
+        )?;
+        let Searches {
+            lacks_sent,
+            lacks_received,
+            lacks_cleared,
+            ..
+        } = self.searches;
+        let before_received = match (lacks_sent, lacks_cleared) {
+            (true, true) => ", ",
+            (true, false) => " or ",
+            _ => " ",
+        };
+        let before_cleared = if lacks_sent || lacks_received {
+            ", "
+        } else {
+            " "
+        };
+        write_names(f, lacks_sent, " ", "send_packet")?;
+        write_names(f, lacks_received, before_received, "recv_packet")?;
+        write_names(
+            f,
+            lacks_cleared,
+            before_cleared,
+            "acknowledge_packet or timeout_packet",
+        )?;
+        write!(
+            f,
+            ", nor is there an empty answer to each such search; nothing is planned for packets that aren't seen as sent, and those that aren't seen as received or cleared are planned again; fetch all pages of /tx_search into files *.json of the folder {path}"
+        )
+    }
+}
+
+/// Writes the names of events of a kind that is lacking, behind what goes before them.
+fn write_names<W: fmt::Write>(
+    f: &mut fmt::Formatter<W>,
+    is_lacking: bool,
+    before: &str,
+    names: &str,
+) -> fmt::Result {
+    if !is_lacking {
+        return Ok(());
+    }
+    f.write_str(before)?;
+    f.write_str(names)
+}
+
+/// The paths of which searches aren't there, by the answers of each.
+pub fn missing_searches<'a>(
+    alloc: Global,
+    setup: &'a Setup,
+    answers: &[Vec<Saved>],
+) -> Result<Vec<MissingSearches<'a>>, AllocError>
+    ensures { IfOk result (λ found. TellSearches setup.entry.now answers.now found.items) }
+{
+    let mut found = Vec::new(alloc);
+    for (place, path) in setup.paths.iter().enumerate() {
+        if let Some(missing) = missing_of(answers, place, path) {
+            found.push(missing)?;
+        }
+    }
+    Ok(found)
+}
+
+/// What the answers of the path at a place tell nothing of, where searches aren't there.
+fn missing_of<'a>(
+    answers: &[Vec<Saved>],
+    place: usize,
+    path: &'a PathSetup,
+) -> Option<MissingSearches<'a>>
+    ensures { MatchOption result (¬ LacksSearches answers.now place) (λ n. LacksSearches answers.now place × SaysSearches answers.now place path.entry.now n) }
+{
+    let saved = answers.get(place)?;
+    let searches = searches_of(saved.as_slice());
+    if !searches.are_missing() {
+        return None;
+    }
+    let path = path.id.as_str();
+    Some(MissingSearches { path, searches })
+}

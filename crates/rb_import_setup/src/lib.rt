@@ -1,0 +1,15 @@
+//! Setups: what `import` is told of a relayer, as a script without events whose clients may leave
+//! out how they judge headers; or the first fault of such a text. What a setup has as a script has
+//! it is read as `rb_script_config` reads it.
+#![tactic(auto)]
+
+mod client;
+mod path;
+mod reading;
+mod setup;
+mod turn;
+
+pub use rb_script_toml::MAX_BYTES;
+pub use rb_script_types::{Asked, Goal, MAX_RECORDS, MAX_SETS, Settlement};
+pub use reading::read_setup;
+pub use setup::{ClientSetup, PathSetup, Setup, TurnSetup};

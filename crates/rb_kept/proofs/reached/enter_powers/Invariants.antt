@@ -1,8 +1,0 @@
-use Rattle.std.proofs.Common.{◌≡◌}
-use Rattle.rb_book.specs.Intake.{with_set}
-use Rattle.rb_kept.specs.Kept.{kept_of}
-use Rattle.rb_kept.proofs.Inserted.{written}
-use Rattle.rb_kept.proofs.reached.enter_powers.Given as goal
-
-abbrev pub invariant-loop-index : goal.invariant-loop-index
-invariant-loop-index g l = l.rows ≡ written (kept_of l.book) (kept_of (with_set l.book l.set)) l.book.headers l.index

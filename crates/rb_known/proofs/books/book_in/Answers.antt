@@ -1,8 +1,0 @@
-use Rattle.std.proofs.Common.{sym, ◌∙◌}
-use Rattle.rb_book.specs.Shared.{Shared}
-use Rattle.rb_machine.specs.Standing.{empty_book}
-use Rattle.rb_known.proofs.Places.{there}
-use Rattle.rb_known.proofs.books.book_in.Goals as goal
-
-pub returns : goal.returns
-returns g c = c.book.ensures ∙ sym (there (λ (s : Shared). s.book) c.args.books.now c.args.chain c.index-books-chain.result (empty_book 1) c.requires c.index-books-chain.is)

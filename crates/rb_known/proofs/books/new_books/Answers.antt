@@ -1,8 +1,0 @@
-use Rattle.std.proofs.Common.{◌≡◌, ℕ, replicate, ap, ◌∙◌, arith}
-use Rattle.rb_machine.specs.Standing.{empty_book}
-use Rattle.rb_known.proofs.books.new_books.Goals as goal
-
-pub returns : goal.returns
-returns g c =
-    let all : c.loop.counter ≡ c.args.chains = omega (arith, c.loop-test.false, c.loop.auto.counter-end) in
-    c.loop.invariant ∙ ap (λ (n : ℕ). replicate n (empty_book c.args.limit)) all

@@ -1,6 +1,0 @@
-use Rattle.rb_known.specs.Held.{HeldClient}
-use Rattle.rb_known.proofs.Places.{found_seen}
-use Rattle.rb_known.proofs.clients.client_in.Goals as goal
-
-pub returns : goal.returns
-returns g c = found_seen (λ (h : HeldClient). h.client) c.args.clients.now c.args.client c.index-clients-client.result c.requires c.index-clients-client.is

@@ -1,6 +1,0 @@
-use Rattle.std.proofs.Common.{◌≡◌, take}
-use Rattle.rb_known.specs.Held.{clients_of}
-use Rattle.rb_known.proofs.clients.copy_clients.Given as goal
-
-abbrev pub invariant-loop-client : goal.invariant-loop-client
-invariant-loop-client g l = clients_of l.copies.items ≡ clients_of (take l.client-index l.clients)

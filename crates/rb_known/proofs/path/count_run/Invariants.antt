@@ -1,9 +1,0 @@
-use Rattle.std.proofs.Common.{◌+◌, ◌-◌, ◌≤◌, length}
-use Rattle.rb_known.specs.Held.{next_among}
-use Rattle.rb_known.proofs.path.count_run.Given as goal
-
-abbrev pub invariant-loop-run : goal.invariant-loop-run
-invariant-loop-run l = (l.first + l.run ≤ next_among l.first l.packets) × (l.run ≤ length l.packets)
-
-abbrev pub decreases-loop-run : goal.decreases-loop-run
-decreases-loop-run l = length l.packets - l.run

@@ -1,8 +1,0 @@
-use Rattle.std.proofs.Common.{sym, ap, ◌∙◌}
-use Rattle.std.specs.Option.{option_map, option_and_then}
-use Rattle.rb_scan.specs.Path.{Path}
-use Rattle.rb_machine.specs.Standing.{view_of_path, sent_refusal}
-use Rattle.rb_known.proofs.paths.refuse_sent.Goals as goal
-
-pub returns : goal.returns
-returns g c = λ books. c.refuse_sent.ensures ∙ ap (λ o. option_and_then (λ (v : Path). sent_refusal v c.args.sequence) (option_map (view_of_path books) o)) (sym c.path_in.ensures)

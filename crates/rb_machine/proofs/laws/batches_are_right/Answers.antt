@@ -1,5 +1,0 @@
-use Rattle.rb_machine.proofs.Right.{batches_right}
-use Rattle.rb_machine.proofs.laws.batches_are_right.Goals as goal
-
-pub returns : goal.returns
-returns c = batches_right c.ready_receives_are_consecutive.ensures

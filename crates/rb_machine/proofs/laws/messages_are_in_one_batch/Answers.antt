@@ -1,5 +1,0 @@
-use Rattle.rb_machine.proofs.Open.{in_one_batch}
-use Rattle.rb_machine.proofs.laws.messages_are_in_one_batch.Goals as goal
-
-pub returns : goal.returns
-returns c = in_one_batch c.settled_is_not_owed.ensures

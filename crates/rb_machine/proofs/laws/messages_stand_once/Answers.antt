@@ -1,5 +1,0 @@
-use Rattle.rb_machine.proofs.Sound.{stand_once}
-use Rattle.rb_machine.proofs.laws.messages_stand_once.Goals as goal
-
-pub returns : goal.returns
-returns c = stand_once c.finds_what_was_added.ensures c.stays_a_book.ensures c.views_are_orderly.ensures

@@ -1,5 +1,0 @@
-use Rattle.rb_machine.proofs.Open.{settled_gone}
-use Rattle.rb_machine.proofs.laws.settled_messages_are_gone.Goals as goal
-
-pub returns : goal.returns
-returns c = settled_gone c.settled_is_not_owed.ensures

@@ -1,7 +1,0 @@
--- How the refusals of a relayer are ordered. Their numbers and names stand in rb_events.
-use Rattle.std.specs.Prelude.{Bool, Option, Some, if◌then◌else◌}
-use Rattle.rb_events.specs.declared.refusal.Refusal.{Refusal}
-
--- the refusal where it applies, else what comes next
-abbrev pub refused_if : Bool → Refusal → Option Refusal → Option Refusal
-refused_if applies refusal next = if applies then Some refusal else next

@@ -1,8 +1,0 @@
--- How the code replies.
-use Rattle.rb_machine.specs.Machine.{Reply, Noted, Opened}
-use Rattle.rb_machine.specs.declared.reply.Reply.{Reply as CodeReply}
-use Rattle.rb_machine.specs.declared.reply.Reply.TheVariants as code
-
-abbrev pub reply_view : CodeReply → Reply
-reply_view code.Noted = Noted
-reply_view (code.Opened number) = Opened number

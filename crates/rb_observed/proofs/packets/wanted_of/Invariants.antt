@@ -1,9 +1,0 @@
-use Rattle.std.proofs.Common.{◌≡◌, filter, take}
-use Rattle.std.specs.Prelude.{option_map}
-use Rattle.rb_observed.specs.Packets.{is_wanted}
-use Rattle.rb_observed.specs.declared.packets.SeenPacket.{SeenPacket}
-use Rattle.rb_observed.proofs.packets.wanted_of.Given as goal
-
--- the wanted ones of the events so far
-abbrev pub invariant-loop-seen : goal.invariant-loop-seen
-invariant-loop-seen l = l.wanted.items ≡ filter (λ (s : SeenPacket). is_wanted l.setup (option_map (λ e. e.now) l.end) s.event.now) (take l.seen-index l.all)

@@ -1,7 +1,0 @@
-use Rattle.std.proofs.Common.{◌≢◌, All, take}
-use Rattle.rb_seen.specs.declared.chain.Commit.{Commit}
-use Rattle.rb_observed.proofs.room.has_header.Given as goal
-
--- none of those so far is of this height
-abbrev pub invariant-loop-commit : goal.invariant-loop-commit
-invariant-loop-commit l = All (λ (c : Commit). c.header.now.height ≢ l.height) (take l.commit-index l.chain.commits.items)

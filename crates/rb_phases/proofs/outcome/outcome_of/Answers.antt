@@ -1,8 +1,0 @@
-use Rattle.std.proofs.Common.{ap}
-use Rattle.rb_task.specs.Draft.{Job}
-use Rattle.rb_phases.proofs.Prices.{answer_right}
-use Rattle.rb_phases.proofs.outcome.outcome_of.Goals as goal
-
-pub planned_of-requires : goal.planned_of-requires
-planned_of-requires g c =
-    answer_right c.args.draft.now c.in-Some.answer.now c.job.result.now.task c.in-Some.ensures.right c.in-Some.ensures.value (ap (λ (j : Job). j.task) c.job.ensures)

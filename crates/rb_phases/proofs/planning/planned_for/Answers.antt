@@ -1,6 +1,0 @@
-use Rattle.std.proofs.Common.{Some, ◌∙◌, sym, ap}
-use Rattle.rb_task.specs.Draft.{Job}
-use Rattle.rb_phases.proofs.planning.planned_for.Goals as goal
-
-pub returns-clause-view : goal.returns-clause-view
-returns-clause-view g c = c.in_ok-job.ensures ∙ ap (λ (j : Job). Some j) (sym c.in_ok-draft.ensures.job)

@@ -1,0 +1,91 @@
+-- What is planned for a client (own choice, over the least lists, the exact labellings and the least cuts).
+use Rattle.std.specs.Prelude.{◌≡◌, ℕ, ◌+◌, ◌<◌, Bool, List, [], length, Option, Some, None, MatchOption}
+use Rattle.rb_batch.specs.Cut.{IsLeastCut, IsFirstTooBig}
+use Rattle.rb_batch.specs.declared.transaction.Transaction.{Transaction}
+use Rattle.rb_script_types.specs.declared.goal.Goal.{Goal}
+use Rattle.rb_plan.specs.declared.labelling.Label.{Label}
+use Rattle.rb_plan.specs.Labelling.{IsLabelling, IsExact, label_of}
+use Rattle.rb_plan.specs.Least.{IsLeast, IsUnreachable}
+use Rattle.rb_plan.specs.ProofHeight.{IsProofHeight}
+use Rattle.rb_step.specs.LightClient.{Update}
+use Rattle.rb_step.specs.View.{client_of}
+use Rattle.rb_plan_client.specs.Reach.{IsReach}
+use Rattle.rb_plan_client.specs.Task.{Task, Message, goal_of, messages_of, gases}
+
+-- the height that a batch proves its packets at, and its transactions
+pub record Batch : Type 0 where
+  pub proof : ℕ
+  pub transactions : List Transaction
+
+-- how messages are sent: there are none, the message with this number is over the gas limit alone, or in a batch
+pub data Sending : Type 0 where
+  nothing : Sending
+  too_big : ℕ → Sending
+  batched : Batch → Sending
+
+-- the updates, then the packet messages, and how they are sent
+pub record Plan : Type 0 where
+  pub updates : List Update
+  pub messages : List Message
+  pub sending : Sending
+
+-- a goal, the exact labelling, and the plan; none where the goal can't be reached
+pub record Planned : Type 0 where
+  pub goal : Goal
+  pub labels : List Label
+  pub plan : Option Plan
+
+-- ---- what is right for a task
+
+pub record IsBatch (t : Task) (p : Plan) (b : Batch) : Type 0 where
+  pub some : 0 < length p.updates + length p.messages
+  pub proof : IsProofHeight (client_of t.view) p.updates (Some b.proof)
+  pub transactions : IsLeastCut t.limits (gases t p.updates p.messages) b.transactions
+
+abbrev pub IsSending : Task → Plan → Sending → Type 0
+IsSending t p nothing = (p.updates ≡ []) × (p.messages ≡ [])
+IsSending t p (too_big index) = IsFirstTooBig t.limits (gases t p.updates p.messages) index
+IsSending t p (batched b) = IsBatch t p b
+
+-- the least list of updates that meets the goal, the messages that go with it, and the least cut of them all
+pub record IsPlan (t : Task) (goal : Goal) (ms : List Message) (p : Plan) : Type 0 where
+  pub least : IsLeast (client_of t.view) goal p.updates
+  pub messages : p.messages ≡ ms
+  pub sending : IsSending t p p.sending
+
+pub record IsPlanned (t : Task) (p : Planned) : Type 0 where
+  pub reach : Option ℕ
+  pub is_reach : IsReach (client_of t.view) reach
+  pub goal : goal_of t reach ≡ Some p.goal
+  pub labels : IsLabelling p.labels
+  pub exact : IsExact (client_of t.view) (label_of p.labels)
+  pub plan : MatchOption p.plan (IsUnreachable (client_of t.view) p.goal) (IsPlan t p.goal (messages_of t reach))
+
+-- there is no goal
+pub record IsIdle (t : Task) : Type 0 where
+  pub reach : Option ℕ
+  pub is_reach : IsReach (client_of t.view) reach
+  pub goal : goal_of t reach ≡ None
+
+-- what is planned for a task, or none where it has no goal
+abbrev pub IsAnswer : Task → Option Planned → Type 0
+IsAnswer t None = IsIdle t
+IsAnswer t (Some p) = IsPlanned t p
+
+-- ---- drafts
+
+-- a client, by its place, with its task, the number of its next plan, and whether a batch of its is open
+pub record Job : Type 0 where
+  pub client : ℕ
+  pub task : Task
+  pub plan : ℕ
+  pub held : Bool
+
+-- a job with what was planned for it
+pub record Draft : Type 0 where
+  pub job : Job
+  pub answer : Option Planned
+
+-- what every draft keeps
+abbrev pub IsDraft : Draft → Type 0
+IsDraft d = IsAnswer d.job.task d.answer

@@ -1,0 +1,167 @@
+-- Jobs are compared by their content.
+use Rattle.std.specs.Prelude.{◌≡◌, ◌==◌, ◌&&◌, Bool, false, Option, Some, None, refl}
+use Rattle.std.proofs.Common.{ap, nat_eq}
+use Rattle.std.specs.Bool.{Decides, beq}
+use Rattle.std.specs.Option.{option_eq}
+use Rattle.std.specs.Cmp.{IsPartialEquivalence, IsEquivalence, decided, partial_equiv_from_equiv, booleans_Decides, unsigned_Decides}
+use Rattle.std.specs.Cmp.Lexicographic.{pointwise}
+use Rattle.std.proofs.lemmas.Bool.Decides.{Decides-and, Decides-like}
+use Rattle.std.proofs.lemmas.Slice.Eq.{slice_eq-Decides}
+use Rattle.rb_base.specs.Fee.{Fees}
+use Rattle.rb_base.specs.Options.{ClientOptions}
+use Rattle.rb_base.specs.Window.{Span}
+use Rattle.rb_batch.specs.Limits.{TransactionLimits}
+use Rattle.rb_book.specs.Book.{same_book}
+use Rattle.rb_book.specs.Same.{same_book-Decides}
+use Rattle.rb_script_types.specs.declared.goal.Goal.{Goal}
+use Rattle.rb_script_types.specs.declared.goal.Goal.TheVariants.{Exactly, AtLeast}
+use Rattle.rb_scan.specs.Owed.{same_kind}
+use Rattle.rb_scan.specs.Same.{same_order, options_Decides, orders_Decides}
+use Rattle.rb_scan.specs.declared.message.Kind.{Kind}
+use Rattle.rb_scan.specs.declared.message.Kind.TheVariants.{Receive, Acknowledge, Timeout}
+use Rattle.rb_scan.specs.declared.message.PacketMsg.{PacketMsg}
+use Rattle.rb_step.specs.View.{View}
+use Rattle.rb_script_types.specs.Gas.{PathGas}
+use Rattle.rb_plan_client.specs.Draft.{Job}
+use Rattle.rb_plan_client.specs.Task.{PathTask, Task}
+
+abbrev pub same_options : ClientOptions → ClientOptions → Bool
+same_options o p =
+    (o.period == p.period) && (o.drift == p.drift) && (o.trust.numerator == p.trust.numerator) && (o.trust.denominator == p.trust.denominator)
+
+abbrev pub same_fees : Fees → Fees → Bool
+same_fees f g = (f.base == g.base) && (f.signature == g.signature) && (f.validator == g.validator)
+
+abbrev pub same_limits : TransactionLimits → TransactionLimits → Bool
+same_limits l m = (l.gas == m.gas) && (l.count == m.count) && (l.transaction_gas == m.transaction_gas)
+
+abbrev pub same_span : Span → Span → Bool
+same_span s t = (s.from == t.from) && (s.until == t.until)
+
+abbrev pub same_view : View → View → Bool
+same_view v w =
+    same_options v.options w.options && same_fees v.fees w.fees && pointwise nat_eq v.stored w.stored && same_span v.window w.window
+    && same_book v.book w.book
+
+abbrev pub same_gas : PathGas → PathGas → Bool
+same_gas g h = (g.receive == h.receive) && (g.acknowledge == h.acknowledge) && (g.timeout == h.timeout)
+
+abbrev pub same_packet_message : PacketMsg → PacketMsg → Bool
+same_packet_message m n = same_kind m.kind n.kind && (m.sequence == n.sequence) && (m.floor == n.floor)
+
+abbrev pub same_path_task : PathTask → PathTask → Bool
+same_path_task p q =
+    (p.path == q.path) && same_order p.order q.order && same_gas p.gas q.gas && pointwise same_packet_message p.owed q.owed
+
+abbrev pub same_goal : Goal → Goal → Bool
+same_goal (Exactly g) (Exactly h) = g == h
+same_goal (Exactly g) (AtLeast h) = false
+same_goal (AtLeast g) (Exactly h) = false
+same_goal (AtLeast g) (AtLeast h) = g == h
+
+abbrev pub same_task : Task → Task → Bool
+same_task t u =
+    same_view t.view u.view && same_fees t.gas u.gas && same_limits t.limits u.limits && (t.refresh == u.refresh)
+    && pointwise same_path_task t.paths u.paths && option_eq same_goal t.asked u.asked
+
+abbrev pub same_job : Job → Job → Bool
+same_job j k = (j.client == k.client) && same_task j.task k.task && (j.plan == k.plan) && beq j.held k.held
+
+-- ---- each of them decides equality
+
+pub kinds_Decides : (k l : Kind) → Decides (same_kind k l) (k ≡ l)
+kinds_Decides Receive Receive = (λ _. refl, λ _. refl)
+kinds_Decides Receive Acknowledge = (λ e. cc, λ e. cc)
+kinds_Decides Receive Timeout = (λ e. cc, λ e. cc)
+kinds_Decides Acknowledge Receive = (λ e. cc, λ e. cc)
+kinds_Decides Acknowledge Acknowledge = (λ _. refl, λ _. refl)
+kinds_Decides Acknowledge Timeout = (λ e. cc, λ e. cc)
+kinds_Decides Timeout Receive = (λ e. cc, λ e. cc)
+kinds_Decides Timeout Acknowledge = (λ e. cc, λ e. cc)
+kinds_Decides Timeout Timeout = (λ _. refl, λ _. refl)
+
+goals_Decides : (g h : Goal) → Decides (same_goal g h) (g ≡ h)
+goals_Decides (Exactly g) (Exactly h) = Decides-like _ (λ e. ap (λ n. Exactly n) e) (λ e. cc) (unsigned_Decides g h)
+goals_Decides (Exactly g) (AtLeast h) = (λ e. cc, λ e. cc)
+goals_Decides (AtLeast g) (Exactly h) = (λ e. cc, λ e. cc)
+goals_Decides (AtLeast g) (AtLeast h) = Decides-like _ (λ e. ap (λ n. AtLeast n) e) (λ e. cc) (unsigned_Decides g h)
+
+same_options-Decides : (o p : ClientOptions) → Decides (same_options o p) (o ≡ p)
+same_options-Decides o p =
+    Decides-like _
+    (λ h i. record { period = h.0.0.0 i; drift = h.0.0.1 i; trust = record { numerator = h.0.1 i; denominator = h.1 i } })
+    (λ e. (((ap (λ (x : ClientOptions). x.period) e, ap (λ (x : ClientOptions). x.drift) e), ap (λ (x : ClientOptions). x.trust.numerator) e), ap (λ (x : ClientOptions). x.trust.denominator) e))
+    (Decides-and _ _ (Decides-and _ _ (Decides-and _ _ (unsigned_Decides o.period p.period) (unsigned_Decides o.drift p.drift)) (unsigned_Decides o.trust.numerator p.trust.numerator)) (unsigned_Decides o.trust.denominator p.trust.denominator))
+
+same_fees-Decides : (f g : Fees) → Decides (same_fees f g) (f ≡ g)
+same_fees-Decides f g =
+    Decides-like _ (λ h i. record { base = h.0.0 i; signature = h.0.1 i; validator = h.1 i })
+    (λ e. ((ap (λ (x : Fees). x.base) e, ap (λ (x : Fees). x.signature) e), ap (λ (x : Fees). x.validator) e))
+    (Decides-and _ _ (Decides-and _ _ (unsigned_Decides f.base g.base) (unsigned_Decides f.signature g.signature)) (unsigned_Decides f.validator g.validator))
+
+same_limits-Decides : (l m : TransactionLimits) → Decides (same_limits l m) (l ≡ m)
+same_limits-Decides l m =
+    Decides-like _ (λ h i. record { gas = h.0.0 i; count = h.0.1 i; transaction_gas = h.1 i })
+    (λ e. ((ap (λ (x : TransactionLimits). x.gas) e, ap (λ (x : TransactionLimits). x.count) e), ap (λ (x : TransactionLimits). x.transaction_gas) e))
+    (Decides-and _ _ (Decides-and _ _ (unsigned_Decides l.gas m.gas) (unsigned_Decides l.count m.count)) (unsigned_Decides l.transaction_gas m.transaction_gas))
+
+same_span-Decides : (s t : Span) → Decides (same_span s t) (s ≡ t)
+same_span-Decides s t =
+    Decides-like _ (λ h i. record { from = h.0 i; until = h.1 i }) (λ e. (ap (λ (x : Span). x.from) e, ap (λ (x : Span). x.until) e))
+    (Decides-and _ _ (unsigned_Decides s.from t.from) (unsigned_Decides s.until t.until))
+
+same_view-Decides : (v w : View) → Decides (same_view v w) (v ≡ w)
+same_view-Decides v w =
+    Decides-like _
+    (λ h i. record { options = h.0.0.0.0 i; fees = h.0.0.0.1 i; stored = h.0.0.1 i; window = h.0.1 i; book = h.1 i })
+    (λ e. ((((ap (λ (x : View). x.options) e, ap (λ (x : View). x.fees) e), ap (λ (x : View). x.stored) e), ap (λ (x : View). x.window) e), ap (λ (x : View). x.book) e))
+    (Decides-and _ _ (Decides-and _ _ (Decides-and _ _ (Decides-and _ _ (same_options-Decides v.options w.options) (same_fees-Decides v.fees w.fees))
+    (slice_eq-Decides unsigned_Decides v.stored w.stored _ refl)) (same_span-Decides v.window w.window)) (same_book-Decides v.book w.book))
+
+same_gas-Decides : (g h : PathGas) → Decides (same_gas g h) (g ≡ h)
+same_gas-Decides g h =
+    Decides-like _ (λ e i. record { receive = e.0.0 i; acknowledge = e.0.1 i; timeout = e.1 i })
+    (λ e. ((ap (λ (x : PathGas). x.receive) e, ap (λ (x : PathGas). x.acknowledge) e), ap (λ (x : PathGas). x.timeout) e))
+    (Decides-and _ _ (Decides-and _ _ (unsigned_Decides g.receive h.receive) (unsigned_Decides g.acknowledge h.acknowledge)) (unsigned_Decides g.timeout h.timeout))
+
+same_packet_message-Decides : (m n : PacketMsg) → Decides (same_packet_message m n) (m ≡ n)
+same_packet_message-Decides m n =
+    Decides-like _ (λ e i. record { kind = e.0.0 i; sequence = e.0.1 i; floor = e.1 i })
+    (λ e. ((ap (λ (x : PacketMsg). x.kind) e, ap (λ (x : PacketMsg). x.sequence) e), ap (λ (x : PacketMsg). x.floor) e))
+    (Decides-and _ _ (Decides-and _ _ (kinds_Decides m.kind n.kind) (unsigned_Decides m.sequence n.sequence)) (unsigned_Decides m.floor n.floor))
+
+pub same_path_task-Decides : (p q : PathTask) → Decides (same_path_task p q) (p ≡ q)
+same_path_task-Decides p q =
+    Decides-like _ (λ e i. record { path = e.0.0.0 i; order = e.0.0.1 i; gas = e.0.1 i; owed = e.1 i })
+    (λ e. (((ap (λ (x : PathTask). x.path) e, ap (λ (x : PathTask). x.order) e), ap (λ (x : PathTask). x.gas) e), ap (λ (x : PathTask). x.owed) e))
+    (Decides-and _ _ (Decides-and _ _ (Decides-and _ _ (unsigned_Decides p.path q.path) (orders_Decides p.order q.order)) (same_gas-Decides p.gas q.gas))
+    (slice_eq-Decides same_packet_message-Decides p.owed q.owed _ refl))
+
+same_task-Decides : (t u : Task) → Decides (same_task t u) (t ≡ u)
+same_task-Decides t u =
+    Decides-like _
+    (λ e i. record { view = e.0.0.0.0.0 i; gas = e.0.0.0.0.1 i; limits = e.0.0.0.1 i; refresh = e.0.0.1 i; paths = e.0.1 i; asked = e.1 i })
+    (λ e. (((((ap (λ (x : Task). x.view) e, ap (λ (x : Task). x.gas) e), ap (λ (x : Task). x.limits) e), ap (λ (x : Task). x.refresh) e), ap (λ (x : Task). x.paths) e), ap (λ (x : Task). x.asked) e))
+    (Decides-and _ _ (Decides-and _ _ (Decides-and _ _ (Decides-and _ _ (Decides-and _ _ (same_view-Decides t.view u.view) (same_fees-Decides t.gas u.gas))
+    (same_limits-Decides t.limits u.limits)) (unsigned_Decides t.refresh u.refresh))
+    (slice_eq-Decides same_path_task-Decides t.paths u.paths _ refl)) (options_Decides same_goal goals_Decides t.asked u.asked))
+
+pub same_job-Decides : (j k : Job) → Decides (same_job j k) (j ≡ k)
+same_job-Decides j k =
+    Decides-like _ (λ e i. record { client = e.0.0.0 i; task = e.0.0.1 i; plan = e.0.1 i; held = e.1 i })
+    (λ e. (((ap (λ (x : Job). x.client) e, ap (λ (x : Job). x.task) e), ap (λ (x : Job). x.plan) e), ap (λ (x : Job). x.held) e))
+    (Decides-and _ _ (Decides-and _ _ (Decides-and _ _ (unsigned_Decides j.client k.client) (same_task-Decides j.task k.task)) (unsigned_Decides j.plan k.plan)) (booleans_Decides j.held k.held))
+
+-- ---- so each is an equality
+
+pub same_path_task-equiv : IsEquivalence same_path_task
+same_path_task-equiv = decided same_path_task same_path_task-Decides
+
+pub same_path_task-laws : IsPartialEquivalence same_path_task
+same_path_task-laws = partial_equiv_from_equiv same_path_task-equiv
+
+pub same_job-equiv : IsEquivalence same_job
+same_job-equiv = decided same_job same_job-Decides
+
+pub same_job-laws : IsPartialEquivalence same_job
+same_job-laws = partial_equiv_from_equiv same_job-equiv

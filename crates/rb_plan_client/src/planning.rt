@@ -1,0 +1,177 @@
+//! What is planned for a task.
+ghost use Rattle.std.specs.Prelude.{◌≡◌, ◌+◌, ◌<◌, ◌++◌, [], length, map, IfOk, OnOk};
+ghost use Rattle.std.specs.Bool.{OnTrue, OnFalse};
+ghost use Rattle.rb_plan.specs.Goal.{Meets};
+ghost use Rattle.rb_plan.specs.Labelling.{IsExact, IsLabelling, label_of};
+ghost use Rattle.rb_step.specs.View.{client_of};
+ghost use Rattle.rb_plan_client.specs.Draft.{IsSending, IsAnswer};
+ghost use Rattle.rb_plan_client.specs.Planning.{IsPlannedFor, IsPlannedIf};
+ghost use Rattle.rb_plan_client.specs.Sent.{sending_view};
+ghost use Rattle.rb_plan_client.specs.Task.{Message, gas_of, gases, messages_of};
+
+use crate::batch::{Batch, Sending};
+use crate::goal::first_goal;
+use crate::message::Message;
+use crate::planned::{Plan, Planned};
+use crate::task::{Task, ready_messages};
+use rb_base::Height;
+use rb_batch::{BatchError, Msg, cut};
+use rb_graph::Graph;
+use rb_plan::{
+    Answer, Goal, Labelling, Update, gas_of, label, plan_by, proof_height, top_reachable,
+};
+use std::alloc::{AllocError, Allocator};
+
+/// Puts the gas of each update to the end of a list.
+fn append_updates<A: Allocator + Copy>(
+    task: &Task<A>,
+    updates: &[Update],
+    gases: &mut Vec<Msg, A>,
+) -> Result<(), AllocError>
+    ensures { OnOk result (gases.new.items ≡ gases.old.items ++ map (gas_of task.now) updates.now) }
+{
+    for update in updates {
+        gases.push(Msg::new(gas_of(task.view(), &task.gas(), update)))?;
+    }
+    Ok(())
+}
+
+/// Puts the gas of each packet message to the end of a list.
+fn append_messages<A: Allocator + Copy>(
+    messages: &[Message],
+    gases: &mut Vec<Msg, A>,
+) -> Result<(), AllocError>
+    ensures { OnOk result (gases.new.items ≡ gases.old.items ++ map (λ (m : Message). m.gas) messages.now) }
+{
+    for message in messages {
+        gases.push(Msg::new(message.gas()))?;
+    }
+    Ok(())
+}
+
+/// The gas of each message in turn, the updates first.
+fn gases<A: Allocator + Copy>(
+    alloc: A,
+    task: &Task<A>,
+    updates: &[Update],
+    messages: &[Message],
+) -> Result<Vec<Msg, A>, AllocError>
+    ensures { IfOk result (λ list. list.items ≡ gases task.now updates.now messages.now) }
+{
+    let size = updates.len().saturating_add(messages.len());
+    let mut gases = Vec::with_capacity(alloc, size)?;
+    append_updates(task, updates, &mut gases)?;
+    append_messages(messages, &mut gases)?;
+    Ok(gases)
+}
+
+/// Whether there is neither an update nor a packet message.
+fn is_nothing(updates: &[Update], messages: &[Message]) -> bool
+    ensures nothing { OnTrue result ((updates.now ≡ []) × (messages.now ≡ [])) }
+    ensures some { OnFalse result (0 < length updates.now + length messages.now) }
+{
+    updates.is_empty() && messages.is_empty()
+}
+
+/// How updates that meet a goal are sent, with the messages that go with them.
+fn sending<A: Allocator + Copy>(
+    alloc: A,
+    task: &Task<A>,
+    goal: &Goal,
+    updates: &[Update],
+    messages: &[Message],
+) -> Result<Sending<A>, AllocError>
+    requires { Meets (client_of task.now.view) goal.now updates.now }
+    ensures { IfOk result (λ s. IsSending task.now (record { updates = updates.now; messages = messages.now; sending = sending_view s }) (sending_view s)) }
+{
+    if is_nothing(updates, messages) {
+        return Ok(Sending::Nothing);
+    }
+    let gases = gases(alloc, task, updates, messages)?;
+    match cut(alloc, gases.as_slice(), task.limits()) {
+        Ok(transactions) => {
+            let proof = proof_height(task.view(), updates).unwrap();
+            Ok(Sending::Batched(Batch::new(proof, transactions)))
+        }
+        Err(BatchError::TooBig(index)) => Ok(Sending::TooBig(index)),
+        Err(BatchError::NoMemory) => Err(AllocError),
+    }
+}
+
+/// The exact labelling, and the plan for a goal, if it can be reached, with the messages that go
+/// with it.
+fn planned<A: Allocator + Copy>(
+    alloc: A,
+    task: &Task<A>,
+    graph: &Graph<A>,
+    labelling: Labelling<A>,
+    goal: Goal,
+    messages: Vec<Message, A>,
+) -> Result<Planned<A>, AllocError>
+    requires table { graph.now ≡ task.now.view.book }
+    requires labels { IsLabelling labelling }
+    requires exact { IsExact (client_of task.now.view) (label_of labelling) }
+    ensures { IfOk result (IsPlannedFor task.now goal messages.items) }
+{
+    match plan_by(alloc, task.view(), graph, labelling, goal)? {
+        Answer::Plan { updates, labelling } => {
+            let sending = sending(alloc, task, &goal, updates.as_slice(), messages.as_slice())?;
+            let sent = Plan::new(updates, messages, sending);
+            Ok(Planned::new(goal, labelling, Some(sent)))
+        }
+        Answer::Unreachable { labelling } => Ok(Planned::new(goal, labelling, None)),
+    }
+}
+
+/// The packet messages that follow the updates: those that are ready, but none where a goal was
+/// asked for. The reach is the greatest height that the client can be brought to.
+fn messages_of<A: Allocator + Copy>(
+    alloc: A,
+    task: &Task<A>,
+    reach: Option<Height>,
+) -> Result<Vec<Message, A>, AllocError>
+    ensures { IfOk result (λ messages. messages.items ≡ messages_of task.now reach) }
+{
+    if task.asked().is_some() {
+        return Ok(Vec::new(alloc));
+    }
+    ready_messages(alloc, task.paths(), &reach)
+}
+
+/// What is planned for a goal, if there is one.
+fn planned_if<A: Allocator + Copy>(
+    alloc: A,
+    task: &Task<A>,
+    graph: &Graph<A>,
+    labelling: Labelling<A>,
+    goal: Option<Goal>,
+    messages: Vec<Message, A>,
+) -> Result<Option<Planned<A>>, AllocError>
+    requires table { graph.now ≡ task.now.view.book }
+    requires labels { IsLabelling labelling }
+    requires exact { IsExact (client_of task.now.view) (label_of labelling) }
+    ensures { IfOk result (IsPlannedIf task.now goal messages.items) }
+{
+    match goal {
+        Some(goal) => Ok(Some(planned(alloc, task, graph, labelling, goal, messages)?)),
+        None => Ok(None),
+    }
+}
+
+/// What is planned for a task: none where it has no goal. `graph` is the table of the view's book,
+/// as `Graph::is_of` tells. An error comes only where a growth is refused.
+pub fn answer<A: Allocator + Copy>(
+    alloc: A,
+    task: &Task<A>,
+    graph: &Graph<A>,
+) -> Result<Option<Planned<A>>, AllocError>
+    requires { graph.now ≡ task.now.view.book }
+    ensures { IfOk result (IsAnswer task.now) }
+{
+    let labelling = label(alloc, task.view(), graph)?;
+    let reach = top_reachable(&labelling);
+    let messages = messages_of(alloc, task, reach)?;
+    let goal = first_goal(task, messages.as_slice());
+    let outcome = planned_if(alloc, task, graph, labelling, goal, messages)?;
+    Ok(outcome)
+}

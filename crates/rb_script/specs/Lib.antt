@@ -1,9 +1,0 @@
-pub use Rattle.rb_events.specs.Config
-pub use Rattle.rb_events.specs.Script
-pub use Rattle.rb_fields.specs.Faults
-pub mod Names
-pub mod Sets
-pub mod Packets
-pub mod Events
-pub mod Turns
-pub mod Scripts

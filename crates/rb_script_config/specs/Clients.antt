@@ -1,0 +1,65 @@
+-- The tables of clients.
+use Rattle.std.specs.Prelude.{ℕ, List, [], ◌∷◌, map, codes, Option, Some, None, option_map, unwrap_or, slice_get, Result, Ok, not, ◌==◌}
+use Rattle.rb_batch.specs.Limits.{TransactionLimits}
+use Rattle.rb_script_types.specs.declared.config.ClientConfig.{ClientConfig}
+use Rattle.rb_script_toml.specs.Faults.{Fault, ◌>>=◌, check}
+use Rattle.rb_script_toml.specs.Places.{element}
+use Rattle.rb_script_toml.specs.Fields.{Field, Section, only, needs, optional, or_default, number, within, three_integers, fee_table, trust, max_number}
+use Rattle.rb_script_toml.specs.declared.fault.FaultName.TheVariants.{OutOfRange, BadLimit, SameChain}
+use Rattle.rb_script_config.specs.declared.defaults.Defaults.{Defaults}
+use Rattle.rb_script_config.specs.declared.chain.Chain.{Chain}
+use Rattle.rb_script_config.specs.Named.{reference, new_identifier}
+use Rattle.rb_script_config.specs.Chains.{chain_ids, no_defaults}
+
+-- gas, count and the gas of a transaction
+unfoldable pub limits : Field → Result TransactionLimits Fault
+limits f = do
+  n ← three_integers f
+  gas ← within 1 1000000000000000 BadLimit (element f.path 0) n.0
+  count ← within 1 10000 BadLimit (element f.path 1) n.1
+  transaction ← within 0 1000000000 BadLimit (element f.path 2) n.2
+  Ok (record { gas = gas; count = count; transaction_gas = transaction })
+
+abbrev pub client_ids : List ClientConfig → List (List ℕ)
+client_ids clients = map (λ c. c.id) clients
+
+abbrev pub client_keys : List (List ℕ)
+client_keys =
+    codes "id" ∷ codes "host" ∷ codes "of" ∷ codes "period_ns" ∷ codes "drift_ns" ∷ codes "refresh_ns" ∷ codes "fee" ∷ codes "gas"
+    ∷ codes "limits" ∷ codes "trust" ∷ []
+
+-- what the clients that track this chain share
+abbrev pub shared_by : List Chain → ℕ → Defaults
+shared_by chains i = unwrap_or (option_map (λ c. c.defaults) (slice_get chains i)) no_defaults
+
+-- what a client's own key holds, read so, or what is shared; where nothing is shared, the key is needed
+abbrev pub own : {A : Type 0} → Option A → List ℕ → (Field → Result A Fault) → Section → Result A Fault
+own None key read s = needs key read s
+own (Some x) key read s = or_default x read (optional key s)
+
+-- a client of these chains, beside those before it
+unfoldable pub client : List Chain → List ClientConfig → Section → Result ClientConfig Fault
+client chains before s = do
+  _ ← only client_keys s
+  id ← needs (codes "id") (new_identifier (client_ids before)) s
+  host ← needs (codes "host") (reference (chain_ids chains)) s
+  tracks ← needs (codes "of") (reference (chain_ids chains)) s
+  let d = shared_by chains tracks
+  period ← own d.period (codes "period_ns") (number 1 max_number OutOfRange) s
+  drift ← own d.drift (codes "drift_ns") (number 0 max_number OutOfRange) s
+  refresh ← or_default d.refresh (number 0 max_number OutOfRange) (optional (codes "refresh_ns") s)
+  fees ← own d.fees (codes "fee") fee_table s
+  gas ← own d.gas (codes "gas") fee_table s
+  limit ← needs (codes "limits") limits s
+  level ← or_default d.trust trust (optional (codes "trust") s)
+  _ ← check (not (host == tracks)) SameChain s.path
+  Ok (record {
+    id = id;
+    host = host;
+    tracks = tracks;
+    options = record { period = period; drift = drift; trust = level };
+    refresh = refresh;
+    fees = fees;
+    gas = gas;
+    limits = limit;
+  })

@@ -1,0 +1,12 @@
+pub use Rattle.rb_script_types.specs.Config
+pub use Rattle.rb_script_toml.specs.Faults
+pub mod Versions
+pub mod Named
+pub mod Directories
+pub mod Chains
+pub mod Clients
+pub mod Paths
+pub mod Goals
+pub mod Setups
+pub mod Tables
+pub mod Laws

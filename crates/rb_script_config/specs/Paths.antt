@@ -1,0 +1,78 @@
+-- The tables of paths.
+use Rattle.std.specs.Prelude.{ℕ, List, [], ◌∷◌, map, codes, Option, Some, None, option_map, unwrap_or, slice_get, Bool, false, not, ◌&&◌, ◌==◌, Result, Ok, if◌then◌else◌}
+use Rattle.std.specs.Str.{bytes_eq}
+use Rattle.rb_scan.specs.declared.path.Order.{Order}
+use Rattle.rb_scan.specs.declared.path.Order.TheVariants.{Ordered, Unordered}
+use Rattle.rb_script_types.specs.Gas.{PathGas}
+use Rattle.rb_script_types.specs.declared.config.ClientConfig.{ClientConfig}
+use Rattle.rb_script_types.specs.declared.config.PathConfig.{PathConfig}
+use Rattle.rb_script_toml.specs.Faults.{Fault, ◌>>=◌, fault, check}
+use Rattle.rb_script_toml.specs.Fields.{Field, Section, text, only, needs, optional, or_default, number, fees, max_number}
+use Rattle.rb_script_toml.specs.declared.fault.FaultName.TheVariants.{OutOfRange, BadOrder, SameChain, WrongClient}
+use Rattle.rb_script_config.specs.Named.{reference, new_identifier}
+use Rattle.rb_script_config.specs.Clients.{client_ids}
+
+-- ---- values of their own
+
+abbrev pub order_of : List ℕ → Option Order
+order_of word =
+    if bytes_eq word (codes "ordered") then Some Ordered
+    else if bytes_eq word (codes "unordered") then Some Unordered
+    else None
+
+abbrev pub known_order : List ℕ → Option Order → Result Order Fault
+known_order path (Some o) = Ok o
+known_order path None = fault BadOrder path
+
+unfoldable pub order : Field → Result Order Fault
+order f = do
+  word ← text f
+  known_order f.path (order_of word)
+
+abbrev pub sequence : Field → Result ℕ Fault
+sequence f = number 1 max_number OutOfRange f
+
+-- of a receive, an acknowledgement and a timeout
+unfoldable pub path_gas : Field → Result PathGas Fault
+path_gas f = do
+  n ← fees f
+  Ok (record { receive = n.0; acknowledge = n.1; timeout = n.2 })
+
+-- whether the client at a place is hosted on the one chain and tracks the other
+abbrev pub connects : List ClientConfig → ℕ → ℕ → ℕ → Bool
+connects clients place host tracks =
+    unwrap_or (option_map (λ (c : ClientConfig). c.host == host && c.tracks == tracks) (slice_get clients place)) false
+
+-- ---- paths
+
+abbrev pub path_ids : List PathConfig → List (List ℕ)
+path_ids paths = map (λ p. p.id) paths
+
+abbrev pub path_keys : List (List ℕ)
+path_keys =
+    codes "id" ∷ codes "source" ∷ codes "dest" ∷ codes "order" ∷ codes "first" ∷ codes "forward" ∷ codes "back" ∷ codes "gas" ∷ []
+
+-- a path of these chains and clients, beside those before it
+unfoldable pub path : List (List ℕ) → List ClientConfig → List PathConfig → Section → Result PathConfig Fault
+path chains clients before s = do
+  _ ← only path_keys s
+  id ← needs (codes "id") (new_identifier (path_ids before)) s
+  source ← needs (codes "source") (reference chains) s
+  destination ← needs (codes "dest") (reference chains) s
+  order ← needs (codes "order") order s
+  first ← or_default 1 sequence (optional (codes "first") s)
+  forward ← needs (codes "forward") (reference (client_ids clients)) s
+  back ← needs (codes "back") (reference (client_ids clients)) s
+  gas ← needs (codes "gas") path_gas s
+  _ ← check (not (source == destination)) SameChain s.path
+  _ ← check (connects clients forward destination source && connects clients back source destination) WrongClient s.path
+  Ok (record {
+    id = id;
+    source = source;
+    destination = destination;
+    order = order;
+    first = first;
+    forward = forward;
+    back = back;
+    gas = gas;
+  })

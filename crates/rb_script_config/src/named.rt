@@ -1,0 +1,105 @@
+//! Identifiers of the tables of an array, and references to them.
+ghost use Rattle.std.specs.Prelude.{◌≡◌, ◌<◌, ℕ, List, IfOk, IfSome, codes, length, map};
+ghost use Rattle.std.specs.List.{position};
+ghost use Rattle.std.specs.Str.{bytes_eq};
+ghost use Rattle.rb_base.specs.Identifier.{IsIdentifier};
+ghost use Rattle.rb_script_toml.specs.Faults.{Gives};
+ghost use Rattle.rb_script_toml.specs.Fields.{field_view, section_view, needs};
+ghost use Rattle.rb_script_config.specs.Named.{reference, new_identifier};
+
+use crate::directory::Directory;
+use rb_base::ChainId;
+use rb_script_toml::{FaultName, Field, RunError, Section};
+use rb_script_types::{ClientConfig, PathConfig};
+
+/// What has an identifier (ICS 24): a chain, a client and a path of a script.
+pub trait Named: Drop {
+    /// The characters of the identifier.
+    ghost name: { Self → List ℕ };
+
+    fn id(&self) -> &str
+        ensures { result.now ≡ name self.now };
+}
+
+impl Named for ChainId {
+    ghost name = { λ id. id };
+
+    fn id(&self) -> &str {
+        self.as_str()
+    }
+}
+
+impl Named for ClientConfig {
+    ghost name = { λ c. c.id };
+
+    fn id(&self) -> &str {
+        self.id.as_str()
+    }
+}
+
+impl Named for PathConfig {
+    ghost name = { λ p. p.id };
+
+    fn id(&self) -> &str {
+        self.id.as_str()
+    }
+}
+
+/// The place of the object that a key names.
+#[tactic(auto, using(rb_script_toml::proofs::Steps::steps))]
+pub fn reference<'a, T: Named>(
+    section: &Section<'a>,
+    key: &'a str,
+    objects: &Directory<T>,
+) -> Result<usize, RunError>
+    ensures read { Gives (λ i. i) result (needs key.entry.now (reference (map T.name objects.now)) (section_view section.now)) }
+    ensures range { IfOk result (λ i. i < length objects.now) }
+{
+    place_named(&section.required(key)?, objects)
+}
+
+#[tactic(auto, using(rb_script_toml::proofs::Steps::steps), unfolding(crate::specs::Named::reference))]
+fn place_named<T: Named>(field: &Field<'_>, objects: &Directory<T>) -> Result<usize, RunError>
+    ensures read { Gives (λ i. i) result (reference (map T.name objects.now) (field_view field.now)) }
+    ensures range { IfOk result (λ i. i < length objects.now) }
+{
+    match objects.place_of(field.identifier()?) {
+        Some(place) => Ok(place),
+        None => Err(field.fault(FaultName::UnknownIdentifier)),
+    }
+}
+
+/// The identifier of a new object, which none of these has.
+#[tactic(auto, using(rb_script_toml::proofs::Steps::steps))]
+pub fn new_identifier<'a, T: Named>(
+    section: &Section<'a>,
+    objects: &Directory<T>,
+) -> Result<&'a str, RunError>
+    ensures read { Gives (λ t. t.now) result (needs (codes "id") (new_identifier (map T.name objects.now)) (section_view section.now)) }
+    ensures form { IfOk result (λ t. IsIdentifier t.now) }
+{
+    unused_identifier(&section.required("id")?, objects)
+}
+
+#[tactic(auto, using(rb_script_toml::proofs::Steps::steps), unfolding(crate::specs::Named::new_identifier))]
+fn unused_identifier<'a, T: Named>(
+    field: &Field<'a>,
+    objects: &Directory<T>,
+) -> Result<&'a str, RunError>
+    ensures read { Gives (λ t. t.now) result (new_identifier (map T.name objects.now) (field_view field.now)) }
+    ensures form { IfOk result (λ t. IsIdentifier t.now) }
+{
+    let id = field.identifier()?;
+    if objects.place_of(id).is_some() {
+        return Err(field.fault(FaultName::DuplicateIdentifier));
+    }
+    Ok(id)
+}
+
+/// The place of the first of these objects that has this identifier, or none where none has it.
+pub fn place_of<T: Named>(id: &str, objects: &[T]) -> Option<usize>
+    ensures place { result ≡ position (bytes_eq id.now) (map T.name objects.now) }
+    ensures range { IfSome result (λ i. i < length objects.now) }
+{
+    objects.iter().position(|object| id == object.id())
+}

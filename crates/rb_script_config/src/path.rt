@@ -1,0 +1,162 @@
+//! The paths of a script.
+ghost use Rattle.std.specs.Prelude.{◌≡◌, ◌<◌, [], codes, length};
+ghost use Rattle.toml.specs.View.{view, items_view};
+ghost use Rattle.rb_script_toml.specs.Faults.{Gives};
+ghost use Rattle.rb_script_toml.specs.Fields.{field_view, section_view, only, needs, optional, or_default, at_element, elements};
+ghost use Rattle.rb_script_config.specs.Paths.{order, sequence, path_gas, connects, path, path_keys};
+
+use crate::directory::Directory;
+use crate::named::{new_identifier, reference};
+use rb_base::{ChainId, PathId};
+use rb_scan::{Order, Sequence};
+use rb_script_toml::{FaultName, Field, RunError, Section, element_path, section_at};
+use rb_script_types::{ClientConfig, PathConfig, PathGas};
+use std::alloc::Global;
+use toml::Value;
+
+#[tactic(auto, using(rb_script_toml::proofs::Steps::steps), unfolding(crate::specs::Paths::order))]
+fn order(field: &Field<'_>) -> Result<Order, RunError>
+    ensures { Gives (λ o. o) result (order (field_view field.now)) }
+{
+    match field.text()? {
+        "ordered" => Ok(Order::Ordered),
+        "unordered" => Ok(Order::Unordered),
+        _ => Err(field.fault(FaultName::BadOrder)),
+    }
+}
+
+/// In which order a path's packets are received.
+#[tactic(auto, using(rb_script_toml::proofs::Steps::steps))]
+pub fn needed_order(section: &Section<'_>) -> Result<Order, RunError>
+    ensures { Gives (λ o. o) result (needs (codes "order") order (section_view section.now)) }
+{
+    order(&section.required("order")?)
+}
+
+#[tactic(auto, using(rb_script_toml::proofs::Steps::steps))]
+fn sequence(field: &Field<'_>) -> Result<Sequence, RunError>
+    ensures { Gives (λ n. n) result (sequence (field_view field.now)) }
+{
+    let number = field.number(1, Sequence::MAX, FaultName::OutOfRange)?;
+    Ok(Sequence::new(number).unwrap())
+}
+
+/// The sequence of a packet.
+#[tactic(auto, using(rb_script_toml::proofs::Steps::steps))]
+pub fn needed_sequence(section: &Section<'_>) -> Result<Sequence, RunError>
+    ensures { Gives (λ n. n) result (needs (codes "seq") sequence (section_view section.now)) }
+{
+    sequence(&section.required("seq")?)
+}
+
+#[tactic(auto, using(rb_script_toml::proofs::Steps::steps))]
+fn first_or_one(section: &Section<'_>) -> Result<Sequence, RunError>
+    ensures { Gives (λ n. n) result (or_default 1 sequence (optional (codes "first") (section_view section.now))) }
+{
+    match section.optional("first") {
+        Some(field) => sequence(&field),
+        None => Ok(Sequence::new(1).unwrap()),
+    }
+}
+
+#[tactic(auto, using(rb_script_toml::proofs::Steps::steps), unfolding(crate::specs::Paths::path_gas))]
+fn path_gas(field: &Field<'_>) -> Result<PathGas, RunError>
+    ensures { Gives (λ g. g) result (path_gas (field_view field.now)) }
+{
+    let (receive, acknowledge, timeout) = field.fees()?;
+    Ok(PathGas::new(receive, acknowledge, timeout).unwrap())
+}
+
+#[tactic(auto, using(rb_script_toml::proofs::Steps::steps))]
+fn needed_gas(section: &Section<'_>) -> Result<PathGas, RunError>
+    ensures { Gives (λ g. g) result (needs (codes "gas") path_gas (section_view section.now)) }
+{
+    path_gas(&section.required("gas")?)
+}
+
+/// Whether a client is hosted on the one chain and tracks the other.
+fn connects(clients: &Directory<ClientConfig>, place: usize, host: usize, tracks: usize) -> bool
+    requires { place < length clients.now }
+    ensures { result ≡ connects clients.now place host tracks }
+{
+    let client = &clients.as_slice()[place];
+    client.host == host && client.tracks == tracks
+}
+
+fn only_path_keys(section: &Section<'_>) -> Result<(), RunError>
+    ensures { Gives (λ u. u) result (only path_keys (section_view section.now)) }
+{
+    section.only(&[
+        "id", "source", "dest", "order", "first", "forward", "back", "gas",
+    ])
+}
+
+#[tactic(auto, using(rb_script_toml::proofs::Steps::steps), unfolding(crate::specs::Paths::path))]
+fn read_path(
+    section: &Section<'_>,
+    chains: &Directory<ChainId>,
+    clients: &Directory<ClientConfig>,
+    before: &Directory<PathConfig>,
+) -> Result<PathConfig, RunError>
+    ensures { Gives (λ p. p) result (path chains.now clients.now before.now (section_view section.now)) }
+{
+    only_path_keys(section)?;
+    let id = new_identifier(section, before)?;
+    let source = reference(section, "source", chains)?;
+    let destination = reference(section, "dest", chains)?;
+    let order = needed_order(section)?;
+    let first = first_or_one(section)?;
+    let forward = reference(section, "forward", clients)?;
+    let back = reference(section, "back", clients)?;
+    let gas = needed_gas(section)?;
+    if source == destination {
+        return Err(section.fault(FaultName::SameChain));
+    }
+    if !connects(clients, forward, destination, source)
+        || !connects(clients, back, source, destination)
+    {
+        return Err(section.fault(FaultName::WrongClient));
+    }
+    Ok(PathConfig {
+        id: PathId::new(id).unwrap(),
+        source,
+        destination,
+        order,
+        first,
+        forward,
+        back,
+        gas,
+    })
+}
+
+#[tactic(auto, using(rb_script_toml::proofs::Steps::steps))]
+fn read_path_at(
+    alloc: Global,
+    value: &Value,
+    chains: &Directory<ChainId>,
+    clients: &Directory<ClientConfig>,
+    before: &Directory<PathConfig>,
+) -> Result<PathConfig, RunError>
+    ensures { Gives (λ p. p) result (at_element (path chains.now clients.now) (codes "path") before.now (view value.now)) }
+{
+    let path = element_path(alloc, "path", before.as_slice().len())?;
+    let section = section_at(alloc, path.as_str(), value)?;
+    read_path(&section, chains, clients, before)
+}
+
+/// Reads the paths between these chains by these clients, each beside those before it.
+pub fn read_paths(
+    alloc: Global,
+    items: &[Value],
+    chains: &Directory<ChainId>,
+    clients: &Directory<ClientConfig>,
+) -> Result<Directory<PathConfig>, RunError>
+    ensures { Gives (λ d. d) result (elements (path chains.now clients.now) (codes "path") [] (items_view items.now)) }
+{
+    let mut paths = Directory::new(alloc);
+    for value in items {
+        let path = read_path_at(alloc, value, chains, clients, &paths)?;
+        paths = paths.with(path)?;
+    }
+    Ok(paths)
+}

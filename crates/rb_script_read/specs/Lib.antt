@@ -1,0 +1,9 @@
+pub use Rattle.rb_script_types.specs.Config
+pub use Rattle.rb_script_types.specs.Script
+pub use Rattle.rb_script_toml.specs.Faults
+pub mod Names
+pub mod Sets
+pub mod Packets
+pub mod Events
+pub mod Turns
+pub mod Scripts

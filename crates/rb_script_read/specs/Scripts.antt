@@ -1,0 +1,28 @@
+-- The script of a text.
+use Rattle.std.specs.Prelude.{ℕ, List, Result, Ok}
+use Rattle.std.specs.declared.alloc.Global.{Global}
+use Rattle.rb_script_types.specs.Limits.{max_entries}
+use Rattle.rb_script_types.specs.Script.{Script}
+use Rattle.rb_script_toml.specs.Faults.{Fault, ◌>>=◌}
+use Rattle.rb_script_toml.specs.Fields.{Section}
+use Rattle.rb_script_toml.specs.Documents.{document}
+use Rattle.rb_script_read.specs.Names.{no_names}
+use Rattle.rb_script_read.specs.Turns.{Reading, turns_of}
+use Rattle.rb_script_config.specs.Tables.{tables, config}
+
+-- before the first turn no set has a name
+abbrev pub opening : Reading
+opening = record { names = no_names; room = max_entries }
+
+unfoldable pub script : Section → Result (Script Global) Fault
+script s = do
+  t ← tables s
+  c ← config t
+  turns ← turns_of c opening t.turns
+  Ok (record { config = c; turns = turns.0 })
+
+-- the script of a text, or its first fault
+unfoldable pub script_of : List ℕ → Result (Script Global) Fault
+script_of bytes = do
+  s ← document bytes
+  script s

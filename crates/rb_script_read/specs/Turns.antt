@@ -1,0 +1,88 @@
+-- The tables of turns.
+use Rattle.std.specs.Prelude.{ℕ, ◌+◌, ◌-◌, List, [], ◌∷◌, codes, Result, Ok, nat_le}
+use Rattle.std.specs.declared.alloc.Global.{Global}
+use Rattle.toml.specs.Data.{Data, Items, no_items}
+use Rattle.toml.specs.View.{items_view}
+use Rattle.rb_base.specs.Window.{Span}
+use Rattle.rb_script_types.specs.Config.{Config}
+use Rattle.rb_script_types.specs.Script.{Turn}
+use Rattle.rb_script_toml.specs.Faults.{Fault, ◌>>=◌, check}
+use Rattle.rb_script_toml.specs.Places.{child}
+use Rattle.rb_script_toml.specs.Fields.{Section, items, items_count, only, needs, optional, or_default, time, elements, in_sequence, next_in_sequence}
+use Rattle.rb_script_toml.specs.declared.fault.FaultName.TheVariants.{TooManyEvents, BadWindow}
+use Rattle.rb_script_read.specs.declared.turn.Reading.{Reading as CodeReading}
+use Rattle.rb_script_read.specs.declared.turn.Frame.{Frame as CodeFrame}
+use Rattle.rb_script_read.specs.Names.{Names, names_of}
+use Rattle.rb_script_config.specs.Clients.{client_ids}
+use Rattle.rb_script_config.specs.Goals.{asked, settlement}
+use Rattle.rb_script_read.specs.Events.{event}
+
+abbrev pub turn_keys : List (List ℕ)
+turn_keys = codes "from" ∷ codes "until" ∷ codes "goal" ∷ codes "event" ∷ codes "settle" ∷ []
+
+-- what a turn's own keys hold, and room for so many goals, events and settlements after it
+pub record Frame : Type 0 where
+  pub window : Span
+  pub goals : Items
+  pub events : Items
+  pub settlements : Items
+  pub room : ℕ
+
+abbrev pub frame_view : CodeFrame → Frame
+frame_view f = record {
+  window = f.window;
+  goals = items_view f.goals.now;
+  events = items_view f.events.now;
+  settlements = items_view f.settlements.now;
+  room = f.room;
+}
+
+-- the goals, events and settlements of a turn
+abbrev pub taken : Items → Items → Items → ℕ
+taken goals events settlements = items_count goals + items_count events + items_count settlements
+
+-- where there is room for so many of them
+unfoldable pub frame : ℕ → Section → Result Frame Fault
+frame room s = do
+  _ ← only turn_keys s
+  from ← needs (codes "from") time s
+  until ← needs (codes "until") time s
+  goals ← or_default no_items items (optional (codes "goal") s)
+  events ← or_default no_items items (optional (codes "event") s)
+  settlements ← or_default no_items items (optional (codes "settle") s)
+  _ ← check (nat_le (taken goals events settlements) room) TooManyEvents s.path
+  _ ← check (nat_le from until) BadWindow s.path
+  Ok (record {
+    window = record { from = from; until = until };
+    goals = goals;
+    events = events;
+    settlements = settlements;
+    room = room - taken goals events settlements;
+  })
+
+-- what the turns before leave to the next: the names that they gave, and the room
+pub record Reading : Type 0 where
+  pub names : Names
+  pub room : ℕ
+
+abbrev pub reading_view : CodeReading → Reading
+reading_view r = record { names = names_of r.names; room = r.room }
+
+unfoldable pub turn : Config → Reading → Section → Result (Turn Global × Reading) Fault
+turn c reading s = do
+  f ← frame reading.room s
+  goals ← elements (asked (client_ids c.clients)) (child s.path (codes "goal")) [] f.goals
+  events ← in_sequence (event c) (child s.path (codes "event")) reading.names [] f.events
+  settlements ← elements (settlement (client_ids c.clients)) (child s.path (codes "settle")) [] f.settlements
+  Ok (
+    record { window = f.window; goals = goals; events = events.0; settlements = settlements },
+    record { names = events.1; room = f.room },
+  )
+
+-- the turn of this number, after those before it
+abbrev pub turn_at : Config → ℕ → Reading → Data → Result (Turn Global × Reading) Fault
+turn_at c index reading d = next_in_sequence (turn c) (codes "turn") index reading d
+
+-- all turns, in their order
+abbrev pub turns_of : Config → Reading → Items → Result (List (Turn Global) × Reading) Fault
+turns_of c reading ds = in_sequence (turn c) (codes "turn") reading [] ds

@@ -1,0 +1,237 @@
+//! The events of a turn.
+ghost use Rattle.std.specs.Prelude.{◌≡◌, ◌<◌, [], codes, length};
+ghost use Rattle.toml.specs.View.{view, items_view};
+ghost use Rattle.rb_script_toml.specs.Faults.{Gives};
+ghost use Rattle.rb_script_toml.specs.Fields.{field_view, section_view, only, needs, next_in_sequence, in_sequence};
+ghost use Rattle.rb_script_read.specs.Names.{names_of};
+ghost use Rattle.rb_script_read.specs.Events.{kind, vote_of, votes, votes_after, set_seen, set_keys, header_seen, header_keys, stored_seen, stored_keys, tracked_by, event};
+ghost use Rattle.rb_script_config.specs.Setups.{setup_view};
+
+use crate::names::{SetNames, needed_set_hash, needed_set_name};
+use crate::packet::{read_ack, read_cleared, read_closed, read_received, read_sent};
+use crate::set::needed_validators;
+use rb_base::ChainId;
+use rb_book::{Header, Record, Vote};
+use rb_script_config::{Directory, Setup, reference};
+use rb_script_toml::{FaultName, Field, RunError, Section, element_path, section_at};
+use rb_script_types::{ClientConfig, Observation};
+use toml::Value;
+
+/// The kinds of event.
+#[derive(Clone, Copy)]
+pub enum Kind {
+    Set,
+    Header,
+    Stored,
+    Sent,
+    Received,
+    Ack,
+    Cleared,
+    Closed,
+}
+
+#[tactic(auto, using(rb_script_toml::proofs::Steps::steps), unfolding(crate::specs::Events::kind))]
+fn read_kind(field: &Field<'_>) -> Result<Kind, RunError>
+    ensures { Gives (λ k. k) result (kind (field_view field.now)) }
+{
+    match field.text()? {
+        "set" => Ok(Kind::Set),
+        "header" => Ok(Kind::Header),
+        "stored" => Ok(Kind::Stored),
+        "sent" => Ok(Kind::Sent),
+        "received" => Ok(Kind::Received),
+        "ack" => Ok(Kind::Ack),
+        "cleared" => Ok(Kind::Cleared),
+        "closed" => Ok(Kind::Closed),
+        _ => Err(field.fault(FaultName::BadKind)),
+    }
+}
+
+#[tactic(auto, using(rb_script_toml::proofs::Steps::steps))]
+fn needed_kind(section: &Section<'_>) -> Result<Kind, RunError>
+    ensures { Gives (λ k. k) result (needs (codes "kind") kind (section_view section.now)) }
+{
+    read_kind(&section.required("kind")?)
+}
+
+fn vote_of(letter: u8) -> Option<Vote>
+    ensures { result ≡ vote_of letter }
+{
+    match letter {
+        b'C' => Some(Vote::Commit),
+        b'N' => Some(Vote::Nil),
+        b'A' => Some(Vote::Absent),
+        b'B' => Some(Vote::Bad),
+        _ => None,
+    }
+}
+
+/// The votes that these letters are.
+#[tactic(auto, using(rb_script_toml::proofs::Steps::steps))]
+fn votes_of(field: &Field<'_>, letters: &[u8]) -> Result<Vec<Vote>, RunError>
+    ensures { Gives (λ v. v.items) result (votes_after (field_view field.now).path [] letters.now) }
+{
+    let mut votes = Vec::with_capacity(field.alloc, letters.len())?;
+    for letter in letters {
+        match vote_of(*letter) {
+            Some(vote) => votes.push(vote)?,
+            None => return Err(field.fault(FaultName::BadVotes)),
+        }
+    }
+    Ok(votes)
+}
+
+#[tactic(auto, using(rb_script_toml::proofs::Steps::steps), unfolding(crate::specs::Events::votes))]
+fn read_votes(field: &Field<'_>) -> Result<Vec<Vote>, RunError>
+    ensures { Gives (λ v. v.items) result (votes (field_view field.now)) }
+{
+    let letters = field.text()?;
+    votes_of(field, letters.as_bytes())
+}
+
+#[tactic(auto, using(rb_script_toml::proofs::Steps::steps))]
+fn needed_votes(section: &Section<'_>) -> Result<Vec<Vote>, RunError>
+    ensures { Gives (λ v. v.items) result (needs (codes "votes") votes (section_view section.now)) }
+{
+    read_votes(&section.required("votes")?)
+}
+
+fn only_set_keys(section: &Section<'_>) -> Result<(), RunError>
+    ensures { Gives (λ u. u) result (only set_keys (section_view section.now)) }
+{
+    section.only(&["kind", "chain", "name", "validators"])
+}
+
+#[tactic(auto, using(rb_script_toml::proofs::Steps::steps), unfolding(crate::specs::Events::set_seen))]
+fn read_set(
+    section: &Section<'_>,
+    chains: &Directory<ChainId>,
+    names: &mut SetNames,
+) -> Result<Observation, RunError>
+    ensures { Gives (λ e. (e, names_of names.new)) result (set_seen chains.now (names_of names.old) (section_view section.now)) }
+{
+    only_set_keys(section)?;
+    let chain = reference(section, "chain", chains)?;
+    let name = needed_set_name(section, chain, names)?;
+    let set = needed_validators(section)?;
+    names.add(chain, name, *set.hash())?;
+    Ok(Observation::SetSeen { chain, set })
+}
+
+fn only_header_keys(section: &Section<'_>) -> Result<(), RunError>
+    ensures { Gives (λ u. u) result (only header_keys (section_view section.now)) }
+{
+    section.only(&[
+        "kind", "chain", "height", "time", "root", "set", "next", "votes",
+    ])
+}
+
+#[tactic(auto, using(rb_script_toml::proofs::Steps::steps), unfolding(crate::specs::Events::header_seen))]
+fn read_header(
+    section: &Section<'_>,
+    chains: &Directory<ChainId>,
+    names: &SetNames,
+) -> Result<Observation, RunError>
+    ensures { Gives (λ e. e) result (header_seen chains.now (names_of names.now) (section_view section.now)) }
+{
+    only_header_keys(section)?;
+    let chain = reference(section, "chain", chains)?;
+    let height = section.height("height")?;
+    let time = section.time("time")?;
+    let root = section.hash_or_zero("root")?;
+    let set = needed_set_hash(section, "set", chain, names)?;
+    let next = needed_set_hash(section, "next", chain, names)?;
+    let votes = needed_votes(section)?;
+    let header = Header::new(height, Record::new(time, root, next), set, votes);
+    Ok(Observation::HeaderSeen { chain, header })
+}
+
+fn only_stored_keys(section: &Section<'_>) -> Result<(), RunError>
+    ensures { Gives (λ u. u) result (only stored_keys (section_view section.now)) }
+{
+    section.only(&["kind", "client", "height", "time", "root", "next"])
+}
+
+/// The chain that a client tracks.
+fn tracked_by(clients: &Directory<ClientConfig>, client: usize) -> usize
+    requires { client < length clients.now }
+    ensures { result ≡ tracked_by clients.now client }
+{
+    clients.as_slice()[client].tracks
+}
+
+#[tactic(auto, using(rb_script_toml::proofs::Steps::steps), unfolding(crate::specs::Events::stored_seen))]
+fn read_stored(
+    section: &Section<'_>,
+    clients: &Directory<ClientConfig>,
+    names: &SetNames,
+) -> Result<Observation, RunError>
+    ensures { Gives (λ e. e) result (stored_seen clients.now (names_of names.now) (section_view section.now)) }
+{
+    only_stored_keys(section)?;
+    let client = reference(section, "client", clients)?;
+    let height = section.height("height")?;
+    let time = section.time("time")?;
+    let root = section.hash_or_zero("root")?;
+    let chain = tracked_by(clients, client);
+    let next = needed_set_hash(section, "next", chain, names)?;
+    let record = Record::new(time, root, next);
+    Ok(Observation::StoredSeen {
+        client,
+        height,
+        record,
+    })
+}
+
+#[tactic(auto, using(rb_script_toml::proofs::Steps::steps, crate::proofs::EventsLemmas::events), unfolding(crate::specs::Events::event))]
+fn read_event(
+    section: &Section<'_>,
+    setup: &Setup,
+    names: &mut SetNames,
+) -> Result<Observation, RunError>
+    ensures { Gives (λ e. (e, names_of names.new)) result (event (setup_view setup.now) (names_of names.old) (section_view section.now)) }
+{
+    match needed_kind(section)? {
+        Kind::Set => read_set(section, &setup.chains, names),
+        Kind::Header => read_header(section, &setup.chains, names),
+        Kind::Stored => read_stored(section, &setup.clients, names),
+        Kind::Sent => read_sent(section, &setup.paths),
+        Kind::Received => read_received(section, &setup.paths),
+        Kind::Ack => read_ack(section, &setup.paths),
+        Kind::Cleared => read_cleared(section, &setup.paths),
+        Kind::Closed => read_closed(section, &setup.paths),
+    }
+}
+
+#[tactic(auto, using(rb_script_toml::proofs::Steps::steps))]
+fn read_event_at(
+    path: &str,
+    index: usize,
+    value: &Value,
+    setup: &Setup,
+    names: &mut SetNames,
+) -> Result<Observation, RunError>
+    ensures { Gives (λ e. (e, names_of names.new)) result (next_in_sequence (event (setup_view setup.now)) path.now index (names_of names.old) (view value.now)) }
+{
+    let alloc = names.alloc;
+    let path = element_path(alloc, path, index)?;
+    let section = section_at(alloc, path.as_str(), value)?;
+    read_event(&section, setup, names)
+}
+
+/// Reads the events of a turn, each after the names that were given before it.
+pub fn read_events(
+    path: &str,
+    items: &[Value],
+    setup: &Setup,
+    names: &mut SetNames,
+) -> Result<Vec<Observation>, RunError>
+    ensures { Gives (λ v. (v.items, names_of names.new)) result (in_sequence (event (setup_view setup.now)) path.now (names_of names.old) [] (items_view items.now)) }
+{
+    let mut events = Vec::with_capacity(names.alloc, items.len())?;
+    for value in items {
+        let event = read_event_at(path, events.len(), value, setup, names)?;
+        events.push(event)?;
+    }
+    Ok(events)
+}

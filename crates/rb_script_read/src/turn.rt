@@ -1,0 +1,115 @@
+//! The turns of a script.
+ghost use Rattle.std.specs.Prelude.{◌≡◌, ◌+◌, ◌-◌, ◌≤◌, SomeIff};
+ghost use Rattle.toml.specs.View.{view};
+ghost use Rattle.rb_script_types.specs.Script.{turn_view};
+ghost use Rattle.rb_script_toml.specs.Faults.{Gives};
+ghost use Rattle.rb_script_toml.specs.Fields.{section_view, only};
+ghost use Rattle.rb_script_read.specs.Turns.{turn, turn_at, turn_keys, frame, frame_view, reading_view};
+ghost use Rattle.rb_script_config.specs.Setups.{setup_view};
+
+use crate::event::read_events;
+use crate::names::SetNames;
+use rb_base::Window;
+use rb_script_config::{Setup, read_goals, read_settlements};
+use rb_script_toml::{FaultName, RunError, Section, child_path, element_path, section_at};
+use rb_script_types::Turn;
+use toml::Value;
+
+/// What a turn's own keys hold, and the room that it leaves.
+#[derive(Clone, Copy)]
+pub struct Frame<'a> {
+    pub window: Window,
+    pub goals: &'a [Value],
+    pub events: &'a [Value],
+    pub settlements: &'a [Value],
+    pub room: usize,
+}
+
+/// What the turns before leave to the next: the names that they gave, and room for so many goals,
+/// events and settlements.
+#[derive(Drop)]
+pub struct Reading {
+    pub names: SetNames,
+    pub room: usize,
+}
+
+fn only_turn_keys(section: &Section<'_>) -> Result<(), RunError>
+    ensures { Gives (λ u. u) result (only turn_keys (section_view section.now)) }
+{
+    section.only(&["from", "until", "goal", "event", "settle"])
+}
+
+/// How much room is left of so much after so many goals, events and settlements, if they fit.
+fn room_after(room: usize, goals: usize, events: usize, settlements: usize) -> Option<usize>
+    ensures { SomeIff result (goals + events + settlements ≤ room) (room - (goals + events + settlements)) }
+{
+    room.checked_sub(goals)?
+        .checked_sub(events)?
+        .checked_sub(settlements)
+}
+
+#[tactic(auto, using(rb_script_toml::proofs::Steps::steps, rb_script_toml::proofs::Steps::counted), unfolding(crate::specs::Turns::frame))]
+fn read_frame<'a>(section: Section<'a>, room: usize) -> Result<Frame<'a>, RunError>
+    ensures read { Gives frame_view result (frame room (section_view section.entry)) }
+{
+    only_turn_keys(&section)?;
+    let from = section.time("from")?;
+    let until = section.time("until")?;
+    let goals = section.items("goal")?;
+    let events = section.items("event")?;
+    let settlements = section.items("settle")?;
+    let Some(room) = room_after(room, goals.len(), events.len(), settlements.len()) else {
+        return Err(section.fault(FaultName::TooManyEvents));
+    };
+    match Window::new(from, until) {
+        Ok(window) => Ok(Frame {
+            window,
+            goals,
+            events,
+            settlements,
+            room,
+        }),
+        Err(_) => Err(section.fault(FaultName::BadWindow)),
+    }
+}
+
+#[tactic(auto, using(rb_script_toml::proofs::Steps::steps), unfolding(crate::specs::Turns::turn))]
+fn read_turn(section: &Section<'_>, setup: &Setup, reading: &mut Reading) -> Result<Turn, RunError>
+    ensures { Gives (λ t. (turn_view t, reading_view reading.new)) result (turn (setup_view setup.now) (reading_view reading.old) (section_view section.now)) }
+{
+    let frame = read_frame(*section, reading.room)?;
+    reading.room = frame.room;
+    let path = child_path(section.alloc, section.path, "goal")?;
+    let goals = read_goals(section.alloc, path.as_str(), frame.goals, &setup.clients)?;
+    let path = child_path(section.alloc, section.path, "event")?;
+    let events = read_events(path.as_str(), frame.events, setup, &mut reading.names)?;
+    let path = child_path(section.alloc, section.path, "settle")?;
+    let settlements = read_settlements(
+        section.alloc,
+        path.as_str(),
+        frame.settlements,
+        &setup.clients,
+    )?;
+    Ok(Turn {
+        window: frame.window,
+        goals,
+        events,
+        settlements,
+    })
+}
+
+/// Reads the turn of this number, after those before it.
+#[tactic(auto, using(rb_script_toml::proofs::Steps::steps))]
+pub fn read_turn_at(
+    index: usize,
+    value: &Value,
+    setup: &Setup,
+    reading: &mut Reading,
+) -> Result<Turn, RunError>
+    ensures { Gives (λ t. (turn_view t, reading_view reading.new)) result (turn_at (setup_view setup.now) index (reading_view reading.old) (view value.now)) }
+{
+    let alloc = reading.names.alloc;
+    let path = element_path(alloc, "turn", index)?;
+    let section = section_at(alloc, path.as_str(), value)?;
+    read_turn(&section, setup, reading)
+}

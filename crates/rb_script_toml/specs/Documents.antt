@@ -1,0 +1,25 @@
+-- The table that a text holds.
+use Rattle.std.specs.Prelude.{ℕ, List, [], length, codes, Option, Some, None, Result, Ok, nat_lt, if◌then◌else◌}
+use Rattle.std.specs.Str.{is_utf8}
+use Rattle.toml.specs.Data.{Members}
+use Rattle.toml.specs.Parse.{parse_document}
+use Rattle.rb_script_toml.specs.Faults.{Fault, fault}
+use Rattle.rb_script_toml.specs.Fields.{Section}
+use Rattle.rb_script_toml.specs.declared.fault.FaultName.TheVariants.{NotToml, InputTooBig}
+
+-- how much a text may have (own choice)
+abbrev pub max_bytes : ℕ
+max_bytes = 16777216
+
+abbrev pub whole : Members → Section
+whole members = record { path = []; members = members }
+
+abbrev pub of_document : Option Members → Result Section Fault
+of_document None = fault NotToml (codes "-")
+of_document (Some members) = Ok (whole members)
+
+-- a text of TOML (version 1.1) in UTF-8, of at most so many bytes
+unfoldable pub document : List ℕ → Result Section Fault
+document bytes =
+    if nat_lt max_bytes (length bytes) then fault InputTooBig (codes "-")
+    else of_document (if is_utf8 bytes then parse_document bytes else None)

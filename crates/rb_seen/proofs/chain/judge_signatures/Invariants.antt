@@ -1,7 +1,0 @@
-use Rattle.std.proofs.Common.{All, take}
-use Rattle.rb_seen.specs.Chains.{HasSet}
-use Rattle.rb_seen.proofs.chain.judge_signatures.Given as goal
-
--- the commits so far have their sets
-abbrev pub invariant-loop-commit : goal.invariant-loop-commit
-invariant-loop-commit l = All (HasSet l.sets.sets.items) (take l.commit-index l.commits)

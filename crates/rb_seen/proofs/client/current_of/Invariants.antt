@@ -1,8 +1,0 @@
-use Rattle.std.proofs.Common.{◌≡◌, map, take}
-use Rattle.rb_seen.specs.Clients.{current_of}
-use Rattle.rb_seen.specs.declared.client.Stored.{Stored}
-use Rattle.rb_seen.proofs.client.current_of.Given as goal
-
--- the records so far are those of the answers so far that aren't of an earlier revision
-abbrev pub invariant-loop-saved : goal.invariant-loop-saved
-invariant-loop-saved l = map (λ (s : Stored). s.state.now) l.stored.items ≡ current_of l.revision (take l.saved-index l.answers)

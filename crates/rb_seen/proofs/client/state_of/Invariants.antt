@@ -1,8 +1,0 @@
-use Rattle.std.proofs.Common.{◌≡◌, take}
-use Rattle.std.specs.Prelude.{option_map, option_to_list}
-use Rattle.rb_seen.specs.Clients.{client_states_of}
-use Rattle.rb_seen.proofs.client.state_of.Given as goal
-
--- what was found is the state that the answers so far tell of
-abbrev pub invariant-loop-saved : goal.invariant-loop-saved
-invariant-loop-saved l = option_to_list (option_map (λ p. p.1.now) l.found) ≡ client_states_of (take l.saved-index l.answers)

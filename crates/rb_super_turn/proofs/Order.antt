@@ -1,0 +1,109 @@
+-- The supervisor's order gives the report of a turn.
+use Rattle.std.proofs.Common.{◌≡◌, ℕ, zero, suc, ◌+◌, List, [], ◌∷◌, ◌++◌, length, map, Some, set, refl, sym, ap, ◌∙◌, subst, arith, append_assoc, append-nil}
+use Rattle.std.specs.List.{AllZip, slice_get, flat_map, fold, enumerate_from, range_with_len}
+use Rattle.std.specs.Option.{option_map_or}
+use Rattle.std.proofs.lemmas.List.{set_at, length-append}
+use Rattle.std.proofs.lemmas.Option.{same_Some}
+use Rattle.rb_core_model.specs.Event.{Event, Window, Asked}
+use Rattle.rb_core_model.specs.Standing.{KnownClient, Standing, changed_at, goes_back, standing_after}
+use Rattle.rb_super_turn.specs.Agenda.{Item, ask, plan, settle, observations, both_parts, empty_report, Finishes, OrderGivesReport}
+use Rattle.rb_super_turn.specs.Report.{ClientReport, TurnReport}
+use Rattle.rb_script_types.specs.declared.script.Asked.{Asked as Question}
+use Rattle.rb_script_types.specs.declared.script.Settlement.{Settlement}
+use Rattle.rb_super_turn.specs.Script.{Turn}
+use Rattle.rb_super_turn.specs.Turns.{after_window, after_question, refusal_at, refusals, before_events, before_plans, refusals_in, IsClientReport, after_outcome, after_reports, after_settlement, settlement_report, settlement_reports}
+use Rattle.rb_core_model.proofs.Lengths.{lengths_after, lengths_fold}
+
+-- ---- lists with one element more
+
+at_end : {X : Type 0} (xs ys : List X) (y : X) (n : ℕ) → length xs ≡ n → slice_get (xs ++ y ∷ ys) n ≡ Some y
+at_end [] ys y zero e = refl
+at_end [] ys y (suc n) e = absurd (omega arith)
+at_end (x ∷ xs) ys y zero e = absurd (omega arith)
+at_end (x ∷ xs) ys y (suc n) e = at_end xs ys y n (omega arith)
+
+zip_push : {X Y : Type 0} (R : ℕ × X → Y → Type 0) (m : ℕ) (xs : List X) (ys : List Y) (x : X) (y : Y) (n : ℕ) → m + length xs ≡ n → AllZip R (enumerate_from m xs) ys → R (n, x) y
+    → AllZip R (enumerate_from m (xs ++ x ∷ [])) (ys ++ y ∷ [])
+zip_push R m [] [] x y n e all one = (let same : n ≡ m = omega arith in subst (λ k. R (k, x) y) same one, tt)
+zip_push R m [] (z ∷ ys) x y n e all one = absurd all
+zip_push R m (w ∷ xs) [] x y n e all one = absurd all
+zip_push R m (w ∷ xs) (z ∷ ys) x y n e all one = (all.0, zip_push R (m + 1) xs ys x y n (omega arith) all.1 one)
+
+reports_push : (cs : List KnownClient) (rs : List ClientReport) (c : KnownClient) (r : ClientReport) → length rs ≡ length cs
+    → after_reports (cs ++ c ∷ []) (rs ++ r ∷ []) ≡ after_reports cs rs ++ after_outcome r.outcome c ∷ []
+reports_push [] [] c r e = refl
+reports_push [] (q ∷ rs) c r e = absurd (omega arith)
+reports_push (d ∷ cs) [] c r e = absurd (omega arith)
+reports_push (d ∷ cs) (q ∷ rs) c r e = ap (λ xs. after_outcome q.outcome d ∷ xs) (reports_push cs rs c r (omega arith))
+
+length-reports : (cs : List KnownClient) (rs : List ClientReport) → length (after_reports cs rs) ≡ length cs
+length-reports [] rs = refl
+length-reports (c ∷ cs) [] = refl
+length-reports (c ∷ cs) (r ∷ rs) = ap (λ n. suc n) (length-reports cs rs)
+
+module _ (start : Standing) (turn : Turn) where
+  -- ---- what is asked, what was seen, what is scanned, what is settled
+  asks : (goals : List Question) (s : Standing) (r : TurnReport) (items : List Item) → Finishes start turn (fold after_question s goals) r items → Finishes start turn s r (map ask goals ++ items)
+  asks [] s r items h = h
+  asks (q ∷ goals) s r items h = asks goals (after_question s q) r items h
+
+  seen_all : (events : List Event) (number : ℕ) (s : Standing) (r : TurnReport) (items : List Item)
+      → Finishes start turn (fold standing_after s events) (record r { refused = r.refused ++ refusals number s events }) items → Finishes start turn s r (observations number events ++ items)
+  seen_all [] number s r items h = subst (λ xs. Finishes start turn s (record r { refused = xs }) items) (append-nil r.refused) h
+  seen_all (event ∷ events) number s r items h =
+      seen_all events (number + 1) (standing_after s event) (record r { refused = r.refused ++ refusal_at number s event }) items
+      (subst (λ xs. Finishes start turn (fold standing_after (standing_after s event) events) (record r { refused = xs }) items)
+      (sym (append_assoc r.refused (refusal_at number s event) (refusals (number + 1) (standing_after s event) events))) h)
+
+  scanned_all : (paths : List ℕ) (s : Standing) (r : TurnReport) (items : List Item) → Finishes start turn s r items → Finishes start turn s r (flat_map both_parts paths ++ items)
+  scanned_all [] s r items h = h
+  scanned_all (p ∷ paths) s r items h = scanned_all paths s r items h
+
+  settled_all : (xs : List Settlement) (s : Standing) (r : TurnReport)
+      → Finishes start turn (fold after_settlement s xs) (record r { settlements = r.settlements ++ settlement_reports s xs }) [] → Finishes start turn s r (map settle xs)
+  settled_all [] s r h = subst (λ ys. Finishes start turn s (record r { settlements = ys }) []) (append-nil r.settlements) h
+  settled_all (x ∷ xs) s r h =
+      settled_all xs (after_settlement s x) (record r { settlements = r.settlements ++ settlement_report s x ∷ [] })
+      (subst (λ ys. Finishes start turn (fold after_settlement (after_settlement s x) xs) (record r { settlements = ys }) [])
+      (sym (append_assoc r.settlements (settlement_report s x ∷ []) (settlement_reports (after_settlement s x) xs))) h)
+
+  -- ---- the clients, one after another
+  planned_all : (p : Standing) (r : TurnReport) (items : List Item)
+      → ((rs : List ClientReport) → AllZip (IsClientReport p) (enumerate_from 0 p.clients) rs → Finishes start turn (record p { clients = after_reports p.clients rs }) (record r { clients = rs }) items)
+      → (left past : List KnownClient) (rs : List ClientReport) (n : ℕ) → length past ≡ n → p.clients ≡ past ++ left → length rs ≡ length past → AllZip (IsClientReport p) (enumerate_from 0 past) rs
+      → Finishes start turn (record p { clients = after_reports past rs ++ left }) (record r { clients = rs }) (map plan (range_with_len n (length left)) ++ items)
+  planned_all p r items last [] past rs n at all_of long all =
+      let whole : p.clients ≡ past = all_of ∙ append-nil past in
+      subst (λ cs. Finishes start turn (record p { clients = cs }) (record r { clients = rs }) items)
+      (ap (λ cs. after_reports cs rs) whole ∙ sym (append-nil (after_reports past rs)))
+      (last rs (subst (λ cs. AllZip (IsClientReport p) (enumerate_from 0 cs) rs) (sym whole) all))
+  planned_all p r items last (c ∷ left) past rs n at all_of long all = λ k report found is.
+      let long_past : length (after_reports past rs) ≡ n = length-reports past rs ∙ at in
+      let here = at_end (after_reports past rs) left c n long_past in
+      let same : k ≡ c = same_Some k c (sym found ∙ here) in
+      let right : IsClientReport p (n, c) report = subst (λ x. IsClientReport p (n, x) report) same (record { id = is.id; window = is.window; is_window = is.is_window; outcome = is.outcome }) in
+      let f : KnownClient → KnownClient = after_outcome report.outcome in
+      let clients : after_reports (past ++ c ∷ []) (rs ++ report ∷ []) ++ left ≡ changed_at f (after_reports past rs ++ c ∷ left) n =
+      ap (λ cs. cs ++ left) (reports_push past rs c report long)
+      ∙ append_assoc (after_reports past rs) (f c ∷ []) left
+      ∙ sym (set_at (after_reports past rs) c left (f c) n long_past)
+      ∙ ap (λ o. option_map_or (λ x. set (after_reports past rs ++ c ∷ left) n (f x)) o (after_reports past rs ++ c ∷ left)) (sym here) in
+      subst (λ cs. Finishes start turn (record p { clients = cs }) (record r { clients = rs ++ report ∷ [] }) (map plan (range_with_len (n + 1) (length left)) ++ items)) clients
+      (planned_all p r items last left (past ++ c ∷ []) (rs ++ report ∷ []) (n + 1)
+      (omega (arith, length-append past (c ∷ []), at))
+      (all_of ∙ sym (append_assoc past (c ∷ []) left))
+      (omega (arith, length-append past (c ∷ []), length-append rs (report ∷ []), long))
+      (zip_push (IsClientReport p) 0 past rs c report n (omega (arith, at)) all right))
+
+pub order : OrderGivesReport
+order config turn s long =
+    let e = before_events s turn in
+    let p = before_plans s turn in
+    let asked = lengths_fold after_question (λ t q. lengths_after t (Asked q.client q.goal)) turn.goals (after_window s turn.window) in
+    let observed = lengths_fold standing_after lengths_after turn.events e in
+    let count : length p.clients ≡ length config.clients = observed.clients ∙ asked.clients ∙ (lengths_after s (Window turn.window)).clients ∙ long in
+    let r = record empty_report { window_back = goes_back s.window turn.window; refused = refusals_in s turn } in
+    asks s turn turn.goals (after_window s turn.window) _ _ (seen_all s turn turn.events 0 e _ _ (scanned_all s turn (range_with_len 0 (length config.paths)) p r _
+    (subst (λ n. Finishes s turn p r (map plan (range_with_len 0 n) ++ map settle turn.settlements)) count
+    (planned_all s turn p r (map settle turn.settlements) (λ rs all. settled_all s turn turn.settlements (record p { clients = after_reports p.clients rs }) (record r { clients = rs })
+    (record { window = refl; refused = refl; clients = all; settlements = refl }, refl)) p.clients [] [] 0 refl refl refl tt))))

@@ -1,0 +1,86 @@
+-- A turn, phase by phase, gives its report.
+use Rattle.std.proofs.Common.{◌≡◌, ℕ, ◌+◌, Bool, List, [], ◌∷◌, ◌++◌, length, map, refl, sym, subst, append_assoc, append-nil, arith}
+use Rattle.std.specs.List.{flat_map, fold, range_with_len}
+use Rattle.rb_core_model.specs.Event.{Event}
+use Rattle.rb_core_model.specs.Standing.{Standing, goes_back, standing_after}
+use Rattle.rb_script_types.specs.Config.{Config}
+use Rattle.rb_script_types.specs.declared.script.Asked.{Asked}
+use Rattle.rb_script_types.specs.declared.script.Settlement.{Settlement}
+use Rattle.rb_super_turn.specs.Agenda.{Item, ask, plan, settle, observations, both_parts, Finishes}
+use Rattle.rb_super_turn.specs.Report.{RefusedEvent, ClientReport, SettlementReport, TurnReport}
+use Rattle.rb_super_turn.specs.Script.{Turn}
+use Rattle.rb_super_turn.specs.Turns.{after_window, after_question, refusal_at, refusals, before_events, before_plans, refusals_in, after_settlement, settlement_report, settlement_reports, IsTurnReport, after_turn}
+use Rattle.rb_super_turn.proofs.Order.{order}
+use Rattle.rb_super_turn.specs.Phases.{IsReportedOf, AreReported}
+
+module _ (start : Standing) (turn : Turn) where
+  asked_all : (goals : List Asked) (s : Standing) (r : TurnReport) (items : List Item) → Finishes start turn s r (map ask goals ++ items) → Finishes start turn (fold after_question s goals) r items
+  asked_all [] s r items h = h
+  asked_all (q ∷ goals) s r items h = asked_all goals (after_question s q) r items h
+
+  observed_all : (events : List Event) (number : ℕ) (s : Standing) (r : TurnReport) (items : List Item) → Finishes start turn s r (observations number events ++ items)
+      → Finishes start turn (fold standing_after s events) (record r { refused = r.refused ++ refusals number s events }) items
+  observed_all [] number s r items h = subst (λ xs. Finishes start turn s (record r { refused = xs }) items) (sym (append-nil r.refused)) h
+  observed_all (event ∷ events) number s r items h =
+      subst (λ xs. Finishes start turn (fold standing_after (standing_after s event) events) (record r { refused = xs }) items)
+      (append_assoc r.refused (refusal_at number s event) (refusals (number + 1) (standing_after s event) events))
+      (observed_all events (number + 1) (standing_after s event) (record r { refused = r.refused ++ refusal_at number s event }) items h)
+
+  scanned_all : (paths : List ℕ) (s : Standing) (r : TurnReport) (items : List Item) → Finishes start turn s r (flat_map both_parts paths ++ items) → Finishes start turn s r items
+  scanned_all [] s r items h = h
+  scanned_all (p ∷ paths) s r items h = scanned_all paths s r items h
+
+  planned_all : (reports : List ClientReport) (client : ℕ) (s t : Standing) (r : TurnReport) (items : List Item) → AreReported s t client reports
+      → Finishes start turn s r (map plan (range_with_len client (length reports)) ++ items)
+      → Finishes start turn t (record r { clients = r.clients ++ reports }) items
+  planned_all [] client s t r items are h =
+      subst (λ (p : Standing × List ClientReport). Finishes start turn p.0 (record r { clients = p.1 }) items) (λ i. (sym are i, sym (append-nil r.clients) i)) h
+  planned_all (report ∷ reports) client s t r items are h =
+      let is = are.1 in
+      let left = map plan (range_with_len (client + 1) (length reports)) ++ items in
+      subst (λ cs. Finishes start turn t (record r { clients = cs }) items) (append_assoc r.clients (report ∷ []) reports)
+      (planned_all reports (client + 1) are.0 t (record r { clients = r.clients ++ report ∷ [] }) items are.2
+      (subst (λ u. Finishes start turn u (record r { clients = r.clients ++ report ∷ [] }) left) (sym is.after) (h is.known report is.is_known is.right)))
+
+  settled_all : (xs : List Settlement) (s : Standing) (r : TurnReport) → Finishes start turn s r (map settle xs)
+      → Finishes start turn (fold after_settlement s xs) (record r { settlements = r.settlements ++ settlement_reports s xs }) []
+  settled_all [] s r h = subst (λ ys. Finishes start turn s (record r { settlements = ys }) []) (sym (append-nil r.settlements)) h
+  settled_all (x ∷ xs) s r h =
+      subst (λ ys. Finishes start turn (fold after_settlement (after_settlement s x) xs) (record r { settlements = ys }) [])
+      (append_assoc r.settlements (settlement_report s x ∷ []) (settlement_reports (after_settlement s x) xs))
+      (settled_all xs (after_settlement s x) (record r { settlements = r.settlements ++ settlement_report s x ∷ [] }) h)
+
+-- ---- the clients, one after another
+
+pub reported_more : (reports : List ClientReport) (first client : ℕ) (s t u : Standing) (report : ClientReport) → first + length reports ≡ client → AreReported s t first reports
+    → IsReportedOf t u client report → AreReported s u first (reports ++ report ∷ [])
+reported_more [] first client s t u report place so_far is =
+    let here : client ≡ first = omega arith in
+    (u, subst (λ (p : Standing × ℕ). IsReportedOf p.0 u p.1 report) (λ i. (so_far i, here i)) is, refl)
+reported_more (r ∷ reports) first client s t u report place so_far is =
+    (so_far.0, so_far.1, reported_more reports (first + 1) client so_far.0 t u report (omega arith) so_far.2 is)
+
+-- ---- the whole
+
+pub turn_reported : (c : Config) (turn : Turn) (s t u v : Standing) (back : Bool) (refused : List RefusedEvent) (clients : List ClientReport) (settlements : List SettlementReport)
+    → length s.clients ≡ length c.clients
+    → back ≡ goes_back s.window turn.window
+    → refused ≡ refusals_in s turn
+    → t ≡ before_plans s turn
+    → length clients ≡ length c.clients
+    → AreReported t u 0 clients
+    → settlements ≡ settlement_reports u turn.settlements
+    → v ≡ fold after_settlement u turn.settlements
+    → let r : TurnReport = record { window_back = back; refused = refused; clients = clients; settlements = settlements }
+    in IsTurnReport s turn r × (v ≡ after_turn s turn r)
+turn_reported c turn s t u v back refused clients settlements long back_is refused_is t_is count are settlements_is v_is =
+    let first : TurnReport = record { window_back = goes_back s.window turn.window; refused = refusals_in s turn; clients = []; settlements = [] } in
+    let asked = asked_all s turn turn.goals (after_window s turn.window) (record first { refused = [] }) _ (order c turn s long) in
+    let seen = observed_all s turn turn.events 0 (before_events s turn) (record first { refused = [] }) _ asked in
+    let scanned = scanned_all s turn (range_with_len 0 (length c.paths)) (before_plans s turn) first _ seen in
+    let planned = planned_all s turn clients 0 t u first (map settle turn.settlements) are
+    (subst (λ (p : Standing × ℕ). Finishes s turn p.0 first (map plan (range_with_len 0 p.1) ++ map settle turn.settlements)) (λ i. (sym t_is i, sym count i)) scanned) in
+    let whole = settled_all s turn turn.settlements u (record first { clients = clients }) planned in
+    subst (λ (p : Standing × Bool × List RefusedEvent × List SettlementReport).
+    let r : TurnReport = record { window_back = p.1; refused = p.2; clients = clients; settlements = p.3 } in IsTurnReport s turn r × (p.0 ≡ after_turn s turn r))
+    (λ i. (sym v_is i, sym back_is i, sym refused_is i, sym settlements_is i)) whole

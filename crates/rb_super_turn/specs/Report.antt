@@ -1,0 +1,65 @@
+-- Reports, without where they lie in memory.
+use Rattle.std.specs.Prelude.{ℕ, Bool, List, Option}
+use Rattle.rb_batch.specs.declared.transaction.Transaction.{Transaction}
+use Rattle.rb_plan.specs.declared.cost.Cost.{Cost}
+use Rattle.rb_script_types.specs.declared.goal.Goal.{Goal}
+use Rattle.rb_plan.specs.declared.labelling.Label.{Label}
+use Rattle.rb_step.specs.LightClient.{Update}
+use Rattle.rb_script_types.specs.declared.refusal.Refusal.{Refusal}
+use Rattle.rb_plan_client.specs.Task.{Message}
+
+-- an event that was refused, by its number in its turn, from 0
+pub record RefusedEvent : Type 0 where
+  pub event : ℕ
+  pub refusal : Refusal
+
+pub record PricedUpdate : Type 0 where
+  pub update : Update
+  pub fee : ℕ
+
+pub record BatchReport : Type 0 where
+  pub number : ℕ
+  pub proof : ℕ
+  pub transactions : List Transaction
+
+pub data SendingReport : Type 0 where
+  nothing : SendingReport
+  too_big : ℕ → SendingReport
+  batched : BatchReport → SendingReport
+
+pub record PlanReport : Type 0 where
+  pub updates : List PricedUpdate
+  pub total : Cost
+  pub messages : List Message
+  pub sending : SendingReport
+
+pub record PlannedReport : Type 0 where
+  pub goal : Goal
+  pub labels : List Label
+  pub plan : Option PlanReport
+
+pub data Outcome : Type 0 where
+  held : ℕ → Outcome
+  idle : Outcome
+  planned : PlannedReport → Outcome
+
+pub record ClientReport : Type 0 where
+  pub id : List ℕ
+  pub outcome : Outcome
+
+-- a settlement, its client by its identifier, and why it was refused, if it was
+pub record SettlementReport : Type 0 where
+  pub id : List ℕ
+  pub batch : ℕ
+  pub done : ℕ
+  pub refusal : Option Refusal
+
+pub record TurnReport : Type 0 where
+  pub window_back : Bool
+  pub refused : List RefusedEvent
+  pub clients : List ClientReport
+  pub settlements : List SettlementReport
+
+-- the report of each turn
+abbrev pub Report : Type 0
+Report = List TurnReport

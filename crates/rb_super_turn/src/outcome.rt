@@ -1,0 +1,152 @@
+//! What is reported of a draft.
+ghost use Rattle.std.specs.Prelude.{◌≡◌, ◌<◌, ◌^◌, length, map, sum_by, IfOk, IfSome};
+ghost use Rattle.std.specs.Option.{option_map, option_copied};
+ghost use Rattle.rb_plan_client.specs.Draft.{IsPlanned};
+ghost use Rattle.rb_core_model.specs.Replied.{reply_view};
+ghost use Rattle.rb_plan_client.specs.Sent.{sending_view as sent_view};
+ghost use Rattle.rb_step.specs.LightClient.{total_fee};
+ghost use Rattle.rb_step.specs.View.{client_of};
+ghost use Rattle.rb_super_turn.specs.Turns.{priced, numbered, reported_plan, reported, outcome_numbered};
+ghost use Rattle.rb_super_turn.specs.Views.{priced_view, sending_view, plan_view, planned_view, outcome_view, number_of};
+
+use crate::report::{Batch, Outcome, Plan, Planned, PricedUpdate, Sending};
+use rb_core::{Draft, JobView, Reply};
+use rb_plan::{Cost, Update};
+use std::alloc::{AllocError, Allocator};
+
+/// Each update with its fee.
+fn priced<A: Allocator + Copy>(
+    alloc: A,
+    job: &JobView<A>,
+    updates: &[Update],
+) -> Result<Vec<PricedUpdate, A>, AllocError>
+    ensures { IfOk result (λ list. map priced_view list.items ≡ map (priced job.now.task) updates.now) }
+{
+    let view = job.view();
+    let mut priced = Vec::with_capacity(alloc, updates.len())?;
+    for update in updates {
+        let fee = view.fee(update.trusted(), update.height());
+        priced.push(PricedUpdate {
+            update: *update,
+            fee,
+        })?;
+    }
+    Ok(priced)
+}
+
+/// What the updates cost in all.
+fn total_of(updates: &[PricedUpdate]) -> Cost
+    requires { sum_by (λ u. u.fee) updates.now < 2 ^ 64 }
+    ensures fee { result.fee ≡ sum_by (λ u. u.fee) updates.now }
+    ensures count { result.count ≡ length updates.now }
+{
+    Cost {
+        fee: updates.iter().map(|update| update.fee).sum(),
+        count: updates.len() as u64,
+    }
+}
+
+/// How messages are sent, the batch under its number.
+fn sending<A: Allocator + Copy>(
+    alloc: A,
+    sending: &rb_core::Sending<A>,
+    number: u64,
+) -> Result<Sending<A>, AllocError>
+    ensures { IfOk result (λ s. sending_view s ≡ numbered number (sent_view sending.now)) }
+{
+    Ok(match sending {
+        rb_core::Sending::Nothing => Sending::Nothing,
+        rb_core::Sending::TooBig(index) => Sending::TooBig(*index),
+        rb_core::Sending::Batched(batch) => Sending::Batch(Batch {
+            number,
+            proof: batch.proof(),
+            transactions: Vec::from_slice(alloc, batch.transactions())?,
+        }),
+    })
+}
+
+/// What is reported of a plan, its updates with their fees.
+fn plan_of<A: Allocator + Copy>(
+    alloc: A,
+    job: &JobView<A>,
+    plan: &rb_core::Plan<A>,
+    number: u64,
+) -> Result<Plan<A>, AllocError>
+    requires { total_fee (client_of job.now.task.view) plan.now.updates < 2 ^ 63 }
+    ensures { IfOk result (λ p. plan_view p ≡ reported_plan job.now.task number plan.now) }
+{
+    let updates = plan.updates();
+    let priced = priced(alloc, job, updates)?;
+    let total = total_of(priced.as_slice());
+    let messages = Vec::from_slice(alloc, plan.messages())?;
+    let sending = sending(alloc, plan.sending(), number)?;
+    Ok(Plan {
+        updates: priced,
+        total,
+        messages,
+        sending,
+    })
+}
+
+/// What is reported of a plan, if there is one.
+fn plan_if<A: Allocator + Copy>(
+    alloc: A,
+    job: &JobView<A>,
+    plan: Option<&rb_core::Plan<A>>,
+    number: u64,
+) -> Result<Option<Plan<A>>, AllocError>
+    requires { IfSome (option_copied plan) (λ p. total_fee (client_of job.now.task.view) p.updates < 2 ^ 63) }
+    ensures { IfOk result (λ p. option_map plan_view p ≡ option_map (reported_plan job.now.task number) (option_copied plan.entry)) }
+{
+    match plan {
+        Some(plan) => Ok(Some(plan_of(alloc, job, plan, number)?)),
+        None => Ok(None),
+    }
+}
+
+/// What is reported of an answer that is right for the job.
+fn planned_of<A: Allocator + Copy>(
+    alloc: A,
+    job: &JobView<A>,
+    planned: &rb_core::Planned<A>,
+    number: u64,
+) -> Result<Planned<A>, AllocError>
+    requires { IsPlanned job.now.task planned.now }
+    ensures { IfOk result (λ p. planned_view p ≡ reported job.now.task number planned.now) }
+{
+    let labelling = planned.labelling().copy()?;
+    let plan = plan_if(alloc, job, planned.plan(), number)?;
+    Ok(Planned {
+        goal: planned.goal(),
+        labelling,
+        plan,
+    })
+}
+
+/// The number of the batch that was opened; 0 where none was.
+fn number_of(reply: Reply) -> u64
+    ensures { result ≡ number_of (reply_view reply) }
+{
+    match reply {
+        Reply::Noted => 0,
+        Reply::Opened(number) => number,
+    }
+}
+
+/// What is reported of a draft, by what was replied to it.
+pub(crate) fn outcome_of<A: Allocator + Copy>(
+    alloc: A,
+    draft: &Draft<A>,
+    reply: Reply,
+) -> Result<Outcome<A>, AllocError>
+    ensures { IfOk result (λ o. outcome_view o ≡ outcome_numbered (number_of (reply_view reply)) draft.now) }
+{
+    match draft.answer() {
+        Some(answer) => {
+            let number = number_of(reply);
+            let planned = planned_of(alloc, draft.job(), answer, number)?;
+            Ok(Outcome::Planned(planned))
+        }
+        None => Ok(Outcome::Idle),
+    }
+}

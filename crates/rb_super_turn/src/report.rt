@@ -1,0 +1,104 @@
+//! What a run reports.
+use rb_base::{ClientId, Height, PathId};
+use rb_batch::Transaction;
+use rb_core::Message;
+use rb_plan::{Cost, Labelling, Update};
+use rb_script_types::{Goal, Refusal};
+use std::alloc::{Allocator, Global};
+
+/// The report of a run, turn by turn, with the identifiers of the paths by their places.
+#[derive(Debug, Drop)]
+pub struct Report<A: Allocator = Global> {
+    pub paths: Vec<PathId, A>,
+    pub turns: Vec<TurnReport<A>, A>,
+}
+
+/// What came of a turn: whether its window was refused because it goes back, the events that were
+/// refused, in their order, what came of each client, in script order, and of each settlement.
+#[derive(Debug, Drop)]
+pub struct TurnReport<A: Allocator = Global> {
+    pub window_back: bool,
+    pub refused: Vec<RefusedEvent, A>,
+    pub clients: Vec<ClientReport<A>, A>,
+    pub settlements: Vec<SettlementReport, A>,
+}
+
+/// An event that was refused, by its place among the turn's events from 0, and why.
+#[derive(Clone, Copy, Debug, PartialEq, Eq)]
+pub struct RefusedEvent {
+    pub event: usize,
+    pub refusal: Refusal,
+}
+
+/// A client in a turn, by its identifier, and what came of it.
+#[derive(Debug, Drop)]
+pub struct ClientReport<A: Allocator = Global> {
+    pub id: ClientId,
+    pub outcome: Outcome<A>,
+}
+
+/// What came of a client in a turn.
+#[derive(Debug, Drop)]
+pub enum Outcome<A: Allocator = Global> {
+    /// The batch with this number is open, so nothing was planned.
+    Held(u64),
+    /// There was no goal.
+    Idle,
+    /// There was a goal.
+    Planned(Planned<A>),
+}
+
+/// A goal, the exact labelling, and the plan; none where the goal can't be reached.
+#[derive(Debug, Drop)]
+pub struct Planned<A: Allocator = Global> {
+    pub goal: Goal,
+    pub labelling: Labelling<A>,
+    pub plan: Option<Plan<A>>,
+}
+
+/// The least list of updates that meets the goal, their fees and number in all, the packet messages
+/// that follow them, and how they are sent.
+#[derive(Debug, Drop)]
+pub struct Plan<A: Allocator = Global> {
+    pub updates: Vec<PricedUpdate, A>,
+    pub total: Cost,
+    pub messages: Vec<Message, A>,
+    pub sending: Sending<A>,
+}
+
+/// An update and its fee.
+#[derive(Clone, Copy, Debug, PartialEq, Eq)]
+pub struct PricedUpdate {
+    pub update: Update,
+    pub fee: u64,
+}
+
+/// How messages are sent. They are numbered from 0, the updates first.
+#[derive(Debug, Drop)]
+pub enum Sending<A: Allocator = Global> {
+    /// There is no message.
+    Nothing,
+    /// The message with this number is over the gas limit alone.
+    TooBig(usize),
+    /// They open a batch.
+    Batch(Batch<A>),
+}
+
+/// A batch by its number, from 1 for each client, the height that proofs are made for, and its
+/// transactions.
+#[derive(Debug, Drop)]
+pub struct Batch<A: Allocator = Global> {
+    pub number: u64,
+    pub proof: Height,
+    pub transactions: Vec<Transaction, A>,
+}
+
+/// That so many transactions of a batch were taken, the client by its identifier and the batch by
+/// its number, and why that was refused, if it was.
+#[derive(Clone, Copy, Debug, PartialEq, Eq)]
+pub struct SettlementReport {
+    pub id: ClientId,
+    pub batch: u64,
+    pub done: u64,
+    pub refusal: Option<Refusal>,
+}

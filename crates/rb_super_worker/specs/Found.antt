@@ -1,0 +1,55 @@
+-- What a worker finds for an order: it is of the job that was ordered, and right for what the worker's desk shows.
+use Rattle.std.specs.Prelude.{◌≡◌, ◌≤◌, ℕ, length, max, Option, Some, None}
+use Rattle.rb_gang.specs.declared.gate.Place.{Place}
+use Rattle.rb_gang.specs.declared.gate.Place.TheVariants as place
+use Rattle.rb_plan_client.specs.Draft.{Draft, IsDraft}
+use Rattle.rb_core_model.specs.Machine.{client_view, state_of}
+use Rattle.rb_core_model.specs.Scan.{Scan}
+use Rattle.rb_core_model.specs.Standing.{path_view}
+use Rattle.rb_board.specs.Ends.{Desk}
+use Rattle.rb_super_worker.specs.declared.finding.Finding.{Finding}
+use Rattle.rb_super_worker.specs.declared.finding.Finding.TheVariants as found
+use Rattle.rb_super_worker.specs.declared.order.Order.{Order}
+use Rattle.rb_super_worker.specs.declared.order.Order.TheVariants as order
+
+-- ---- the jobs by name
+
+-- the job of an order, none where the worker is to end
+abbrev pub ordered_place : {A : Type 0} → Order A → Option Place
+ordered_place (order.Scan path part note) = Some (place.Scan path part)
+ordered_place (order.Plan client note graph) = Some (place.Plan client)
+ordered_place order.Stop = None
+
+-- the job that a finding is of
+abbrev pub found_place : {A : Type 0} → Finding A → Place
+found_place (found.Scanned path scan) = place.Scan path scan.part
+found_place (found.Planned draft) = place.Plan draft.job.client
+found_place (found.Short place) = place
+found_place (found.Unseen place) = place
+
+-- how many events a desk was told of, with an order's note
+abbrev pub told_after : {A : Type 0} → Order A → ℕ → ℕ
+told_after (order.Scan path part note) told = max told note.front
+told_after (order.Plan client note graph) told = max told note.front
+told_after order.Stop told = told
+
+-- ---- what is right
+
+-- the desk has seen all that it was told of, and what it has seen shows the path so as it was scanned
+pub record IsScanOf (desk : Desk) (path : ℕ) (scan : Scan) : Type 0 where
+  pub enough : desk.told ≤ length desk.seen
+  pub view : path_view (state_of desk.config desk.seen).standing path ≡ Some scan.view
+
+-- the desk has seen all that it was told of, what it has seen shows the client so as it was planned for, and the plan is
+-- right for that
+pub record IsDraftOf (desk : Desk) (client : ℕ) (draft : Draft) : Type 0 where
+  pub enough : desk.told ≤ length desk.seen
+  pub view : client_view (state_of desk.config desk.seen) client ≡ Some draft.job
+  pub right : IsDraft draft
+
+-- a scan and a draft are right for what the desk shows
+abbrev pub IsFoundOn : {A : Type 0} → Desk → Finding A → Type 0
+IsFoundOn desk (found.Scanned path scan) = IsScanOf desk path scan
+IsFoundOn desk (found.Planned draft) = IsDraftOf desk draft.job.client draft
+IsFoundOn desk (found.Short place) = Unit {0}
+IsFoundOn desk (found.Unseen place) = Unit {0}

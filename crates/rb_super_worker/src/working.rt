@@ -1,0 +1,119 @@
+//! How workers work.
+ghost use Rattle.std.specs.Prelude.{◌≡◌, IfSome};
+ghost use Rattle.std.specs.Option.{option_map};
+ghost use mathlib.Core.List.{IsPrefix};
+ghost use Rattle.rb_super_worker.specs.Found.{IsFoundOn, found_place, ordered_place, told_after};
+ghost use Rattle.rb_gang.specs.declared.gate.Place.TheVariants as place;
+
+use crate::finding::{Finding, Findings};
+use crate::order::{Order, Orders};
+use crate::seeing::{plan_seen, scan_seen};
+use rb_board::{Desk, DeskError};
+use rb_gang::{Gate, Place};
+use rb_graph::Graph;
+use rb_scan::Part;
+use std::alloc::Allocator;
+use std::sync::Wait;
+
+/// Scans a part of a path as the desk shows it, between the calls of the gate.
+fn find_scan<G: Gate, A: Allocator + Copy>(
+    desk: &mut Desk<A>,
+    path: usize,
+    part: Part,
+    gate: &G,
+) -> Finding<A>
+    ensures config { desk.new.config ≡ desk.old.config }
+    ensures told { desk.new.told ≡ desk.old.told }
+    ensures begins { IsPrefix desk.old.seen desk.new.seen }
+    ensures place { found_place result ≡ place.Scan path part }
+    ensures right { IsFoundOn desk.new result }
+{
+    let place = Place::Scan(path, part);
+    gate.before(place);
+    let found = scan_seen(desk, path, part);
+    gate.after(place);
+    match found {
+        Ok(scan) => Finding::Scanned { path, scan },
+        Err(DeskError::NoMemory) => Finding::Short(place),
+        Err(_) => Finding::Unseen(place),
+    }
+}
+
+/// Plans for a client as the desk shows it, between the calls of the gate.
+fn find_plan<G: Gate, A: Allocator + Copy>(
+    alloc: A,
+    desk: &mut Desk<A>,
+    client: usize,
+    graph: &Graph<A>,
+    gate: &G,
+) -> Finding<A>
+    ensures config { desk.new.config ≡ desk.old.config }
+    ensures told { desk.new.told ≡ desk.old.told }
+    ensures begins { IsPrefix desk.old.seen desk.new.seen }
+    ensures place { found_place result ≡ place.Plan client }
+    ensures right { IsFoundOn desk.new result }
+{
+    let place = Place::Plan(client);
+    gate.before(place);
+    let found = plan_seen(alloc, desk, client, graph);
+    gate.after(place);
+    match found {
+        Ok(draft) => Finding::Planned(draft),
+        Err(DeskError::NoMemory) => Finding::Short(place),
+        Err(_) => Finding::Unseen(place),
+    }
+}
+
+/// Learns what the order tells of, does what it orders on what the desk shows, between the calls of
+/// the gate, and tells what is found: it is of the job that was ordered, none where the worker is to
+/// end. Doesn't wait, unless the gate does.
+pub fn work<G: Gate, A: Allocator + Copy>(
+    alloc: A,
+    desk: &mut Desk<A>,
+    order: Order<A>,
+    gate: &G,
+) -> Option<Finding<A>>
+    ensures config { desk.new.config ≡ desk.old.config }
+    ensures told { desk.new.told ≡ told_after order desk.old.told }
+    ensures begins { IsPrefix desk.old.seen desk.new.seen }
+    ensures place { option_map found_place result ≡ ordered_place order }
+    ensures right { IfSome result (IsFoundOn desk.new) }
+{
+    match order {
+        Order::Scan { path, part, note } => {
+            desk.learn(note);
+            Some(find_scan(desk, path, part, gate))
+        }
+        Order::Plan {
+            client,
+            note,
+            graph,
+        } => {
+            desk.learn(note);
+            Some(find_plan(alloc, desk, client, graph.graph(), gate))
+        }
+        Order::Stop => None,
+    }
+}
+
+/// Does what it is ordered until it is told to end, and hands over what it finds. It sleeps while
+/// there is no order.
+pub fn worker_loop<R: Wait, G: Gate, A: Allocator + Copy>(
+    rt: &R,
+    alloc: A,
+    desk: Desk<A>,
+    orders: Orders<A>,
+    findings: Findings<A>,
+    gate: &G,
+) {
+    let mut desk = desk;
+    let mut orders = orders;
+    let mut findings = findings;
+    for _ in rt.forever() {
+        let order = orders.next(rt);
+        match work(alloc, &mut desk, order, gate) {
+            Some(finding) => findings.hand_over(rt, finding),
+            None => return,
+        }
+    }
+}

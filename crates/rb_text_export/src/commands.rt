@@ -1,0 +1,213 @@
+//! The commands that a relayer (Hermes) runs for a report.
+use jiff::Timestamp;
+use rb_base::{Moment, Window};
+use rb_script_types::{ClientConfig, Config, Refusal, Script};
+use rb_super_turn::{
+    ClientReport, Outcome, Plan, PricedUpdate, RefusedEvent, Report, Sending, TurnReport,
+};
+use std::alloc::{AllocError, Global};
+
+/// What commands say that a script's report doesn't: where its clients are hosted, and the windows
+/// of its turns.
+#[derive(Debug, Drop)]
+pub struct Setting {
+    config: Config,
+    windows: Vec<Window>,
+}
+
+impl Setting {
+    /// That of a script.
+    pub fn of(alloc: Global, script: &Script) -> Result<Setting, AllocError> {
+        let mut windows = Vec::new(alloc);
+        for turn in &script.turns {
+            windows.push(turn.window)?;
+        }
+        let config = script.config.copy()?;
+        Ok(Setting { config, windows })
+    }
+}
+
+/// The commands for a report of the script with this setting, those of every turn or of the one with this
+/// number, from 1: for each turn a comment line that says in which window its updates are valid, which is
+/// the one in force, one for each of its events that is refused, and one for its window if that is; then for
+/// each client a comment line of what came of it, and after it a line for each update, in the order in
+/// which they are submitted; none where a message is over the gas limit alone. Of the packet messages that
+/// follow them the comment tells the number: a script doesn't have the ports and channels that commands
+/// for packets name.
+pub fn commands_of(
+    alloc: Global,
+    setting: &Setting,
+    report: &Report,
+    wanted: Option<u64>,
+) -> Result<String, AllocError> {
+    let mut text = String::new(alloc);
+    let mut in_force = None;
+    let mut number: u64 = 0;
+    for (turn, window) in report.turns.iter().zip(&setting.windows) {
+        number = number.saturating_add(1);
+        in_force = window_in_force(in_force, turn, window);
+        if is_wanted(wanted, number) {
+            push_window(&mut text, number, in_force.as_ref())?;
+            push_turn(&mut text, number, &setting.config, turn)?;
+        }
+    }
+    Ok(text)
+}
+
+/// The window in force in a turn: its own, or the one before it where that is refused.
+fn window_in_force(before: Option<Window>, turn: &TurnReport, own: &Window) -> Option<Window> {
+    if turn.window_back { before } else { Some(*own) }
+}
+
+/// Whether the commands of the turn with this number are wanted.
+fn is_wanted(wanted: Option<u64>, number: u64) -> bool {
+    match wanted {
+        Some(wanted) => wanted == number,
+        None => true,
+    }
+}
+
+/// Adds in which window a turn's updates are valid.
+fn push_window(text: &mut String, turn: u64, window: Option<&Window>) -> Result<(), AllocError> {
+    let Some(window) = window else {
+        return Ok(());
+    };
+    match (timestamp_of(window.from()), timestamp_of(window.until())) {
+        (Some(from), Some(until)) => {
+            writeln!(text, "# turn {turn}: valid from {from} until {until}")
+        }
+        _ => Ok(()),
+    }
+}
+
+/// A moment as a timestamp, which is written as RFC 3339 has it.
+fn timestamp_of(moment: Moment) -> Option<Timestamp> {
+    let nanoseconds = i128::try_from(moment.nanoseconds()).ok()?;
+    Timestamp::from_nanosecond(nanoseconds).ok()
+}
+
+fn push_turn(
+    text: &mut String,
+    number: u64,
+    config: &Config,
+    turn: &TurnReport,
+) -> Result<(), AllocError> {
+    if turn.window_back {
+        let refusal = Refusal::WindowBack.number();
+        let name = Refusal::WindowBack.name();
+        writeln!(text, "# turn {number}: refused window {refusal} {name}")?;
+    }
+    for refused in &turn.refused {
+        push_refused(text, number, refused)?;
+    }
+    for (client, report) in config.clients.iter().zip(&turn.clients) {
+        push_client(text, number, host_of(config, client), report)?;
+    }
+    Ok(())
+}
+
+fn push_refused(text: &mut String, turn: u64, refused: &RefusedEvent) -> Result<(), AllocError> {
+    let event = refused.event;
+    let number = refused.refusal.number();
+    let name = refused.refusal.name();
+    writeln!(text, "# turn {turn}: refused event {event} {number} {name}")
+}
+
+/// The identifier of the chain that hosts a client.
+fn host_of<'a>(config: &'a Config, client: &ClientConfig) -> &'a str {
+    match config.chains.get(client.host) {
+        Some(chain) => chain.as_str(),
+        None => "",
+    }
+}
+
+fn push_client(
+    text: &mut String,
+    turn: u64,
+    host: &str,
+    client: &ClientReport,
+) -> Result<(), AllocError> {
+    let id = client.id.as_str();
+    match &client.outcome {
+        Outcome::Held(batch) => writeln!(text, "# turn {turn} client {id}: held by batch {batch}"),
+        Outcome::Idle => writeln!(text, "# turn {turn} client {id}: idle"),
+        Outcome::Planned(planned) => match &planned.plan {
+            Some(plan) => push_plan(text, turn, host, id, plan),
+            None => writeln!(text, "# turn {turn} client {id}: unreachable"),
+        },
+    }
+}
+
+fn push_plan(
+    text: &mut String,
+    turn: u64,
+    host: &str,
+    id: &str,
+    plan: &Plan,
+) -> Result<(), AllocError> {
+    let fee = plan.total.fee;
+    let count = plan.total.count;
+    write!(
+        text,
+        "# turn {turn} client {id}: total fee {fee}, updates {count}"
+    )?;
+    push_messages(text, plan.messages.len())?;
+    if let Sending::TooBig(message) = &plan.sending {
+        return writeln!(text, ", message {message} over the gas limit: no batch");
+    }
+    text.push_str("\n")?;
+    for update in &plan.updates {
+        push_update(text, host, own_id(host, id), update)?;
+    }
+    Ok(())
+}
+
+/// Adds the number of a plan's packet messages where there are any.
+fn push_messages(text: &mut String, count: usize) -> Result<(), AllocError> {
+    if count == 0 {
+        return Ok(());
+    }
+    write!(text, ", packet messages {count}")
+}
+
+/// What follows `HOST.` in a client's identifier where it begins with that and more, else the whole.
+fn own_id<'a>(host: &str, id: &'a str) -> &'a str {
+    let Some(rest) = id.strip_prefix(host) else {
+        return id;
+    };
+    match rest.strip_prefix('.') {
+        Some(own) if !own.is_empty() => own,
+        _ => id,
+    }
+}
+
+fn push_update(
+    text: &mut String,
+    host: &str,
+    id: &str,
+    priced: &PricedUpdate,
+) -> Result<(), AllocError> {
+    let height = priced.update.height();
+    let trusted = priced.update.trusted();
+    text.push_str("hermes update client --host-chain ")?;
+    push_word(text, host)?;
+    text.push_str(" --client ")?;
+    push_word(text, id)?;
+    writeln!(text, " --height {height} --trusted-height {trusted}")
+}
+
+/// Adds an identifier as a word of a shell: in single quotes where it has a character that a shell
+/// gives a meaning. Identifiers have no single quote.
+fn push_word(text: &mut String, id: &str) -> Result<(), AllocError> {
+    if id.as_bytes().iter().any(|byte| has_meaning(*byte)) {
+        write!(text, "'{id}'")
+    } else {
+        text.push_str(id)
+    }
+}
+
+/// Whether a character of identifiers has a meaning in a shell: of a comment, a pattern or a
+/// redirection.
+fn has_meaning(byte: u8) -> bool {
+    matches!(byte, b'#' | b'[' | b']' | b'<' | b'>')
+}

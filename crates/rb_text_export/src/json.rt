@@ -1,0 +1,220 @@
+//! A report as JSON. Identifiers have no character that JSON escapes.
+use rb_base::PathId;
+use rb_batch::Transaction;
+use rb_core::Message;
+use rb_plan::Label;
+use rb_scan::Kind;
+use rb_script_types::{Goal, Refusal};
+use rb_super_turn::{
+    ClientReport, Outcome, Plan, Planned, PricedUpdate, RefusedEvent, Report, Sending,
+    SettlementReport, TurnReport,
+};
+use std::alloc::{AllocError, Global};
+
+/// The report as one object of JSON, and a line feed.
+pub fn json_of(alloc: Global, report: &Report) -> Result<String, AllocError> {
+    let mut text = String::new(alloc);
+    text.push_str("{\"ibcplan\": 1, \"turns\": [")?;
+    for (place, turn) in report.turns.iter().enumerate() {
+        push_comma(&mut text, place)?;
+        push_turn(&mut text, report.paths.as_slice(), turn)?;
+    }
+    text.push_str("]}\n")?;
+    Ok(text)
+}
+
+/// Adds what stands between an element and the one before it.
+fn push_comma(text: &mut String, place: usize) -> Result<(), AllocError> {
+    if place == 0 {
+        Ok(())
+    } else {
+        text.push_str(", ")
+    }
+}
+
+fn push_turn(text: &mut String, paths: &[PathId], turn: &TurnReport) -> Result<(), AllocError> {
+    let window_back = turn.window_back;
+    write!(text, "{{\"window_back\": {window_back}, \"refused\": [")?;
+    for (place, refused) in turn.refused.iter().enumerate() {
+        push_comma(text, place)?;
+        push_refused(text, refused)?;
+    }
+    text.push_str("], \"clients\": [")?;
+    for (place, client) in turn.clients.iter().enumerate() {
+        push_comma(text, place)?;
+        push_client(text, paths, client)?;
+    }
+    text.push_str("], \"settlements\": [")?;
+    for (place, settlement) in turn.settlements.iter().enumerate() {
+        push_comma(text, place)?;
+        push_settlement(text, settlement)?;
+    }
+    text.push_str("]}")
+}
+
+fn push_refused(text: &mut String, refused: &RefusedEvent) -> Result<(), AllocError> {
+    let event = refused.event;
+    write!(text, "{{\"event\": {event}")?;
+    push_refusal(text, &refused.refusal)?;
+    text.push_str("}")
+}
+
+/// Adds why something is refused, as the last keys of an object.
+fn push_refusal(text: &mut String, refusal: &Refusal) -> Result<(), AllocError> {
+    let number = refusal.number();
+    let name = refusal.name();
+    write!(text, ", \"number\": {number}, \"name\": \"{name}\"")
+}
+
+fn push_settlement(text: &mut String, settlement: &SettlementReport) -> Result<(), AllocError> {
+    let id = settlement.id.as_str();
+    let batch = settlement.batch;
+    let done = settlement.done;
+    write!(
+        text,
+        "{{\"client\": \"{id}\", \"batch\": {batch}, \"done\": {done}"
+    )?;
+    if let Some(refusal) = &settlement.refusal {
+        push_refusal(text, refusal)?;
+    }
+    text.push_str("}")
+}
+
+fn push_client(
+    text: &mut String,
+    paths: &[PathId],
+    client: &ClientReport,
+) -> Result<(), AllocError> {
+    let id = client.id.as_str();
+    write!(text, "{{\"id\": \"{id}\", ")?;
+    match &client.outcome {
+        Outcome::Held(batch) => write!(text, "\"outcome\": \"held\", \"batch\": {batch}}}"),
+        Outcome::Idle => text.push_str("\"outcome\": \"idle\"}"),
+        Outcome::Planned(planned) => push_planned(text, paths, planned),
+    }
+}
+
+fn push_planned(text: &mut String, paths: &[PathId], planned: &Planned) -> Result<(), AllocError> {
+    let outcome = match planned.plan {
+        Some(_) => "plan",
+        None => "unreachable",
+    };
+    write!(text, "\"outcome\": \"{outcome}\", \"goal\": ")?;
+    push_goal(text, planned.goal)?;
+    text.push_str(", \"labels\": [")?;
+    for (place, label) in planned.labelling.labels().iter().enumerate() {
+        push_comma(text, place)?;
+        push_label(text, label)?;
+    }
+    text.push_str("]")?;
+    match &planned.plan {
+        Some(plan) => push_plan(text, paths, plan),
+        None => text.push_str("}"),
+    }
+}
+
+fn push_goal(text: &mut String, goal: Goal) -> Result<(), AllocError> {
+    match goal {
+        Goal::AtLeast(height) => write!(text, "{{\"at_least\": {height}}}"),
+        Goal::Exactly(height) => write!(text, "{{\"exactly\": {height}}}"),
+    }
+}
+
+fn push_label(text: &mut String, label: &Label) -> Result<(), AllocError> {
+    let height = label.height;
+    let fee = label.cost.fee;
+    let count = label.cost.count;
+    write!(
+        text,
+        "{{\"height\": {height}, \"fee\": {fee}, \"count\": {count}}}"
+    )
+}
+
+fn push_plan(text: &mut String, paths: &[PathId], plan: &Plan) -> Result<(), AllocError> {
+    text.push_str(", \"updates\": [")?;
+    for (place, update) in plan.updates.iter().enumerate() {
+        push_comma(text, place)?;
+        push_update(text, update)?;
+    }
+    let fee = plan.total.fee;
+    let count = plan.total.count;
+    write!(
+        text,
+        "], \"total\": {{\"fee\": {fee}, \"updates\": {count}}}"
+    )?;
+    text.push_str(", \"messages\": [")?;
+    for (place, message) in plan.messages.iter().enumerate() {
+        push_comma(text, place)?;
+        push_message(text, paths, message)?;
+    }
+    text.push_str("]")?;
+    push_sending(text, &plan.sending)
+}
+
+fn push_update(text: &mut String, priced: &PricedUpdate) -> Result<(), AllocError> {
+    let height = priced.update.height();
+    let trusted = priced.update.trusted();
+    let fee = priced.fee;
+    write!(
+        text,
+        "{{\"height\": {height}, \"trusted\": {trusted}, \"fee\": {fee}}}"
+    )
+}
+
+fn push_message(text: &mut String, paths: &[PathId], message: &Message) -> Result<(), AllocError> {
+    let packet = message.packet();
+    let kind = kind_name(packet.kind);
+    let path = id_of(paths, message.path());
+    let sequence = packet.sequence;
+    write!(
+        text,
+        "{{\"kind\": \"{kind}\", \"path\": \"{path}\", \"sequence\": {sequence}}}"
+    )
+}
+
+/// The word that a report has for a message of this kind.
+fn kind_name(kind: Kind) -> &'static str {
+    match kind {
+        Kind::Receive => "recv",
+        Kind::Acknowledge => "ack",
+        Kind::Timeout => "timeout",
+    }
+}
+
+/// The identifier of the path at a place.
+fn id_of(paths: &[PathId], path: usize) -> &str {
+    match paths.get(path) {
+        Some(id) => id.as_str(),
+        None => "",
+    }
+}
+
+fn push_sending(text: &mut String, sending: &Sending) -> Result<(), AllocError> {
+    match sending {
+        Sending::Nothing => text.push_str("}"),
+        Sending::TooBig(index) => write!(text, ", \"too_big\": {index}}}"),
+        Sending::Batch(batch) => {
+            let number = batch.number;
+            let proof = batch.proof;
+            write!(
+                text,
+                ", \"batch\": {number}, \"proof\": {proof}, \"transactions\": ["
+            )?;
+            push_transactions(text, batch.transactions.as_slice())
+        }
+    }
+}
+
+fn push_transactions(text: &mut String, transactions: &[Transaction]) -> Result<(), AllocError> {
+    for (place, transaction) in transactions.iter().enumerate() {
+        push_comma(text, place)?;
+        let first = transaction.first;
+        let count = transaction.count;
+        let gas = transaction.gas;
+        write!(
+            text,
+            "{{\"first\": {first}, \"count\": {count}, \"gas\": {gas}}}"
+        )?;
+    }
+    text.push_str("]}")
+}

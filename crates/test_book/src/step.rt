@@ -1,0 +1,369 @@
+ghost use Rattle.std.specs.Option.{option_copied, ForSome};
+ghost use Rattle.rb_book.specs.Header.{Names, IsSignedBy};
+
+use crate::same::assert_same;
+use rb_base::{FeeTable, Fraction, Height, Window};
+use rb_book::{ChainBook, Header, Record, Vote};
+use rb_step::{ClientView, Reason, Verdict, accepts_in, are_known, verify};
+use rb_valset::ValidatorSet;
+use std::alloc::Global;
+use std::fmt::{Debug, Display};
+use std::process::Abort;
+use std::test::Fail;
+use test_values::{Members, height, make_set, nanosecond, options};
+
+const SECOND: u128 = 1_000_000_000;
+
+/// A step from height 1, whose record has the time 10 s, under a period of 1,000 s and a drift of
+/// 10 s.
+#[derive(Clone, Copy)]
+struct Case {
+    name: &'static str,
+    /// The set that the trusted record names, as key bytes and powers, and whether it is known.
+    next: Members,
+    is_known: bool,
+    own: Members,
+    height: u64,
+    time: u128,
+    votes: &'static [Vote],
+    trust: (u64, u64),
+    window: (u128, u128),
+    /// The verdicts at the first and the last moment of the window.
+    first: Verdict,
+    last: Verdict,
+}
+
+const C: Vote = Vote::Commit;
+
+const N: Vote = Vote::Nil;
+
+const X: Vote = Vote::Absent;
+
+const A: &[(u8, u64)] = &[(0xa1, 10), (0xa2, 10), (0xa3, 10), (0xa4, 10)];
+
+/// Accepted from 200 s until the record at 10 s expires.
+const ACCEPTED: Case = Case {
+    name: "three of four signed",
+    next: A,
+    is_known: true,
+    own: A,
+    height: 10,
+    time: 100 * SECOND,
+    votes: &[C, C, C, X],
+    trust: (1, 3),
+    window: (200 * SECOND, 1_010 * SECOND - 1),
+    first: Verdict::Success,
+    last: Verdict::Success,
+};
+
+/// The verdicts at the first and the last moment of the case's window, and whether the step is
+/// accepted in it.
+fn judge(
+    case: &Case,
+    trusted: &Record,
+    next: Option<&ValidatorSet>,
+    header: &Header,
+    own: &ValidatorSet,
+) -> Result<(Verdict, Verdict, bool), Fail>
+    requires named { ForSome (option_copied next) (Names trusted.now) }
+    requires signed { IsSignedBy header.now own.now }
+{
+    let (numerator, denominator) = case.trust;
+    let options = options()?.with_trust(Fraction::new(numerator, denominator)?);
+    let (from, until) = (nanosecond(case.window.0)?, nanosecond(case.window.1)?);
+    let window = Window::new(from, until)?;
+    let low = height(1)?;
+    Ok((
+        verify(&options, low, trusted, next, header, own, from),
+        verify(&options, low, trusted, next, header, own, until),
+        accepts_in(&options, low, trusted, next, header, own, &window),
+    ))
+}
+
+/// Steps with the verdict at both ends of a window.
+const CASES: &[Case] = &[
+    ACCEPTED,
+    Case {
+        name: "the period is over at the last moment",
+        window: (200 * SECOND, 1_010 * SECOND),
+        last: Verdict::Invalid(Reason::Expired),
+        ..ACCEPTED
+    },
+    Case {
+        name: "ahead by the drift at the first moment",
+        height: 21,
+        time: 210 * SECOND,
+        window: (200 * SECOND, 201 * SECOND),
+        first: Verdict::Invalid(Reason::FromFuture),
+        ..ACCEPTED
+    },
+    Case {
+        name: "ahead by less than the drift",
+        height: 21,
+        time: 210 * SECOND - 1,
+        ..ACCEPTED
+    },
+    Case {
+        name: "no higher",
+        height: 1,
+        first: Verdict::Invalid(Reason::HeightOrder),
+        last: Verdict::Invalid(Reason::HeightOrder),
+        ..ACCEPTED
+    },
+    Case {
+        name: "no later",
+        time: 10 * SECOND,
+        first: Verdict::Invalid(Reason::TimeNotLater),
+        last: Verdict::Invalid(Reason::TimeNotLater),
+        ..ACCEPTED
+    },
+    Case {
+        name: "next set unknown",
+        is_known: false,
+        first: Verdict::Invalid(Reason::TrustedSetUnknown),
+        last: Verdict::Invalid(Reason::TrustedSetUnknown),
+        ..ACCEPTED
+    },
+    Case {
+        name: "expired, and next set unknown",
+        is_known: false,
+        window: (1_010 * SECOND, 1_011 * SECOND),
+        first: Verdict::Invalid(Reason::Expired),
+        last: Verdict::Invalid(Reason::Expired),
+        ..ACCEPTED
+    },
+    Case {
+        name: "adjacent",
+        height: 2,
+        ..ACCEPTED
+    },
+    Case {
+        name: "adjacent, 90 of 100 in another set",
+        next: &[(0xa1, 50), (0xa2, 40), (0xa3, 10)],
+        own: &[(0xa1, 50), (0xa2, 40), (0xb3, 10)],
+        height: 2,
+        votes: &[C, C, C],
+        first: Verdict::Invalid(Reason::WrongNextSet),
+        last: Verdict::Invalid(Reason::WrongNextSet),
+        ..ACCEPTED
+    },
+    Case {
+        name: "a third, whatever the own set gives",
+        next: &[(0xa1, 10), (0xa2, 10), (0xa3, 10)],
+        own: &[(0xa1, 90), (0xb2, 10)],
+        votes: &[C, C],
+        first: Verdict::NotEnoughTrust {
+            signed: 10,
+            total: 30,
+        },
+        last: Verdict::NotEnoughTrust {
+            signed: 10,
+            total: 30,
+        },
+        ..ACCEPTED
+    },
+    Case {
+        name: "all, which is not more than all",
+        next: &[(0xa1, 10), (0xa2, 10), (0xa3, 10)],
+        own: &[(0xa1, 10), (0xa2, 10), (0xa3, 10)],
+        votes: &[C, C, C],
+        trust: (1, 1),
+        first: Verdict::NotEnoughTrust {
+            signed: 30,
+            total: 30,
+        },
+        last: Verdict::NotEnoughTrust {
+            signed: 30,
+            total: 30,
+        },
+        ..ACCEPTED
+    },
+    Case {
+        name: "60 of 90",
+        own: &[(0xa1, 30), (0xa2, 30), (0xa3, 30)],
+        next: &[(0xa1, 30), (0xa2, 30), (0xa3, 30)],
+        votes: &[C, C, X],
+        first: Verdict::Invalid(Reason::NotTwoThirds),
+        last: Verdict::Invalid(Reason::NotTwoThirds),
+        ..ACCEPTED
+    },
+    Case {
+        name: "nil votes",
+        votes: &[C, N, C, N],
+        first: Verdict::Invalid(Reason::NotTwoThirds),
+        last: Verdict::Invalid(Reason::NotTwoThirds),
+        ..ACCEPTED
+    },
+];
+
+/// The header of the case.
+fn make_header(alloc: Global, case: &Case, own: &ValidatorSet) -> Result<Header, Fail> {
+    let record = Record::new(nanosecond(case.time)?, [0; 32], *own.hash());
+    let votes = Vec::from_slice(alloc, case.votes)?;
+    Ok(Header::new(height(case.height)?, record, *own.hash(), votes))
+}
+
+/// A step is accepted in the window exactly where both verdicts are `Success`.
+fn check_case(
+    rt: &impl Abort,
+    case: &Case,
+    next: &ValidatorSet,
+    header: &Header,
+    own: &ValidatorSet,
+) -> Result<(), Fail> {
+    let trusted = Record::new(nanosecond(10 * SECOND)?, [0; 32], *next.hash());
+    assert!(rt; trusted.names(next));
+    assert!(rt; header.is_of(own));
+    let judged = if case.is_known {
+        judge(case, &trusted, Some(next), header, own)?
+    } else {
+        judge(case, &trusted, None, header, own)?
+    };
+    let is_accepted = case.first == Verdict::Success && case.last == Verdict::Success;
+    assert_same(
+        rt,
+        &case.name,
+        &judged,
+        &(case.first, case.last, is_accepted),
+    );
+    Ok(())
+}
+
+#[test]
+fn judges_steps(rt: HostRuntime) -> Result<(), Fail> {
+    for case in CASES {
+        let next = make_set(rt.alloc(), case.next)?;
+        let own = make_set(rt.alloc(), case.own)?;
+        let header = make_header(rt.alloc(), case, &own)?;
+        check_case(&rt, case, &next, &header, &own)?;
+    }
+    Ok(())
+}
+
+const B: &[(u8, u64)] = &[(0xb1, 10), (0xb2, 10), (0xb3, 10), (0xb4, 10)];
+
+/// A header of the set, signed by three. Height h has the time 10 h seconds.
+fn signed_header(
+    alloc: Global,
+    number: u64,
+    own: &ValidatorSet,
+    next: &ValidatorSet,
+) -> Result<Header, Fail> {
+    let time = nanosecond(u128::from(number) * 10 * SECOND)?;
+    let record = Record::new(time, [0; 32], *next.hash());
+    let votes = Vec::from_slice(alloc, &[C, C, C, X])?;
+    Ok(Header::new(height(number)?, record, *own.hash(), votes))
+}
+
+/// Adds such a header with its own and its next set.
+fn add_header(
+    book: &mut ChainBook,
+    alloc: Global,
+    number: u64,
+    own: &[(u8, u64)],
+    next: &[(u8, u64)],
+) -> Result<(), Fail> {
+    let own = make_set(alloc, own)?;
+    let next = make_set(alloc, next)?;
+    let header = signed_header(alloc, number, &own, &next)?;
+    book.add_set(own)?;
+    book.add_set(next)?;
+    Ok(book.add_header(header)?)
+}
+
+/// Headers 1 and 4 of the set A, where 4 names B, and header 5 of B, each signed by three; and a
+/// record at 7 that names an unknown set.
+fn make_book(alloc: Global) -> Result<ChainBook, Fail> {
+    let mut book = ChainBook::new(alloc)?;
+    add_header(&mut book, alloc, 1, A, A)?;
+    add_header(&mut book, alloc, 4, A, B)?;
+    add_header(&mut book, alloc, 5, B, B)?;
+    let unknown = Record::new(nanosecond(70 * SECOND)?, [0; 32], [7; 32]);
+    book.add_record(height(7)?, unknown)?;
+    Ok(book)
+}
+
+#[test]
+fn knows_rising_heights(rt: HostRuntime) -> Result<(), Fail> {
+    let book = make_book(rt.alloc())?;
+    let (one, two, seven) = (height(1)?, height(2)?, height(7)?);
+    assert!(rt; !are_known(&[seven, one], &book));
+    assert!(rt; !are_known(&[one, two], &book));
+    assert!(rt; are_known(&[one, seven], &book));
+    Ok(())
+}
+
+/// A view of a client that has stored these, with a window from 200 s.
+fn view_until<'a>(
+    rt: &impl Abort,
+    book: &'a ChainBook,
+    stored: &'a [Height],
+    seconds: u128,
+) -> Result<ClientView<'a>, Fail> {
+    assert!(rt; are_known(stored, book));
+    let fees = FeeTable::new(100, 1, 1)?;
+    let until = nanosecond(seconds.saturating_mul(SECOND))?;
+    let window = Window::new(nanosecond(200 * SECOND)?, until)?;
+    Ok(ClientView::new(options()?, fees, stored, window, book))
+}
+
+/// Heights with whether they are stored and live, until 1,010 s, when the record at 10 s expires.
+const HEIGHTS: &[(u64, bool, bool)] = &[
+    (1, true, false),
+    (2, false, false),
+    (4, false, true),
+    (7, true, true),
+];
+
+/// Steps with whether they are accepted until then, their fee and their charge.
+const STEPS: &[(u64, u64, bool, u64, u64)] = &[
+    (1, 4, false, 111, 40),
+    (4, 5, true, 111, 40),
+    (5, 4, false, 111, 40),
+    (7, 5, false, 107, 20),
+    (1, 7, false, 0, 0),
+];
+
+fn check_heights(rt: &impl Abort, view: &ClientView) -> Result<(), Fail> {
+    for (number, is_stored, is_live) in HEIGHTS {
+        let at = height(*number)?;
+        let shown = (view.is_stored(at), view.is_live(at), view.is_source(at));
+        let is_source = *is_stored && *is_live;
+        assert_same(rt, number, &shown, &(*is_stored, *is_live, is_source));
+    }
+    Ok(())
+}
+
+fn check_steps(rt: &impl Abort, view: &ClientView) -> Result<(), Fail> {
+    let gas = FeeTable::new(0, 0, 5)?;
+    for (trusted, number, is_accepted, fee, charge) in STEPS {
+        let (from, to) = (height(*trusted)?, height(*number)?);
+        let shown = (
+            view.accepts(from, to),
+            view.fee(from, to),
+            view.charge(&gas, from, to),
+        );
+        assert_same(rt, number, &shown, &(*is_accepted, *fee, *charge));
+    }
+    Ok(())
+}
+
+/// The view of the same client at 200 s.
+fn check_moment(rt: &impl Abort, view: &ClientView) -> Result<(), Fail> {
+    let window = Window::at(nanosecond(200 * SECOND)?);
+    let (options, fees, stored) = (view.options(), view.fees(), view.stored());
+    let view = ClientView::new(options, fees, stored, window, view.book());
+    assert_same(rt, &"window", &view.window(), &window);
+    assert!(rt; view.accepts(height(1)?, height(4)?));
+    Ok(())
+}
+
+#[test]
+fn shows_a_view(rt: HostRuntime) -> Result<(), Fail> {
+    let book = make_book(rt.alloc())?;
+    let stored = [height(1)?, height(7)?];
+    let view = view_until(&rt, &book, &stored, 1_010)?;
+    check_heights(&rt, &view)?;
+    check_steps(&rt, &view)?;
+    check_moment(&rt, &view)
+}

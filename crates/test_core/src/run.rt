@@ -1,0 +1,300 @@
+//! Runs of the machine, by tables.
+ghost use Rattle.std.specs.Prelude.{◌≡◌, IfOk};
+
+use crate::make::{
+    assert_same, make_config, make_header, make_lone_set, make_record, make_set, second,
+};
+use crate::tell::{answer_text, reply_text, scan_text};
+use rb_base::{Height, Window};
+use rb_book::{ChainBook, Vote};
+use rb_core::{Core, CoreError, Draft, Event, JobView, Reply, draft, scan};
+use rb_graph::Graph;
+use rb_scan::{Part, Sequence};
+use rb_script_types::{Asked, BlockHeight, Goal, Observation, Refusal, Settlement, is_config};
+use std::alloc::{AllocError, Global};
+use std::mem;
+use std::process::Abort;
+use std::test::Fail;
+
+/// What is done to a machine: chains, clients and paths by their places, times in seconds, and sets by
+/// the first byte of their first member's key.
+#[derive(Clone, Copy, Debug)]
+pub enum Deed {
+    Window(u64, u64),
+    /// The client is asked for this height at least.
+    Asked(usize, u64),
+    Set(usize, u8),
+    /// A set of one member, by its number.
+    LoneSet(usize, u16),
+    /// A header's height, time, set and votes.
+    Header(usize, u64, u64, u8, &'static [Vote]),
+    /// The height and time of a record that the client has stored.
+    Stored(usize, u64, u64),
+    /// A packet's sequence, block, and timeout height, if that isn't 0.
+    Sent(usize, u64, u64, u64),
+    Received(usize, u64, u64),
+    Written(usize, u64, u64),
+    Cleared(usize, u64),
+    Closed(usize),
+    /// The client's batch, by its number, and how many of its transactions were taken.
+    Settled(usize, u64, u64),
+    /// Scans a part of a path, or plans for a client, and keeps what comes out.
+    Scan(usize, Part),
+    Draft(usize),
+    /// Enters what was kept last, or at a place; or the last scan as one of another path.
+    Last,
+    Kept(usize),
+    LastOn(usize),
+    /// Puts a copy of the machine aside, or goes on with the one that is there.
+    Copy,
+    Swap,
+}
+
+/// What is done, and what comes out.
+pub type Row = (Deed, &'static str);
+
+/// A machine, what was made out by it, and another machine.
+#[derive(Drop)]
+pub struct Run {
+    alloc: Global,
+    pub core: Core,
+    kept: Vec<Event>,
+    aside: Option<Core>,
+}
+
+/// A machine that knows nothing, whose books have so many records at most, and which has so many more
+/// clients.
+pub fn start(alloc: Global, limit: usize, more: &[&'static str]) -> Option<Core> {
+    let config = make_config(alloc, limit, more)?;
+    if !is_config(&config) {
+        return None;
+    }
+    Core::new(alloc, config).ok()
+}
+
+/// What was seen of a chain or a client.
+fn chain_seen(alloc: Global, deed: Deed) -> Option<Observation> {
+    match deed {
+        Deed::Set(chain, first) => Some(Observation::SetSeen {
+            chain,
+            set: make_set(alloc, first)?,
+        }),
+        Deed::LoneSet(chain, number) => Some(Observation::SetSeen {
+            chain,
+            set: make_lone_set(alloc, number)?,
+        }),
+        Deed::Header(chain, number, seconds, first, votes) => Some(Observation::HeaderSeen {
+            chain,
+            header: make_header(alloc, number, seconds, first, votes)?,
+        }),
+        Deed::Stored(client, number, seconds) => Some(Observation::StoredSeen {
+            client,
+            height: Height::new(number)?,
+            record: make_record(alloc, seconds, 0xa1)?,
+        }),
+        _ => None,
+    }
+}
+
+/// What was seen of a path.
+fn path_seen(deed: Deed) -> Option<Observation> {
+    match deed {
+        Deed::Sent(path, number, block, timeout) => Some(Observation::Sent {
+            path,
+            sequence: Sequence::new(number)?,
+            block: BlockHeight::new(block)?,
+            timeout_height: Height::new(timeout),
+            timeout_time: None,
+        }),
+        Deed::Received(path, number, block) => Some(Observation::Received {
+            path,
+            sequence: Sequence::new(number)?,
+            block: BlockHeight::new(block)?,
+        }),
+        Deed::Written(path, number, block) => Some(Observation::AckWritten {
+            path,
+            sequence: Sequence::new(number)?,
+            block: BlockHeight::new(block)?,
+        }),
+        Deed::Cleared(path, number) => Some(Observation::Cleared {
+            path,
+            sequence: Sequence::new(number)?,
+        }),
+        Deed::Closed(path) => Some(Observation::Closed { path }),
+        _ => None,
+    }
+}
+
+/// What was seen of a chain, a client or a path, asked or settled.
+fn event_of(alloc: Global, deed: Deed) -> Option<Event> {
+    match deed {
+        Deed::Window(from, until) => Some(Event::Window(Window::new(
+            second(from)?,
+            second(until)?,
+        ).ok()?)),
+        Deed::Asked(client, least) => Some(Event::Asked(Asked {
+            client,
+            goal: Goal::AtLeast(Height::new(least)?),
+        })),
+        Deed::Settled(client, batch, done) => Some(Event::Settled(Settlement {
+            client,
+            batch,
+            done,
+        })),
+        Deed::Set(..) | Deed::LoneSet(..) | Deed::Header(..) | Deed::Stored(..) => {
+            Some(Event::Observed(chain_seen(alloc, deed)?))
+        }
+        _ => Some(Event::Observed(path_seen(deed)?)),
+    }
+}
+
+/// A refusal is an answer; want of memory is none.
+fn answered<T>(answer: Result<T, CoreError>) -> Option<Result<T, Refusal>> {
+    match answer {
+        Ok(value) => Some(Ok(value)),
+        Err(CoreError::Refused(refusal)) => Some(Err(refusal)),
+        Err(CoreError::NoMemory) => None,
+    }
+}
+
+/// Judges an event, and takes it in, unless it is refused.
+fn enter(core: &mut Core, event: Event) -> Result<Reply, CoreError> {
+    let ready = core.judge(event)?;
+    Ok(core.settle(ready))
+}
+
+/// Enters an event; none where it is refused.
+fn learn(core: &mut Core, event: Event) -> Option<()> {
+    match enter(core, event) {
+        Ok(_) => Some(()),
+        Err(_) => None,
+    }
+}
+
+/// Enters an event. A refusal for an old view tells the present front.
+fn offer(rt: &impl Abort, core: &mut Core, event: Event) -> Option<Result<Reply, Refusal>> {
+    let front = core.front();
+    let answer = answered(enter(core, event))?;
+    if let Err(Refusal::Stale { front: told }) = answer {
+        assert!(rt; told == front);
+    }
+    Some(answer)
+}
+
+/// The table of a book.
+fn table_of(alloc: Global, book: &ChainBook) -> Result<Graph, AllocError>
+    ensures { IfOk result (λ graph. graph ≡ book.now) }
+{
+    let copy = book.copy()?;
+    let graph = Graph::from_book(alloc, copy)?;
+    Ok(graph)
+}
+
+/// What is planned for a client as it is seen.
+fn draft_of(alloc: Global, job: JobView) -> Result<Draft, AllocError> {
+    let graph = table_of(alloc, job.view().book())?;
+    let draft = draft(job, &graph)?;
+    Ok(draft)
+}
+
+impl Run {
+    /// A run of a machine.
+    pub fn new(alloc: Global, core: Core) -> Run {
+        Run {
+            alloc,
+            core,
+            kept: Vec::new(alloc),
+            aside: None,
+        }
+    }
+
+    fn scan(&mut self, texts: Global, path: usize, part: Part) -> Option<String> {
+        let view = match answered(self.core.path_view(path))? {
+            Ok(view) => view,
+            Err(refusal) => return reply_text(texts, Err(refusal)).ok(),
+        };
+        let scan = scan(view, part).ok()?;
+        let text = scan_text(texts, &scan).ok()?;
+        self.kept.push(Event::Scanned { path, scan }).ok()?;
+        Some(text)
+    }
+
+    fn draft(&mut self, texts: Global, client: usize) -> Option<String> {
+        let job = match answered(self.core.client_view(client))? {
+            Ok(job) => job,
+            Err(refusal) => return reply_text(texts, Err(refusal)).ok(),
+        };
+        let draft = draft_of(self.alloc, job).ok()?;
+        let text = answer_text(texts, draft.answer()).ok()?;
+        self.kept.push(Event::Planned(draft)).ok()?;
+        Some(text)
+    }
+
+    fn last_on(&self, path: usize) -> Option<Event> {
+        match self.kept.last()?.copy().ok()? {
+            Event::Scanned { scan, .. } => Some(Event::Scanned { path, scan }),
+            _ => None,
+        }
+    }
+
+    fn event(&self, deed: Deed) -> Option<Event> {
+        match deed {
+            Deed::Last => self.kept.last()?.copy().ok(),
+            Deed::Kept(place) => self.kept.get(place)?.copy().ok(),
+            Deed::LastOn(path) => self.last_on(path),
+            _ => event_of(self.alloc, deed),
+        }
+    }
+
+    fn enter(&mut self, rt: &impl Abort, texts: Global, deed: Deed) -> Option<String> {
+        let event = self.event(deed)?;
+        let answer = offer(rt, &mut self.core, event)?;
+        reply_text(texts, answer).ok()
+    }
+
+    /// Enters an event again and again, until so many were taken in.
+    pub fn fill(&mut self, deed: Deed, events: usize) -> Option<()> {
+        for _ in self.core.front()..events {
+            let event = self.event(deed)?;
+            learn(&mut self.core, event)?;
+        }
+        Some(())
+    }
+
+    fn put_copy_aside(&mut self) -> Option<()> {
+        self.aside = Some(self.core.copy().ok()?);
+        Some(())
+    }
+
+    fn swap(&mut self) -> Option<()> {
+        let other = self.aside.as_mut()?;
+        mem::swap(&mut self.core, other);
+        Some(())
+    }
+
+    /// What comes out where this is done; none where no memory is left.
+    pub fn act(&mut self, rt: &impl Abort, texts: Global, deed: Deed) -> Option<String> {
+        match deed {
+            Deed::Scan(path, part) => self.scan(texts, path, part),
+            Deed::Draft(client) => self.draft(texts, client),
+            Deed::Copy => {
+                self.put_copy_aside()?;
+                Some(String::new(texts))
+            }
+            Deed::Swap => {
+                self.swap()?;
+                Some(String::new(texts))
+            }
+            _ => self.enter(rt, texts, deed),
+        }
+    }
+
+    /// Does all this, from which what is beside it comes out.
+    pub fn go(&mut self, rt: &impl Abort, texts: Global, rows: &[Row]) -> Result<(), Fail> {
+        for (deed, wanted) in rows {
+            let told = self.act(rt, texts, *deed).ok_or("no answer")?;
+            assert_same(rt, deed, &told.as_str(), wanted);
+        }
+        Ok(())
+    }
+}

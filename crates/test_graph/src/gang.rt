@@ -1,0 +1,309 @@
+//! Tables by many threads: equal for every number of workers, and by two threads at once.
+ghost use Rattle.std.specs.Prelude.{◌<◌, ◌≤◌, All, IfOk};
+ghost use Rattle.rb_graph.specs.Frame.{IsRowOf};
+
+use crate::same::assert_same;
+use rb_book::{ChainBook, Header, Record, Vote};
+use rb_gang::laws::count;
+use rb_gang::{Gate, OpenGate, Place, build, make_rows, open};
+use rb_graph::{Cause, Frame, FrameRow, Graph};
+use std::alloc::{AllocError, Global};
+use std::process::Abort;
+use std::sync::atomic::{AtomicU64, Ordering};
+use std::test::Fail;
+use std::thread;
+use std::thread::Threads;
+use std::time::{Clock, Duration};
+use test_values::{height, make_set, second};
+
+/// A header of a set of two at a height, at 10 seconds for each height; both members sign it.
+fn make_header(alloc: Global, number: u64, hash: [u8; 32]) -> Result<Header, Fail> {
+    let record = Record::new(second(number.saturating_mul(10))?, [0; 32], hash);
+    let votes = Vec::from_slice(alloc, &[Vote::Commit, Vote::Commit])?;
+    Ok(Header::new(height(number)?, record, hash, votes))
+}
+
+/// Adds headers at the heights from 1 on.
+fn add_headers(
+    alloc: Global,
+    book: &mut ChainBook,
+    headers: u64,
+    hash: [u8; 32],
+) -> Result<(), Fail> {
+    for number in 1..=headers {
+        book.add_header(make_header(alloc, number, hash)?)?;
+    }
+    Ok(())
+}
+
+/// A book of headers at the heights from 1 on.
+fn make_book(alloc: Global, headers: u64) -> Result<ChainBook, Fail> {
+    let set = make_set(alloc, &[(0xa1, 60), (0xa2, 40)])?;
+    let hash = *set.hash();
+    let mut book = ChainBook::new(alloc)?;
+    book.add_set(set)?;
+    add_headers(alloc, &mut book, headers, hash)?;
+    Ok(book)
+}
+
+/// The frame of a book of so many headers.
+fn make_frame(alloc: Global, headers: u64) -> Result<Frame, Fail> {
+    let book = make_book(alloc, headers)?;
+    Ok(Frame::from_book(alloc, book)?)
+}
+
+/// The sum of a table's signed powers and totals over all cells, and the number of its rows and cells.
+fn summary(graph: &Graph) -> (u64, u64, usize) {
+    let mut power: u64 = 0;
+    let mut rows: u64 = 0;
+    let mut cells: usize = 0;
+    for row in graph.rows() {
+        rows = rows.saturating_add(1);
+        for cell in row.cells() {
+            cells = cells.saturating_add(1);
+            power = power.saturating_add(cell.signed().saturating_add(cell.total()));
+        }
+    }
+    (power, rows, cells)
+}
+
+/// Headers, workers, and the table's sum, rows and cells: each header has a cell of power 100 signed of
+/// 100 for each lower one.
+const TABLES: &[(u64, usize, (u64, u64, usize))] = &[
+    (0, 1, (0, 0, 0)),
+    (0, 8, (0, 0, 0)),
+    (1, 2, (0, 1, 0)),
+    (10, 1, (9_000, 10, 45)),
+    (10, 2, (9_000, 10, 45)),
+    (10, 8, (9_000, 10, 45)),
+    (10, 64, (9_000, 10, 45)),
+];
+
+/// The summary of a table by so many workers, where it is the table of its book.
+fn built<R: Threads + Sync>(
+    rt: &R,
+    alloc: Global,
+    headers: u64,
+    workers: usize,
+) -> Result<(u64, u64, usize), Fail>
+    requires { (0 < workers) × (workers ≤ 64) }
+{
+    let book = make_book(alloc, headers)?;
+    let graph = build(rt, alloc, book, workers, &OpenGate)?;
+    if graph.is_of(&make_book(alloc, headers)?) {
+        Ok(summary(&graph))
+    } else {
+        Err(Fail::from("another book"))
+    }
+}
+
+#[test]
+fn tables_are_equal_for_all_numbers_of_workers(rt: HostRuntime) -> Result<(), Fail> {
+    for (headers, workers, wanted) in TABLES {
+        if *workers < 1 || 64 < *workers {
+            return Err(Fail::from("workers"));
+        }
+        let given = built(&rt, rt.alloc(), *headers, *workers)?;
+        assert_same(&rt, workers, &given, wanted);
+    }
+    Ok(())
+}
+
+/// Ten rows and two workers: each draws one number more than there are rows.
+#[test]
+fn two_workers_draw_twelve_numbers(rt: HostRuntime) -> Result<(), Fail> {
+    let alloc = rt.alloc();
+    let frame = make_frame(alloc, 10)?;
+    if frame.rows() != 10 {
+        return Err(Fail::from("ten rows"));
+    }
+    let (table, seat) = open(alloc, 10)?;
+    let (mut seat, rows) = make_rows(&rt, alloc, &frame, &table, seat, 2, &OpenGate)?;
+    assert!(rt; count(&table, &mut seat) == 12);
+    assert!(rt; rows.len() == 10);
+    Ok(())
+}
+
+/// Holds the row that begins first until so many others are made, for at most so many looks.
+#[derive(Drop)]
+struct HoldFirst<'a, R: Clock> {
+    rt: &'a R,
+    others: u64,
+    looks: u64,
+    begun: AtomicU64,
+    ended: AtomicU64,
+    is_given_up: AtomicU64,
+}
+
+impl<'a, R: Clock> HoldFirst<'a, R> {
+    fn new(rt: &'a R, others: u64, looks: u64) -> HoldFirst<'a, R> {
+        HoldFirst {
+            rt,
+            others,
+            looks,
+            begun: AtomicU64::new(0),
+            ended: AtomicU64::new(0),
+            is_given_up: AtomicU64::new(0),
+        }
+    }
+
+    /// How many rows are made, where none was held for too long.
+    fn made(&self) -> Option<u64> {
+        if self.is_given_up.load(Ordering::SeqCst) == 0 {
+            Some(self.ended.load(Ordering::SeqCst))
+        } else {
+            None
+        }
+    }
+}
+
+impl<'a, R: Clock> Gate for HoldFirst<'a, R> {
+    fn before(&self, _place: Place) {
+        if self.begun.fetch_add(1, Ordering::SeqCst) > 0 {
+            return;
+        }
+        for _ in 0..self.looks {
+            if self.ended.load(Ordering::SeqCst) >= self.others {
+                return;
+            }
+            thread::sleep(self.rt, Duration::from_micros(20));
+        }
+        self.is_given_up.store(1, Ordering::SeqCst);
+    }
+
+    fn after(&self, _place: Place) {
+        self.ended.fetch_add(1, Ordering::SeqCst);
+    }
+}
+
+/// The row that begins first is held until the nine others are made, which only another worker can do.
+#[test]
+fn both_workers_build(rt: HostRuntime) -> Result<(), Fail> {
+    let alloc = rt.alloc();
+    let gate = HoldFirst::new(&rt, 9, 1_000_000);
+    build(&rt, alloc, make_book(alloc, 10)?, 2, &gate)?;
+    assert!(rt; gate.made() == Some(10));
+    Ok(())
+}
+
+/// One worker alone would wait for itself.
+#[test]
+fn a_serial_build_is_found_out(rt: HostRuntime) -> Result<(), Fail> {
+    let alloc = rt.alloc();
+    let gate = HoldFirst::new(&rt, 9, 100);
+    build(&rt, alloc, make_book(alloc, 10)?, 1, &gate)?;
+    assert!(rt; gate.made().is_none());
+    Ok(())
+}
+
+/// Makes the rows from one number to another.
+fn make_share<G: Gate>(frame: &Frame, from: usize, to: usize, gate: &G) -> Result<(), AllocError> {
+    for n in from..to {
+        gate.before(Place::Row(n));
+        if n < frame.rows() {
+            let _row = frame.row(n)?;
+        }
+        gate.after(Place::Row(n));
+    }
+    Ok(())
+}
+
+/// Two workers whose rows were shared out beforehand: the held row's worker makes none of the others.
+#[test]
+fn rows_shared_out_beforehand_are_found_out(rt: HostRuntime) -> Result<(), Fail> {
+    let alloc = rt.alloc();
+    let gate = HoldFirst::new(&rt, 9, 100);
+    let frame = make_frame(alloc, 10)?;
+    let (low, high) = thread::join(
+        &rt,
+        || make_share(&frame, 0, 5, &gate),
+        || make_share(&frame, 5, 10, &gate),
+    );
+    low?;
+    high?;
+    assert!(rt; gate.made().is_none());
+    Ok(())
+}
+
+/// The numbers of rows that are put together, of a book of three headers, and the refusal's number
+/// with its row.
+const FLAWS: &[(&[usize], Option<(u16, usize)>)] = &[
+    (&[0, 1, 2], None),
+    (&[2, 0, 1], None),
+    (&[0, 1], Some((551, 2))),
+    (&[2, 0], Some((551, 1))),
+    (&[], Some((551, 0))),
+    (&[2, 1, 0, 1, 2], Some((552, 1))),
+    (&[2, 2], Some((552, 2))),
+];
+
+/// The refusal's number, and the row that it names.
+fn refusal(cause: Cause) -> Option<(u16, usize)> {
+    match cause {
+        Cause::RowMissing(n) => Some((cause.number()?, n)),
+        Cause::RowTwice(n) => Some((cause.number()?, n)),
+        Cause::NoMemory => None,
+    }
+}
+
+/// The frame's rows with these numbers.
+fn rows_of(alloc: Global, frame: &Frame, numbers: &[usize]) -> Result<Vec<FrameRow>, Fail>
+    ensures { IfOk result (λ rows. All (IsRowOf frame.now) rows.items) }
+{
+    let mut rows = Vec::new(alloc);
+    for n in numbers {
+        if frame.rows() <= *n {
+            return Err(Fail::from("row"));
+        }
+        rows.push(frame.row(*n)?)?;
+    }
+    Ok(rows)
+}
+
+/// What putting these rows together answers: nothing for a table, else the refusal. The rows handed
+/// back are as many as before, and each is told to be of the frame.
+fn finished(
+    rt: &impl Abort,
+    alloc: Global,
+    numbers: &[usize],
+) -> Result<Option<(u16, usize)>, Fail> {
+    let frame = make_frame(alloc, 3)?;
+    let rows = rows_of(alloc, &frame, numbers)?;
+    match frame.finish(rows) {
+        Ok(_graph) => Ok(None),
+        Err((frame, rows, cause)) => {
+            assert!(rt; rows.len() == numbers.len());
+            assert!(rt; rows.iter().all(|row| row.is_of(&frame)));
+            Ok(refusal(cause))
+        }
+    }
+}
+
+#[test]
+fn rows_are_put_together(rt: HostRuntime) -> Result<(), Fail> {
+    for (numbers, wanted) in FLAWS {
+        let given = finished(&rt, rt.alloc(), numbers)?;
+        assert!(rt; given == *wanted);
+    }
+    Ok(())
+}
+
+/// Of these rows those of the first headers are of the frame of so many.
+fn check_told(rt: &impl Abort, alloc: Global, rows: &[FrameRow], headers: u64) -> Result<(), Fail> {
+    let frame = make_frame(alloc, headers)?;
+    for row in rows {
+        assert!(rt; row.is_of(&frame) == (row.number() < headers as usize));
+    }
+    Ok(())
+}
+
+/// The rows of three headers are told from those of the first two of them, and of none.
+#[test]
+fn rows_of_another_book_are_told(rt: HostRuntime) -> Result<(), Fail> {
+    let frame = make_frame(rt.alloc(), 3)?;
+    let rows = rows_of(rt.alloc(), &frame, &[0, 1, 2])?;
+    for headers in [3, 2, 0] {
+        check_told(&rt, rt.alloc(), rows.as_slice(), headers)?;
+    }
+    Ok(())
+}

@@ -1,0 +1,255 @@
+//! Tables that are kept: additions give what a table made anew of the same book has.
+use crate::same::assert_same;
+use rb_book::{ChainBook, Header, Record, Vote};
+use rb_graph::{Graph, SharedGraph};
+use std::alloc::Global;
+use std::process::Abort;
+use std::test::Fail;
+use test_values::{Members, height, make_set, second};
+
+/// Four members of power 10 each.
+const A: Members = &[(0xa1, 10), (0xa2, 10), (0xa3, 10), (0xa4, 10)];
+
+const B: Members = &[(0xb1, 10), (0xb2, 10), (0xb3, 10), (0xb4, 10)];
+
+const D: Members = &[(0xa1, 10), (0xb2, 10), (0xd3, 10), (0xd4, 10)];
+
+const VOTES: &[Vote] = &[Vote::Commit, Vote::Commit, Vote::Commit, Vote::Nil];
+
+/// A cell and the height of its row: that height, the trusted one, signed power, total and size.
+type Numbers = (u64, u64, u64, u64, usize);
+
+/// All cells of a table, row by row; a row begins with its height, size and number of commit votes.
+fn cells_of(alloc: Global, graph: &Graph) -> Result<Vec<Numbers>, Fail> {
+    let mut cells = Vec::new(alloc);
+    for row in graph.rows() {
+        let at = row.height().get();
+        cells.push((
+            at,
+            0,
+            u64::from(row.is_signed()),
+            row.commits() as u64,
+            row.size(),
+        ))?;
+        for cell in row.cells() {
+            let trusted = cell.trusted().get();
+            cells.push((at, trusted, cell.signed(), cell.total(), cell.size()))?;
+        }
+    }
+    Ok(cells)
+}
+
+/// The same of a table that is made of its book.
+fn cells_anew(alloc: Global, graph: &Graph) -> Result<Vec<Numbers>, Fail> {
+    cells_of(alloc, &Graph::from_book(alloc, graph.book().copy()?)?)
+}
+
+/// The record at a height, of 10 h seconds at height h.
+fn record_at(number: u64, next: [u8; 32]) -> Result<Record, Fail> {
+    Ok(Record::new(second(number.saturating_mul(10))?, [0; 32], next))
+}
+
+/// The header at a height, which all but the last of its own set sign.
+fn header_at(alloc: Global, number: u64, own: [u8; 32], next: [u8; 32]) -> Result<Header, Fail> {
+    let votes = Vec::from_slice(alloc, VOTES)?;
+    Ok(Header::new(height(number)?, record_at(number, next)?, own, votes))
+}
+
+fn hash_of(alloc: Global, members: Members) -> Result<[u8; 32], Fail> {
+    Ok(*make_set(alloc, members)?.hash())
+}
+
+/// A table that has the first set, and no header.
+fn make_empty(alloc: Global) -> Result<Graph, Fail> {
+    let mut graph = Graph::from_book(alloc, ChainBook::new(alloc)?)?;
+    graph.add_set(make_set(alloc, A)?)?;
+    Ok(graph)
+}
+
+/// Adds the headers 1 to 5 of one set; the record at 3 names another one, which isn't known.
+fn add_five(alloc: Global, graph: &mut Graph) -> Result<(), Fail> {
+    let (own, next) = (hash_of(alloc, A)?, hash_of(alloc, B)?);
+    for number in [5, 1, 4, 2, 3] {
+        let named = if number == 3 { next } else { own };
+        graph.add_header(header_at(alloc, number, own, named)?)?;
+    }
+    Ok(())
+}
+
+/// A table of these.
+fn make_table(alloc: Global) -> Result<Graph, Fail> {
+    let mut graph = make_empty(alloc)?;
+    add_five(alloc, &mut graph)?;
+    Ok(graph)
+}
+
+/// The cells of that table: those of the record at 3 come with its next set.
+const EARLY: &[Numbers] = &[
+    (1, 0, 1, 3, 4),
+    (2, 0, 1, 3, 4),
+    (2, 1, 30, 40, 4),
+    (3, 0, 1, 3, 4),
+    (3, 1, 30, 40, 4),
+    (3, 2, 30, 40, 4),
+    (4, 0, 1, 3, 4),
+    (4, 1, 30, 40, 4),
+    (4, 2, 30, 40, 4),
+    (5, 0, 1, 3, 4),
+    (5, 1, 30, 40, 4),
+    (5, 2, 30, 40, 4),
+    (5, 4, 30, 40, 4),
+];
+
+const LATE: &[Numbers] = &[
+    (1, 0, 1, 3, 4),
+    (2, 0, 1, 3, 4),
+    (2, 1, 30, 40, 4),
+    (3, 0, 1, 3, 4),
+    (3, 1, 30, 40, 4),
+    (3, 2, 30, 40, 4),
+    (4, 0, 1, 3, 4),
+    (4, 1, 30, 40, 4),
+    (4, 2, 30, 40, 4),
+    (4, 3, 0, 40, 4),
+    (5, 0, 1, 3, 4),
+    (5, 1, 30, 40, 4),
+    (5, 2, 30, 40, 4),
+    (5, 3, 0, 40, 4),
+    (5, 4, 30, 40, 4),
+];
+
+/// A table has these cells, as the one that is made of its book has.
+fn check_cells(
+    rt: &impl Abort,
+    alloc: Global,
+    graph: &Graph,
+    wanted: &[Numbers],
+) -> Result<(), Fail> {
+    let shown = cells_of(alloc, graph)?;
+    assert_same(rt, &wanted.len(), &shown.as_slice(), &wanted);
+    let anew = cells_anew(alloc, graph)?;
+    assert_same(rt, &wanted.len(), &anew.as_slice(), &wanted);
+    Ok(())
+}
+
+/// Adds the second set, which brings cells, or is there already.
+fn add_late(rt: &impl Abort, alloc: Global, graph: &mut Graph) -> Result<(), Fail> {
+    graph.add_set(make_set(alloc, B)?)?;
+    check_cells(rt, alloc, graph, LATE)
+}
+
+/// The record at height 6, which names the second set.
+fn sixth_record(alloc: Global) -> Result<Record, Fail> {
+    record_at(6, hash_of(alloc, B)?)
+}
+
+/// Adds a record above all headers, which brings no cell.
+fn add_record(rt: &impl Abort, alloc: Global, graph: &mut Graph) -> Result<(), Fail> {
+    graph.add_record(height(6)?, sixth_record(alloc)?)?;
+    check_cells(rt, alloc, graph, LATE)
+}
+
+#[test]
+fn a_set_that_comes_late_brings_cells(rt: HostRuntime) -> Result<(), Fail> {
+    let alloc = rt.alloc();
+    let mut graph = make_table(alloc)?;
+    check_cells(&rt, alloc, &graph, EARLY)?;
+    add_late(&rt, alloc, &mut graph)?;
+    add_late(&rt, alloc, &mut graph)?;
+    add_record(&rt, alloc, &mut graph)
+}
+
+/// What another owner holds stays as it was; without one the table is changed in place.
+#[test]
+fn other_owners_keep_their_table(rt: HostRuntime) -> Result<(), Fail> {
+    let alloc = rt.alloc();
+    let mut shared = SharedGraph::new(alloc, make_table(alloc)?)?;
+    let other = shared.share()?;
+    shared.add_set(make_set(alloc, B)?)?;
+    check_cells(&rt, alloc, other.graph(), EARLY)?;
+    check_cells(&rt, alloc, shared.graph(), LATE)?;
+    shared.add_record(height(6)?, sixth_record(alloc)?)?;
+    check_cells(&rt, alloc, shared.graph(), LATE)
+}
+
+/// Numbers that look random.
+fn next_number(state: u64) -> u64 {
+    let state = state ^ (state << 13);
+    let state = state ^ (state >> 7);
+    state ^ (state << 17)
+}
+
+/// One of the three sets.
+fn members(number: u64) -> Members {
+    match number % 3 {
+        0 => A,
+        1 => B,
+        _ => D,
+    }
+}
+
+/// One addition of some kind to a table and to a book: both answer the same.
+fn add_both(
+    rt: &impl Abort,
+    alloc: Global,
+    graph: &mut Graph,
+    book: &mut ChainBook,
+    number: u64,
+) -> Result<(), Fail> {
+    let own = hash_of(alloc, members(number / 8))?;
+    let next = hash_of(alloc, members(number / 32))?;
+    let at = 1 + number / 128 % 12;
+    let (given, wanted) = match number % 8 {
+        0 => (
+            graph.add_set(make_set(alloc, members(number / 8))?),
+            book.add_set(make_set(alloc, members(number / 8))?),
+        ),
+        1 | 2 => (
+            graph.add_record(height(at)?, record_at(at, next)?),
+            book.add_record(height(at)?, record_at(at, next)?),
+        ),
+        _ => (
+            graph.add_header(header_at(alloc, at, own, next)?),
+            book.add_header(header_at(alloc, at, own, next)?),
+        ),
+    };
+    assert_same(rt, &number, &given, &wanted);
+    Ok(())
+}
+
+/// A table is of this book, and has the cells of one that is made anew.
+fn check_table(
+    rt: &impl Abort,
+    alloc: Global,
+    graph: &Graph,
+    book: &ChainBook,
+    step: usize,
+) -> Result<(), Fail> {
+    assert_same(rt, &step, &graph.is_of(book), &true);
+    let (kept, anew) = (cells_of(alloc, graph)?, cells_anew(alloc, graph)?);
+    assert_same(rt, &step, &kept, &anew);
+    Ok(())
+}
+
+/// Sixty additions, from this number on, to a table and to a book that are empty before: the number after them.
+fn add_sixty(rt: &impl Abort, alloc: Global, first: u64) -> Result<u64, Fail> {
+    let mut number = first;
+    let mut book = ChainBook::new(alloc)?;
+    let mut graph = Graph::from_book(alloc, book.copy()?)?;
+    for step in 0..60 {
+        number = next_number(number);
+        add_both(rt, alloc, &mut graph, &mut book, number)?;
+        check_table(rt, alloc, &graph, &book, step)?;
+    }
+    Ok(number)
+}
+
+/// Random additions in random order, refused ones among them.
+#[test]
+fn additions_give_the_table_of_their_book(rt: HostRuntime) -> Result<(), Fail> {
+    let mut number = 88_172_645_463_325_252;
+    for _ in 0..8 {
+        number = add_sixty(&rt, rt.alloc(), number)?;
+    }
+    Ok(())
+}

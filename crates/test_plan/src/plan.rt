@@ -1,0 +1,350 @@
+ghost use Rattle.std.specs.Prelude.{◌≡◌, IfOk};
+
+use rb_base::{FeeTable, Height, Window};
+use rb_book::{ChainBook, Header, Record, Vote};
+use rb_graph::Graph;
+use rb_plan::{
+    Answer, Cost, Goal, Labelling, Update, gas_of, label, plan, proof_height, top_reachable,
+};
+use rb_step::{ClientView, are_known};
+use rb_valset::ValidatorSet;
+use std::alloc::{AllocError, Global};
+use std::fmt::{Debug, Display};
+use std::process::Abort;
+use std::test::Fail;
+use test_values::{height, make_heights, make_set_with, options, second};
+
+/// Asserts in one place for all tests, since each `assert_eq!` makes the proof of the function around
+/// it dearer.
+fn assert_same<T: PartialEq + Debug>(rt: &impl Abort, row: &impl Display, given: &T, wanted: &T) {
+    assert!(rt; *given == *wanted, "{row}: {given:?}, not {wanted:?}");
+}
+
+/// Validators by the byte that their key repeats, with their powers, and so many others of power 1.
+#[derive(Clone, Copy)]
+struct Members {
+    named: &'static [(u8, u64)],
+    others: u8,
+}
+
+const A: Members = Members {
+    named: &[(0xa1, 10), (0xa2, 10), (0xa3, 10), (0xa4, 10)],
+    others: 0,
+};
+
+const AP: Members = Members {
+    named: &[(0xa1, 10), (0xa2, 10), (0x51, 10), (0x52, 10)],
+    others: 0,
+};
+
+const PQ: Members = Members {
+    named: &[(0x51, 10), (0x52, 10), (0x61, 10), (0x62, 10)],
+    others: 0,
+};
+
+const PZ: Members = Members {
+    named: &[(0x51, 10), (0x52, 10), (0xe1, 10), (0xe2, 10)],
+    others: 0,
+};
+
+const Z: Members = Members {
+    named: &[(0xe1, 10), (0xe2, 10), (0xe3, 10), (0xe4, 10)],
+    others: 0,
+};
+
+const HUNDRED: Members = Members {
+    named: &[(0xa1, 100), (0xa2, 100), (0xe1, 100), (0xe2, 100)],
+    others: 96,
+};
+
+/// What a client has stored, and the headers of its chain with their sets, which sign and are
+/// named as the next; height h has the time 10 h seconds. The client is asked at a moment, with a
+/// period of 1,000 s and a drift of 10 s.
+#[derive(Clone, Copy)]
+struct World {
+    stored: &'static [u64],
+    headers: &'static [(u64, Members)],
+    seconds: u64,
+}
+
+/// The fewest updates to height 10 go by 5, whose hundred validators make them dear.
+const FIVE: World = World {
+    stored: &[1],
+    headers: &[(1, A), (3, AP), (5, HUNDRED), (7, PZ), (10, Z)],
+    seconds: 200,
+};
+
+/// Heights 3 and 4 cost the same, and so does 10 by either.
+const TIED: World = World {
+    stored: &[1],
+    headers: &[(1, A), (3, AP), (4, AP), (10, PQ)],
+    seconds: 200,
+};
+
+/// The record at 10 s expires.
+const EXPIRED: World = World {
+    stored: &[1, 3],
+    headers: &[(1, A), (3, A), (5, A)],
+    seconds: 1_010,
+};
+
+/// Both stored records expire.
+const ALL_EXPIRED: World = World {
+    seconds: 1_030,
+    ..EXPIRED
+};
+
+/// A header that all of the set sign, which it names as the next too.
+fn make_header(alloc: Global, number: u64, set: &ValidatorSet) -> Result<Header, Fail> {
+    let time = second(number.saturating_mul(10))?;
+    let record = Record::new(time, [0; 32], *set.hash());
+    let votes = vec![in alloc; Vote::Commit; set.size()]?;
+    Ok(Header::new(height(number)?, record, *set.hash(), votes))
+}
+
+/// Adds a header and its set.
+fn add_header(
+    book: &mut ChainBook,
+    alloc: Global,
+    number: u64,
+    members: &Members,
+) -> Result<(), Fail> {
+    let set = make_set_with(alloc, members.named, members.others)?;
+    let header = make_header(alloc, number, &set)?;
+    book.add_set(set)?;
+    Ok(book.add_header(header)?)
+}
+
+fn make_graph(alloc: Global, world: &World) -> Result<Graph, Fail> {
+    let mut book = ChainBook::new(alloc)?;
+    for (number, members) in world.headers {
+        add_header(&mut book, alloc, *number, members)?;
+    }
+    Ok(Graph::from_book(alloc, book)?)
+}
+
+/// The view of the world's client. An update costs 100, and 1 for each vote and validator.
+fn make_view<'a>(
+    rt: &impl Abort,
+    world: &World,
+    stored: &'a [Height],
+    graph: &'a Graph,
+) -> Result<ClientView<'a>, Fail>
+    ensures { IfOk result (λ view. view.book ≡ graph.entry.now) }
+{
+    let book = graph.book();
+    assert!(rt; are_known(stored, book));
+    let fees = FeeTable::new(100, 1, 1)?;
+    let window = Window::at(second(world.seconds)?);
+    Ok(ClientView::new(options()?, fees, stored, window, book))
+}
+
+/// The labels: `1:0,0 3:112,1 `.
+fn labels_text(alloc: Global, labelling: &Labelling) -> Result<String, AllocError> {
+    let mut text = String::new(alloc);
+    for label in labelling.labels() {
+        let Cost { fee, count } = label.cost;
+        text.push_str(format!(in alloc; "{}:{fee},{count} ", label.height)?.as_str())?;
+    }
+    Ok(text)
+}
+
+/// The updates: ` 3<1 10<3`.
+fn updates_text(alloc: Global, updates: &[Update]) -> Result<String, AllocError> {
+    let mut text = String::new(alloc);
+    for update in updates {
+        let (to, from) = (update.height(), update.trusted());
+        text.push_str(format!(in alloc; " {to}<{from}")?.as_str())?;
+    }
+    Ok(text)
+}
+
+/// The labels, and then the updates: `1:0,0 3:112,1 | 3<1`.
+fn to_text(alloc: Global, answer: &Answer) -> Result<String, AllocError> {
+    let labels = labels_text(alloc, answer.labelling())?;
+    match answer {
+        Answer::Plan { updates, .. } => {
+            let updates = updates_text(alloc, updates)?;
+            format!(in alloc; "{labels}|{updates}")
+        }
+        Answer::Unreachable { .. } => format!(in alloc; "{labels}| unreachable"),
+    }
+}
+
+/// A goal of a world, with the labels and updates of its plan, and the height at which a batch of
+/// those updates proves its packets.
+#[derive(Clone, Copy)]
+struct Row {
+    world: World,
+    is_exact: bool,
+    number: u64,
+    text: &'static str,
+    proof: Option<u64>,
+}
+
+fn proof_of(view: &ClientView, answer: &Answer) -> Option<u64> {
+    match answer {
+        Answer::Plan { updates, .. } => { Some(proof_height(view, updates.as_slice())?.get()) }
+        Answer::Unreachable { .. } => None,
+    }
+}
+
+fn goal_of(row: &Row) -> Result<Goal, Fail> {
+    let wanted = height(row.number)?;
+    Ok(if row.is_exact {
+        Goal::Exactly(wanted)
+    } else {
+        Goal::AtLeast(wanted)
+    })
+}
+
+/// The texts of an answer and its copy, and the height at which the updates prove.
+fn check_answer(
+    rt: &impl Abort,
+    alloc: Global,
+    view: &ClientView,
+    answer: &Answer,
+    row: &Row,
+) -> Result<(), Fail> {
+    let text = to_text(alloc, answer)?;
+    assert_same(rt, &row.number, &text.as_str(), &row.text);
+    let copied = to_text(alloc, &answer.copy()?)?;
+    assert_same(rt, &row.number, &copied.as_str(), &row.text);
+    assert_same(rt, &row.text, &proof_of(view, answer), &row.proof);
+    Ok(())
+}
+
+fn check_plan(
+    rt: &impl Abort,
+    alloc: Global,
+    graph: &Graph,
+    stored: &[Height],
+    row: &Row,
+) -> Result<(), Fail> {
+    let view = make_view(rt, &row.world, stored, graph)?;
+    let answer = plan(alloc, &view, graph, goal_of(row)?)?;
+    check_answer(rt, alloc, &view, &answer, row)
+}
+
+fn check_row(rt: &impl Abort, alloc: Global, row: &Row) -> Result<(), Fail> {
+    let graph = make_graph(alloc, &row.world)?;
+    let stored = make_heights(alloc, row.world.stored)?;
+    check_plan(rt, alloc, &graph, stored.as_slice(), row)
+}
+
+const ROWS: &[Row] = &[
+    Row {
+        world: FIVE,
+        is_exact: false,
+        number: 10,
+        text: "1:0,0 3:112,1 5:304,1 7:224,2 10:336,3 | 3<1 7<3 10<7",
+        proof: Some(10),
+    },
+    Row {
+        world: FIVE,
+        is_exact: true,
+        number: 5,
+        text: "1:0,0 3:112,1 5:304,1 7:224,2 10:336,3 | 5<1",
+        proof: Some(5),
+    },
+    Row {
+        world: FIVE,
+        is_exact: false,
+        number: 1,
+        text: "1:0,0 3:112,1 5:304,1 7:224,2 10:336,3 |",
+        proof: Some(1),
+    },
+    Row {
+        world: FIVE,
+        is_exact: true,
+        number: 9,
+        text: "1:0,0 3:112,1 5:304,1 7:224,2 10:336,3 | unreachable",
+        proof: None,
+    },
+    Row {
+        world: TIED,
+        is_exact: false,
+        number: 10,
+        text: "1:0,0 3:112,1 4:112,1 10:224,2 | 3<1 10<3",
+        proof: Some(10),
+    },
+    Row {
+        world: TIED,
+        is_exact: false,
+        number: 2,
+        text: "1:0,0 3:112,1 4:112,1 10:224,2 | 3<1",
+        proof: Some(3),
+    },
+    Row {
+        world: EXPIRED,
+        is_exact: false,
+        number: 5,
+        text: "3:0,0 5:112,1 | 5<3",
+        proof: Some(5),
+    },
+    Row {
+        world: EXPIRED,
+        is_exact: true,
+        number: 1,
+        text: "3:0,0 5:112,1 | unreachable",
+        proof: None,
+    },
+    Row {
+        world: ALL_EXPIRED,
+        is_exact: false,
+        number: 1,
+        text: "| unreachable",
+        proof: None,
+    },
+];
+
+#[test]
+fn plans_by_fee_then_height(rt: HostRuntime) -> Result<(), Fail> {
+    for row in ROWS {
+        check_row(&rt, rt.alloc(), row)?;
+    }
+    Ok(())
+}
+
+/// Labels that are looked up.
+fn check_labels(
+    rt: &impl Abort,
+    alloc: Global,
+    graph: &Graph,
+    view: &ClientView,
+) -> Result<(), Fail>
+    requires { view.now.book ≡ graph.now }
+{
+    let labelling = label(alloc, view, graph)?.copy()?;
+    let found = (labelling.get(height(7)?), labelling.get(height(4)?));
+    let seven = Some(Cost { fee: 224, count: 2 });
+    assert_same(rt, &"labels", &found, &(seven, None));
+    assert_same(rt, &"top", &top_reachable(&labelling), &Some(height(10)?));
+    Ok(())
+}
+
+fn check_gas(rt: &impl Abort, view: &ClientView) -> Result<(), Fail> {
+    let gas = FeeTable::new(1_000, 0, 3)?;
+    let update = Update::new(height(5)?, height(1)?);
+    assert_same(rt, &"gas", &gas_of(view, &gas, &update), &1_312);
+    Ok(())
+}
+
+fn check_view(
+    rt: &impl Abort,
+    alloc: Global,
+    graph: &Graph,
+    stored: &[Height],
+) -> Result<(), Fail> {
+    let view = make_view(rt, &FIVE, stored, graph)?;
+    check_labels(rt, alloc, graph, &view)?;
+    check_gas(rt, &view)
+}
+
+/// Labels that are looked up, and the gas of an update by a table of its own.
+#[test]
+fn looks_up_labels_and_gas(rt: HostRuntime) -> Result<(), Fail> {
+    let graph = make_graph(rt.alloc(), &FIVE)?;
+    let stored = make_heights(rt.alloc(), FIVE.stored)?;
+    check_view(&rt, rt.alloc(), &graph, stored.as_slice())
+}
