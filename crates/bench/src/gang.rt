@@ -1,8 +1,9 @@
 //! The step table of a book filled with headers, by one thread and by several.
 use crate::book::make_book;
 use anyhow::Result;
+use rb_base::OpenGate;
 use rb_book::ChainBook;
-use rb_gang::{OpenGate, build};
+use rb_gang::build;
 use rb_graph::Graph;
 use std::alloc::Global;
 use std::rt::Clock;

@@ -3,11 +3,11 @@ use Rattle.std.specs.Prelude.{◌≡◌, ◌⊎◌, ℕ, Bool, true, false, Opti
 use Rattle.rb_script_toml.specs.Faults.{Fault, fault_view}
 use Rattle.rb_script_toml.specs.declared.fault.RunError.{RunError}
 use Rattle.rb_script_toml.specs.declared.fault.RunError.TheVariants as errors
-use Rattle.ibcplan.specs.declared.failure.Failure.{Failure}
-use Rattle.ibcplan.specs.declared.failure.Failure.TheVariants.{Refused, RefusedAnswers, NoSuchTurn, Unreadable, UnreadableAnswers, Unwritten, NoMemory}
+use Rattle.ibcplan.specs.declared.error.ProgramError.{ProgramError}
+use Rattle.ibcplan.specs.declared.error.ProgramError.TheVariants.{Refused, RefusedAnswers, NoSuchTurn, Unreadable, UnreadableAnswers, Unwritten, NoMemory}
 
 -- 1: a file's content was refused; 2: the script hasn't the turn that was asked for; 4: want of memory, or a file or an output that fails
-abbrev pub failure_status : Failure → ℕ
+abbrev pub failure_status : ProgramError → ℕ
 failure_status (Refused fault flaw) = 1
 failure_status (RefusedAnswers problem) = 1
 failure_status (NoSuchTurn turn turns) = 2
@@ -21,7 +21,7 @@ abbrev pub IsFailureStatus : ℕ → Type 0
 IsFailureStatus status = (status ≡ 1) ⊎ (status ≡ 2) ⊎ (status ≡ 4)
 
 -- the fault of a script, a setup or a certificate that a failure tells, if it tells one
-abbrev pub told_fault : Failure → Option Fault
+abbrev pub told_fault : ProgramError → Option Fault
 told_fault (Refused fault flaw) = Some (fault_view fault)
 told_fault (RefusedAnswers problem) = None
 told_fault (NoSuchTurn turn turns) = None
@@ -31,7 +31,7 @@ told_fault (Unwritten error) = None
 told_fault NoMemory = None
 
 -- whether a failure tells that the output fails
-abbrev pub is_unwritten : Failure → Bool
+abbrev pub is_unwritten : ProgramError → Bool
 is_unwritten (Refused fault flaw) = false
 is_unwritten (RefusedAnswers problem) = false
 is_unwritten (NoSuchTurn turn turns) = false

@@ -1,12 +1,12 @@
 //! The report of a script in other forms than its own: JSON, and the commands that submit its updates.
 ghost use Rattle.rb_script_types.specs.Script.{script_view, IsReadScript};
 
-use crate::failure::{Failure, Turns};
+use crate::error::{ProgramError, Turns};
 use crate::input::Input;
 use crate::reporting::plan_status;
-use crate::task::WantedTurns;
-use crate::workers::Workers;
-use rb_gang::Gate;
+use crate::request::WantedTurns;
+use crate::worker_count::WorkerCount;
+use rb_base::Gate;
 use rb_script_toml::RunError;
 use rb_script_types::Script;
 use rb_text::{read_script, report_of};
@@ -31,13 +31,13 @@ pub fn json_of_script<
     rt: &R,
     alloc: Global,
     input: &Input<'a>,
-    workers: Workers,
+    workers: WorkerCount,
     is_strict: bool,
     gate: G,
-) -> Result<JsonText, Failure<'a>> {
+) -> Result<JsonText, ProgramError<'a>> {
     match json_of_bytes(rt, alloc, input.bytes(), workers, is_strict, gate) {
         Ok(json) => Ok(json),
-        Err(error) => Err(Failure::of_run(error, input)),
+        Err(error) => Err(ProgramError::of_run(error, input)),
     }
 }
 
@@ -48,7 +48,7 @@ fn json_of_bytes<
     rt: &R,
     alloc: Global,
     bytes: &[u8],
-    workers: Workers,
+    workers: WorkerCount,
     is_strict: bool,
     gate: G,
 ) -> Result<JsonText, RunError> {
@@ -73,10 +73,10 @@ pub fn commands_of_script<
     input: &Input<'a>,
     turns: WantedTurns,
     gate: G,
-) -> Result<String, Failure<'a>> {
+) -> Result<String, ProgramError<'a>> {
     let script = match read_script(alloc, input.bytes()) {
         Ok(script) => script,
-        Err(error) => return Err(Failure::of_run(error, input)),
+        Err(error) => return Err(ProgramError::of_run(error, input)),
     };
     let count = script.turns.len();
     let turn = match turns {
@@ -87,14 +87,14 @@ pub fn commands_of_script<
     match turn {
         Some(turn) if turn > count as u64 => {
             let file = input.name();
-            Err(Failure::NoSuchTurn {
+            Err(ProgramError::NoSuchTurn {
                 turn,
                 turns: Turns { file, count },
             })
         }
         _ => match commands_by(rt, alloc, script, turn, gate) {
             Ok(text) => Ok(text),
-            Err(_) => Err(Failure::NoMemory),
+            Err(_) => Err(ProgramError::NoMemory),
         },
     }
 }

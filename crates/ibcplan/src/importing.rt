@@ -1,5 +1,5 @@
 //! Importing: the files of a folder are read, and the script that they make is written.
-use crate::failure::Failure;
+use crate::error::ProgramError;
 use crate::host::Host;
 use crate::input::{Input, bytes_of};
 use crate::shown::shown_text;
@@ -21,11 +21,11 @@ pub fn imported<'a, R: Host>(
     rt: &R,
     input: &Input<'a>,
     folder: &str,
-) -> Result<ImportedText, Failure<'a>> {
+) -> Result<ImportedText, ProgramError<'a>> {
     let alloc = rt.alloc();
     let setup = match read_setup(alloc, input.bytes()) {
         Ok(setup) => setup,
-        Err(error) => return Err(Failure::of_run(error, input)),
+        Err(error) => return Err(ProgramError::of_run(error, input)),
     };
     let answers = read_answers(rt, &setup, folder)?;
     match compose(alloc, &setup, &answers) {
@@ -34,24 +34,24 @@ pub fn imported<'a, R: Host>(
                 script: text,
                 notices,
             }),
-            Err(_) => Err(Failure::NoMemory),
+            Err(_) => Err(ProgramError::NoMemory),
         },
         Err(error) => Err(refusal(alloc, &error)),
     }
 }
 
 /// Why answers make no script, as a text of its own.
-fn refusal<'a>(alloc: Global, error: &ImportError<'_>) -> Failure<'a> {
+fn refusal<'a>(alloc: Global, error: &ImportError<'_>) -> ProgramError<'a> {
     match error {
-        ImportError::NoMemory => Failure::NoMemory,
-        ImportError::Problem(problem) => refused(format!(in alloc; "{problem}")),
+        ImportError::NoMemory => ProgramError::NoMemory,
+        ImportError::CheckError(problem) => refused(format!(in alloc; "{problem}")),
     }
 }
 
-fn refused<'a>(text: Result<String, AllocError>) -> Failure<'a> {
+fn refused<'a>(text: Result<String, AllocError>) -> ProgramError<'a> {
     match text {
-        Ok(text) => Failure::RefusedAnswers(text),
-        Err(_) => Failure::NoMemory,
+        Ok(text) => ProgramError::RefusedAnswers(text),
+        Err(_) => ProgramError::NoMemory,
     }
 }
 
@@ -61,7 +61,7 @@ fn read_answers<'a, R: Host>(
     rt: &R,
     setup: &Setup,
     folder: &str,
-) -> Result<SavedAnswers, Failure<'a>> {
+) -> Result<SavedAnswers, ProgramError<'a>> {
     let alloc = rt.alloc();
     let mut chains = Vec::new(alloc);
     for (place, chain) in setup.chains.iter().enumerate() {
@@ -95,31 +95,35 @@ fn add_folder<'a, R: Host>(
     folder: &str,
     id: Option<&str>,
     answers: &mut Vec<Vec<Saved>>,
-) -> Result<(), Failure<'a>> {
+) -> Result<(), ProgramError<'a>> {
     let saved = match id {
         Some(id) => read_folder(rt, folder, id)?,
         None => Vec::new(rt.alloc()),
     };
     match answers.push(saved) {
         Ok(()) => Ok(()),
-        Err(_) => Err(Failure::NoMemory),
+        Err(_) => Err(ProgramError::NoMemory),
     }
 }
 
 /// Reads the answers in the folder of an identifier: its files `*.json`, by name.
-fn read_folder<'a, R: Host>(rt: &R, folder: &str, id: &str) -> Result<Vec<Saved>, Failure<'a>> {
+fn read_folder<'a, R: Host>(
+    rt: &R,
+    folder: &str,
+    id: &str,
+) -> Result<Vec<Saved>, ProgramError<'a>> {
     let Ok(path) = format!(in rt.alloc(); "{folder}/{id}") else {
-        return Err(Failure::NoMemory);
+        return Err(ProgramError::NoMemory);
     };
     let names = match names_in(rt, path.as_str()) {
         Ok(names) => names,
-        Err(error) => return Err(Failure::of_file(rt.alloc(), path.as_str(), error)),
+        Err(error) => return Err(ProgramError::of_file(rt.alloc(), path.as_str(), error)),
     };
     let mut answers = Vec::new(rt.alloc());
     for name in &names {
         let saved = read_file(rt, path.as_str(), name.as_str())?;
         if answers.push(saved).is_err() {
-            return Err(Failure::NoMemory);
+            return Err(ProgramError::NoMemory);
         }
     }
     Ok(answers)
@@ -139,21 +143,21 @@ fn names_in<R: Host>(rt: &R, path: &str) -> io::Result<Vec<String>> {
 }
 
 /// Reads the answer in a file.
-fn read_file<'a, R: Host>(rt: &R, folder: &str, name: &str) -> Result<Saved, Failure<'a>> {
+fn read_file<'a, R: Host>(rt: &R, folder: &str, name: &str) -> Result<Saved, ProgramError<'a>> {
     let alloc = rt.alloc();
     let Ok(file) = format!(in alloc; "{folder}/{name}") else {
-        return Err(Failure::NoMemory);
+        return Err(ProgramError::NoMemory);
     };
     let bytes = match read_bytes(rt, file.as_str()) {
         Ok(bytes) => bytes,
-        Err(error) => return Err(Failure::of_file(alloc, file.as_str(), error)),
+        Err(error) => return Err(ProgramError::of_file(alloc, file.as_str(), error)),
     };
     let Ok(name) = shown_text(alloc, file.as_str()) else {
-        return Err(Failure::NoMemory);
+        return Err(ProgramError::NoMemory);
     };
     match read_saved(alloc, name, bytes.as_slice()) {
         Ok(saved) => Ok(saved),
-        Err(SavedError::Flaw { file, flaw, said }) => {
+        Err(SavedError::InputError { file, flaw, said }) => {
             let advice = flaw.name.advice();
             Err(refused(if said.is_empty() {
                 format!(in alloc; "refused {flaw}\n{file}: {advice}")
@@ -161,7 +165,7 @@ fn read_file<'a, R: Host>(rt: &R, folder: &str, name: &str) -> Result<Saved, Fai
                 format!(in alloc; "refused {flaw}\n{file}: {advice}; it said \"{said}\"")
             }))
         }
-        Err(SavedError::NoMemory) => Err(Failure::NoMemory),
+        Err(SavedError::NoMemory) => Err(ProgramError::NoMemory),
     }
 }
 

@@ -1,7 +1,7 @@
 //! The files that the program reads.
 ghost use Rattle.std.specs.Prelude.{◌≡◌, ℕ, List};
 
-use crate::failure::Failure;
+use crate::error::ProgramError;
 use crate::host::Host;
 use crate::shown::Shown;
 use rb_script_toml::MAX_BYTES;
@@ -33,11 +33,13 @@ impl<'a> Model for Input<'a> {
 
 impl<'a> Input<'a> {
     /// Reads a file, or standard input.
-    pub fn read<R: Host>(rt: &R, path: &'a str) -> Result<Input<'a>, Failure<'a>> {
+    pub fn read<R: Host>(rt: &R, path: &'a str) -> Result<Input<'a>, ProgramError<'a>> {
         match bytes_at(rt, path) {
             Ok(bytes) => Ok(Input { path, bytes }),
-            Err(error) if error.kind() == io::ErrorKind::OutOfMemory => { Err(Failure::NoMemory) }
-            Err(error) => Err(Failure::Unreadable {
+            Err(error) if error.kind() == io::ErrorKind::OutOfMemory => {
+                Err(ProgramError::NoMemory)
+            }
+            Err(error) => Err(ProgramError::Unreadable {
                 file: name_of(path),
                 error,
                 advice: advice_for(path),

@@ -5,20 +5,20 @@
 #![tactic(auto)]
 
 mod advice;
+mod error;
 mod explained;
-mod failure;
-mod flaw;
 mod forms;
 mod host;
 mod importing;
 mod input;
+mod input_error;
 mod perform;
 mod progress;
 mod reporting;
+mod request;
 mod shown;
 mod status;
-mod task;
-mod workers;
+mod worker_count;
 
 use crate::host::Host;
 use std::io::IsTerminal;

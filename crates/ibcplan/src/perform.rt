@@ -6,20 +6,19 @@ ghost use Rattle.rb_text.specs.Verdicts.{IsFaultFor, BeginsVerdict};
 ghost use Rattle.ibcplan.specs.Failures.{failure_status, told_fault, is_unwritten};
 ghost use Rattle.ibcplan.specs.Status.{IsPlanWritten, IsConfirmed, IsDenied};
 
+use crate::error::ProgramError;
 use crate::explained::Explained;
-use crate::failure::Failure;
 use crate::forms::{commands_of_script, json_of_script};
 use crate::host::Host;
 use crate::importing::{ImportedText, imported};
 use crate::input::Input;
 use crate::progress::Progress;
 use crate::reporting::{plan_status, refused_events};
+use crate::request::Task;
 use crate::status;
-use crate::task::Task;
-use crate::workers::Workers;
+use crate::worker_count::WorkerCount;
 use clap::error::ErrorKind;
-use rb_base::{Counted, Sink, write_whole};
-use rb_gang::Gate;
+use rb_base::{Counted, Gate, Sink, write_whole};
 use rb_text::{Source, certify_texts, report_over};
 use std::alloc::Global;
 use std::io;
@@ -29,7 +28,7 @@ use std::thread::Threads;
 
 /// Does a task, and answers the status to end with. Where standard error is watched it says there how
 /// far a long run is, and how many events were refused.
-pub fn perform<R: Host>(rt: &R, task: Task<'_>, is_watched: bool) -> u8 {
+pub fn perform<R: Host>(rt: &R, task: Request<'_>, is_watched: bool) -> u8 {
     match outcome_of(rt, task, is_watched) {
         Ok(status) => status,
         Err(failure) => {
@@ -48,7 +47,7 @@ pub fn show<R: Print + Eprint>(rt: &R, message: &clap::Error) -> u8 {
         Ok(()) if message.use_stderr() => status::COMMAND_LINE,
         Ok(()) => status::DONE,
         Err(error) => {
-            let _ = eprintln!(rt; "{}", Failure::Unwritten { error });
+            let _ = eprintln!(rt; "{}", ProgramError::Unwritten { error });
             status::FAILED
         }
     }
@@ -56,13 +55,17 @@ pub fn show<R: Print + Eprint>(rt: &R, message: &clap::Error) -> u8 {
 
 /// Ends for want of memory.
 pub fn no_memory<R: Eprint>(rt: &R) -> u8 {
-    let _ = eprintln!(rt; "{}", Failure::NoMemory);
+    let _ = eprintln!(rt; "{}", ProgramError::NoMemory);
     status::FAILED
 }
 
 /// Does a task, and sends on what the writer may still hold; then what is to be told of the results stands
 /// on standard error.
-fn outcome_of<'a, R: Host>(rt: &R, task: Task<'a>, is_watched: bool) -> Result<u8, Failure<'a>> {
+fn outcome_of<'a, R: Host>(
+    rt: &R,
+    task: Request<'a>,
+    is_watched: bool,
+) -> Result<u8, ProgramError<'a>> {
     let mut output = Explained::new(Counted::new(io::writer(rt)));
     let done = match done_of(rt, task, is_watched, &mut output) {
         Ok(done) => done,
@@ -105,14 +108,14 @@ impl Done {
 /// Reads the files of a task and does it.
 fn done_of<'a, R: Host, W: Sink>(
     rt: &R,
-    task: Task<'a>,
+    task: Request<'a>,
     is_watched: bool,
     output: &mut W,
-) -> Result<Done, Failure<'a>>
+) -> Result<Done, ProgramError<'a>>
     requires { W.is_broken output.old ≡ false }
 {
     match task {
-        Task::Plan {
+        Request::Plan {
             script,
             workers,
             is_strict,
@@ -129,7 +132,7 @@ fn done_of<'a, R: Host, W: Sink>(
                 output,
             )
         }
-        Task::PlanJson {
+        Request::PlanJson {
             script,
             workers,
             is_strict,
@@ -140,14 +143,14 @@ fn done_of<'a, R: Host, W: Sink>(
             write(json.text.as_str(), output)?;
             Ok(Done::quietly(json.status))
         }
-        Task::Commands { script, turns } => {
+        Request::Commands { script, turns } => {
             let script = Input::read(rt, script)?;
             let progress = Progress::new(*rt, is_watched);
             let text = commands_of_script(rt, rt.alloc(), &script, turns, progress)?;
             write(text.as_str(), output)?;
             Ok(Done::quietly(status::DONE))
         }
-        Task::Import { setup, folder } => {
+        Request::Import { setup, folder } => {
             let setup = Input::read(rt, setup)?;
             let ImportedText { script, notices } = imported(rt, &setup, folder)?;
             write(script.as_str(), output)?;
@@ -157,7 +160,7 @@ fn done_of<'a, R: Host, W: Sink>(
                 notices: Some(notices),
             })
         }
-        Task::Certify {
+        Request::Certify {
             script,
             certificate,
         } => {
@@ -181,11 +184,11 @@ fn plan<
     rt: &R,
     alloc: Global,
     script: &Input<'a>,
-    workers: Workers,
+    workers: WorkerCount,
     is_strict: bool,
     gate: G,
     output: &mut W,
-) -> Result<Done, Failure<'a>>
+) -> Result<Done, ProgramError<'a>>
     requires { W.is_broken output.old ≡ false }
     ensures done { IfOk result (λ done. IsPlanWritten is_strict script.now (W.taken output.old) (W.taken output.new) done.status done.refused_events) }
     ensures refused { IfErr result (λ failure. failure_status failure ≡ 1 → IsErr (script_of script.now)) }
@@ -195,7 +198,7 @@ fn plan<
     ensures begun { OnErr result ((output.new ≡ output.old) ⊎ BeginsReport script.now (W.taken output.old) (W.taken output.new)) }
 {
     let Ok(gate) = Arc::new(alloc, gate) else {
-        return Err(Failure::NoMemory);
+        return Err(ProgramError::NoMemory);
     };
     let workers = workers.count();
     match report_over(rt, alloc, script.bytes(), output, workers, &gate) {
@@ -204,17 +207,17 @@ fn plan<
             refused_events: refused_events(&report),
             notices: None,
         }),
-        Err(error) => Err(Failure::of_run(error, script)),
+        Err(error) => Err(ProgramError::of_run(error, script)),
     }
 }
 
 /// Writes a text that was made in memory.
-fn write<'a, W: Sink>(text: &str, output: &mut W) -> Result<(), Failure<'a>>
+fn write<'a, W: Sink>(text: &str, output: &mut W) -> Result<(), ProgramError<'a>>
     requires { W.is_broken output.old ≡ false }
 {
     match write_whole(output, text.as_bytes()) {
         Ok(()) => Ok(()),
-        Err(_) => Err(Failure::untaken()),
+        Err(_) => Err(ProgramError::untaken()),
     }
 }
 
@@ -226,7 +229,7 @@ fn certify<'a, R: Threads + Sync, W: Sink>(
     script: &Input<'a>,
     certificate: &Input<'a>,
     output: &mut W,
-) -> Result<u8, Failure<'a>>
+) -> Result<u8, ProgramError<'a>>
     requires { W.is_broken output.old ≡ false }
     ensures judged { IfOk result (λ status.
         IsConfirmed script.now certificate.now (W.taken output.old) (W.taken output.new) status
@@ -244,15 +247,15 @@ fn certify<'a, R: Threads + Sync, W: Sink>(
                 Source::Script => script,
                 Source::Certificate => certificate,
             };
-            Err(Failure::of_run(refusal.error, input))
+            Err(ProgramError::of_run(refusal.error, input))
         }
     }
 }
 
 /// Sends on what the writer may still hold.
-fn flush<'a, R: Print>(output: Counted<Printer<'_, R>>) -> Result<(), Failure<'a>> {
+fn flush<'a, R: Print>(output: Counted<Printer<'_, R>>) -> Result<(), ProgramError<'a>> {
     match output.into_inner().flush() {
         Ok(()) => Ok(()),
-        Err(error) => Err(Failure::Unwritten { error }),
+        Err(error) => Err(ProgramError::Unwritten { error }),
     }
 }

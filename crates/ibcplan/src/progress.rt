@@ -1,5 +1,5 @@
 //! How far a run is, for whoever watches it.
-use rb_gang::{Gate, Place};
+use rb_base::{Gate, WorkItem};
 use std::sync::atomic::{AtomicU64, Ordering};
 
 /// After each so many plans it is told how many there are.
@@ -26,10 +26,10 @@ impl<R> Progress<R> {
 }
 
 impl<R: Eprint> Gate for Progress<R> {
-    fn before(&self, _place: Place) {}
+    fn before(&self, _item: WorkItem) {}
 
-    fn after(&self, place: Place) {
-        let Place::Taken(_) = place else {
+    fn after(&self, item: WorkItem) {
+        let WorkItem::Taken(_) = item else {
             return;
         };
         let planned = self

@@ -4,6 +4,5 @@ pub mod Fraction
 pub mod Fee
 pub mod Options
 pub mod Identifier
-pub mod Refusal
 pub mod Sink
 pub mod Counted

@@ -1,4 +1,3 @@
 pub mod Limits
 pub mod Cut
 pub mod Laws
-pub mod Refusal

@@ -1,7 +1,4 @@
 //! The refusals of this crate.
-ghost use Rattle.std.specs.Prelude.{◌≡◌};
-ghost use Rattle.rb_batch.specs.Refusal.{number_of, name_of};
-
 use std::alloc::{AllocError, AllocFailed};
 use thiserror::Error;
 
@@ -14,28 +11,6 @@ pub enum BatchError {
     /// Memory for the transactions was refused.
     #[error("no memory")]
     NoMemory,
-}
-
-impl BatchError {
-    /// The refusal's number; want of memory has none.
-    pub fn number(self) -> Option<u16>
-        ensures { result ≡ number_of self }
-    {
-        match self {
-            BatchError::TooBig(_) => Some(701),
-            BatchError::NoMemory => None,
-        }
-    }
-
-    /// The refusal's name.
-    pub fn name(self) -> &'static str
-        ensures { result.now ≡ name_of self }
-    {
-        match self {
-            BatchError::TooBig(_) => "TooBig",
-            BatchError::NoMemory => "NoMemory",
-        }
-    }
 }
 
 impl From<AllocError> for BatchError {

@@ -20,8 +20,8 @@ use Rattle.rb_core_model.specs.Log.{IsLog}
 use Rattle.rb_core_model.specs.Machine.{State, opening, after, refusal_of, state_of}
 use Rattle.rb_board.specs.Knowledge.{Knowledge, nothing_yet, Begins}
 use Rattle.rb_board.specs.Ends.{Desk}
-use Rattle.rb_board.specs.Kept.{IsKnown, Known, Sees, config_or, followed_on, knowledge_of, past_of}
-use Rattle.rb_board.specs.declared.held.Held.{Held}
+use Rattle.rb_board.specs.Rule.{IsKnown, HasBeginnings, Sees, config_or, followed_on, knowledge_of, past_of}
+use Rattle.rb_board.specs.declared.replica.Replica.{Replica}
 
 pub prefix_trans : {X : Type 0} (a b c : List X) → IsPrefix a b → IsPrefix b c → IsPrefix a c
 prefix_trans a b c p q = (p.0 ++ q.0, sym (append_assoc a p.0 q.0) ∙ ap (λ (l : List _). l ++ q.0) p.1 ∙ q.1)
@@ -106,7 +106,7 @@ appends f config log head waiting rest told event same is knows none to kept put
 
 module _ {A : Type 0} where
   -- what a desk knows after it has looked, and left
-  pub looked : (old w v : Knowledge) (shown : Held A) (told : ℕ) (desk : Desk)
+  pub looked : (old w v : Knowledge) (shown : Replica A) (told : ℕ) (desk : Desk)
       → desk ≡ record { config = (past_of old).config; seen = events_in (past_of old); told = told } → IsSome old.config → Sees old shown shown w → v ≡ w
       → ((past_of v).config ≡ desk.config) × IsPrefix desk.seen (events_in (past_of v))
   looked old w v shown told desk is has sees left =
@@ -120,49 +120,49 @@ module _ {A : Type 0} where
       )
 
   -- what holds of what was looked at holds of what is known then
-  pub known_then : (P : Past → Type 0) (v : Knowledge) (shown got : Held A) → v ≡ knowledge_of shown → got ≡ shown → P got.follower.past → P (past_of v)
-  known_then P v shown got is same p = subst P (sym (ap past_of is)) (subst (λ (h : Held A). P h.follower.past) same p)
+  pub known_then : (P : Past → Type 0) (v : Knowledge) (shown got : Replica A) → v ≡ knowledge_of shown → got ≡ shown → P got.follower.past → P (past_of v)
+  known_then P v shown got is same p = subst P (sym (ap past_of is)) (subst (λ (h : Replica A). P h.follower.past) same p)
 
-  pub admits : Admits (Known {A = A}) nothing_yet
+  pub admits : Admits (HasBeginnings {A = A}) nothing_yet
   admits x views h = (
     h.0,
     λ seat v at.
         ⊎_elim (h.1 seat v) (λ (e : nothing_yet ≡ v). subst (λ (z : Knowledge). Begins z (knowledge_of x)) e (inl refl, (x.follower.past.entries, refl))) (at_snoc views nothing_yet v seat at),
   )
 
-  pub sees : (seat : ℕ) (v : Knowledge) (x y : Held A) → IsOfLog y.follower → Begins (knowledge_of x) (knowledge_of y) → TurnsAt (Known {A = A}) seat v x y Sees
+  pub sees : (seat : ℕ) (v : Knowledge) (x y : Replica A) → IsOfLog y.follower → Begins (knowledge_of x) (knowledge_of y) → TurnsAt (HasBeginnings {A = A}) seat v x y Sees
   sees seat v x y is up views h at = (
     knowledge_of y,
     (is, known_set (knowledge_of y) views seat (knowledge_of y) (λ j u e. begins_trans u (knowledge_of x) (knowledge_of y) (h.1 j u e) up) (begins_same (knowledge_of y))),
     (begins_trans v (knowledge_of x) (knowledge_of y) (h.1 seat v at) up, refl, is),
   )
 
-  pub looks : (seat : ℕ) (v : Knowledge) → Turns (Known {A = A}) seat v (λ x. x) Sees
+  pub looks : (seat : ℕ) (v : Knowledge) → Turns (HasBeginnings {A = A}) seat v (λ x. x) Sees
   looks seat v x views h = sees seat v x x h.0 (begins_same (knowledge_of x)) views h
 
   -- a publish of what waits
-  pub shows : (seat : ℕ) (v : Knowledge) (x next : Held A) (more : List Told) → IsOfLog next.follower → next.follower ≡ followed_on x.follower more → TurnsAt (Known {A = A}) seat v x next Sees
+  pub shows : (seat : ℕ) (v : Knowledge) (x next : Replica A) (more : List Told) → IsOfLog next.follower → next.follower ≡ followed_on x.follower more → TurnsAt (HasBeginnings {A = A}) seat v x next Sees
   shows seat v x next more of is =
       sees seat v x next of
       (subst (λ (f : Follower). Begins (knowledge_of x) (record { config = Some f.past.config; entries = f.past.entries })) (sym is) (inr (ap (λ (c : Config). Some c) (same_config x.follower more)), more_entries x.follower more))
 
-  pub forks : (seat : ℕ) (v : Knowledge) → Forks (Known {A = A}) seat v v v
+  pub forks : (seat : ℕ) (v : Knowledge) → Forks (HasBeginnings {A = A}) seat v v v
   forks seat v x views h at = (
     h.0,
     λ j u e.
         ⊎_elim (known_set (knowledge_of x) views seat v h.1 (h.1 seat v at) j u) (λ (same : v ≡ u). subst (λ (z : Knowledge). Begins z (knowledge_of x)) same (h.1 seat v at)) (at_snoc (set views seat v) v u j e),
   )
 
-  pub merges : (seat : ℕ) (v : Knowledge) (other : ℕ) (w : Knowledge) → Merges (Known {A = A}) seat v other w w nothing_yet
+  pub merges : (seat : ℕ) (v : Knowledge) (other : ℕ) (w : Knowledge) → Merges (HasBeginnings {A = A}) seat v other w w nothing_yet
   merges seat v other w x views h at apart there =
       let theirs : Begins w (knowledge_of x) = ⊎_elim (λ (t : (other ≡ seat) × (w ≡ w)). absurd (apart t.0)) (λ (t : (other ≢ seat) × (get_elem? views other ≡ some w)). h.1 other w t.1) (at_set views seat other w w there) in
       (h.0, known_set (knowledge_of x) (set views seat w) other nothing_yet (known_set (knowledge_of x) views seat w h.1 theirs) (inl refl, (x.follower.past.entries, refl)))
 
-  pub opens : (x : Held A) → IsOfLog x.follower → Known x (nothing_yet ∷ [])
+  pub opens : (x : Replica A) → IsOfLog x.follower → HasBeginnings x (nothing_yet ∷ [])
   opens x is = admits x [] (is, λ j u e. absurd (some-ne-none u (sym e)))
 
   -- all of the log is shown
-  whole : (new : Held A) (w : Knowledge) (rest : List Told) (config : Config) (log : List Event) → new.follower.past.config ≡ config → log ≡ events_in new.follower.past → new.follower.state ≡ state_of config log
+  whole : (new : Replica A) (w : Knowledge) (rest : List Told) (config : Config) (log : List Event) → new.follower.past.config ≡ config → log ≡ events_in new.follower.past → new.follower.state ≡ state_of config log
       → w ≡ knowledge_of new → IsOfLog new.follower → rest ≡ [] → IsKnown new w rest config log
   whole new w rest config log same led knows all of none = record {
     all = all;
@@ -173,7 +173,7 @@ module _ {A : Type 0} where
   }
 
   -- what a publish leaves: all that was appended is published, or what was published before
-  pub publishes : {U E : Type 0} (r : Result U E) (old new : Held A) (v w : Knowledge) (waiting rest : List Told) (config : Config) (log : List Event)
+  pub publishes : {U E : Type 0} (r : Result U E) (old new : Replica A) (v w : Knowledge) (waiting rest : List Told) (config : Config) (log : List Event)
       → IsKnown old v waiting config log
       → MatchResult r (λ _. (new.follower ≡ followed_on old.follower waiting) × (rest ≡ [])) (λ _. (new ≡ old) × (rest ≡ waiting))
       → MatchResult r (λ _. Sees v old new w) (λ _. w ≡ v)
@@ -184,10 +184,10 @@ module _ {A : Type 0} where
       let same : new.follower.past.config ≡ config = ap (λ (f : Follower). f.past.config) all ∙ sym (same_config old.follower waiting) ∙ is.config_same in
       (whole new w rest config log same led (ap (λ (f : Follower). f.state) all ∙ is.knows) rule.1 rule.2 values.1, (sym led, tt))
   publishes (Err e) old new v w waiting rest config log is values rule =
-      (subst (λ (p : Held A × Knowledge × List Told). IsKnown p.0 p.1 p.2 config log) (λ i. (sym values.0 i, sym rule i, sym values.1 i)) is, (tt, ap (λ (x : Held A). events_in x.follower.past) values.0))
+      (subst (λ (p : Replica A × Knowledge × List Told). IsKnown p.0 p.1 p.2 config log) (λ i. (sym values.0 i, sym rule i, sym values.1 i)) is, (tt, ap (λ (x : Replica A). events_in x.follower.past) values.0))
 
   -- what the first publish leaves, before which nothing was appended: all of the core is published
-  pub opened : {U E : Type 0} (r : Result U E) (old new : Held A) (v w : Knowledge) (waiting rest : List Told) (config : Config) (log : List Event)
+  pub opened : {U E : Type 0} (r : Result U E) (old new : Replica A) (v w : Knowledge) (waiting rest : List Told) (config : Config) (log : List Event)
       → is_err r ≡ false → old.follower.past.config ≡ config → events_in old.follower.past ≡ log → IsOfLog old.follower → waiting ≡ []
       → MatchResult r (λ _. (new.follower ≡ followed_on old.follower waiting) × (rest ≡ [])) (λ _. (new ≡ old) × (rest ≡ waiting))
       → MatchResult r (λ _. Sees v old new w) (λ _. w ≡ v)

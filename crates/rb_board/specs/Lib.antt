@@ -1,4 +1,4 @@
 pub mod Knowledge
 pub mod Ends
-pub mod Kept
+pub mod Rule
 pub mod Unseen

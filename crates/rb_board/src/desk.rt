@@ -4,12 +4,12 @@ ghost use mathlib.Core.List.{IsPrefix};
 ghost use Rattle.rb_core.specs.Follower.{IsOfLog, events_in, state_after};
 ghost use Rattle.rb_core_model.specs.Machine.{client_view, client_view_refusal, path_view_refusal, state_of};
 ghost use Rattle.rb_core_model.specs.Standing.{path_view};
-ghost use Rattle.rb_board.specs.Kept.{Sees, known_by, known_of, past_of};
+ghost use Rattle.rb_board.specs.Rule.{Sees, known_by, known_of, past_of};
 ghost use Rattle.rb_board.specs.Unseen.{IsUnseen};
 
 use crate::error::DeskError;
-use crate::held::Held;
 use crate::note::Note;
+use crate::replica::Replica;
 use crate::rule::{Knows, Looks, Published};
 use left_right::reader::{Reader, Reading};
 use rb_core::{Follower, JobView};
@@ -22,7 +22,7 @@ use std::marker::Model;
 /// told of.
 #[derive(Drop)]
 pub struct Desk<A: Allocator = Global> {
-    reader: Option<Reader<Held<A>, Knows, Published, A>>,
+    reader: Option<Reader<Replica<A>, Knows, Published, A>>,
     told: usize,
 }
 
@@ -30,7 +30,7 @@ impl<A: Allocator> Model for Desk<A> {
     ghost use Rattle.std.specs.Prelude.{IsSome};
     ghost use Rattle.rb_board.specs.Ends as ends;
     ghost use Rattle.rb_core.specs.Follower.{events_in};
-    ghost use Rattle.rb_board.specs.Kept.{known_of, past_of};
+    ghost use Rattle.rb_board.specs.Rule.{known_of, past_of};
 
     ghost Value = { ends.Desk };
 
@@ -41,7 +41,7 @@ impl<A: Allocator> Model for Desk<A> {
 
 impl<A: Allocator + Copy> Desk<A> {
     /// The desk that reads so, and was told nothing.
-    pub(crate) fn new(reader: Reader<Held<A>, Knows, Published, A>) -> Desk<A>
+    pub(crate) fn new(reader: Reader<Replica<A>, Knows, Published, A>) -> Desk<A>
         requires { IsSome (known_by reader.place).config }
         ensures { let p = past_of (known_by reader.place) in result ≡ record { config = p.config; seen = events_in p; told = 0 } }
     {
@@ -51,7 +51,7 @@ impl<A: Allocator + Copy> Desk<A> {
         }
     }
 
-    /// From now on an answer is of at least so many events. Takes no memory.
+    /// From now on an answer is of at least so many events.
     pub fn learn(&mut self, note: Note)
         ensures config { self.new.config ≡ self.old.config }
         ensures seen { self.new.seen ≡ self.old.seen }
@@ -117,8 +117,8 @@ impl<A: Allocator + Copy> Desk<A> {
 
 /// Takes what is published. None where the pen is gone.
 fn enter<A: Allocator + Copy>(
-    home: &mut Option<Reader<Held<A>, Knows, Published, A>>,
-) -> Option<Reading<Held<A>, Knows, Published, A>>
+    home: &mut Option<Reader<Replica<A>, Knows, Published, A>>,
+) -> Option<Reading<Replica<A>, Knows, Published, A>>
     requires { IsSome home.old }
     ensures seen { IfSome result (λ reading. Sees (known_of home.old) reading.part.value reading.part.value (known_by reading.place)) }
     ensures closed { IfNone result (IsSome home.new × (known_of home.new ≡ known_of home.old)) }

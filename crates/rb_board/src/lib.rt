@@ -4,10 +4,10 @@
 
 mod desk;
 mod error;
-mod held;
 mod note;
 mod opening;
 mod pen;
+mod replica;
 mod rule;
 
 pub use desk::Desk;

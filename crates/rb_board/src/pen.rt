@@ -8,11 +8,11 @@ ghost use Rattle.rb_core_model.specs.Machine.{refusal_of, reply_of, state_of};
 ghost use Rattle.rb_core_model.specs.Refused.{IsRefusal};
 ghost use Rattle.rb_core_model.specs.Replied.{reply_view};
 ghost use Rattle.rb_core_model.specs.Seen.{event_view};
-ghost use Rattle.rb_board.specs.Kept.{pending};
+ghost use Rattle.rb_board.specs.Rule.{pending};
 
 use crate::desk::Desk;
-use crate::held::Held;
 use crate::note::Note;
+use crate::replica::Replica;
 use crate::rule::{Knows, Looks, Published, Tells};
 use left_right::Absorb;
 use left_right::writer::Writer;
@@ -26,19 +26,19 @@ use std::sync::Wait;
 /// `close`.
 pub struct Pen<A: Allocator + Copy = Global>
 where
-    Held<A>: Absorb<Told<A>, State = Follower<A>>,
+    Replica<A>: Absorb<Told<A>, State = Follower<A>>,
 {
-    writer: Writer<Held<A>, Told<A>, Knows, Published, A>,
+    writer: Writer<Replica<A>, Told<A>, Knows, Published, A>,
     head: Core<A>,
 }
 
 impl<A: Allocator + Copy> Model for Pen<A>
 where
-    Held<A>: Absorb<Told<A>, State = Follower<A>>,
+    Replica<A>: Absorb<Told<A>, State = Follower<A>>,
 {
     ghost use Rattle.rb_core.specs.Follower.{events_in};
     ghost use Rattle.rb_board.specs.Ends as ends;
-    ghost use Rattle.rb_board.specs.Kept.{IsKnown, known_by, pending};
+    ghost use Rattle.rb_board.specs.Rule.{IsKnown, known_by, pending};
 
     ghost Value = { ends.Pen };
 
@@ -58,10 +58,10 @@ impl<A: Allocator + Copy> Pen<A> {
         requires { (0 < places) × (places < 2 ^ 32) }
         ensures { IfOk result (λ pen. pen ≡ record { config = core.config; log = core.log; published = core.log }) }
     {
-        let first = Held {
+        let first = Replica {
             follower: core.follower()?,
         };
-        let second = Held {
+        let second = Replica {
             follower: first.follower.copy()?,
         };
         let writer = Writer::new(alloc, first, second, places)?;
@@ -91,7 +91,7 @@ impl<A: Allocator + Copy> Pen<A> {
         Ok(self.head.settle(ready))
     }
 
-    /// The core after all appended events. Takes no memory.
+    /// The core after all appended events.
     pub fn head(&self) -> &Core<A>
         ensures config { result.now.config ≡ self.now.config }
         ensures log { result.now.log ≡ self.now.log }
@@ -116,7 +116,7 @@ impl<A: Allocator + Copy> Pen<A> {
         (pen, published)
     }
 
-    /// How many events are published, for desks to learn. Takes no memory.
+    /// How many events are published, for desks to learn.
     pub fn tell(&self) -> Note
         ensures { result.front ≡ length self.now.published }
     {
@@ -158,7 +158,7 @@ fn know<A: Allocator + Copy>(core: &Core<A>)
 
 /// Puts what followers are told behind what is to be published.
 fn keep<A: Allocator + Copy>(
-    writer: &mut Writer<Held<A>, Told<A>, Knows, Published, A>,
+    writer: &mut Writer<Replica<A>, Told<A>, Knows, Published, A>,
     told: Told<A>,
 ) -> Result<(), AllocError>
     ensures desk { writer.new.desk ≡ writer.old.desk }

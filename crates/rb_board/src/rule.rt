@@ -1,8 +1,8 @@
 //! The rule that each step of the board keeps, and what the steps tell.
 ghost use Rattle.rb_board.specs.Knowledge.{nothing_yet};
-ghost use Rattle.rb_board.specs.Kept.{Known, Sees};
+ghost use Rattle.rb_board.specs.Rule.{HasBeginnings, Sees};
 
-use crate::held::Held;
+use crate::replica::Replica;
 use atomic_table::{Join, Split};
 use crossbeam_utils::rule::{Outcome, Protocol};
 use rb_core::SharedEntry;
@@ -31,8 +31,8 @@ impl Model for Knows {
 /// The rule: a log is published, and what each seat knows is a beginning of it.
 pub(crate) struct Published;
 
-impl<A: Allocator> Protocol<Held<A>, Knows> for Published {
-    ghost holds = { Known };
+impl<A: Allocator> Protocol<Replica<A>, Knows> for Published {
+    ghost holds = { HasBeginnings };
 
     ghost first = { nothing_yet };
 }
@@ -40,7 +40,7 @@ impl<A: Allocator> Protocol<Held<A>, Knows> for Published {
 /// A look at what is published.
 pub(crate) struct Looks;
 
-impl<A: Allocator> Outcome<Held<A>, Knows> for Looks {
+impl<A: Allocator> Outcome<Replica<A>, Knows> for Looks {
     ghost then = { Sees };
 }
 

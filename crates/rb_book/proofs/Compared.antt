@@ -10,7 +10,7 @@ use Rattle.std.proofs.lemmas.List.{get_or_default, take_all, take_more_same}
 use Rattle.std.proofs.lemmas.List.Elements.{All-get_or}
 use Rattle.std.proofs.lemmas.Slice.Eq.{bytes_eq-Decides, slice_eq-Decides}
 use Rattle.rb_book.specs.Header.{Header, Record, same_vote}
-use Rattle.rb_book.specs.Book.{Book, Known, is_at}
+use Rattle.rb_book.specs.Book.{Book, RecordAt, is_at}
 use Rattle.rb_book.specs.Invariant.{IsBacked}
 use Rattle.rb_book.specs.Same.{same_vote-Decides}
 use Rattle.rb_book.specs.Words.{same_signing}
@@ -39,8 +39,8 @@ decided_not {X} {same} law xs ys differ = go (pointwise same xs ys) ((slice_eq-D
   go false f = refl
 
 -- the record at a height, of what is known
-abbrev record_in : List Known → ℕ → Option Record
-record_in records height = option_map (λ (k : Known). k.record_of) (find (is_at height) records)
+abbrev record_in : List RecordAt → ℕ → Option Record
+record_in records height = option_map (λ (k : RecordAt). k.record_of) (find (is_at height) records)
 
 abbrev record_or : Option Record → Record → Record
 record_or (Some r) other = r

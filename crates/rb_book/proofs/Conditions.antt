@@ -15,7 +15,7 @@ use Rattle.rb_book.specs.declared.error.BookError.TheVariants.{UnknownSet, Wrong
 use Rattle.rb_book.specs.declared.vote.Vote.{Vote}
 use Rattle.rb_book.specs.declared.vote.Vote.TheVariants.{Commit, Nil, Absent, Bad}
 use Rattle.rb_book.specs.Header.{Record, Header, is_bad, same_record, same_header}
-use Rattle.rb_book.specs.Book.{Known, Book, height_of, time_of, is_at, is_below, set_of, record_at, header_at, address_count, max_sets, max_addresses}
+use Rattle.rb_book.specs.Book.{RecordAt, Book, height_of, time_of, is_at, is_below, set_of, record_at, header_at, address_count, max_sets, max_addresses}
 use Rattle.rb_book.specs.Invariant.{IsBook}
 use Rattle.rb_book.specs.Intake.{unless, unless_none, breaker, set_refusal_beside, set_refusal, record_refusal_beside, record_refusal, header_refusal_beside, header_refusal_under, header_refusal}
 use Rattle.rb_book.specs.Laws.{IsWellSigned}
@@ -55,11 +55,11 @@ no_bad : (p : Vote → Bool) (votes : List Vote) → All (λ v. p v ≡ false) v
 no_bad p votes good = no_value (position p votes) (is_some-position p votes ∙ list_any_none p votes good)
 
 -- ---- the record that is known at a height
-known_at : (b : Book) (q : ℕ) (P : Known → Type 0) (Q : Record → Type 0) → All P b.records → IsSomeAnd (record_at b q) Q
-    → (k : Known) × P k × (height_of k ≡ q) × Q k.record_of
+known_at : (b : Book) (q : ℕ) (P : RecordAt → Type 0) (Q : Record → Type 0) → All P b.records → IsSomeAnd (record_at b q) Q
+    → (k : RecordAt) × P k × (height_of k ≡ q) × Q k.record_of
 known_at b q P Q all there = by (find (is_at q) b.records) refl there
   where
-    by : (o : Option Known) → find (is_at q) b.records ≡ o → IsSomeAnd (option_map (λ (k : Known). k.record_of) o) Q → (k : Known) × P k × (height_of k ≡ q) × Q k.record_of
+    by : (o : Option RecordAt) → find (is_at q) b.records ≡ o → IsSomeAnd (option_map (λ (k : RecordAt). k.record_of) o) Q → (k : RecordAt) × P k × (height_of k ≡ q) × Q k.record_of
     by None e is = absurd is
     by (Some k) e is = (k, found_holds P (is_at q) b.records k all e, eqb-true (height_of k) q (found_passes (is_at q) b.records k e), is)
 
@@ -67,14 +67,14 @@ module _ (b : Book) (i : IsBook b) where
   heights_up : AllPairs (λ x y. height_of x < height_of y) b.records
   heights_up = pairs_from_up (λ x y. height_of x < height_of y) b.records (Up-from_increasing height_of b.records i.records.heights)
 
-  at_height : (j : ℕ) (x : Known) (Q : Record → Type 0) → slice_get b.records j ≡ Some x → Q x.record_of → IsSomeAnd (record_at b (height_of x)) Q
+  at_height : (j : ℕ) (x : RecordAt) (Q : Record → Type 0) → slice_get b.records j ≡ Some x → Q x.record_of → IsSomeAnd (record_at b (height_of x)) Q
   at_height j x Q at q =
       let found = find-first (is_at (height_of x)) b.records j x at (eq-eqb (height_of x) (height_of x) refl) (λ k d lt.
       ne_eqb (height_of (get_or b.records k d)) (height_of x) (λ same.
       let less = heights_up k j d lt (slice_get_within b.records j x at) in
       let here = ap height_of (get_or_from_slice_get b.records j x d at) in
       omega (arith, less, here, same))) in
-      subst (λ (o : Option Known). IsSomeAnd (option_map (λ (k : Known). k.record_of) o) Q) (sym found) q
+      subst (λ (o : Option RecordAt). IsSomeAnd (option_map (λ (k : RecordAt). k.record_of) o) Q) (sym found) q
 
   -- ---- the order of times
   module _ (height time : ℕ) where
@@ -84,7 +84,7 @@ module _ (b : Book) (i : IsBook b) where
 
     module _ (place : ℕ) (new : IsBetween b.records height place) where
       abbrev Early : Type 0
-      Early = (k : ℕ) (d : Known) → k < place → time_of (get_or b.records k d) < time
+      Early = (k : ℕ) (d : RecordAt) → k < place → time_of (get_or b.records k d) < time
 
       all_below : Early → All (λ k. height_of k < height → time_of k < time) b.records
       all_below early k d lt low =
@@ -93,7 +93,7 @@ module _ (b : Book) (i : IsBook b) where
             | inr after ↦ absurd (let up = new.higher k d after lt in omega (arith, up, low))
           ]
 
-      below_told : (j : ℕ) (x : Known) → j + 1 ≡ place → slice_get b.records j ≡ Some x → time ≤ time_of x → Told (Some (height_of x))
+      below_told : (j : ℕ) (x : RecordAt) → j + 1 ≡ place → slice_get b.records j ≡ Some x → time ≤ time_of x → Told (Some (height_of x))
       below_told j x next at late =
           let lower : height_of x < height = let down = new.lower j x (omega arith) in let here = ap height_of (get_or_from_slice_get b.records j x x at) in omega (arith, down, here) in
           inl (record {
@@ -110,7 +110,7 @@ module _ (b : Book) (i : IsBook b) where
                 ];
           })
 
-      above_told : (x : Known) → Early → slice_get b.records place ≡ Some x → time_of x ≤ time → Told (Some (height_of x))
+      above_told : (x : RecordAt) → Early → slice_get b.records place ≡ Some x → time_of x ≤ time → Told (Some (height_of x))
       above_told x early at soon =
           let within = slice_get_within b.records place x at in
           let higher : height < height_of x = let up = new.higher place x (omega arith) within in let here = ap height_of (get_or_from_slice_get b.records place x x at) in omega (arith, up, here) in
@@ -129,7 +129,7 @@ module _ (b : Book) (i : IsBook b) where
                 ];
           })
 
-      none_told : Early → ((k : ℕ) (d : Known) → place ≤ k → k < length b.records → time < time_of (get_or b.records k d)) → Told None
+      none_told : Early → ((k : ℕ) (d : RecordAt) → place ≤ k → k < length b.records → time < time_of (get_or b.records k d)) → Told None
       none_told early late = record {
         below = all_below early;
         above = λ k d lt high.
@@ -143,7 +143,7 @@ module _ (b : Book) (i : IsBook b) where
       above early =
           elim (slice_get_cases b.records place).1 [
             | inl there ↦
-                let x : Known = there.0 in
+                let x : RecordAt = there.0 in
                 elim (cases_lt time (time_of x)) [
                   | inl late ↦
                       let after = late_after b.records place x time i.records there.2 late in
@@ -151,7 +151,7 @@ module _ (b : Book) (i : IsBook b) where
                   | inr soon ↦ subst Told (sym (broken_above b.records height time place new x early there.2 soon)) (above_told x early there.2 soon)
                 ]
             | inr past ↦
-                let after : (k : ℕ) (d : Known) → place ≤ k → k < length b.records → time < time_of (get_or b.records k d) = λ k d le lt. absurd (omega (arith, past.0, le, lt)) in
+                let after : (k : ℕ) (d : RecordAt) → place ≤ k → k < length b.records → time < time_of (get_or b.records k d) = λ k d le lt. absurd (omega (arith, past.0, le, lt)) in
                 subst Told (sym (unbroken b.records height time place new early after)) (none_told early after)
           ]
 
@@ -161,7 +161,7 @@ module _ (b : Book) (i : IsBook b) where
         let within = new.within in
         elim (slice_get_cases b.records j).1 [
           | inl there ↦
-              let x : Known = there.0 in
+              let x : RecordAt = there.0 in
               elim (cases_lt (time_of x) time) [
                 | inl soon ↦ above (suc j) new (λ k d lt. early_before b.records j x time i.records there.2 soon k d (omega (arith, lt)))
                 | inr late ↦ subst Told (sym (broken_below b.records height time (suc j) new j x (omega arith) there.2 late)) (below_told (suc j) new j x (omega arith) there.2 late)
@@ -173,7 +173,7 @@ module _ (b : Book) (i : IsBook b) where
     breaker_told none =
         told_at (count_by (is_below height) b.records)
         (IsBetween-new b.records height (count_by (is_below height) b.records) i.records.heights
-        (record { absent = option_map_none (λ (k : Known). k.record_of) (find (is_at height) b.records) none; after = refl }))
+        (record { absent = option_map_none (λ (k : RecordAt). k.record_of) (find (is_at height) b.records) none; after = refl }))
 
     -- one height breaks the order, or none does
     not_both : (n : ℕ) → IsInOrder b height time → ¬ IsBreaker b height time n

@@ -5,7 +5,7 @@ use Rattle.std.specs.List.{insert}
 use Rattle.rb_valset.specs.Validator.{Member}
 use Rattle.rb_valset.specs.ValidatorSet.{set_hash}
 use Rattle.rb_book.specs.Header.{Record, Header}
-use Rattle.rb_book.specs.Book.{Known, Book, is_at, is_below, header_is_at, header_is_below, has_hash, is_before, set_of, record_at, header_at, max_sets}
+use Rattle.rb_book.specs.Book.{RecordAt, Book, is_at, is_below, header_is_at, header_is_below, has_hash, is_before, set_of, record_at, header_at, max_sets}
 use Rattle.rb_book.specs.Invariant.{IsBook, IsBacked}
 use Rattle.rb_book.specs.Intake.{set_refusal, record_refusal, header_refusal, with_record, with_header, with_set, after_set, after_record, after_header}
 use Rattle.rb_book.specs.Search.{IsNewPlace}
@@ -25,10 +25,10 @@ pub set_room : (b : Book) (set : List Member) (place : ℕ) → IsNewPlace (has_
 set_room b set place new f = (room_beside (set_of b (set_hash set)) b set new.absent f).room
 
 -- ---- a record
-pub record_put : (b : Book) (height : ℕ) (r : Record) (k : Known) (place : ℕ) → IsNewPlace (is_at height) (is_below height) b.records place
+pub record_put : (b : Book) (height : ℕ) (r : Record) (k : RecordAt) (place : ℕ) → IsNewPlace (is_at height) (is_below height) b.records place
     → k ≡ record { height = height; record_of = r } → record b { records = insert b.records place k } ≡ after_record b height r
 record_put b height r k place new is =
-    ap (λ (x : Known). record b { records = insert b.records place x }) is
+    ap (λ (x : RecordAt). record b { records = insert b.records place x }) is
     ∙ ap (λ (i : ℕ). record b { records = insert b.records i (record { height = height; record_of = r }) }) new.after
     ∙ sym (if_new (record_at b height) b (with_record b height r) (no_record b height new.absent))
 

@@ -6,7 +6,6 @@ pub mod Header
 pub mod Book
 pub mod Invariant
 pub mod Intake
-pub mod Refusal
 pub mod Same
 pub mod Search
 pub mod Laws

@@ -13,7 +13,7 @@ use crate::error::BookError;
 use crate::header::Header;
 use crate::intake::{breaker, first_bad_vote};
 use crate::known_addresses::{copy_addresses, count_new, keep_addresses, reserve_addresses};
-use crate::record::{Known, Record};
+use crate::record::{Record, RecordAt};
 use crate::search::{header_place, record_place, set_place};
 use rb_base::{Height, Moment};
 use rb_valset::ValidatorSet;
@@ -41,7 +41,7 @@ const MAX_ADDRESSES: usize = 65_536;
 pub struct ChainBook<A: Allocator = Global> {
     limit: usize,
     sets: Vec<ValidatorSet<A>, A>,
-    records: Vec<Known, A>,
+    records: Vec<RecordAt, A>,
     headers: Vec<Header<A>, A>,
     distinct: usize,
     addresses: Option<Addresses<A>>,
@@ -140,7 +140,7 @@ impl<A: Allocator> ChainBook<A> {
     }
 
     /// The records, by rising height.
-    pub fn records(&self) -> &[Known]
+    pub fn records(&self) -> &[RecordAt]
         ensures value { result.now ≡ self.now.records }
         ensures book { IsBook self.now }
     {
@@ -264,8 +264,8 @@ impl<A: Allocator> ChainBook<A> {
 }
 
 impl<A: Allocator> ChainBook<A> {
-    /// Why a set would be refused: `HashClash` where another set has its hash, `Full` where the book
-    /// has 1,024 sets or would have more than 65,536 addresses. Takes no memory.
+    /// Why a set would be refused: `HashClash` where another set has its hash, `Full` where the
+    /// book has 1,024 sets or would have more than 65,536 addresses.
     pub fn judge_set(&self, set: &ValidatorSet<A>) -> Result<(), BookError>
         ensures accepted { OnOk result (set_refusal self.now set.now ≡ None) }
         ensures refused { IfErr result (λ e. set_refusal self.now set.now ≡ Some e) }
@@ -285,7 +285,7 @@ impl<A: Allocator> ChainBook<A> {
 
     /// Why a record would be refused: `Conflict` where its height has another record, `TimeOrder`
     /// where its time doesn't stand between those of its neighbours, `Full` where the book has as
-    /// many records as it may. Takes no memory.
+    /// many records as it may.
     pub fn judge_record(&self, height: Height, entry: &Record) -> Result<(), BookError>
         ensures accepted { OnOk result (record_refusal self.now height entry.now ≡ None) }
         ensures refused { IfErr result (λ e. record_refusal self.now height entry.now ≡ Some e) }
@@ -308,7 +308,7 @@ impl<A: Allocator> ChainBook<A> {
 
     /// Why a header would be refused: `UnknownSet` where its own set is not known,
     /// `WrongVerdictCount` where it hasn't one vote for each member, `BadVote` where one is bad,
-    /// `Conflict` where its height has another header, and why its record would be. Takes no memory.
+    /// `Conflict` where its height has another header, and why its record would be.
     pub fn judge_header(&self, header: &Header<A>) -> Result<(), BookError>
         ensures accepted { OnOk result (header_refusal self.now header.now ≡ None) }
         ensures refused { IfErr result (λ e. header_refusal self.now header.now ≡ Some e) }
@@ -342,7 +342,7 @@ impl<A: Allocator> ChainBook<A> {
         reserve_addresses(&mut self.addresses, set.size())
     }
 
-    /// Puts a set that is not refused into the book; an equal one changes nothing. Takes no memory.
+    /// Puts a set that is not refused into the book; an equal one changes nothing.
     pub fn put_set(&mut self, set: ValidatorSet<A>)
         requires { set_refusal self.old set ≡ None }
         ensures { self.new ≡ after_set self.old set }
@@ -354,20 +354,19 @@ impl<A: Allocator> ChainBook<A> {
         }
     }
 
-    /// Puts a record that is not refused into the book; an equal one changes nothing. Takes no
-    /// memory.
+    /// Puts a record that is not refused into the book; an equal one changes nothing.
     pub fn put_record(&mut self, height: Height, entry: Record)
         requires { record_refusal self.old height entry ≡ None }
         ensures { self.new ≡ after_record self.old height entry }
     {
         if let Err(place) = record_place(self.records.as_slice(), height) {
-            let known = Known::new(height, entry);
+            let known = RecordAt::new(height, entry);
             self.records.insert(place, known).unwrap();
         }
     }
 
     /// Puts a header that is not refused into the book, with its record; an equal one changes
-    /// nothing. Takes no memory.
+    /// nothing.
     pub fn put_header(&mut self, header: Header<A>)
         requires { header_refusal self.old header ≡ None }
         ensures { self.new ≡ after_header self.old header }
@@ -392,7 +391,7 @@ impl<A: Allocator> ChainBook<A> {
         Ok(())
     }
 
-    /// Adds a record, unless it is refused as `judge_record` tells. Takes no memory.
+    /// Adds a record, unless it is refused as `judge_record` tells.
     pub fn add_record(&mut self, height: Height, entry: Record) -> Result<(), BookError>
         ensures accepted { OnOk result (record_refusal self.old height entry ≡ None) }
         ensures added { OnOk result (self.new ≡ after_record self.old height entry) }
@@ -404,7 +403,7 @@ impl<A: Allocator> ChainBook<A> {
         Ok(())
     }
 
-    /// Adds a header and its record, unless it is refused as `judge_header` tells. Takes no memory.
+    /// Adds a header and its record, unless it is refused as `judge_header` tells.
     pub fn add_header(&mut self, header: Header<A>) -> Result<(), BookError>
         ensures accepted { OnOk result (header_refusal self.old header ≡ None) }
         ensures added { OnOk result (self.new ≡ after_header self.old header) }
@@ -446,7 +445,7 @@ fn same_sets<A: Allocator>(sets: &[ValidatorSet<A>], others: &[ValidatorSet<A>])
     sets == others
 }
 
-fn same_records(records: &[Known], others: &[Known]) -> bool
+fn same_records(records: &[RecordAt], others: &[RecordAt]) -> bool
     ensures { result ≡ pointwise same_known records.now others.now }
 {
     if records.len() != others.len() {
@@ -477,9 +476,9 @@ fn copy_sets<A: Allocator + Copy>(
 
 fn copy_records<A: Allocator + Copy>(
     alloc: A,
-    records: &[Known],
+    records: &[RecordAt],
     room: usize,
-) -> Result<Vec<Known, A>, AllocError>
+) -> Result<Vec<RecordAt, A>, AllocError>
     ensures items { IfOk result (λ copies. copies.items ≡ records.now) }
     ensures room { IfOk result (λ copies. room ≤ vec_capacity copies) }
 {

@@ -3,7 +3,7 @@ pub mod Judged
 pub mod Marks
 pub mod Rising
 pub mod Search
-pub mod Known
+pub mod RecordAt
 pub mod Refusals
 pub mod Targets
 pub mod Again

@@ -3,7 +3,7 @@ use Rattle.std.proofs.Common.{◌≡◌, ◌≢◌, ℕ, ◌+◌, ◌<◌, ◌�
 use Rattle.std.specs.Option.{IsSomeAnd}
 use Rattle.std.proofs.lemmas.List.{length-set}
 use Rattle.std.proofs.lemmas.Option.{same_Some, slice_get_within, slice_get-get_or, get_or_from_slice_get}
-use Rattle.rb_book.specs.Book.{Known}
+use Rattle.rb_book.specs.Book.{RecordAt}
 use Rattle.rb_step.specs.LightClient.{IsOrderly}
 use Rattle.rb_step.specs.View.{View, client_of}
 use Rattle.rb_plan.specs.declared.cost.Cost.{Cost}
@@ -16,9 +16,9 @@ use Rattle.rb_cert.proofs.Rising.{earlier_or_here}
 
 module _ (v : View) (label : Labels) where
   abbrev pub AreLookedUpBefore : List Trusted → ℕ → Type 0
-  AreLookedUpBefore found i = (p : ℕ) (k : Known) (t : Trusted) → p < i → slice_get v.book.records p ≡ Some k → slice_get found p ≡ Some t → IsLookedUp v label k t
+  AreLookedUpBefore found i = (p : ℕ) (k : RecordAt) (t : Trusted) → p < i → slice_get v.book.records p ≡ Some k → slice_get found p ≡ Some t → IsLookedUp v label k t
 
-  pub one_more : (found : List Trusted) (i : ℕ) (x : Known) (t : Trusted) → slice_get v.book.records i ≡ Some x → IsLookedUp v label x t → AreLookedUpBefore found i → AreLookedUpBefore (set found i t) (i + 1)
+  pub one_more : (found : List Trusted) (i : ℕ) (x : RecordAt) (t : Trusted) → slice_get v.book.records i ≡ Some x → IsLookedUp v label x t → AreLookedUpBefore found i → AreLookedUpBefore (set found i t) (i + 1)
   one_more found i x t at is so_far p k y less at' entry = go (earlier_or_here p i less)
     where
       within : p < length found
@@ -32,7 +32,7 @@ module _ (v : View) (label : Labels) where
       go (inr same) =
           let here : y ≡ t = sym (get_or_from_slice_get (set found i t) p y y entry) ∙ ap (λ (j : ℕ). get_or (set found i t) j y) (sym same) ∙ get_or-set_same found i t y (omega (arith, within, same)) in
           let known : x ≡ k = same_Some x k (sym at ∙ ap (slice_get v.book.records) same ∙ at') in
-          subst (IsLookedUp v label k) (sym here) (subst (λ (z : Known). IsLookedUp v label z t) known is)
+          subst (IsLookedUp v label k) (sym here) (subst (λ (z : RecordAt). IsLookedUp v label z t) known is)
 
   pub all_looked_up : (found : List Trusted) (i : ℕ) → length v.book.records ≤ i → AreLookedUpBefore found i → AreLookedUp found v label
   all_looked_up found i whole so_far p k t at entry =
@@ -40,7 +40,7 @@ module _ (v : View) (label : Labels) where
       so_far p k t (omega (arith, l, whole)) at entry
 
   -- a step leads there for less from what was looked up where it does by the labels
-  module _ (orderly : IsOrderly (client_of v)) (k : Known) (t : Trusted) (looked : IsLookedUp v label k t) (h : ℕ) (o : Option Cost) (is : o ≡ label h) where
+  module _ (orderly : IsOrderly (client_of v)) (k : RecordAt) (t : Trusted) (looked : IsLookedUp v label k t) (h : ℕ) (o : Option Cost) (is : o ≡ label h) where
     pub too_high : LeadsLower t.cost ((client_of v).fee k.height h) o → (client_of v).Accepts k.height h → IsTooHigh (client_of v) label k.height h
     too_high lower accepted = go t.cost refl lower
       where

@@ -9,7 +9,7 @@ use Rattle.std.proofs.lemmas.Option.{none-some, same_Some, get_or_from_slice_get
 use Rattle.rb_base.specs.Fraction.{Exceeds}
 use Rattle.rb_valset.specs.Validator.{Member}
 use Rattle.rb_valset.specs.ValidatorSet.{total_of}
-use Rattle.rb_book.specs.Book.{Known, Book, height_of, time_of, header_height, is_at, has_hash, record_at, header_at, set_of}
+use Rattle.rb_book.specs.Book.{RecordAt, Book, height_of, time_of, header_height, is_at, has_hash, record_at, header_at, set_of}
 use Rattle.rb_book.specs.Header.{Record, Header}
 use Rattle.rb_book.specs.Invariant.{IsBacked}
 use Rattle.rb_step.specs.KnownStep.{◌>>=◌, step_at}
@@ -20,7 +20,7 @@ use Rattle.rb_plan.proofs.Lookups.{find-at, find-some, pairs_from_increasing}
 use Rattle.rb_cert.specs.Places.{IsMarked}
 use Rattle.rb_cert.specs.Refused.{IsJudgedBy, AreRefused}
 use Rattle.rb_step.proofs.Orderly.{bind_some}
-use Rattle.rb_cert.proofs.Known.{records_rise}
+use Rattle.rb_cert.proofs.RecordAt.{records_rise}
 use Rattle.rb_cert.proofs.Rising.{at_place, lower_before}
 
 pub bind_is : {A B : Type 0} (o : Option A) (f : A → Option B) (x : A) → o ≡ Some x → (o >>= f) ≡ f x
@@ -38,25 +38,25 @@ same_found : {X : Type 0} (p q : X → Bool) (xs : List X) (i : ℕ) → positio
 same_found p q xs i at at' = found_at p xs i at ∙ sym (found_at q xs i at')
 
 -- the record that a look-up finds
-record AreSame (b : Book) (h : ℕ) (r : Record) (m : Known) : Type 0 where
+record AreSame (b : Book) (h : ℕ) (r : Record) (m : RecordAt) : Type 0 where
   there : Contains b.records m
   height : m.height ≡ h
   entry : m.record_of ≡ r
 
-known_at : (b : Book) (h : ℕ) (r : Record) → record_at b h ≡ Some r → (m : Known) × AreSame b h r m
+known_at : (b : Book) (h : ℕ) (r : Record) → record_at b h ≡ Some r → (m : RecordAt) × AreSame b h r m
 known_at b h r is = go (find (is_at h) b.records) refl
   where
-    go : (o : Option Known) → find (is_at h) b.records ≡ o → (m : Known) × AreSame b h r m
-    go None e = absurd (none-some r (sym (ap (option_map (λ (k : Known). k.record_of)) e) ∙ is))
+    go : (o : Option RecordAt) → find (is_at h) b.records ≡ o → (m : RecordAt) × AreSame b h r m
+    go None e = absurd (none-some r (sym (ap (option_map (λ (k : RecordAt). k.record_of)) e) ∙ is))
     go (Some m) e =
         let found : Contains b.records m × (height_of m ≡ h) = find-some height_of b.records h m e in
-        (m, record { there = found.0; height = found.1; entry = same_Some m.record_of r (sym (ap (option_map (λ (k : Known). k.record_of)) e) ∙ is) })
+        (m, record { there = found.0; height = found.1; entry = same_Some m.record_of r (sym (ap (option_map (λ (k : RecordAt). k.record_of)) e) ∙ is) })
 
 module _ (v : View) (view : IsView v) where
-  pub record_is : (k : Known) → Contains v.book.records k → record_at v.book k.height ≡ Some k.record_of
-  record_is k there = ap (option_map (λ (x : Known). x.record_of)) (find-at height_of v.book.records k k.height (records_rise v view) there refl)
+  pub record_is : (k : RecordAt) → Contains v.book.records k → record_at v.book k.height ≡ Some k.record_of
+  record_is k there = ap (option_map (λ (x : RecordAt). x.record_of)) (find-at height_of v.book.records k k.height (records_rise v view) there refl)
 
-  times_rise : (k n : Known) → Contains v.book.records k → Contains v.book.records n → k.height < n.height → time_of k < time_of n
+  times_rise : (k n : RecordAt) → Contains v.book.records k → Contains v.book.records n → k.height < n.height → time_of k < time_of n
   times_rise k n k_there n_there lower = go (at_place v.book.records k k_there) (at_place v.book.records n n_there)
     where
       go : (i : ℕ) × (slice_get v.book.records i ≡ Some k) → (j : ℕ) × (slice_get v.book.records j ≡ Some n) → time_of k < time_of n
@@ -68,15 +68,15 @@ module _ (v : View) (view : IsView v) where
           omega (arith, up, first, second)
 
   -- a header is later than each lower record
-  header_later : (k : Known) (header : Header) → Contains v.book.records k → Contains v.book.headers header → k.height < header.height → time_of k < header.record_of.time
+  header_later : (k : RecordAt) (header : Header) → Contains v.book.records k → Contains v.book.headers header → k.height < header.height → time_of k < header.record_of.time
   header_later k header k_there there lower =
       let backed : IsBacked v.book header = All-contains (IsBacked v.book) v.book.headers header view.book.backed there in
-      let own : (m : Known) × AreSame v.book header.height header.record_of m = known_at v.book header.height header.record_of backed.recorded in
+      let own : (m : RecordAt) × AreSame v.book header.height header.record_of m = known_at v.book header.height header.record_of backed.recorded in
       let up : time_of k < time_of own.0 = times_rise k own.0 k_there own.1.there (subst (λ (n : ℕ). k.height < n) (sym own.1.height) lower) in
       subst (λ (r : Record). time_of k < r.time) own.1.entry up
 
   -- the step from the live record, by the same votes
-  accepted_live : (k n : Known) (h set m : ℕ) (header : Header) (own : List Member) → header.height ≡ h → k.height < h → IsJudgedBy v k h set → IsJudgedBy v n h set
+  accepted_live : (k n : RecordAt) (h set m : ℕ) (header : Header) (own : List Member) → header.height ≡ h → k.height < h → IsJudgedBy v k h set → IsJudgedBy v n h set
       → time_of k < header.record_of.time → m < time_of k + v.options.period
       → Accepts v.options m (step_of n.height n.record_of (set_of v.book n.record_of.next) header own)
       → Accepts v.options m (step_of k.height k.record_of (set_of v.book k.record_of.next) header own)
@@ -93,7 +93,7 @@ module _ (v : View) (view : IsView v) where
         own_signed = a.own_signed;
       }
 
-  pub accepted_like : (k n : Known) (h set : ℕ) → Contains v.book.records k → Contains v.book.records n → (client_of v).IsLive k.height → k.height < h → IsJudgedBy v k h set → IsJudgedBy v n h set
+  pub accepted_like : (k n : RecordAt) (h set : ℕ) → Contains v.book.records k → Contains v.book.records n → (client_of v).IsLive k.height → k.height < h → IsJudgedBy v k h set → IsJudgedBy v n h set
       → (client_of v).Accepts n.height h → (client_of v).Accepts k.height h
   unfolding client_of step_at
   accepted_like k n h set k_there n_there live lower k_by n_by accepted = go (step_at v.book n.height h) refl accepted
@@ -120,7 +120,7 @@ module _ (v : View) (view : IsView v) where
           (λ m within. accepted_live k n h set m header own found.1 lower k_by n_by earlier (omega (arith, time, within)) (subst (Accepts v.options m) of_n (throughout m within)))
 
   -- one more set by which the step from a live record was refused
-  pub refused_more : (k : Known) (h set : ℕ) (words marked : List ℕ) → Contains v.book.records k → (client_of v).IsLive k.height → k.height < h → IsJudgedBy v k h set → ¬ (client_of v).Accepts k.height h
+  pub refused_more : (k : RecordAt) (h set : ℕ) (words marked : List ℕ) → Contains v.book.records k → (client_of v).IsLive k.height → k.height < h → IsJudgedBy v k h set → ¬ (client_of v).Accepts k.height h
       → ((p : ℕ) → IsMarked marked p ↔ (IsMarked words p ⊎ (p ≡ set))) → AreRefused words v h → AreRefused marked v h
   refused_more k h set words marked k_there live lower k_by refused more so_far n other n_there n_by mark accepted = go ((more other).0 mark)
     where

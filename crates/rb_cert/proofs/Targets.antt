@@ -7,7 +7,7 @@ use Rattle.std.proofs.lemmas.Option.{none-some, same_Some}
 use Rattle.rb_base.specs.Fraction.{Exceeds, two_thirds}
 use Rattle.rb_valset.specs.Validator.{Member}
 use Rattle.rb_valset.specs.ValidatorSet.{total_of}
-use Rattle.rb_book.specs.Book.{Known, header_height, has_hash, record_at, header_at, set_of}
+use Rattle.rb_book.specs.Book.{RecordAt, header_height, has_hash, record_at, header_at, set_of}
 use Rattle.rb_book.specs.Header.{Header, IsSignedBy}
 use Rattle.rb_book.specs.Invariant.{IsBacked}
 use Rattle.rb_step.specs.Fee.{fee_of}
@@ -22,7 +22,7 @@ use Rattle.rb_cert.specs.Checks.{AreStepsIntoLow}
 use Rattle.rb_cert.specs.Places.{IsMarked}
 use Rattle.rb_cert.specs.Refused.{IsJudgedBy, AreRefused}
 use Rattle.rb_cert.specs.Target.{IsTarget}
-use Rattle.rb_cert.proofs.Known.{headers_rise}
+use Rattle.rb_cert.proofs.RecordAt.{headers_rise}
 use Rattle.rb_cert.proofs.Refusals.{bind_is, found_at, record_is}
 
 module _ (v : View) (view : IsView v) where
@@ -39,19 +39,19 @@ module _ (v : View) (view : IsView v) where
         signed = subst (IsSignedBy header) (same_Some backed.own.0 own (sym backed.own.1 ∙ is)) backed.own.2;
       }
 
-  pub step_to : (k : Known) (header : Header) (own : List Member) → Contains v.book.records k → IsTarget v.book header own
+  pub step_to : (k : RecordAt) (header : Header) (own : List Member) → Contains v.book.records k → IsTarget v.book header own
       → step_at v.book k.height header.height ≡ Some (step_of k.height k.record_of (set_of v.book k.record_of.next) header own)
   unfolding step_at
   step_to k header own there target =
       bind_is (record_at v.book k.height) _ k.record_of (record_is v view k there) ∙ bind_is (header_at v.book header.height) _ header target.there ∙ bind_is (set_of v.book header.set_hash) _ own target.known
 
-  pub fee_to : (k : Known) (header : Header) (own : List Member) → Contains v.book.records k → IsTarget v.book header own
+  pub fee_to : (k : RecordAt) (header : Header) (own : List Member) → Contains v.book.records k → IsTarget v.book header own
       → fee_of v.fees (step_of k.height k.record_of (set_of v.book k.record_of.next) header own) ≡ (client_of v).fee k.height header.height
   unfolding client_of
   fee_to k header own there target = sym (ap (λ (o : Option Step). option_map_or (fee_of v.fees) o 0) (step_to k header own there target))
 
   -- a step that isn't adjacent is refused where the header's commit voters hold too little of the record's next set
-  refused_by_set : (k : Known) (header : Header) (own next : List Member) → Contains v.book.records k → IsTarget v.book header own → k.height + 1 ≢ header.height → set_of v.book k.record_of.next ≡ Some next
+  refused_by_set : (k : RecordAt) (header : Header) (own next : List Member) → Contains v.book.records k → IsTarget v.book header own → k.height + 1 ≢ header.height → set_of v.book k.record_of.next ≡ Some next
       → ¬ Exceeds (signed_power next own header) (total_of next) v.options.trust → ¬ (client_of v).Accepts k.height header.height
   unfolding client_of
   refused_by_set k header own next there target apart known few accepted =
@@ -72,7 +72,7 @@ module _ (v : View) (view : IsView v) where
           refused_by_set n header own next n_there target by.not_adjacent (found_at (has_hash n.record_of.next) v.book.sets set by.place ∙ at) few accepted
 
   -- nor is the step from one record
-  pub ruled_out : (k : Known) (header : Header) (own next : List Member) (set : ℕ) → Contains v.book.records k → IsTarget v.book header own → IsJudgedBy v k header.height set → slice_get v.book.sets set ≡ Some next
+  pub ruled_out : (k : RecordAt) (header : Header) (own next : List Member) (set : ℕ) → Contains v.book.records k → IsTarget v.book header own → IsJudgedBy v k header.height set → slice_get v.book.sets set ≡ Some next
       → ¬ Exceeds (signed_power next own header) (total_of next) v.options.trust → ¬ (client_of v).Accepts k.height header.height
   ruled_out k header own next set there target by at few accepted =
       refused_by_set k header own next there target by.not_adjacent (found_at (has_hash k.record_of.next) v.book.sets set by.place ∙ at) few accepted

@@ -11,7 +11,7 @@ use crate::places::Places;
 use crate::target::accepts_from;
 use crate::voters::VoterMarks;
 use rb_base::Height;
-use rb_book::{Header, Known};
+use rb_book::{Header, RecordAt};
 use rb_step::ClientView;
 use rb_valset::ValidatorSet;
 use std::alloc::Allocator;
@@ -47,7 +47,7 @@ impl RefusedSets {
 /// members' votes are looked up only where the voters' marks don't rule it out.
 pub(crate) fn accepts<A: Allocator + Copy>(
     view: &ClientView<'_, A>,
-    known: &Known,
+    known: &RecordAt,
     next: Option<usize>,
     header: &Header<A>,
     own: &ValidatorSet<A>,
@@ -85,7 +85,7 @@ pub(crate) fn accepts<A: Allocator + Copy>(
 
 /// The place of the next set that the step from the known height goes by: none where the step is
 /// adjacent, or where the set isn't known.
-fn judging_set(known: &Known, next: Option<usize>, height: Height) -> Option<usize>
+fn judging_set(known: &RecordAt, next: Option<usize>, height: Height) -> Option<usize>
     ensures { (set : ℕ) → (result ≡ Some set) ↔ ((known.now.height + 1 ≢ height) × (next ≡ Some set)) }
 {
     if known.height().get() + 1 == height.get() {

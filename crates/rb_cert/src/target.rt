@@ -7,7 +7,7 @@ ghost use Rattle.rb_step.specs.View.{IsView, client_of};
 ghost use Rattle.rb_cert.specs.Target.{IsTarget};
 ghost use Rattle.rb_cert.specs.Trusted.{IsNextOf};
 
-use rb_book::{Header, Known};
+use rb_book::{Header, RecordAt};
 use rb_step::{ClientView, accepts_in};
 use rb_valset::ValidatorSet;
 use std::alloc::Allocator;
@@ -15,7 +15,7 @@ use std::alloc::Allocator;
 /// The next set of the known record, whose place is `next`.
 fn next_set<'a, A: Allocator + Copy>(
     view: &ClientView<'a, A>,
-    known: &Known,
+    known: &RecordAt,
     next: Option<usize>,
 ) -> Option<&'a ValidatorSet<A>>
     requires { IsNextOf view.now known.now next }
@@ -28,7 +28,7 @@ fn next_set<'a, A: Allocator + Copy>(
 /// The fee of the step from the known record, whose next set's place is `next`.
 pub(crate) fn fee_from<A: Allocator + Copy>(
     view: &ClientView<'_, A>,
-    known: &Known,
+    known: &RecordAt,
     next: Option<usize>,
     header: &Header<A>,
     own: &ValidatorSet<A>,
@@ -49,7 +49,7 @@ pub(crate) fn fee_from<A: Allocator + Copy>(
 /// Whether the client accepts the step from the known record.
 pub(crate) fn accepts_from<A: Allocator + Copy>(
     view: &ClientView<'_, A>,
-    known: &Known,
+    known: &RecordAt,
     header: &Header<A>,
     own: &ValidatorSet<A>,
 ) -> bool

@@ -2,7 +2,7 @@
 ghost use Rattle.rb_plan.specs.Labelling.{label_of};
 ghost use Rattle.rb_cert.specs.Trusted.{IsLookedUp, AreLookedUp};
 
-use rb_book::Known;
+use rb_book::RecordAt;
 use rb_plan::{Cost, Labelling};
 use rb_step::ClientView;
 use std::alloc::Allocator;
@@ -35,7 +35,7 @@ pub(crate) fn look_up_all<A: Allocator + Copy>(
 fn look_up<A: Allocator + Copy>(
     view: &ClientView<'_, A>,
     labelling: &Labelling<A>,
-    known: &Known,
+    known: &RecordAt,
 ) -> Trusted
     ensures { IsLookedUp view.now (label_of labelling.now) known.now result }
 {

@@ -24,7 +24,7 @@ use Rattle.rb_core_model.proofs.Options.{passes, tested}
 
 -- such an event is of a known object, the log has room for it, and nothing else speaks against it
 pub record IsFree (s : State) (e : Event) : Type 0 where
-  pub known : is_known s e ≡ true
+  pub state : is_known s e ≡ true
   pub few : s.front < max_events
   pub beside : refusal_beside s e ≡ None
 
@@ -32,7 +32,7 @@ pub free : (s : State) (e : Event) → refusal_of s e ≡ None → IsFree s e
 free s e none =
     let first = passes (not (is_known s e)) UnknownObject _ none in
     let second = passes (leb max_events s.front) LogFull _ first.1 in
-    record { known = not-false (is_known s e) first.0; few = leb-false max_events s.front second.0; beside = second.1 }
+    record { state = not-false (is_known s e) first.0; few = leb-false max_events s.front second.0; beside = second.1 }
 
 -- ---- what a log keeps of them
 

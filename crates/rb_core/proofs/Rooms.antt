@@ -10,14 +10,14 @@ use Rattle.rb_script_types.specs.declared.config.ClientConfig.{ClientConfig}
 use Rattle.rb_core.specs.Core.{Core, Room, room_of, state_in, refusal_in, HasOwnRoom, IsReady, IsFold}
 use Rattle.rb_core_model.specs.Entry.{Logged, events_of}
 use Rattle.rb_core_model.specs.Event.{Event, IsEvent, Window, Asked, SetSeen, HeaderSeen, StoredSeen, Sent, Received, AckWritten, Cleared, Closed, Scanned, Planned, Settled}
-use Rattle.rb_core_state.specs.Held.{HeldClient, HeldPath, clients_of, HasSettleRoom}
+use Rattle.rb_core_state.specs.Room.{ClientWithRoom, PathWithRoom, clients_of, HasSettleRoom}
 use Rattle.rb_core_model.specs.Judged.{Ready}
-use Rattle.rb_core.specs.Known.{state_view, HasRoom}
+use Rattle.rb_core.specs.State.{state_view, HasRoom}
 use Rattle.rb_core_model.specs.Log.{log_of}
 use Rattle.rb_core_model.specs.Machine.{State, opening, state_of, refusal_of}
-use Rattle.rb_core_model.specs.Standing.{OpenBatch, KnownClient}
+use Rattle.rb_core_model.specs.Standing.{OpenBatch, ClientState}
 use Rattle.rb_core_model.specs.declared.error.CoreError.{CoreError}
-use Rattle.rb_core.specs.declared.known.Known.{Known}
+use Rattle.rb_core.specs.declared.state.CoreState.{CoreState}
 use Rattle.rb_core_model.proofs.Logs.{states_of_logs}
 
 -- the front of the fold of a log is its length
@@ -39,23 +39,23 @@ from_seen view P (x ∷ xs) (suc i) h = from_seen view P xs i h
 abbrev is_apart : Shared → Bool
 is_apart s = s.apart
 
-abbrev more_stored : HeldClient → ℕ
+abbrev more_stored : ClientWithRoom → ℕ
 more_stored h = h.room
 
-abbrev more_packets : HeldPath → ℕ
+abbrev more_packets : PathWithRoom → ℕ
 more_packets h = h.room
 
 -- room for the updates of a client's open batch
-abbrev HasSeenSettleRoom : List ℕ → List KnownClient → ℕ → Type 0
+abbrev HasSeenSettleRoom : List ℕ → List ClientState → ℕ → Type 0
 HasSeenSettleRoom stored clients i =
-    IsSomeAnd (option_and_then (λ (c : KnownClient). c.batch) (slice_get clients i)) (λ (b : OpenBatch). IsSomeAnd (slice_get stored i) (λ more. length b.updates ≤ more))
+    IsSomeAnd (option_and_then (λ (c : ClientState). c.batch) (slice_get clients i)) (λ (b : OpenBatch). IsSomeAnd (slice_get stored i) (λ more. length b.updates ≤ more))
 
-settle_seen : (hs : List HeldClient) (i : ℕ) → HasSettleRoom hs i → HasSeenSettleRoom (map more_stored hs) (clients_of hs) i
+settle_seen : (hs : List ClientWithRoom) (i : ℕ) → HasSettleRoom hs i → HasSeenSettleRoom (map more_stored hs) (clients_of hs) i
 settle_seen [] i h = absurd h
 settle_seen (x ∷ hs) zero h = h
 settle_seen (x ∷ hs) (suc i) h = settle_seen hs i h
 
-settle_had : (hs : List HeldClient) (i : ℕ) → HasSeenSettleRoom (map more_stored hs) (clients_of hs) i → HasSettleRoom hs i
+settle_had : (hs : List ClientWithRoom) (i : ℕ) → HasSeenSettleRoom (map more_stored hs) (clients_of hs) i → HasSettleRoom hs i
 settle_had [] i h = absurd h
 settle_had (x ∷ hs) zero h = h
 settle_had (x ∷ hs) (suc i) h = settle_had hs i h
@@ -66,7 +66,7 @@ judged_event (Ok x) front e is = ap (λ (y : Ready). y.event) is
 judged_event (Err x) front e is = tt
 
 module _ {A : Type 0} where
-  room_seen : (n : ℕ) (k : Known A) (e : Event) → HasRoom k e → HasOwnRoom (room_of n k) (state_view k) e
+  room_seen : (n : ℕ) (k : CoreState A) (e : Event) → HasRoom k e → HasOwnRoom (room_of n k) (state_view k) e
   room_seen n k (Window window) h = tt
   room_seen n k (Asked client goal) h = tt
   room_seen n k (SetSeen chain set) h = to_seen is_apart (λ b. b ≡ true) k.books.items chain h
@@ -82,7 +82,7 @@ module _ {A : Type 0} where
   room_seen n k (Planned d) h = tt
   room_seen n k (Settled client number done) h = settle_seen k.clients.items client h
 
-  room_had : (n : ℕ) (k : Known A) (e : Event) → HasOwnRoom (room_of n k) (state_view k) e → HasRoom k e
+  room_had : (n : ℕ) (k : CoreState A) (e : Event) → HasOwnRoom (room_of n k) (state_view k) e → HasRoom k e
   room_had n k (Window window) h = tt
   room_had n k (Asked client goal) h = tt
   room_had n k (SetSeen chain set) h = from_seen is_apart (λ b. b ≡ true) k.books.items chain h
@@ -99,7 +99,7 @@ module _ {A : Type 0} where
   room_had n k (Settled client number done) h = settle_had k.clients.items client h
 
   -- a core whose parts have judged an event and made room for it is ready
-  pub is_ready : (config : Config) (old new : Known A) (log items : List Event) (len cap : ℕ) (e : Event) (r : Result Ready CoreError)
+  pub is_ready : (config : Config) (old new : CoreState A) (log items : List Event) (len cap : ℕ) (e : Event) (r : Result Ready CoreError)
       → IsFold config items (state_view old) → state_view new ≡ state_view old → log ≡ items
       → IfOk r (λ ready. ready ≡ record { front = old.front; event = e })
       → IfOk r (λ _. refusal_of (state_view old) e ≡ None)
@@ -119,11 +119,11 @@ module _ {A : Type 0} where
       }
 
   -- and what a ready core holds has room for the event
-  pub has_room : (core : Core) (n : ℕ) (k : Known A) (e : Event) → core.room ≡ room_of n k → state_view k ≡ state_in core → HasOwnRoom core.room (state_in core) e → HasRoom k e
+  pub has_room : (core : Core) (n : ℕ) (k : CoreState A) (e : Event) → core.room ≡ room_of n k → state_view k ≡ state_in core → HasOwnRoom core.room (state_in core) e → HasRoom k e
   has_room core n k e room now h = room_had n k e (subst (λ (s : State). HasOwnRoom (room_of n k) s e) (sym now) (rw room at h))
 
   -- a ready event stays ready
-  pub ready_kept : (old core : Core) (n : ℕ) (before after : Known A) (len cap : ℕ) → old.room ≡ room_of n before → state_view before ≡ state_in old → core.config ≡ old.config → core.log ≡ old.log
+  pub ready_kept : (old core : Core) (n : ℕ) (before after : CoreState A) (len cap : ℕ) → old.room ≡ room_of n before → state_view before ≡ state_in old → core.config ≡ old.config → core.log ≡ old.log
       → core.room ≡ room_of (cap - len) after → state_view after ≡ state_view before → (0 < n → len < cap)
       → ((e : Event) → HasRoom before e → HasRoom after e) → (r : Ready) → IsReady old r → IsReady core r
   ready_kept old core n before after len cap room now config log its_room same more keeps r ready =

@@ -3,11 +3,11 @@ use Rattle.std.proofs.Common.{◌≡◌, ℕ, Bool, true, false, cond, eqb, leb,
 use Rattle.std.specs.Option.{option_and_then}
 use Rattle.std.proofs.lemmas.Option.{none-some}
 use Rattle.rb_script_types.specs.declared.refusal.Refusal.TheVariants.{Repeat, OutOfOrder}
-use Rattle.rb_core_model.specs.Standing.{OpenBatch, KnownClient, open_batch, settled_refusal, settled_refusal_of}
+use Rattle.rb_core_model.specs.Standing.{OpenBatch, ClientState, open_batch, settled_refusal, settled_refusal_of}
 use Rattle.rb_core_model.proofs.Options.{passes}
 
-pub settled_batch : (o : Option KnownClient) (number done : ℕ) (b : OpenBatch) → option_and_then (λ (c : KnownClient). settled_refusal c number done) o ≡ None
-    → option_and_then (λ (c : KnownClient). c.batch) o ≡ Some b → option_and_then (λ (c : KnownClient). open_batch c number) o ≡ Some b
+pub settled_batch : (o : Option ClientState) (number done : ℕ) (b : OpenBatch) → option_and_then (λ (c : ClientState). settled_refusal c number done) o ≡ None
+    → option_and_then (λ (c : ClientState). c.batch) o ≡ Some b → option_and_then (λ (c : ClientState). open_batch c number) o ≡ Some b
 settled_batch None number done b accepted is = absurd (none-some b is)
 settled_batch (Some c) number done b accepted is = found ∙ go (eqb b.number number) (ap (settled_refusal_of c number done) (sym found) ∙ accepted)
   where

@@ -77,9 +77,9 @@ told_back s (Settled client number done) none = entry_back s (Settled client num
 -- ---- what is taken in
 
 -- where nothing is refused first, what comes next decides
-next_decides : (s : State) (known : Bool) (a b : Option Refusal) → refused_first s known a ≡ None → b ≡ None → refused_first s known b ≡ None
-next_decides s known a b none next =
-    let first = passes (not known) UnknownObject _ none in
+next_decides : (s : State) (state : Bool) (a b : Option Refusal) → refused_first s state a ≡ None → b ≡ None → refused_first s state b ≡ None
+next_decides s state a b none next =
+    let first = passes (not state) UnknownObject _ none in
     let second = passes (leb max_events s.front) LogFull a first.1 in
     (λ i. refused_if (first.0 i) UnknownObject (refused_if (second.0 i) LogFull (next i)))
 

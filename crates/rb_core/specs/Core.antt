@@ -6,12 +6,12 @@ use Rattle.rb_script_types.specs.declared.refusal.Refusal.{Refusal}
 use Rattle.rb_core_model.specs.Batches.{batch_open}
 use Rattle.rb_core_model.specs.Config.{IsSetUp}
 use Rattle.rb_core_model.specs.Event.{Event, IsEvent, SetSeen, HeaderSeen, StoredSeen, Sent, Settled}
-use Rattle.rb_core_state.specs.Held.{HeldClient, HeldPath}
+use Rattle.rb_core_state.specs.Room.{ClientWithRoom, PathWithRoom}
 use Rattle.rb_core_model.specs.Judged.{Ready}
 use Rattle.rb_core_model.specs.Log.{IsLog}
 use Rattle.rb_core_model.specs.Machine.{State, state_of, refusal_of}
 use Rattle.rb_core_model.specs.Standing.{OpenBatch, tracked}
-use Rattle.rb_core.specs.declared.known.Known.{Known}
+use Rattle.rb_core.specs.declared.state.CoreState.{CoreState}
 
 -- for how many more there is room: events in the log, stored heights of each client, packets of each path; and whether
 -- each chain's book stands apart, so that it can be changed
@@ -21,12 +21,12 @@ pub record Room : Type 0 where
   pub stored : List ℕ
   pub packets : List ℕ
 
-abbrev pub room_of : {A : Type 0} → ℕ → Known A → Room
+abbrev pub room_of : {A : Type 0} → ℕ → CoreState A → Room
 room_of log k = record {
   log = log;
   apart = map (λ (s : Shared). s.apart) k.books.items;
-  stored = map (λ (h : HeldClient). h.room) k.clients.items;
-  packets = map (λ (h : HeldPath). h.room) k.paths.items;
+  stored = map (λ (h : ClientWithRoom). h.room) k.clients.items;
+  packets = map (λ (h : PathWithRoom). h.room) k.paths.items;
 }
 
 -- how it is configured, the events that it has taken in, and the room that it has for more

@@ -81,8 +81,8 @@ follows f x = record {
 
 -- what it speaks of isn't there, or the log is full; else what comes next
 abbrev pub refused_first : State → Bool → Option Refusal → Option Refusal
-refused_first s known next =
-    refused_if (not known) UnknownObject (
+refused_first s state next =
+    refused_if (not state) UnknownObject (
     refused_if (nat_le max_events s.front) LogFull next)
 
 -- why how things stand refuses an event; what was received, written or cleared isn't judged again

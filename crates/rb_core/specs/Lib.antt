@@ -1,3 +1,3 @@
-pub mod Known
+pub mod State
 pub mod Core
 pub mod Follower

@@ -1,10 +1,10 @@
 //! New and copied parts of a core.
 ghost use Rattle.std.specs.Prelude.{◌≡◌, ◌≤◌, IfOk, replicate};
 ghost use Rattle.rb_script_types.specs.Config.{config_view};
-ghost use Rattle.rb_core.specs.Known.{state_view};
+ghost use Rattle.rb_core.specs.State.{state_view};
 ghost use Rattle.rb_core_model.specs.Machine.{opening, no_scans};
 
-use crate::known::Known;
+use crate::state::CoreState;
 use rb_core_model::Scans;
 use rb_core_state::books::{new_books, share_books};
 use rb_core_state::clients::{copy_clients, new_clients};
@@ -33,14 +33,14 @@ fn new_scans<A: Allocator + Copy>(alloc: A, paths: usize) -> Result<Vec<Scans<A>
 }
 
 /// What is known before the first event.
-pub(crate) fn new_known<A: Allocator + Copy>(
+pub(crate) fn new_state<A: Allocator + Copy>(
     alloc: A,
     config: &Config<A>,
-) -> Result<Known<A>, AllocError>
+) -> Result<CoreState<A>, AllocError>
     requires { (1 ≤ config.now.limit) × (config.now.limit ≤ 4096) }
-    ensures { IfOk result (λ known. state_view known ≡ opening (config_view config.now)) }
+    ensures { IfOk result (λ state. state_view state ≡ opening (config_view config.now)) }
 {
-    Ok(Known {
+    Ok(CoreState {
         window: None,
         books: new_books(alloc, config.chains.len(), config.limit)?,
         clients: new_clients(alloc, config.clients.as_slice())?,
@@ -65,19 +65,19 @@ fn copy_scans<A: Allocator + Copy>(
 }
 
 /// The same, known apart. The books are shared.
-pub(crate) fn copy_known<A: Allocator + Copy>(
+pub(crate) fn copy_state<A: Allocator + Copy>(
     alloc: A,
-    known: &Known<A>,
-) -> Result<Known<A>, AllocError>
-    ensures { IfOk result (λ copy. state_view copy ≡ state_view known.now) }
+    state: &CoreState<A>,
+) -> Result<CoreState<A>, AllocError>
+    ensures { IfOk result (λ copy. state_view copy ≡ state_view state.now) }
 {
-    Ok(Known {
-        window: known.window,
-        books: share_books(alloc, known.books.as_slice())?,
-        clients: copy_clients(alloc, known.clients.as_slice())?,
-        paths: copy_paths(alloc, known.paths.as_slice())?,
-        plans: Vec::from_slice(alloc, known.plans.as_slice())?,
-        scans: copy_scans(alloc, known.scans.as_slice())?,
-        front: known.front,
+    Ok(CoreState {
+        window: state.window,
+        books: share_books(alloc, state.books.as_slice())?,
+        clients: copy_clients(alloc, state.clients.as_slice())?,
+        paths: copy_paths(alloc, state.paths.as_slice())?,
+        plans: Vec::from_slice(alloc, state.plans.as_slice())?,
+        scans: copy_scans(alloc, state.scans.as_slice())?,
+        front: state.front,
     })
 }

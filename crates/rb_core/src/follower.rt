@@ -2,7 +2,7 @@
 ghost use Rattle.std.specs.Prelude.{◌≡◌, length, None, Some, IfOk, IfErr, OnErr, OnOk};
 ghost use Rattle.rb_script_types.specs.Config.{config_view};
 ghost use Rattle.rb_core.specs.Follower.{IsOfLog, entry_refusal, events_in, follows, state_after, told_of};
-ghost use Rattle.rb_core.specs.Known.{state_view};
+ghost use Rattle.rb_core.specs.State.{state_view};
 ghost use Rattle.rb_core_model.specs.Event.{Event};
 ghost use Rattle.rb_core_model.specs.Kept.{IsKept};
 ghost use Rattle.rb_core_model.specs.Machine.{client_view, client_view_refusal, path_view_refusal, refusal_of};
@@ -11,10 +11,10 @@ ghost use Rattle.rb_core_model.specs.Standing.{path_view};
 ghost use Rattle.rb_core_model.specs.declared.error.CoreError.TheVariants as errors;
 
 use crate::client_views::client_view;
-use crate::copies::copy_known;
+use crate::copies::copy_state;
 use crate::following::follow_told;
-use crate::known::Known;
 use crate::path_views::path_view;
+use crate::state::CoreState;
 use crate::told::Told;
 use rb_core_model::laws::client_views_are_views;
 use rb_core_model::{CoreError, SharedEntry, share_entries};
@@ -32,21 +32,21 @@ use std::marker::Model;
 pub struct Follower<A: Allocator = Global> {
     alloc: A,
     config: Config<A>,
-    known: Known<A>,
+    state: CoreState<A>,
     log: Vec<SharedEntry<A>, A>,
 }
 
 impl<A: Allocator> Model for Follower<A> {
     ghost use Rattle.rb_script_types.specs.Config.{config_view};
     ghost use Rattle.rb_core.specs.Follower as followers;
-    ghost use Rattle.rb_core.specs.Known.{state_view};
+    ghost use Rattle.rb_core.specs.State.{state_view};
     ghost use Rattle.rb_core_model.specs.Kept.{IsKept};
 
     ghost Value = { followers.Follower };
 
-    ghost view = { λ f. record { past = record { config = config_view f.config; entries = f.log.items }; state = state_view f.known } };
+    ghost view = { λ f. record { past = record { config = config_view f.config; entries = f.log.items }; state = state_view f.state } };
 
-    ghost invariant = { λ f. IsKept (state_view f.known) };
+    ghost invariant = { λ f. IsKept (state_view f.state) };
 }
 
 impl<A: Allocator + Copy> Follower<A> {
@@ -54,29 +54,28 @@ impl<A: Allocator + Copy> Follower<A> {
     pub(crate) fn new(
         alloc: A,
         config: Config<A>,
-        known: Known<A>,
+        state: CoreState<A>,
         log: Vec<SharedEntry<A>, A>,
     ) -> Follower<A>
-        requires { IsKept (state_view known) }
-        ensures { result ≡ record { past = record { config = config_view config; entries = log.items }; state = state_view known } }
+        requires { IsKept (state_view state) }
+        ensures { result ≡ record { past = record { config = config_view config; entries = log.items }; state = state_view state } }
     {
         Follower {
             alloc,
             config,
-            known,
+            state,
             log,
         }
     }
 
-    /// An equal follower. Its books are shared with this one until one of the two changes them. An error
-    /// comes only where a growth is refused.
+    /// An equal follower. Its books are shared with this one until one of the two changes them.
     pub fn copy(&self) -> Result<Follower<A>, AllocError>
         ensures { IfOk result (λ follower. follower ≡ self.now) }
     {
         Ok(Follower {
             alloc: self.alloc,
             config: self.config.copy()?,
-            known: copy_known(self.alloc, &self.known)?,
+            state: copy_state(self.alloc, &self.state)?,
             log: share_entries(self.alloc, self.log.as_slice())?,
         })
     }
@@ -94,17 +93,17 @@ impl<A: Allocator + Copy> Follower<A> {
     {
         self.log.reserve(1)?;
         let entry = told.entry().share()?;
-        follow_told(&mut self.known, told)?;
+        follow_told(&mut self.state, told)?;
         self.log.push_reserved(entry);
         Ok(())
     }
 
-    /// How many events there are. Takes no memory.
+    /// How many events there are.
     pub fn front(&self) -> usize
         requires { IsOfLog self.now }
         ensures { result ≡ length (events_in self.now.past) }
     {
-        self.known.front
+        self.state.front
     }
 
     /// A client after those events, as `Core::client_view`.
@@ -114,7 +113,7 @@ impl<A: Allocator + Copy> Follower<A> {
         ensures refused { IfErr result (λ e. IsRefusal e (client_view_refusal (state_after self.now.past) client)) }
     {
         client_views_are_views();
-        client_view(self.alloc, &self.known, client)
+        client_view(self.alloc, &self.state, client)
     }
 
     /// A path after those events, as `Core::path_view`.
@@ -123,6 +122,6 @@ impl<A: Allocator + Copy> Follower<A> {
         ensures view { IfOk result (λ view. path_view (state_after self.now.past).standing path ≡ Some view) }
         ensures refused { IfErr result (λ e. IsRefusal e (path_view_refusal (state_after self.now.past) path)) }
     {
-        path_view(self.alloc, &self.known, path)
+        path_view(self.alloc, &self.state, path)
     }
 }

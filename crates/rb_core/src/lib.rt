@@ -12,10 +12,10 @@ mod copies;
 mod follower;
 mod following;
 mod judging;
-mod known;
 mod machine;
 mod path_views;
 mod refusing;
+mod state;
 mod taking;
 mod told;
 

@@ -17,11 +17,12 @@ ghost use Rattle.rb_core_model.specs.Seen.{event_view};
 ghost use Rattle.rb_core_model.specs.Standing.{book_at, path_view};
 
 use crate::client_views::{book_of, client_view};
-use crate::copies::{copy_known, new_known};
+use crate::copies::{copy_state, new_state};
 use crate::follower::Follower;
 use crate::judging::{make_ready, take_in};
-use crate::known::Known;
 use crate::path_views::{is_scanned, path_view};
+use crate::state::CoreState;
+use rb_base::Part;
 use rb_book::SharedBook;
 use rb_core_model::laws::client_views_are_views;
 use rb_core_model::rules::fee_tables;
@@ -29,7 +30,7 @@ use rb_core_model::{CoreError, Event, Ready, Reply, SharedEntry, share_entries};
 use rb_core_state::OpenBatch;
 use rb_core_state::clients::open_batch;
 use rb_plan_client::JobView;
-use rb_scan::{Part, PathView};
+use rb_scan::PathView;
 use rb_script_types::Config;
 use std::alloc::{AllocError, Allocator, Global};
 use std::marker::Model;
@@ -40,7 +41,7 @@ use std::marker::Model;
 pub struct Core<A: Allocator = Global> {
     alloc: A,
     config: Config<A>,
-    known: Known<A>,
+    state: CoreState<A>,
     log: Vec<SharedEntry<A>, A>,
 }
 
@@ -50,13 +51,13 @@ impl<A: Allocator> Model for Core<A> {
     ghost use Rattle.rb_core.specs.Core as cores;
     ghost use Rattle.rb_core.specs.Core.{IsFold};
     ghost use Rattle.rb_core_model.specs.Entry.{log_from};
-    ghost use Rattle.rb_core.specs.Known.{state_view};
+    ghost use Rattle.rb_core.specs.State.{state_view};
 
     ghost Value = { cores.Core };
 
-    ghost view = { λ c. record { config = config_view c.config; log = log_from (config_view c.config) c.log.items; room = cores.room_of (vec_capacity c.log - vec_len c.log) c.known } };
+    ghost view = { λ c. record { config = config_view c.config; log = log_from (config_view c.config) c.log.items; room = cores.room_of (vec_capacity c.log - vec_len c.log) c.state } };
 
-    ghost invariant = { λ c. IsFold (config_view c.config) (log_from (config_view c.config) c.log.items) (state_view c.known) };
+    ghost invariant = { λ c. IsFold (config_view c.config) (log_from (config_view c.config) c.log.items) (state_view c.state) };
 }
 
 impl<A: Allocator + Copy> Core<A> {
@@ -66,18 +67,18 @@ impl<A: Allocator + Copy> Core<A> {
         ensures config { IfOk result (λ core. core.config ≡ config_view config) }
         ensures log { IfOk result (λ core. core.log ≡ []) }
     {
-        let known = new_known(alloc, &config)?;
+        let state = new_state(alloc, &config)?;
         fee_tables(config.clients.as_slice());
         Ok(Core {
             alloc,
             config,
-            known,
+            state,
             log: Vec::new(alloc),
         })
     }
 
     /// An equal core: with the same configuration and the same log. Its books are shared with this
-    /// one until one of the two changes them. An error comes only where a growth is refused.
+    /// one until one of the two changes them.
     pub fn copy(&self) -> Result<Core<A>, AllocError>
         ensures config { IfOk result (λ core. core.config ≡ self.now.config) }
         ensures log { IfOk result (λ core. core.log ≡ self.now.log) }
@@ -85,12 +86,12 @@ impl<A: Allocator + Copy> Core<A> {
         Ok(Core {
             alloc: self.alloc,
             config: self.config.copy()?,
-            known: copy_known(self.alloc, &self.known)?,
+            state: copy_state(self.alloc, &self.state)?,
             log: share_entries(self.alloc, self.log.as_slice())?,
         })
     }
 
-    /// A follower that has followed this core's log. An error comes only where a growth is refused.
+    /// A follower that has followed this core's log.
     pub fn follower(&self) -> Result<Follower<A>, AllocError>
         ensures config { IfOk result (λ follower. follower.past.config ≡ self.now.config) }
         ensures events { IfOk result (λ follower. events_in follower.past ≡ self.now.log) }
@@ -99,7 +100,7 @@ impl<A: Allocator + Copy> Core<A> {
         Ok(Follower::new(
             self.alloc,
             self.config.copy()?,
-            copy_known(self.alloc, &self.known)?,
+            copy_state(self.alloc, &self.state)?,
             share_entries(self.alloc, self.log.as_slice())?,
         ))
     }
@@ -115,7 +116,7 @@ impl<A: Allocator + Copy> Core<A> {
         ensures kept { (other : judged.Ready) → IsReady self.old other → IsReady self.new other }
         ensures refused { IfErr result (λ e. IsRefusal e (refusal_in self.old (event_view event))) }
     {
-        make_ready(self.alloc, &mut self.known, &mut self.log, event)
+        make_ready(self.alloc, &mut self.state, &mut self.log, event)
     }
 
     /// Takes in an event that this core judged after the events that it has taken in. Takes no
@@ -126,10 +127,10 @@ impl<A: Allocator + Copy> Core<A> {
         ensures log { self.new.log ≡ self.old.log ++ ready.event ∷ [] }
         ensures reply { reply_view result ≡ reply_of (state_in self.old) ready.event }
     {
-        take_in(&mut self.known, &mut self.log, ready)
+        take_in(&mut self.state, &mut self.log, ready)
     }
 
-    /// What it was set up with. Takes no memory.
+    /// What it was set up with.
     pub fn config(&self) -> &Config<A>
         ensures value { config_view result.now ≡ self.now.config }
         ensures set_up { IsSetUp self.now.config }
@@ -137,17 +138,17 @@ impl<A: Allocator + Copy> Core<A> {
         &self.config
     }
 
-    /// How many events were taken in. Takes no memory.
+    /// How many events were taken in.
     pub fn front(&self) -> usize
         ensures count { result ≡ length self.now.log }
         ensures state { result ≡ (state_in self.now).front }
         ensures events { All IsEvent self.now.log }
         ensures accepted { IsLog self.now.config self.now.log }
     {
-        self.known.front
+        self.state.front
     }
 
-    /// What is kept of the events that were taken in, from which they come back. Takes no memory.
+    /// What is kept of the events that were taken in, from which they come back.
     pub fn log(&self) -> &[SharedEntry<A>]
         ensures { log_from self.now.config result.now ≡ self.now.log }
     {
@@ -162,7 +163,7 @@ impl<A: Allocator + Copy> Core<A> {
         ensures refused { IfErr result (λ e. IsRefusal e (client_view_refusal (state_in self.now) client)) }
     {
         client_views_are_views();
-        client_view(self.alloc, &self.known, client)
+        client_view(self.alloc, &self.state, client)
     }
 
     /// One more owner of the book of a chain, of an empty one where there is no such chain. An error comes
@@ -170,7 +171,7 @@ impl<A: Allocator + Copy> Core<A> {
     pub fn book(&self, chain: usize) -> Result<SharedBook<A>, AllocError>
         ensures { IfOk result (λ shared. shared.book ≡ book_at (state_in self.now).standing.books chain) }
     {
-        book_of(self.alloc, &self.known, chain)
+        book_of(self.alloc, &self.state, chain)
     }
 
     /// A path as it is scanned. `UnknownObject` where there is no such path, `NoMemory` where a growth
@@ -179,20 +180,20 @@ impl<A: Allocator + Copy> Core<A> {
         ensures view { IfOk result (λ view. path_view (state_in self.now).standing path ≡ Some view) }
         ensures refused { IfErr result (λ e. IsRefusal e (path_view_refusal (state_in self.now) path)) }
     {
-        path_view(self.alloc, &self.known, path)
+        path_view(self.alloc, &self.state, path)
     }
 
-    /// Whether a part of a path was scanned as the path still is. Takes no memory.
+    /// Whether a part of a path was scanned as the path still is.
     pub fn is_scanned(&self, path: usize, part: Part) -> bool
         ensures { result ≡ is_scanned (state_in self.now) path part }
     {
-        is_scanned(&self.known, path, part)
+        is_scanned(&self.state, path, part)
     }
 
-    /// The batch of a client that is open, if there is such a client. Takes no memory.
+    /// The batch of a client that is open, if there is such a client.
     pub fn open_batch(&self, client: usize) -> Option<&OpenBatch<A>>
         ensures { option_copied result ≡ batch_open (state_in self.now).standing client }
     {
-        open_batch(self.known.clients.as_slice(), client)
+        open_batch(self.state.clients.as_slice(), client)
     }
 }

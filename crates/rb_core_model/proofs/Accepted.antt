@@ -8,8 +8,8 @@ use Rattle.std.proofs.lemmas.Option.{none-some}
 use Rattle.rb_base.specs.Window.{Span}
 use Rattle.rb_scan.specs.Path.{Path}
 use Rattle.rb_scan.specs.Same.{same_path, same_path-Decides}
-use Rattle.rb_scan.specs.declared.scan.Part.{Part}
-use Rattle.rb_scan.specs.declared.scan.Part.TheVariants.{Packets, Channel}
+use Rattle.rb_base.specs.declared.gate.Part.{Part}
+use Rattle.rb_base.specs.declared.gate.Part.TheVariants.{Packets, Channel}
 use Rattle.rb_core_model.specs.Config.{part_for}
 use Rattle.rb_plan_client.specs.Draft.{Job, Draft}
 use Rattle.rb_core_model.specs.Event.{Event, Window, Asked, SetSeen, HeaderSeen, StoredSeen, Sent, Received, AckWritten, Cleared, Closed, Scanned, Planned, Settled}
@@ -19,7 +19,7 @@ use Rattle.rb_script_types.specs.declared.refusal.Refusal.{Refusal}
 use Rattle.rb_script_types.specs.declared.refusal.Refusal.TheVariants.{UnknownObject, Stale, Busy, Repeat, OutOfOrder, WindowBack, NotOwed, LogFull}
 use Rattle.rb_core_model.specs.Refusal.{refused_if}
 use Rattle.rb_plan_client.specs.Same.{same_job, same_job-Decides}
-use Rattle.rb_core_model.specs.Standing.{OpenBatch, KnownClient, KnownPath, Standing, open_batch, after_settled, goes_back, path_view, judged, changed, standing_after}
+use Rattle.rb_core_model.specs.Standing.{OpenBatch, ClientState, PathState, Standing, open_batch, after_settled, goes_back, path_view, judged, changed, standing_after}
 
 -- ---- refusals that don't apply
 
@@ -107,7 +107,7 @@ module _ (s : State) (path : ℕ) (scan : Scan) (lt : path < length s.scans) (ok
 
 -- ---- drafts
 
-none_missed : (s : State) (client : ℕ) (paths : List KnownPath) (n : ℕ) → ((k : ℕ) (part : Part) → k < length paths → is_scanned s (n + k) part ≡ true) → list_any (is_missed s client) (enumerate_from n paths) ≡ false
+none_missed : (s : State) (client : ℕ) (paths : List PathState) (n : ℕ) → ((k : ℕ) (part : Part) → k < length paths → is_scanned s (n + k) part ≡ true) → list_any (is_missed s client) (enumerate_from n paths) ≡ false
 none_missed s client [] n all = refl
 none_missed s client (p ∷ paths) n all =
     let zero_at : n + 0 ≡ n = add-zero n in
@@ -121,7 +121,7 @@ none_missed s client (p ∷ paths) n all =
     here false c = refl
 
 -- the client's own draft, made as things stand, is accepted
-pub draft_ok : (s : State) (client : ℕ) (window : Span) (c : KnownClient) (d : Draft) → ltb client (length s.standing.clients) ≡ true → s.front < max_events
+pub draft_ok : (s : State) (client : ℕ) (window : Span) (c : ClientState) (d : Draft) → ltb client (length s.standing.clients) ≡ true → s.front < max_events
     → s.standing.window ≡ Some window → slice_get s.standing.clients client ≡ Some c → c.batch ≡ None → ((p : ℕ) (part : Part) → p < length s.standing.paths → is_scanned s p part ≡ true)
     → d.job ≡ job_of s client window c → (client_view s client ≡ Some d.job) × (refusal_of s (Planned d) ≡ None)
 draft_ok s client window c d known room is_window is_client not_held all is =
@@ -131,7 +131,7 @@ draft_ok s client window c d known room is_window is_client not_held all is =
     let view : client_view s client ≡ Some d.job =
     ap (option_and_then (λ w. option_map (job_of s client w) (slice_get s.standing.clients client))) is_window ∙ ap (option_map (job_of s client window)) is_client ∙ ap (λ j. Some j) (sym is) in
     let held : is_held s d.job.client ≡ false =
-    ap (is_held s) at ∙ ap (λ o. option_map_or (λ (x : KnownClient). is_some x.batch) o false) is_client ∙ ap (λ o. is_some o) not_held in
+    ap (is_held s) at ∙ ap (λ o. option_map_or (λ (x : ClientState). is_some x.batch) o false) is_client ∙ ap (λ o. is_some o) not_held in
     let scanned : not (all_scanned s d.job.client) ≡ false =
     ap (λ b. not (not b)) (none_missed s d.job.client s.standing.paths 0 (λ k part lt. let same : k ≡ 0 + k = omega arith in subst (λ m. is_scanned s m part ≡ true) same (all k part lt))) in
     let job : is_job s d.job ≡ true = ap (λ n. option_map_or (same_job d.job) (client_view s n) false) at ∙ ap (λ o. option_map_or (same_job d.job) o false) view ∙ (same_job-Decides d.job d.job).1 refl in (

@@ -12,11 +12,11 @@ use Rattle.rb_scan.specs.declared.message.Kind.TheVariants.{Receive, Acknowledge
 use Rattle.rb_scan.specs.declared.message.PacketMsg.{PacketMsg}
 use Rattle.rb_scan.specs.declared.path.Order.{Order}
 use Rattle.rb_scan.specs.declared.path.Order.TheVariants.{Ordered, Unordered}
-use Rattle.rb_scan.specs.declared.scan.Part.{Part}
-use Rattle.rb_scan.specs.declared.scan.Part.TheVariants.{Packets, Channel}
+use Rattle.rb_base.specs.declared.gate.Part.{Part}
+use Rattle.rb_base.specs.declared.gate.Part.TheVariants.{Packets, Channel}
 use Rattle.rb_core_model.specs.Batches.{AreApart}
 use Rattle.rb_core_model.specs.Config.{part_for}
-use Rattle.rb_core_model.specs.Standing.{KnownPath, Standing, view_of_path, owed_at, path_task, path_tasks}
+use Rattle.rb_core_model.specs.Standing.{PathState, Standing, view_of_path, owed_at, path_task, path_tasks}
 use Rattle.rb_plan_client.specs.Task.{PathTask, Message, message_on, ready_on}
 use Rattle.rb_book.proofs.Rising.{Up}
 use Rattle.rb_core_model.proofs.Options.{mapped}
@@ -181,8 +181,8 @@ apart_paths n (x ∷ xs) ys a b = (each ys b, apart_paths n xs ys a.1 b)
     each [] c = tt
     each (y ∷ ys) c = (λ same. (let here = a.0 in let there = c.0 in let e = same.0 in omega arith), each ys c.1)
 
-module _ (s : Standing) (sound : (n : ℕ) (p : KnownPath) → slice_get s.paths n ≡ Some p → Up (λ (p q : Packet). p.sequence < q.sequence) p.packets) (client : ℕ) (reach : Option ℕ) where
-  abbrev ready_from : ℕ → List KnownPath → List Message
+module _ (s : Standing) (sound : (n : ℕ) (p : PathState) → slice_get s.paths n ≡ Some p → Up (λ (p q : Packet). p.sequence < q.sequence) p.packets) (client : ℕ) (reach : Option ℕ) where
+  abbrev ready_from : ℕ → List PathState → List Message
   ready_from n rest = flat_map (ready_on reach) (filter_map (path_task (owed_at s) client) (enumerate_from n rest))
 
   record FineFrom (n : ℕ) (ms : List Message) : Type 0 where
@@ -201,7 +201,7 @@ module _ (s : Standing) (sound : (n : ℕ) (p : KnownPath) → slice_get s.paths
   equal n [] a = tt
   equal n (m ∷ ms) a = ((let e = a.0 in omega arith), equal n ms a.1)
 
-  from_place : (n : ℕ) (rest : List KnownPath) → ((k : ℕ) (p : KnownPath) → slice_get rest k ≡ Some p → slice_get s.paths (n + k) ≡ Some p) → FineFrom n (ready_from n rest)
+  from_place : (n : ℕ) (rest : List PathState) → ((k : ℕ) (p : PathState) → slice_get rest k ≡ Some p → slice_get s.paths (n + k) ≡ Some p) → FineFrom n (ready_from n rest)
   from_place n [] places = record { above = tt; apart = tt }
   from_place n (p ∷ rest) places =
       go (part_for p.config client) (from_place (n + 1) rest (λ k q e. let same : (n + 1) + k ≡ n + suc k = omega arith in ap (slice_get s.paths) same ∙ places (suc k) q e))

@@ -5,15 +5,15 @@ use Rattle.std.specs.Option.{option_map, option_map_or}
 use Rattle.std.proofs.lemmas.Bool.{not-true, not-false, and_parts, or_parts, cond-true}
 use Rattle.rb_base.specs.Window.{Span}
 use Rattle.rb_scan.specs.declared.message.PacketMsg.{PacketMsg}
-use Rattle.rb_scan.specs.declared.scan.Part.{Part}
-use Rattle.rb_scan.specs.declared.scan.Part.TheVariants.{Packets, Channel}
+use Rattle.rb_base.specs.declared.gate.Part.{Part}
+use Rattle.rb_base.specs.declared.gate.Part.TheVariants.{Packets, Channel}
 use Rattle.rb_core_model.specs.Config.{part_for}
 use Rattle.rb_plan_client.specs.Draft.{Job, Draft}
 use Rattle.rb_core_model.specs.Event.{Planned}
 use Rattle.rb_core_model.specs.Machine.{State, is_scanned, is_missed, all_scanned, seen_owed, job_of, client_view, is_known, is_held, is_job, draft_refusal, refusal_of}
 use Rattle.rb_script_types.specs.declared.refusal.Refusal.TheVariants.{UnknownObject, Stale, Busy, Repeat, OutOfOrder, NotOwed, LogFull}
 use Rattle.rb_plan_client.specs.Same.{same_job, same_job-Decides}
-use Rattle.rb_core_model.specs.Standing.{KnownClient, KnownPath, owed_at, path_task, task_of, task_in}
+use Rattle.rb_core_model.specs.Standing.{ClientState, PathState, owed_at, path_task, task_of, task_in}
 use Rattle.rb_plan_client.specs.Task.{PathTask}
 use Rattle.rb_core_model.proofs.Options.{passes, mapped, chained, tested, none_from}
 
@@ -23,10 +23,10 @@ seen : (s : State) (n : ℕ) (part : Part) → (is_scanned s n Packets && is_sca
 seen s n Packets e = cond-true (is_scanned s n Packets) _ _ (and_parts (is_scanned s n Packets) (is_scanned s n Channel) e).0
 seen s n Channel e = cond-true (is_scanned s n Channel) _ _ (and_parts (is_scanned s n Packets) (is_scanned s n Channel) e).1
 
-task_at : KnownPath → ℕ → (Part → List PacketMsg) → Part → PathTask
+task_at : PathState → ℕ → (Part → List PacketMsg) → Part → PathTask
 task_at p n owed part = record { path = n; order = p.config.order; gas = p.config.gas; owed = owed part }
 
-one_task : (s : State) (n : ℕ) (p : KnownPath) (o : Option Part) → (is_some o && not (is_scanned s n Packets && is_scanned s n Channel)) ≡ false
+one_task : (s : State) (n : ℕ) (p : PathState) (o : Option Part) → (is_some o && not (is_scanned s n Packets && is_scanned s n Channel)) ≡ false
     → option_map (task_at p n (seen_owed s n)) o ≡ option_map (task_at p n (owed_at s.standing n)) o
 unfolding task_at
 one_task s n p None e = refl
@@ -34,7 +34,7 @@ one_task s n p (Some part) e =
     let both = not-false (is_scanned s n Packets && is_scanned s n Channel) e in
     ap (λ owed. Some (record { path = n; order = p.config.order; gas = p.config.gas; owed = owed })) (seen s n part both)
 
-all_tasks : (s : State) (client n : ℕ) (paths : List KnownPath) → list_any (is_missed s client) (enumerate_from n paths) ≡ false
+all_tasks : (s : State) (client n : ℕ) (paths : List PathState) → list_any (is_missed s client) (enumerate_from n paths) ≡ false
     → filter_map (path_task (seen_owed s) client) (enumerate_from n paths) ≡ filter_map (path_task (owed_at s.standing) client) (enumerate_from n paths)
 unfolding task_at
 all_tasks s client n [] e = refl
@@ -48,7 +48,7 @@ all_tasks s client n (p ∷ paths) e =
 
 pub record IsDrafted (s : State) (d : Draft) : Type 0 where
   pub window : Span
-  pub known : KnownClient
+  pub known : ClientState
   pub is_window : s.standing.window ≡ Some window
   pub is_known : slice_get s.standing.clients d.job.client ≡ Some known
   pub none_open : known.batch ≡ None
@@ -73,6 +73,6 @@ drafted s d e =
       known = known.0;
       is_window = found.1;
       is_known = known.1;
-      none_open = none_from known.0.batch (sym (ap (λ o. option_map_or (λ (c : KnownClient). is_some c.batch) o false) known.1) ∙ five.0);
+      none_open = none_from known.0.batch (sym (ap (λ o. option_map_or (λ (c : ClientState). is_some c.batch) o false) known.1) ∙ five.0);
       task = ap (λ (j : Job). j.task) (same ∙ sym known.2) ∙ ap (λ paths. task_of found.0 s.standing.books paths known.0) tasks;
     }

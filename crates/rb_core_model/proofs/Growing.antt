@@ -5,7 +5,7 @@ use Rattle.std.specs.Option.{option_map, option_and_then}
 use Rattle.std.proofs.lemmas.Bool.{cases_eq, cases_lt, or_parts}
 use Rattle.std.proofs.lemmas.List.{get_or-set_same, get_or-set_other, set_past, length-map}
 use Rattle.std.proofs.lemmas.Option.{none-some, same_Some}
-use Rattle.rb_book.specs.Book.{Book, Known, height_of, time_of, heights_and_times_of, record_at, header_at, set_of, is_below}
+use Rattle.rb_book.specs.Book.{Book, RecordAt, height_of, time_of, heights_and_times_of, record_at, header_at, set_of, is_below}
 use Rattle.rb_book.specs.Header.{Record, Header}
 use Rattle.rb_book.specs.Intake.{after_set, after_header, after_record, with_set, with_record, with_header}
 use Rattle.rb_scan.specs.Owed.{packet_at, same_kind}
@@ -23,7 +23,7 @@ use Rattle.rb_core_model.specs.Machine.{State, opening, refusal_of, accepted, af
 use Rattle.rb_script_types.specs.declared.refusal.Refusal.{Refusal}
 use Rattle.rb_script_types.specs.declared.refusal.Refusal.TheVariants.{OutOfOrder, Repeat}
 use Rattle.rb_core_model.specs.Refusal.{refused_if}
-use Rattle.rb_core_model.specs.Standing.{OpenBatch, KnownPath, Standing, empty_book, book_at, tracked, view_of_path, path_view, changed, with_book, with_path, with_packet, new_packet, marked, with_mark, mark_of, open_batch, after_message, after_messages, after_settled, settled_messages, received_refusal, written_refusal, cleared_refusal}
+use Rattle.rb_core_model.specs.Standing.{OpenBatch, PathState, Standing, empty_book, book_at, tracked, view_of_path, path_view, changed, with_book, with_path, with_packet, new_packet, marked, with_mark, mark_of, open_batch, after_message, after_messages, after_settled, settled_messages, received_refusal, written_refusal, cleared_refusal}
 use Rattle.rb_plan_client.specs.Task.{Message}
 use Rattle.rb_core_model.specs.Views.{ViewsNeverComeBack}
 use Rattle.rb_core_model.proofs.Open.{judged_none}
@@ -132,18 +132,18 @@ settles Timeout q = outcome q q.outcome_settled refl
 -- ---- a path
 
 -- a path changes and keeps its configuration
-abbrev StepOf : (KnownPath → KnownPath) → KnownPath → Type 0
+abbrev StepOf : (PathState → PathState) → PathState → Type 0
 StepOf f p = (books : List Book) → Grown (view_of_path books p) (view_of_path books (f p))
 
-packets_grown : (books : List Book) (p : KnownPath) (ps : List Packet) → length p.packets ≤ length ps → total p.packets ≤ total ps → length p.packets + total p.packets < length ps + total ps
+packets_grown : (books : List Book) (p : PathState) (ps : List Packet) → length p.packets ≤ length ps → total p.packets ≤ total ps → length p.packets + total p.packets < length ps + total ps
     → Grown (view_of_path books p) (view_of_path books (record p { packets = ps }))
 unfolding size
 packets_grown books p ps long marked_more lt = inr (omega arith)
 
-marked_grown : (f : Packet → Packet) (n : ℕ) (p : KnownPath) → total p.packets < total (map (marked f n) p.packets) → StepOf (with_mark f n) p
+marked_grown : (f : Packet → Packet) (n : ℕ) (p : PathState) → total p.packets < total (map (marked f n) p.packets) → StepOf (with_mark f n) p
 marked_grown f n p lt books = packets_grown books p (map (marked f n) p.packets) (let same = long-marked f n p.packets in omega arith) (omega arith) (let same = long-marked f n p.packets in omega arith)
 
-placed_grown : (q : Packet) (p : KnownPath) → StepOf (with_packet q) p
+placed_grown : (q : Packet) (p : PathState) → StepOf (with_packet q) p
 placed_grown q p books = go (count_by (λ (other : Packet). ltb other.sequence q.sequence) p.packets)
   where
     go : (n : ℕ) → Grown (view_of_path books p) (view_of_path books (record p { packets = insert p.packets n q }))
@@ -151,7 +151,7 @@ placed_grown q p books = go (count_by (λ (other : Packet). ltb other.sequence q
         packets_grown books p (insert p.packets n q) (let long = long-insert p.packets n q in omega arith) (total-insert p.packets n q)
         (let long = long-insert p.packets n q in let more = total-insert p.packets n q in omega arith)
 
-closed_grown : (p : KnownPath) → p.closed ≡ false → StepOf (λ p. record p { closed = true }) p
+closed_grown : (p : PathState) → p.closed ≡ false → StepOf (λ p. record p { closed = true }) p
 unfolding size one_if
 closed_grown p e books = inr (let open_is : one_if p.closed ≡ 0 = ap one_if e in omega arith)
 
@@ -163,7 +163,7 @@ zero_is : one_if false ≡ 0
 unfolding one_if
 zero_is = refl
 
-message_grown : (m : PacketMsg) (p : KnownPath) → StepOf (after_message m) p
+message_grown : (m : PacketMsg) (p : PathState) → StepOf (after_message m) p
 unfolding size
 message_grown m p books = go (same_or_more (mark_of m.kind) (settles m.kind) m.sequence p.packets) (p.closed || (same_kind m.kind Timeout && same_order p.config.order Ordered)) (closes p.closed _)
   where
@@ -202,7 +202,7 @@ grown_trans s t u p q path v e =
     let two = q path one.0 one.1 in
     (two.0, two.1, grown_on v one.0 two.0 one.2 two.2)
 
-path_grown : (s : Standing) (place : ℕ) (f : KnownPath → KnownPath) → ((p : KnownPath) → slice_get s.paths place ≡ Some p → StepOf f p) → GrownAt s (with_path s place f)
+path_grown : (s : Standing) (place : ℕ) (f : PathState → PathState) → ((p : PathState) → slice_get s.paths place ≡ Some p → StepOf f p) → GrownAt s (with_path s place f)
 path_grown s place f one path v e =
     let p = mapped (view_of_path s.books) (slice_get s.paths path) v e in
     elim (cases_eq path place) [
@@ -235,10 +235,10 @@ record_grown b height r = go (is_some (record_at b height))
     go false = inr longer
       where
         before : length (heights_and_times_of b) ≡ length b.records
-        before = length-map b.records (λ (x : Known). (height_of x, time_of x))
+        before = length-map b.records (λ (x : RecordAt). (height_of x, time_of x))
 
         now : length (heights_and_times_of (with_record b height r)) ≡ length (with_record b height r).records
-        now = length-map (with_record b height r).records (λ (x : Known). (height_of x, time_of x))
+        now = length-map (with_record b height r).records (λ (x : RecordAt). (height_of x, time_of x))
 
         long : length (with_record b height r).records ≡ suc (length b.records)
         long = long-insert b.records (count_by (is_below height) b.records) (record { height = height; record_of = r })
@@ -271,12 +271,12 @@ book_grown s chain b grown path v e =
       subst (λ x. Grown x (view_of_path (set s.books chain b) p.0)) p.2 (by_place p.0 (cases_eq p.0.config.destination chain) (cases_lt chain (length s.books))),
     )
   where
-    by_times : (p : KnownPath) (ts us : List (ℕ × ℕ)) → (ts ≡ us) ⊎ (length ts < length us)
+    by_times : (p : PathState) (ts us : List (ℕ × ℕ)) → (ts ≡ us) ⊎ (length ts < length us)
         → Grown (record { order = p.config.order; first = p.config.first; packets = p.packets; closed = p.closed; destination = ts }) (record { order = p.config.order; first = p.config.first; packets = p.packets; closed = p.closed; destination = us })
     by_times p ts us (inl same) = inl (λ i. record { order = p.config.order; first = p.config.first; packets = p.packets; closed = p.closed; destination = same i })
     by_times p ts us (inr lt) = inr (omega arith)
 
-    by_place : (p : KnownPath) → (p.config.destination ≡ chain) ⊎ (p.config.destination ≡ chain → ⊥) → (chain < length s.books) ⊎ (length s.books ≤ chain) → Grown (view_of_path s.books p) (view_of_path (set s.books chain b) p)
+    by_place : (p : PathState) → (p.config.destination ≡ chain) ⊎ (p.config.destination ≡ chain → ⊥) → (chain < length s.books) ⊎ (length s.books ≤ chain) → Grown (view_of_path s.books p) (view_of_path (set s.books chain b) p)
     by_place p (inr other) within = by_times p _ _ (inl (ap heights_and_times_of (sym (get_or-set_other s.books chain p.config.destination b (empty_book 1) other))))
     by_place p (inl same) (inr past) = by_times p _ _ (inl (ap (λ bs. heights_and_times_of (book_at bs p.config.destination)) (sym (set_past s.books chain b past))))
     by_place p (inl same) (inl within) =
@@ -310,7 +310,7 @@ more_cleared q = go q.cleared
     go true = omega arith
     go false = omega arith
 
-received_grown : (sequence block : ℕ) (p : KnownPath) (v : Path) → v.packets ≡ p.packets → received_refusal v sequence (packet_at v sequence) ≡ None → StepOf (with_mark (λ q. record q { received = Some block }) sequence) p
+received_grown : (sequence block : ℕ) (p : PathState) (v : Path) → v.packets ≡ p.packets → received_refusal v sequence (packet_at v sequence) ≡ None → StepOf (with_mark (λ q. record q { received = Some block }) sequence) p
 unfolding marks one_if
 received_grown sequence block p v same ok = go (packet_at v sequence) refl ok
   where
@@ -324,7 +324,7 @@ received_grown sequence block p v same ok = go (packet_at v sequence) refl ok
         marked_grown (λ q. record q { received = Some block }) sequence p
         (more_marks (λ q. record q { received = Some block }) (more_received block) sequence p.packets q (ap (find (λ (x : Packet). eqb x.sequence sequence)) (sym same) ∙ at) (none_yet q unseen.0))
 
-written_grown : (sequence block : ℕ) (p : KnownPath) (v : Path) → v.packets ≡ p.packets → written_refusal block (packet_at v sequence) ≡ None → StepOf (with_mark (λ q. record q { written = Some block }) sequence) p
+written_grown : (sequence block : ℕ) (p : PathState) (v : Path) → v.packets ≡ p.packets → written_refusal block (packet_at v sequence) ≡ None → StepOf (with_mark (λ q. record q { written = Some block }) sequence) p
 unfolding marks one_if
 written_grown sequence block p v same ok = go (packet_at v sequence) refl ok
   where
@@ -338,7 +338,7 @@ written_grown sequence block p v same ok = go (packet_at v sequence) refl ok
         marked_grown (λ q. record q { written = Some block }) sequence p
         (more_marks (λ q. record q { written = Some block }) (more_written block) sequence p.packets q (ap (find (λ (x : Packet). eqb x.sequence sequence)) (sym same) ∙ at) (none_yet q unseen.0))
 
-cleared_grown : (sequence : ℕ) (p : KnownPath) (v : Path) → v.packets ≡ p.packets → cleared_refusal (packet_at v sequence) ≡ None → StepOf (with_mark (λ q. record q { cleared = true }) sequence) p
+cleared_grown : (sequence : ℕ) (p : PathState) (v : Path) → v.packets ≡ p.packets → cleared_refusal (packet_at v sequence) ≡ None → StepOf (with_mark (λ q. record q { cleared = true }) sequence) p
 unfolding marks one_if
 cleared_grown sequence p v same ok = go (packet_at v sequence) refl ok
   where

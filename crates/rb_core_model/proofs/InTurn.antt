@@ -14,11 +14,11 @@ use Rattle.rb_scan.specs.declared.message.Kind.TheVariants.{Receive, Acknowledge
 use Rattle.rb_scan.specs.declared.message.PacketMsg.{PacketMsg}
 use Rattle.rb_scan.specs.declared.path.Order.{Order}
 use Rattle.rb_scan.specs.declared.path.Order.TheVariants.{Ordered}
-use Rattle.rb_scan.specs.declared.scan.Part.{Part}
-use Rattle.rb_scan.specs.declared.scan.Part.TheVariants.{Packets, Channel}
+use Rattle.rb_base.specs.declared.gate.Part.{Part}
+use Rattle.rb_base.specs.declared.gate.Part.TheVariants.{Packets, Channel}
 use Rattle.rb_core_model.specs.Batches.{is_receive_on, receives_on, AreInTurn}
 use Rattle.rb_core_model.specs.Config.{part_for}
-use Rattle.rb_core_model.specs.Standing.{KnownPath, Standing, view_of_path, path_view, owed_at, path_task, path_tasks}
+use Rattle.rb_core_model.specs.Standing.{PathState, Standing, view_of_path, path_view, owed_at, path_task, path_tasks}
 use Rattle.rb_plan_client.specs.Task.{PathTask, Message, message_on, ready_on}
 use Rattle.rb_core_model.proofs.Owed.{append_all, kinds_owed, ready_all}
 use Rattle.rb_core_model.proofs.Options.{mapped}
@@ -66,19 +66,19 @@ given-cons reach None ts = refl
 given-cons reach (Some t) ts = refl
 
 module _ (owed : ℕ → Part → List PacketMsg) (client : ℕ) (reach : Option ℕ) where
-  all_from : ℕ → List KnownPath → List Message
+  all_from : ℕ → List PathState → List Message
   all_from n paths = flat_map (ready_on reach) (filter_map (path_task owed client) (enumerate_from n paths))
 
-  one_at : ℕ → KnownPath → List Message
+  one_at : ℕ → PathState → List Message
   one_at n p = given reach (path_task owed client (n, p))
 
-  first_of : (n path : ℕ) (p : KnownPath) (paths : List KnownPath) → receives_on path (all_from n (p ∷ paths)) ≡ receives_on path (one_at n p) ++ receives_on path (all_from (n + 1) paths)
+  first_of : (n path : ℕ) (p : PathState) (paths : List PathState) → receives_on path (all_from n (p ∷ paths)) ≡ receives_on path (one_at n p) ++ receives_on path (all_from (n + 1) paths)
   unfolding all_from one_at
   first_of n path p paths =
       ap (receives_on path) (given-cons reach (path_task owed client (n, p)) (filter_map (path_task owed client) (enumerate_from (n + 1) paths)))
       ∙ receives-append path (given reach (path_task owed client (n, p))) (flat_map (ready_on reach) (filter_map (path_task owed client) (enumerate_from (n + 1) paths)))
 
-  not_there : (n path : ℕ) (p : KnownPath) → (n ≡ path → ⊥) → receives_on path (one_at n p) ≡ []
+  not_there : (n path : ℕ) (p : PathState) → (n ≡ path → ⊥) → receives_on path (one_at n p) ≡ []
   unfolding one_at given
   not_there n path p other = go (part_for p.config client)
     where
@@ -86,7 +86,7 @@ module _ (owed : ℕ → Part → List PacketMsg) (client : ℕ) (reach : Option
       go None = refl
       go (Some part) = elsewhere (record { path = n; order = p.config.order; gas = p.config.gas; owed = owed n part }) path other (ready (owed n part) p.config.order reach)
 
-  later : (n path : ℕ) (paths : List KnownPath) → path < n → receives_on path (all_from n paths) ≡ []
+  later : (n path : ℕ) (paths : List PathState) → path < n → receives_on path (all_from n paths) ≡ []
   unfolding all_from
   later n path [] lt = refl
   later n path (p ∷ paths) lt =
@@ -96,12 +96,12 @@ module _ (owed : ℕ → Part → List PacketMsg) (client : ℕ) (reach : Option
   append-nothing [] ys e = e
   append-nothing (x ∷ xs) ys e = ap (λ zs. x ∷ zs) (append-nothing xs ys e)
 
-  at_place : (n k path : ℕ) (paths : List KnownPath) (p : KnownPath) → n + k ≡ path → slice_get paths k ≡ Some p → receives_on path (all_from n paths) ≡ receives_on path (one_at path p)
+  at_place : (n k path : ℕ) (paths : List PathState) (p : PathState) → n + k ≡ path → slice_get paths k ≡ Some p → receives_on path (all_from n paths) ≡ receives_on path (one_at path p)
   at_place n k path [] p place e = absurd (none-some p e)
   at_place n zero path (q ∷ paths) p place e =
       let here : n ≡ path = omega arith in
       first_of n path q paths ∙ append-nothing (receives_on path (one_at n q)) (receives_on path (all_from (n + 1) paths)) (later (n + 1) path paths (omega arith))
-      ∙ ap (λ (x : ℕ × KnownPath). receives_on path (one_at x.0 x.1)) (λ i. (here i, same_Some q p e i))
+      ∙ ap (λ (x : ℕ × PathState). receives_on path (one_at x.0 x.1)) (λ i. (here i, same_Some q p e i))
   at_place n (suc k) path (q ∷ paths) p place e =
       first_of n path q paths ∙ ap (λ ss. ss ++ receives_on path (all_from (n + 1) paths)) (not_there n path q (λ same. omega arith))
       ∙ at_place (n + 1) k path paths p (omega arith) e
@@ -140,11 +140,11 @@ pub in_turn : ReadyReceivesAreConsecutive → (s : Standing) (client path : ℕ)
 unfolding all_from one_at given
 in_turn law s client path reach v is ordered =
     let found = mapped (view_of_path s.books) (slice_get s.paths path) v is in
-    let p : KnownPath = found.0 in
+    let p : PathState = found.0 in
     let order : p.config.order ≡ Ordered = ap (λ (x : Path). x.order) found.2 ∙ ordered in
     subst (AreInTurn v) (sym (at_place (owed_at s) client reach 0 path path s.paths p (omega arith) found.1)) (go p order (part_for p.config client))
   where
-    go : (p : KnownPath) → p.config.order ≡ Ordered → (o : Option Part)
+    go : (p : PathState) → p.config.order ≡ Ordered → (o : Option Part)
         → AreInTurn v (receives_on path (given reach (option_map (λ part. record { path = path; order = p.config.order; gas = p.config.gas; owed = owed_at s path part }) o)))
     go p order None = refl
     go p order (Some Packets) =

@@ -13,7 +13,7 @@ use Rattle.rb_plan_client.specs.Draft.{Planned as Answer}
 use Rattle.rb_core_model.specs.Event.{Event, Window, Asked, SetSeen, HeaderSeen, StoredSeen, Sent, Received, AckWritten, Cleared, Closed, Scanned, Planned, Settled}
 use Rattle.rb_core_model.specs.Kept.{IsKept}
 use Rattle.rb_core_model.specs.Machine.{State, opening, no_scans, plan_number, plans_after, scans_after, refusal_of, accepted, after, state_of}
-use Rattle.rb_core_model.specs.Standing.{OpenBatch, KnownClient, Standing, empty_book, new_client, new_path, tracked, changed_at, changed, batch_opened, with_batch, after_answer, after_batch, open_batch, after_settled}
+use Rattle.rb_core_model.specs.Standing.{OpenBatch, ClientState, Standing, empty_book, new_client, new_path, tracked, changed_at, changed, batch_opened, with_batch, after_answer, after_batch, open_batch, after_settled}
 use Rattle.rb_core_model.proofs.Lengths.{lengths_changed}
 use Rattle.rb_core_model.proofs.Marks.{all_at}
 use Rattle.rb_core_model.proofs.Options.{mapped, get_changed}
@@ -22,14 +22,14 @@ use Rattle.rb_core_model.proofs.Right.{opens}
 -- ---- what an event makes of a client
 
 -- it tracks the same chain, and has opened at most one batch more
-record Grows (c d : KnownClient) : Type 0 where
+record Grows (c d : ClientState) : Type 0 where
   tracks : d.config.tracks ≡ c.config.tracks
   batches : d.batches ≤ suc c.batches
 
-stays : (c : KnownClient) → Grows c c
+stays : (c : ClientState) → Grows c c
 stays c = record { tracks = refl; batches = omega arith }
 
-answered : (answer : Option Answer) (c : KnownClient) → Grows c (after_answer answer c)
+answered : (answer : Option Answer) (c : ClientState) → Grows c (after_answer answer c)
 answered answer c = go (batch_opened c answer) refl
   where
     go : (o : Option OpenBatch) → batch_opened c answer ≡ o → Grows c (with_batch c o)
@@ -39,19 +39,19 @@ answered answer c = go (batch_opened c answer) refl
         record { tracks = refl; batches = omega (arith, number) }
 
 -- the client at a place of a list that an event leaves was there before it
-record Was (cs : List KnownClient) (place : ℕ) (d : KnownClient) : Type 0 where
-  client : KnownClient
+record Was (cs : List ClientState) (place : ℕ) (d : ClientState) : Type 0 where
+  client : ClientState
   found : slice_get cs place ≡ Some client
   grows : Grows client d
 
-Keeps : List KnownClient → List KnownClient → Type 0
-Keeps cs ds = (place : ℕ) (d : KnownClient) → slice_get ds place ≡ Some d → Was cs place d
+Keeps : List ClientState → List ClientState → Type 0
+Keeps cs ds = (place : ℕ) (d : ClientState) → slice_get ds place ≡ Some d → Was cs place d
 
-all_stay : (cs : List KnownClient) → Keeps cs cs
+all_stay : (cs : List ClientState) → Keeps cs cs
 unfolding Keeps
 all_stay cs place d at = record { client = d; found = at; grows = stays d }
 
-one_grows : (f : KnownClient → KnownClient) → ((c : KnownClient) → Grows c (f c)) → (cs : List KnownClient) (client : ℕ) → Keeps cs (changed_at f cs client)
+one_grows : (f : ClientState → ClientState) → ((c : ClientState) → Grows c (f c)) → (cs : List ClientState) (client : ℕ) → Keeps cs (changed_at f cs client)
 unfolding Keeps
 one_grows f grows cs client place d at =
     let was = get_changed f cs client place d at in
@@ -152,10 +152,10 @@ numbers_within s (Settled place number done) all client = one_more (plan_number 
 
 -- what is kept, by the clients at their places
 pub record IsTended (s : State) : Type 0 where
-  tracks : (place : ℕ) (c : KnownClient) → slice_get s.standing.clients place ≡ Some c → c.config.tracks < length s.standing.books
+  tracks : (place : ℕ) (c : ClientState) → slice_get s.standing.clients place ≡ Some c → c.config.tracks < length s.standing.books
   plans : length s.plans ≡ length s.standing.clients
   scans : length s.scans ≡ length s.standing.paths
-  batches : (place : ℕ) (c : KnownClient) → slice_get s.standing.clients place ≡ Some c → c.batches ≤ s.front
+  batches : (place : ℕ) (c : ClientState) → slice_get s.standing.clients place ≡ Some c → c.batches ≤ s.front
   numbers : (client : ℕ) → plan_number s client ≤ s.front
 
 pub accepted_tended : (s : State) (e : Event) → IsTended s → IsTended (accepted s e)
@@ -202,13 +202,13 @@ opening_tended config is = record {
   tracks = λ place c at.
       let m = mapped new_client (slice_get config.clients place) c (sym (get_new config.clients place) ∙ at) in
       let client = all_at (IsClient (length config.chains)) config.clients place m.0 (recursion_from_All (IsClient (length config.chains)) config.clients is.rules.clients) m.1 in
-      let same : m.0.tracks ≡ c.config.tracks = ap (λ (k : KnownClient). k.config.tracks) m.2 in
+      let same : m.0.tracks ≡ c.config.tracks = ap (λ (k : ClientState). k.config.tracks) m.2 in
       subst (λ n. c.config.tracks < n) (sym (length-replicate (length config.chains) (empty_book config.limit))) (subst (λ n. n < length config.chains) same client.tracks);
   plans = length-replicate (length config.clients) 0 ∙ sym (length-map config.clients new_client);
   scans = length-replicate (length config.paths) no_scans ∙ sym (length-map config.paths new_path);
   batches = λ place c at.
       let m = mapped new_client (slice_get config.clients place) c (sym (get_new config.clients place) ∙ at) in
-      let none : 0 ≡ c.batches = ap (λ (k : KnownClient). k.batches) m.2 in
+      let none : 0 ≡ c.batches = ap (λ (k : ClientState). k.batches) m.2 in
       subst (λ n. n ≤ 0) none (omega arith);
   numbers = zeros (length config.clients);
 }
@@ -219,7 +219,7 @@ if_some : {X : Type 0} (P : X → Type 0) (o : Option X) → ((x : X) → o ≡ 
 if_some P None h = tt
 if_some P (Some x) h = h x refl
 
-tracked_there : (cs : List KnownClient) (most : ℕ) → ((place : ℕ) (c : KnownClient) → slice_get cs place ≡ Some c → c.config.tracks < most)
+tracked_there : (cs : List ClientState) (most : ℕ) → ((place : ℕ) (c : ClientState) → slice_get cs place ≡ Some c → c.config.tracks < most)
     → (client : ℕ) → client < length cs → tracked cs client < most
 tracked_there [] most all client lt = absurd (omega (arith, lt))
 tracked_there (c ∷ cs) most all zero lt = all 0 c refl
@@ -230,7 +230,7 @@ kept s is = record {
   tracked = tracked_there s.standing.clients (length s.standing.books) is.tracks;
   plans = is.plans;
   scans = is.scans;
-  batches = λ client. if_some (λ (c : KnownClient). c.batches ≤ s.front) (slice_get s.standing.clients client) (is.batches client);
+  batches = λ client. if_some (λ (c : ClientState). c.batches ≤ s.front) (slice_get s.standing.clients client) (is.batches client);
   numbers = is.numbers;
 }
 
@@ -247,11 +247,11 @@ some_within (y ∷ xs) (suc i) x e = omega (arith, some_within xs i x e)
 tended : (s : State) → IsKept s → IsTended s
 tended s is = record {
   tracks = λ place c at.
-      let there : tracked s.standing.clients place ≡ c.config.tracks = ap (λ (o : Option KnownClient). option_map_or (λ (d : KnownClient). d.config.tracks) o 0) at in
+      let there : tracked s.standing.clients place ≡ c.config.tracks = ap (λ (o : Option ClientState). option_map_or (λ (d : ClientState). d.config.tracks) o 0) at in
       subst (λ n. n < length s.standing.books) there (is.tracked place (some_within s.standing.clients place c at));
   plans = is.plans;
   scans = is.scans;
-  batches = λ place c at. subst (λ (o : Option KnownClient). IfSome o (λ (d : KnownClient). d.batches ≤ s.front)) at (is.batches place);
+  batches = λ place c at. subst (λ (o : Option ClientState). IfSome o (λ (d : ClientState). d.batches ≤ s.front)) at (is.batches place);
   numbers = is.numbers;
 }
 

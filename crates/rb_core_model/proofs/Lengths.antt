@@ -4,7 +4,7 @@ use Rattle.std.specs.List.{slice_get, fold}
 use Rattle.std.specs.Option.{option_map_or, option_and_then}
 use Rattle.std.proofs.lemmas.List.{length-set}
 use Rattle.rb_core_model.specs.Event.{Event, Window, Asked, SetSeen, HeaderSeen, StoredSeen, Sent, Received, AckWritten, Cleared, Closed, Scanned, Planned, Settled}
-use Rattle.rb_core_model.specs.Standing.{OpenBatch, KnownClient, KnownPath, Standing, changed_at, with_client, with_path, judged, changed, standing_after, after_message, after_messages, after_batch, open_batch, after_settled, settled_messages}
+use Rattle.rb_core_model.specs.Standing.{OpenBatch, ClientState, PathState, Standing, changed_at, with_client, with_path, judged, changed, standing_after, after_message, after_messages, after_batch, open_batch, after_settled, settled_messages}
 use Rattle.rb_plan_client.specs.Task.{Message}
 
 pub record HasLengthsOf (s t : Standing) : Type 0 where
@@ -25,13 +25,13 @@ length-changed_at {X} f xs i = go (slice_get xs i)
     go None = refl
     go (Some x) = length-set xs i (f x)
 
-pub lengths_client : (s : Standing) (i : ℕ) (f : KnownClient → KnownClient) → HasLengthsOf s (with_client s i f)
+pub lengths_client : (s : Standing) (i : ℕ) (f : ClientState → ClientState) → HasLengthsOf s (with_client s i f)
 lengths_client s i f = record { books = refl; clients = length-changed_at f s.clients i; paths = refl }
 
-lengths_path : (s : Standing) (i : ℕ) (f : KnownPath → KnownPath) → HasLengthsOf s (with_path s i f)
+lengths_path : (s : Standing) (i : ℕ) (f : PathState → PathState) → HasLengthsOf s (with_path s i f)
 lengths_path s i f = record { books = refl; clients = refl; paths = length-changed_at f s.paths i }
 
-length-messages : (ms : List Message) (ps : List KnownPath) → length (after_messages ps ms) ≡ length ps
+length-messages : (ms : List Message) (ps : List PathState) → length (after_messages ps ms) ≡ length ps
 length-messages [] ps = refl
 length-messages (m ∷ ms) ps = length-messages ms (changed_at (after_message m.packet) ps m.path) ∙ length-changed_at (after_message m.packet) ps m.path
 

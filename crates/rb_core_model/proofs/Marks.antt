@@ -9,9 +9,9 @@ use Rattle.rb_scan.specs.Packet.{Packet}
 use Rattle.rb_scan.specs.declared.message.Kind.{Kind}
 use Rattle.rb_scan.specs.declared.message.Kind.TheVariants.{Receive, Acknowledge, Timeout}
 use Rattle.rb_scan.specs.declared.message.PacketMsg.{PacketMsg}
-use Rattle.rb_scan.specs.declared.scan.Part.{Part}
-use Rattle.rb_scan.specs.declared.scan.Part.TheVariants.{Packets, Channel}
-use Rattle.rb_core_model.specs.Standing.{KnownPath, changed_at, marked, with_mark, with_packet, mark_of, after_message, after_messages}
+use Rattle.rb_base.specs.declared.gate.Part.{Part}
+use Rattle.rb_base.specs.declared.gate.Part.TheVariants.{Packets, Channel}
+use Rattle.rb_core_model.specs.Standing.{PathState, changed_at, marked, with_mark, with_packet, mark_of, after_message, after_messages}
 use Rattle.rb_plan_client.specs.Task.{Message}
 use Rattle.rb_core_model.proofs.Options.{chained, get_changed_same, get_changed_other}
 use Rattle.rb_core_model.proofs.Owed.{IsFound, append_all, found_sequence}
@@ -89,16 +89,16 @@ is_settled Channel q = q.outcome_settled
 abbrev pub mark_in : List Packet → Part → ℕ → Option Bool
 mark_in ps part s = option_map (is_settled part) (find (has s) ps)
 
-abbrev pub mark_at : List KnownPath → ℕ → Part → ℕ → Option Bool
-mark_at paths path part s = option_and_then (λ (p : KnownPath). mark_in p.packets part s) (slice_get paths path)
+abbrev pub mark_at : List PathState → ℕ → Part → ℕ → Option Bool
+mark_at paths path part s = option_and_then (λ (p : PathState). mark_in p.packets part s) (slice_get paths path)
 
 -- each packet is the one that its sequence finds
-abbrev pub AllFound : KnownPath → Type 0
+abbrev pub AllFound : PathState → Type 0
 AllFound p = AllByRecursion (IsFound p.packets) p.packets
 
 -- ---- one path changes and keeps its marks
 
-pub record KeepsPath (p q : KnownPath) : Type 0 where
+pub record KeepsPath (p q : PathState) : Type 0 where
   pub config : q.config ≡ p.config
   pub found : AllFound p → AllFound q
   pub marks : (part : Part) (s : ℕ) (b : Bool) → mark_in p.packets part s ≡ Some b → mark_in q.packets part s ≡ Some b
@@ -119,7 +119,7 @@ marked_sequence f same s q = go (eqb q.sequence s)
 
 -- a mark that settles nothing
 pub keeps_marked : (f : Packet → Packet) (sequence : ℕ) → ((q : Packet) → (f q).sequence ≡ q.sequence) → ((part : Part) (q : Packet) → is_settled part (f q) ≡ is_settled part q)
-    → (p : KnownPath) → KeepsPath p (with_mark f sequence p)
+    → (p : PathState) → KeepsPath p (with_mark f sequence p)
 keeps_marked f sequence same settles p = record {
   config = refl;
   found = found_map (marked f sequence) (marked_sequence f same sequence) p.packets p.packets;
@@ -142,7 +142,7 @@ found_beside ps n x new (q ∷ qs) all = (
   found_beside ps n x new qs all.1,
 )
 
-pub keeps_packet : (x : Packet) (p : KnownPath) → find (has x.sequence) p.packets ≡ None → KeepsPath p (with_packet x p)
+pub keeps_packet : (x : Packet) (p : PathState) → find (has x.sequence) p.packets ≡ None → KeepsPath p (with_packet x p)
 keeps_packet x p new = record {
   config = refl;
   found = λ all. placed_all _ all;
@@ -163,53 +163,53 @@ keeps_packet x p new = record {
 
 -- ---- a list of paths in which one changes
 
-pub record KeepsPaths (ps qs : List KnownPath) : Type 0 where
-  pub configs : map (λ (p : KnownPath). p.config) qs ≡ map (λ (p : KnownPath). p.config) ps
+pub record KeepsPaths (ps qs : List PathState) : Type 0 where
+  pub configs : map (λ (p : PathState). p.config) qs ≡ map (λ (p : PathState). p.config) ps
   pub found : AllByRecursion AllFound ps → AllByRecursion AllFound qs
   pub marks : (path : ℕ) (part : Part) (s : ℕ) (b : Bool) → mark_at ps path part s ≡ Some b → mark_at qs path part s ≡ Some b
 
-pub keeps_all : (ps : List KnownPath) → KeepsPaths ps ps
+pub keeps_all : (ps : List PathState) → KeepsPaths ps ps
 keeps_all ps = record { configs = refl; found = λ all. all; marks = λ path part s b e. e }
 
-configs_set : (f : KnownPath → KnownPath) (ps : List KnownPath) (i : ℕ) (p : KnownPath) → slice_get ps i ≡ Some p → (f p).config ≡ p.config
-    → map (λ (q : KnownPath). q.config) (set ps i (f p)) ≡ map (λ (q : KnownPath). q.config) ps
+configs_set : (f : PathState → PathState) (ps : List PathState) (i : ℕ) (p : PathState) → slice_get ps i ≡ Some p → (f p).config ≡ p.config
+    → map (λ (q : PathState). q.config) (set ps i (f p)) ≡ map (λ (q : PathState). q.config) ps
 configs_set f [] i p e same = refl
-configs_set f (q ∷ ps) zero p e same = ap (λ c. c ∷ map (λ (q : KnownPath). q.config) ps) (same ∙ ap (λ (x : KnownPath). x.config) (sym (same_Some q p e)))
+configs_set f (q ∷ ps) zero p e same = ap (λ c. c ∷ map (λ (q : PathState). q.config) ps) (same ∙ ap (λ (x : PathState). x.config) (sym (same_Some q p e)))
 configs_set f (q ∷ ps) (suc i) p e same = ap (λ cs. q.config ∷ cs) (configs_set f ps i p e same)
 
-found_set : (ps : List KnownPath) (i : ℕ) (q : KnownPath) → AllFound q → AllByRecursion AllFound ps → AllByRecursion AllFound (set ps i q)
+found_set : (ps : List PathState) (i : ℕ) (q : PathState) → AllFound q → AllByRecursion AllFound ps → AllByRecursion AllFound (set ps i q)
 found_set [] i q one all = tt
 found_set (p ∷ ps) zero q one all = (one, all.1)
 found_set (p ∷ ps) (suc i) q one all = (all.0, found_set ps i q one all.1)
 
-pub configs_changed : (f : KnownPath → KnownPath) → ((p : KnownPath) → (f p).config ≡ p.config) → (ps : List KnownPath) (i : ℕ)
-    → map (λ (q : KnownPath). q.config) (changed_at f ps i) ≡ map (λ (q : KnownPath). q.config) ps
+pub configs_changed : (f : PathState → PathState) → ((p : PathState) → (f p).config ≡ p.config) → (ps : List PathState) (i : ℕ)
+    → map (λ (q : PathState). q.config) (changed_at f ps i) ≡ map (λ (q : PathState). q.config) ps
 configs_changed f same ps i = go (slice_get ps i) refl
   where
-    go : (o : Option KnownPath) → slice_get ps i ≡ o → map (λ (q : KnownPath). q.config) (option_map_or (λ x. set ps i (f x)) o ps) ≡ map (λ (q : KnownPath). q.config) ps
+    go : (o : Option PathState) → slice_get ps i ≡ o → map (λ (q : PathState). q.config) (option_map_or (λ x. set ps i (f x)) o ps) ≡ map (λ (q : PathState). q.config) ps
     go None e = refl
     go (Some p) e = configs_set f ps i p e (same p)
 
-pub found_changed : (f : KnownPath → KnownPath) (ps : List KnownPath) (i : ℕ) → ((p : KnownPath) → slice_get ps i ≡ Some p → AllFound p → AllFound (f p))
+pub found_changed : (f : PathState → PathState) (ps : List PathState) (i : ℕ) → ((p : PathState) → slice_get ps i ≡ Some p → AllFound p → AllFound (f p))
     → AllByRecursion AllFound ps → AllByRecursion AllFound (changed_at f ps i)
 found_changed f ps i one all = go (slice_get ps i) refl
   where
-    go : (o : Option KnownPath) → slice_get ps i ≡ o → AllByRecursion AllFound (option_map_or (λ x. set ps i (f x)) o ps)
+    go : (o : Option PathState) → slice_get ps i ≡ o → AllByRecursion AllFound (option_map_or (λ x. set ps i (f x)) o ps)
     go None e = all
     go (Some p) e = found_set ps i (f p) (one p e (all_at AllFound ps i p all e)) all
 
-pub keeps_changed : (f : KnownPath → KnownPath) (ps : List KnownPath) (i : ℕ) → ((p : KnownPath) → (f p).config ≡ p.config) → ((p : KnownPath) → slice_get ps i ≡ Some p → KeepsPath p (f p)) → KeepsPaths ps (changed_at f ps i)
+pub keeps_changed : (f : PathState → PathState) (ps : List PathState) (i : ℕ) → ((p : PathState) → (f p).config ≡ p.config) → ((p : PathState) → slice_get ps i ≡ Some p → KeepsPath p (f p)) → KeepsPaths ps (changed_at f ps i)
 keeps_changed f ps i same one = record {
   configs = configs_changed f same ps i;
   found = found_changed f ps i (λ p e. (one p e).found);
   marks = λ path part s b e.
-      let at = chained (λ (p : KnownPath). mark_in p.packets part s) (slice_get ps path) b e in
+      let at = chained (λ (p : PathState). mark_in p.packets part s) (slice_get ps path) b e in
       elim (cases_eq path i) [
         | inl here ↦
             let there : slice_get ps i ≡ Some at.0 = ap (slice_get ps) (sym here) ∙ at.1 in
-            ap (λ n. mark_at (changed_at f ps i) n part s) here ∙ ap (option_and_then (λ (p : KnownPath). mark_in p.packets part s)) (get_changed_same f ps i at.0 there)
+            ap (λ n. mark_at (changed_at f ps i) n part s) here ∙ ap (option_and_then (λ (p : PathState). mark_in p.packets part s)) (get_changed_same f ps i at.0 there)
             ∙ (one at.0 there).marks part s b at.2
-        | inr other ↦ ap (option_and_then (λ (p : KnownPath). mark_in p.packets part s)) (get_changed_other f ps i path other) ∙ e
+        | inr other ↦ ap (option_and_then (λ (p : PathState). mark_in p.packets part s)) (get_changed_other f ps i path other) ∙ e
       ];
 }
 
@@ -243,7 +243,7 @@ same_part Packets Channel = inr (λ e. cc)
 same_part Channel Packets = inr (λ e. cc)
 same_part Channel Channel = inl refl
 
-module _ (m : PacketMsg) (p : KnownPath) where
+module _ (m : PacketMsg) (p : PathState) where
   found_settled : (s : ℕ) → find (has s) (after_message m p).packets ≡ option_map (marked (mark_of m.kind) m.sequence) (find (has s) p.packets)
   found_settled s = find_map (marked (mark_of m.kind) m.sequence) (marked_sequence (mark_of m.kind) (mark_of_sequence m.kind) m.sequence) s p.packets
 
@@ -274,26 +274,26 @@ module _ (m : PacketMsg) (p : KnownPath) where
       go (Some q) at = ap (λ t. Some t) (by_test q (found_sequence p.packets s q at) (eqb q.sequence m.sequence) refl)
 
 -- one message is settled
-abbrev settle : List KnownPath → Message → List KnownPath
+abbrev settle : List PathState → Message → List PathState
 settle ps m = changed_at (after_message m.packet) ps m.path
 
-settle_own : (ps : List KnownPath) (m : Message) (b : Bool) → mark_at ps m.path (part_of m.packet.kind) m.packet.sequence ≡ Some b
+settle_own : (ps : List PathState) (m : Message) (b : Bool) → mark_at ps m.path (part_of m.packet.kind) m.packet.sequence ≡ Some b
     → mark_at (settle ps m) m.path (part_of m.packet.kind) m.packet.sequence ≡ Some true
 settle_own ps m b e =
-    let at = chained (λ (p : KnownPath). mark_in p.packets (part_of m.packet.kind) m.packet.sequence) (slice_get ps m.path) b e in
-    ap (option_and_then (λ (p : KnownPath). mark_in p.packets (part_of m.packet.kind) m.packet.sequence)) (get_changed_same (after_message m.packet) ps m.path at.0 at.1)
+    let at = chained (λ (p : PathState). mark_in p.packets (part_of m.packet.kind) m.packet.sequence) (slice_get ps m.path) b e in
+    ap (option_and_then (λ (p : PathState). mark_in p.packets (part_of m.packet.kind) m.packet.sequence)) (get_changed_same (after_message m.packet) ps m.path at.0 at.1)
     ∙ own_mark m.packet at.0 b at.2
 
-settle_other : (ps : List KnownPath) (m : Message) (path : ℕ) (part : Part) (s : ℕ) (b : Bool) → (IsAbout path part s m → ⊥) → mark_at ps path part s ≡ Some b → mark_at (settle ps m) path part s ≡ Some b
+settle_other : (ps : List PathState) (m : Message) (path : ℕ) (part : Part) (s : ℕ) (b : Bool) → (IsAbout path part s m → ⊥) → mark_at ps path part s ≡ Some b → mark_at (settle ps m) path part s ≡ Some b
 settle_other ps m path part s b other e =
-    let at = chained (λ (p : KnownPath). mark_in p.packets part s) (slice_get ps path) b e in
+    let at = chained (λ (p : PathState). mark_in p.packets part s) (slice_get ps path) b e in
     elim (cases_eq path m.path) [
       | inl here ↦
           let there : slice_get ps m.path ≡ Some at.0 = ap (slice_get ps) (sym here) ∙ at.1 in
           ap (λ n. mark_at (settle ps m) n part s) here
-          ∙ ap (option_and_then (λ (p : KnownPath). mark_in p.packets part s)) (get_changed_same (after_message m.packet) ps m.path at.0 there)
+          ∙ ap (option_and_then (λ (p : PathState). mark_in p.packets part s)) (get_changed_same (after_message m.packet) ps m.path at.0 there)
           ∙ other_mark m.packet at.0 part s (λ both. other (sym here, both.0, both.1)) ∙ at.2
-      | inr elsewhere ↦ ap (option_and_then (λ (p : KnownPath). mark_in p.packets part s)) (get_changed_other (after_message m.packet) ps m.path path elsewhere) ∙ e
+      | inr elsewhere ↦ ap (option_and_then (λ (p : PathState). mark_in p.packets part s)) (get_changed_other (after_message m.packet) ps m.path path elsewhere) ∙ e
     ]
 
 about : (path : ℕ) (part : Part) (s : ℕ) (m : Message) → IsAbout path part s m ⊎ (IsAbout path part s m → ⊥)
@@ -309,7 +309,7 @@ about path part s m = elim (cases_eq m.path path) [
 ]
 
 -- what is marked stays marked
-settle_grows : (ps : List KnownPath) (m : Message) (path : ℕ) (part : Part) (s : ℕ) → mark_at ps path part s ≡ Some true → mark_at (settle ps m) path part s ≡ Some true
+settle_grows : (ps : List PathState) (m : Message) (path : ℕ) (part : Part) (s : ℕ) → mark_at ps path part s ≡ Some true → mark_at (settle ps m) path part s ≡ Some true
 settle_grows ps m path part s e = elim (about path part s m) [
   | inr other ↦ settle_other ps m path part s true other e
   | inl is ↦
@@ -317,17 +317,17 @@ settle_grows ps m path part s e = elim (about path part s m) [
       (settle_own ps m true (subst (λ (k : ℕ × Part × ℕ). mark_at ps k.0 k.1 k.2 ≡ Some true) (λ i. (sym is.0 i, sym is.1 i, sym is.2 i)) e))
 ]
 
-pub all_grow : (ms : List Message) (ps : List KnownPath) (path : ℕ) (part : Part) (s : ℕ) → mark_at ps path part s ≡ Some true → mark_at (after_messages ps ms) path part s ≡ Some true
+pub all_grow : (ms : List Message) (ps : List PathState) (path : ℕ) (part : Part) (s : ℕ) → mark_at ps path part s ≡ Some true → mark_at (after_messages ps ms) path part s ≡ Some true
 all_grow [] ps path part s e = e
 all_grow (m ∷ ms) ps path part s e = all_grow ms (settle ps m) path part s (settle_grows ps m path part s e)
 
-pub all_others : (ms : List Message) (ps : List KnownPath) (path : ℕ) (part : Part) (s : ℕ) (b : Bool) → AllByRecursion (λ m. IsAbout path part s m → ⊥) ms
+pub all_others : (ms : List Message) (ps : List PathState) (path : ℕ) (part : Part) (s : ℕ) (b : Bool) → AllByRecursion (λ m. IsAbout path part s m → ⊥) ms
     → mark_at ps path part s ≡ Some b → mark_at (after_messages ps ms) path part s ≡ Some b
 all_others [] ps path part s b others e = e
 all_others (m ∷ ms) ps path part s b others e = all_others ms (settle ps m) path part s b others.1 (settle_other ps m path part s b others.0 e)
 
 -- a packet that is there has a mark, whatever is settled
-settle_some : (ps : List KnownPath) (m : Message) (path : ℕ) (part : Part) (s : ℕ) (b : Bool) → mark_at ps path part s ≡ Some b → (c : Bool) × (mark_at (settle ps m) path part s ≡ Some c)
+settle_some : (ps : List PathState) (m : Message) (path : ℕ) (part : Part) (s : ℕ) (b : Bool) → mark_at ps path part s ≡ Some b → (c : Bool) × (mark_at (settle ps m) path part s ≡ Some c)
 settle_some ps m path part s b e = elim (about path part s m) [
   | inr other ↦ (b, settle_other ps m path part s b other e)
   | inl is ↦ (
@@ -338,7 +338,7 @@ settle_some ps m path part s b e = elim (about path part s m) [
 ]
 
 -- the messages that are settled are marked
-pub all_marked : (ms : List Message) (ps : List KnownPath) (k : ℕ) (m : Message) (b : Bool) → slice_get ms k ≡ Some m → mark_at ps m.path (part_of m.packet.kind) m.packet.sequence ≡ Some b
+pub all_marked : (ms : List Message) (ps : List PathState) (k : ℕ) (m : Message) (b : Bool) → slice_get ms k ≡ Some m → mark_at ps m.path (part_of m.packet.kind) m.packet.sequence ≡ Some b
     → mark_at (after_messages ps ms) m.path (part_of m.packet.kind) m.packet.sequence ≡ Some true
 all_marked [] ps k m b at e = absurd (none-some m at)
 all_marked (n ∷ ms) ps zero m b at e =
@@ -348,10 +348,10 @@ all_marked (n ∷ ms) ps (suc k) m b at e =
     let next = settle_some ps n m.path (part_of m.packet.kind) m.packet.sequence b e in
     all_marked ms (settle ps n) k m next.0 at next.1
 
-pub configs_messages : (ms : List Message) (ps : List KnownPath) → map (λ (p : KnownPath). p.config) (after_messages ps ms) ≡ map (λ (p : KnownPath). p.config) ps
+pub configs_messages : (ms : List Message) (ps : List PathState) → map (λ (p : PathState). p.config) (after_messages ps ms) ≡ map (λ (p : PathState). p.config) ps
 configs_messages [] ps = refl
 configs_messages (m ∷ ms) ps = configs_messages ms (settle ps m) ∙ configs_changed (after_message m.packet) (λ p. refl) ps m.path
 
-pub found_messages : (ms : List Message) (ps : List KnownPath) → AllByRecursion AllFound ps → AllByRecursion AllFound (after_messages ps ms)
+pub found_messages : (ms : List Message) (ps : List PathState) → AllByRecursion AllFound ps → AllByRecursion AllFound (after_messages ps ms)
 found_messages [] ps all = all
 found_messages (m ∷ ms) ps all = found_messages ms (settle ps m) (found_changed (after_message m.packet) ps m.path (λ p e. all_settled m.packet p) all)

@@ -15,8 +15,8 @@ use Rattle.rb_scan.specs.declared.message.Kind.{Kind}
 use Rattle.rb_scan.specs.declared.message.Kind.TheVariants.{Receive, Acknowledge, Timeout}
 use Rattle.rb_scan.specs.declared.message.PacketMsg.{PacketMsg}
 use Rattle.rb_scan.specs.declared.path.Order.{Order}
-use Rattle.rb_scan.specs.declared.scan.Part.{Part}
-use Rattle.rb_scan.specs.declared.scan.Part.TheVariants.{Packets, Channel}
+use Rattle.rb_base.specs.declared.gate.Part.{Part}
+use Rattle.rb_base.specs.declared.gate.Part.TheVariants.{Packets, Channel}
 use Rattle.rb_step.specs.View.{client_of}
 use Rattle.rb_core_model.specs.Batches.{batch_open, Carries, MessagesAreInOneBatch, SettledMessagesAreGone}
 use Rattle.rb_script_types.specs.Config.{Config}
@@ -28,7 +28,7 @@ use Rattle.rb_core_model.specs.Event.{Event, IsEvent, Window, Asked, SetSeen, He
 use Rattle.rb_core_model.specs.Machine.{State, opening, knows_client, is_known, refusal_beside, refusal_of, accepted, after, state_of}
 use Rattle.rb_script_types.specs.declared.refusal.Refusal.{Refusal}
 use Rattle.rb_script_types.specs.declared.refusal.Refusal.TheVariants.{UnknownObject, LogFull, Repeat, OutOfOrder}
-use Rattle.rb_core_model.specs.Standing.{OpenBatch, KnownClient, KnownPath, Standing, opening_standing, new_path, new_client, view_of_path, owed_at, path_task, path_tasks, task_in, judged, changed, changed_at, with_path, new_packet, batch_opened, with_batch, after_answer, open_batch, settled_refusal, settled_refusal_of, settled_messages, after_batch, after_messages, after_settled, sent_refusal, with_height}
+use Rattle.rb_core_model.specs.Standing.{OpenBatch, ClientState, PathState, Standing, opening_standing, new_path, new_client, view_of_path, owed_at, path_task, path_tasks, task_in, judged, changed, changed_at, with_path, new_packet, batch_opened, with_batch, after_answer, open_batch, settled_refusal, settled_refusal_of, settled_messages, after_batch, after_messages, after_settled, sent_refusal, with_height}
 use Rattle.rb_plan_client.specs.Task.{PathTask, Message, message_on, ready_on, messages_of}
 use Rattle.rb_core_model.proofs.Drafted.{IsDrafted, drafted}
 use Rattle.rb_core_model.proofs.Marks.{all_at, all_take, all_weaker, has, part_of, is_settled, mark_in, mark_at, AllFound, KeepsPath, keeps_marked, keeps_packet, KeepsPaths, keeps_all, keeps_changed, IsAbout, all_grow, all_others, all_marked, configs_messages, found_messages}
@@ -63,14 +63,14 @@ abbrev pub IsFor : Config → ℕ → Message → Type 0
 IsFor config client m = (c : PathConfig) × (slice_get config.paths m.path ≡ Some c) × (part_for c client ≡ Some (part_of m.packet.kind))
 
 -- its packet is there, and it isn't settled
-abbrev pub IsUnsettled : List KnownPath → Message → Type 0
+abbrev pub IsUnsettled : List PathState → Message → Type 0
 IsUnsettled paths m = mark_at paths m.path (part_of m.packet.kind) m.packet.sequence ≡ Some false
 
-abbrev pub IsSent : Config → List KnownPath → ℕ → Message → Type 0
+abbrev pub IsSent : Config → List PathState → ℕ → Message → Type 0
 IsSent config paths client m = IsFor config client m × IsUnsettled paths m
 
 pub record IsKept (config : Config) (s : Standing) : Type 0 where
-  pub configs : map (λ (p : KnownPath). p.config) s.paths ≡ config.paths
+  pub configs : map (λ (p : PathState). p.config) s.paths ≡ config.paths
   pub found : AllByRecursion AllFound s.paths
   pub sent : (client : ℕ) (b : OpenBatch) → batch_open s client ≡ Some b → AllByRecursion (IsSent config s.paths client) b.messages
 
@@ -100,15 +100,15 @@ by_paths config s t kept keeps same = record {
   grows = λ path part sequence e. keeps.marks path part sequence true e;
 }
 
-batches_changed : (s t : Standing) (place : ℕ) (f : KnownClient → KnownClient) → ((c : KnownClient) → (f c).batch ≡ c.batch) → t.clients ≡ changed_at f s.clients place → SameBatches s t
+batches_changed : (s t : Standing) (place : ℕ) (f : ClientState → ClientState) → ((c : ClientState) → (f c).batch ≡ c.batch) → t.clients ≡ changed_at f s.clients place → SameBatches s t
 batches_changed s t place f same e client b stands =
-    let found = chained (λ (c : KnownClient). c.batch) (slice_get (changed_at f s.clients place) client) b (ap (λ cs. option_and_then (λ (c : KnownClient). c.batch) (slice_get cs client)) (sym e) ∙ stands) in
+    let found = chained (λ (c : ClientState). c.batch) (slice_get (changed_at f s.clients place) client) b (ap (λ cs. option_and_then (λ (c : ClientState). c.batch) (slice_get cs client)) (sym e) ∙ stands) in
     let before = get_changed f s.clients place client found.0 found.1 in
-    let is : found.0.batch ≡ before.0.batch = elim before.2 [ inl here ↦ ap (λ (c : KnownClient). c.batch) here.1 ∙ same before.0 | inr other ↦ ap (λ (c : KnownClient). c.batch) other.1 ] in
-    ap (option_and_then (λ (c : KnownClient). c.batch)) before.1 ∙ sym is ∙ found.2
+    let is : found.0.batch ≡ before.0.batch = elim before.2 [ inl here ↦ ap (λ (c : ClientState). c.batch) here.1 ∙ same before.0 | inr other ↦ ap (λ (c : ClientState). c.batch) other.1 ] in
+    ap (option_and_then (λ (c : ClientState). c.batch)) before.1 ∙ sym is ∙ found.2
 
-one_path : (config : Config) (s : Standing) (path : ℕ) (f : KnownPath → KnownPath) → IsKept config s → ((p : KnownPath) → (f p).config ≡ p.config)
-    → ((p : KnownPath) → slice_get s.paths path ≡ Some p → KeepsPath p (f p)) → Steps config s (with_path s path f)
+one_path : (config : Config) (s : Standing) (path : ℕ) (f : PathState → PathState) → IsKept config s → ((p : PathState) → (f p).config ≡ p.config)
+    → ((p : PathState) → slice_get s.paths path ≡ Some p → KeepsPath p (f p)) → Steps config s (with_path s path f)
 one_path config s path f kept same one = by_paths config s (with_path s path f) kept (keeps_changed f s.paths path same one) (λ client b e. e)
 
 -- ---- a packet that is sent is new
@@ -153,13 +153,13 @@ module _ (law : SettledIsNotOwed) (v : Path) (all : AllByRecursion (IsFound v.pa
 
 module _ (law : SettledIsNotOwed) (config : Config) (s : Standing) (kept : IsKept config s) (client : ℕ) (reach : Option ℕ) where
   -- the messages of one path
-  sent_on : (n : ℕ) (p : KnownPath) (order : Order) (part : Part) (t : PathTask) → slice_get s.paths n ≡ Some p → part_for p.config client ≡ Some part → t.path ≡ n → t.owed ≡ owed_at s n part
+  sent_on : (n : ℕ) (p : PathState) (order : Order) (part : Part) (t : PathTask) → slice_get s.paths n ≡ Some p → part_for p.config client ≡ Some part → t.path ≡ n → t.owed ≡ owed_at s n part
       → (ms : List PacketMsg) → AllByRecursion (IsOpen p.packets part) ms → AllByRecursion (IsSent config s.paths client) (map (message_on t) ms)
   sent_on n p order part t at for_client is owed [] all = tt
   sent_on n p order part t at for_client is owed (m ∷ ms) all =
       let place : slice_get config.paths n ≡ Some p.config =
-      ap (λ cs. slice_get cs n) (sym kept.configs) ∙ slice_get-map (λ (q : KnownPath). q.config) s.paths n ∙ ap (option_map (λ (q : KnownPath). q.config)) at in
-      let mark : mark_at s.paths n part m.sequence ≡ Some false = ap (option_and_then (λ (q : KnownPath). mark_in q.packets part m.sequence)) at ∙ all.0.1 in (
+      ap (λ cs. slice_get cs n) (sym kept.configs) ∙ slice_get-map (λ (q : PathState). q.config) s.paths n ∙ ap (option_map (λ (q : PathState). q.config)) at in
+      let mark : mark_at s.paths n part m.sequence ≡ Some false = ap (option_and_then (λ (q : PathState). mark_in q.packets part m.sequence)) at ∙ all.0.1 in (
         (
           (p.config, ap (slice_get config.paths) is ∙ place, for_client ∙ ap (λ x. Some x) (sym all.0.0)),
           ap (λ k. mark_at s.paths k (part_of m.kind) m.sequence) is ∙ ap (λ x. mark_at s.paths n x m.sequence) all.0.0 ∙ mark,
@@ -167,12 +167,12 @@ module _ (law : SettledIsNotOwed) (config : Config) (s : Standing) (kept : IsKep
         sent_on n p order part t at for_client is owed ms all.1,
       )
 
-  owed_open : (n : ℕ) (p : KnownPath) (part : Part) → slice_get s.paths n ≡ Some p → AllByRecursion (IsOpen p.packets part) (owed_at s n part)
+  owed_open : (n : ℕ) (p : PathState) (part : Part) → slice_get s.paths n ≡ Some p → AllByRecursion (IsOpen p.packets part) (owed_at s n part)
   owed_open n p part at =
       subst (λ o. AllByRecursion (IsOpen p.packets part) (option_map_or (λ v. owed_part v part) (option_map (view_of_path s.books) o) [])) (sym at)
       (open_part law (view_of_path s.books p) (all_at AllFound s.paths n p kept.found at) part)
 
-  one_task_sent : (n : ℕ) (p : KnownPath) → slice_get s.paths n ≡ Some p → (o : Option Part) → part_for p.config client ≡ o → (rest : List PathTask)
+  one_task_sent : (n : ℕ) (p : PathState) → slice_get s.paths n ≡ Some p → (o : Option Part) → part_for p.config client ≡ o → (rest : List PathTask)
       → AllByRecursion (IsSent config s.paths client) (flat_map (ready_on reach) rest)
       → AllByRecursion (IsSent config s.paths client) (flat_map (ready_on reach) (cons_option (option_map (λ part. record { path = n; order = p.config.order; gas = p.config.gas; owed = owed_at s n part }) o) rest))
   one_task_sent n p at None e rest all = all
@@ -182,7 +182,7 @@ module _ (law : SettledIsNotOwed) (config : Config) (s : Standing) (kept : IsKep
       (sent_on n p p.config.order part t at e refl refl (ready (owed_at s n part) p.config.order reach)
       (ready_all (IsOpen p.packets part) (owed_at s n part) p.config.order reach (owed_open n p part at))) all
 
-  all_sent : (n : ℕ) (rest : List KnownPath) → ((k : ℕ) (p : KnownPath) → slice_get rest k ≡ Some p → slice_get s.paths (n + k) ≡ Some p)
+  all_sent : (n : ℕ) (rest : List PathState) → ((k : ℕ) (p : PathState) → slice_get rest k ≡ Some p → slice_get s.paths (n + k) ≡ Some p)
       → AllByRecursion (IsSent config s.paths client) (flat_map (ready_on reach) (filter_map (path_task (owed_at s) client) (enumerate_from n rest)))
   all_sent n [] places = tt
   all_sent n (p ∷ rest) places =
@@ -206,7 +206,7 @@ plan_sent law config s d x b kept is e =
     subst (AllByRecursion (IsSent config s.standing.paths d.job.client)) (sym plan.messages ∙ sym (ap (λ (y : OpenBatch). y.messages) o.is))
     (messages_sent law config s.standing kept d.job.client planned.reach x.known.asked)
 
-opened_batch : (c : KnownClient) (o : Option OpenBatch) → (with_batch c o).batch ≡ o
+opened_batch : (c : ClientState) (o : Option OpenBatch) → (with_batch c o).batch ≡ o
 opened_batch c None = refl
 opened_batch c (Some b) = refl
 
@@ -219,15 +219,15 @@ plan_steps law config s d kept is e =
         configs = kept.configs;
         found = kept.found;
         sent = λ client b stands.
-            let found = chained (λ (c : KnownClient). c.batch) (slice_get (changed_at (after_answer d.answer) s.standing.clients d.job.client) client) b stands in
+            let found = chained (λ (c : ClientState). c.batch) (slice_get (changed_at (after_answer d.answer) s.standing.clients d.job.client) client) b stands in
             let before = get_changed (after_answer d.answer) s.standing.clients d.job.client client found.0 found.1 in
             elim before.2 [
               | inl here ↦
                   let known : before.0 ≡ x.known = same_Some before.0 x.known (sym before.1 ∙ ap (slice_get s.standing.clients) here.0 ∙ x.is_known) in
                   let opened : batch_opened x.known d.answer ≡ Some b =
-                  sym (opened_batch x.known (batch_opened x.known d.answer)) ∙ ap (λ c. (after_answer d.answer c).batch) (sym known) ∙ ap (λ (c : KnownClient). c.batch) (sym here.1) ∙ found.2 in
+                  sym (opened_batch x.known (batch_opened x.known d.answer)) ∙ ap (λ c. (after_answer d.answer c).batch) (sym known) ∙ ap (λ (c : ClientState). c.batch) (sym here.1) ∙ found.2 in
                   subst (λ n. AllByRecursion (IsSent config s.standing.paths n) b.messages) (sym here.0) (plan_sent law config s d x b kept is opened)
-              | inr other ↦ kept.sent client b (ap (option_and_then (λ (c : KnownClient). c.batch)) before.1 ∙ ap (λ (c : KnownClient). c.batch) (sym other.1) ∙ found.2)
+              | inr other ↦ kept.sent client b (ap (option_and_then (λ (c : ClientState). c.batch)) before.1 ∙ ap (λ (c : ClientState). c.batch) (sym other.1) ∙ found.2)
             ];
       };
       grows = λ path part sequence f. f;
@@ -235,11 +235,11 @@ plan_steps law config s d kept is e =
 
 -- ---- a batch is settled
 
-settled_open : (c : KnownClient) (number done : ℕ) (o : Option OpenBatch) → settled_refusal_of c number done o ≡ None → (b : OpenBatch) × (o ≡ Some b)
+settled_open : (c : ClientState) (number done : ℕ) (o : Option OpenBatch) → settled_refusal_of c number done o ≡ None → (b : OpenBatch) × (o ≡ Some b)
 settled_open c number done None e = absurd (none-some OutOfOrder (sym (passes _ Repeat (Some OutOfOrder) e).1))
 settled_open c number done (Some b) e = (b, refl)
 
-the_open : (c : KnownClient) (number : ℕ) (b : OpenBatch) → open_batch c number ≡ Some b → c.batch ≡ Some b
+the_open : (c : ClientState) (number : ℕ) (b : OpenBatch) → open_batch c number ≡ Some b → c.batch ≡ Some b
 the_open c number b e =
     let found = chained (λ (x : OpenBatch). if eqb x.number number then Some x else None) c.batch b e in
     found.1 ∙ go found.0 (eqb found.0.number number) found.2
@@ -249,16 +249,16 @@ the_open c number b e =
     go x false f = absurd (none-some b f)
 
 pub record IsSettling (s : State) (client number done : ℕ) : Type 0 where
-  pub known : KnownClient
+  pub known : ClientState
   pub batch : OpenBatch
   pub is_known : slice_get s.standing.clients client ≡ Some known
   pub is_open : known.batch ≡ Some batch
   pub changed_is : changed s.standing (Settled client number done) ≡ after_settled s.standing client done (Some batch)
 
-known_from : (s : State) (client : ℕ) → knows_client s client ≡ true → (c : KnownClient) × (slice_get s.standing.clients client ≡ Some c)
+known_from : (s : State) (client : ℕ) → knows_client s client ≡ true → (c : ClientState) × (slice_get s.standing.clients client ≡ Some c)
 known_from s client e = within s.standing.clients client (ltb-true client (length s.standing.clients) e)
   where
-    within : (cs : List KnownClient) (n : ℕ) → n < length cs → (c : KnownClient) × (slice_get cs n ≡ Some c)
+    within : (cs : List ClientState) (n : ℕ) → n < length cs → (c : ClientState) × (slice_get cs n ≡ Some c)
     within [] n lt = absurd (omega arith)
     within (c ∷ cs) zero lt = (c, refl)
     within (c ∷ cs) (suc n) lt = within cs n (omega arith)
@@ -294,21 +294,21 @@ settle_steps : (config : Config) (s : State) (client number done : ℕ) → IsKe
 settle_steps config s client number done kept e =
     let x = settling s client number done e in
     let ms = settled_messages x.batch done in
-    let open_now : batch_open s.standing client ≡ Some x.batch = ap (option_and_then (λ (c : KnownClient). c.batch)) x.is_known ∙ x.is_open in
+    let open_now : batch_open s.standing client ≡ Some x.batch = ap (option_and_then (λ (c : ClientState). c.batch)) x.is_known ∙ x.is_open in
     let theirs = all_weaker (IsSent config s.standing.paths client) (IsFor config client) (λ m is. is.0) ms (all_take (IsSent config s.standing.paths client) _ x.batch.messages (kept.sent client x.batch open_now)) in
     subst (Steps config s.standing) (sym x.changed_is) (record {
       kept = record {
         configs = configs_messages ms s.standing.paths ∙ kept.configs;
         found = found_messages ms s.standing.paths kept.found;
         sent = λ other b stands.
-            let found = chained (λ (c : KnownClient). c.batch) (slice_get (changed_at (after_batch x.batch done) s.standing.clients client) other) b stands in
+            let found = chained (λ (c : ClientState). c.batch) (slice_get (changed_at (after_batch x.batch done) s.standing.clients client) other) b stands in
             let before = get_changed (after_batch x.batch done) s.standing.clients client other found.0 found.1 in
             elim before.2 [
-              | inl here ↦ absurd (none-some b (ap (λ (c : KnownClient). c.batch) (sym here.1) ∙ found.2))
+              | inl here ↦ absurd (none-some b (ap (λ (c : ClientState). c.batch) (sym here.1) ∙ found.2))
               | inr elsewhere ↦
                   all_weaker (IsSent config s.standing.paths other) (IsSent config (after_messages s.standing.paths ms) other)
                   (λ m is. (is.0, all_others ms s.standing.paths m.path (part_of m.packet.kind) m.packet.sequence false (apart config other client m elsewhere.0 is.0 ms theirs) is.1))
-                  b.messages (kept.sent other b (ap (option_and_then (λ (c : KnownClient). c.batch)) before.1 ∙ ap (λ (c : KnownClient). c.batch) (sym elsewhere.1) ∙ found.2))
+                  b.messages (kept.sent other b (ap (option_and_then (λ (c : ClientState). c.batch)) before.1 ∙ ap (λ (c : ClientState). c.batch) (sym elsewhere.1) ∙ found.2))
             ];
       };
       grows = λ path part sequence f. all_grow ms s.standing.paths path part sequence f;
@@ -363,7 +363,7 @@ all_events law config s (e ∷ es) kept are =
 
 -- ---- before the first event
 
-new_configs : (cs : List PathConfig) → map (λ (p : KnownPath). p.config) (map new_path cs) ≡ cs
+new_configs : (cs : List PathConfig) → map (λ (p : PathState). p.config) (map new_path cs) ≡ cs
 new_configs [] = refl
 new_configs (c ∷ cs) = ap (λ ds. c ∷ ds) (new_configs cs)
 
@@ -372,9 +372,9 @@ new_found [] = tt
 new_found (c ∷ cs) = (tt, new_found cs)
 
 none_yet : (config : Config) (client : ℕ) → batch_open (opening_standing config) client ≡ None
-none_yet config client = ap (option_and_then (λ (c : KnownClient). c.batch)) (slice_get-map new_client config.clients client) ∙ go (slice_get config.clients client)
+none_yet config client = ap (option_and_then (λ (c : ClientState). c.batch)) (slice_get-map new_client config.clients client) ∙ go (slice_get config.clients client)
   where
-    go : (o : Option ClientConfig) → option_and_then (λ (c : KnownClient). c.batch) (option_map new_client o) ≡ None
+    go : (o : Option ClientConfig) → option_and_then (λ (c : ClientState). c.batch) (option_map new_client o) ≡ None
     go None = refl
     go (Some c) = refl
 
@@ -413,7 +413,7 @@ settled_gone law config events later client number done b m are are_later ok sta
     let e : Event = Settled client number done in
     let kept = kept_after law config events (recursion_from_All IsEvent events are) in
     let y = settling s client number done ok in
-    let same : y.batch ≡ b = same_Some y.batch b (sym (ap (option_and_then (λ (c : KnownClient). c.batch)) y.is_known ∙ y.is_open) ∙ stands) in
+    let same : y.batch ≡ b = same_Some y.batch b (sym (ap (option_and_then (λ (c : ClientState). c.batch)) y.is_known ∙ y.is_open) ∙ stands) in
     let sent = all_take (IsSent config s.standing.paths client) _ b.messages (kept.sent client b stands) in
     let was = (All-contains (IsSent config s.standing.paths client) (settled_messages b done) m (All-from_recursion (IsSent config s.standing.paths client) (settled_messages b done) sent) among).1 in
     let at : slice_get (settled_messages b done) among.0 ≡ Some m = slice_get-get_or (settled_messages b done) among.0 m among.1 ∙ ap (λ z. Some z) among.2 in

@@ -13,7 +13,7 @@ use Rattle.rb_core_model.specs.Batches.{IsRightBatch, batch_open, BatchesAreRigh
 use Rattle.rb_plan_client.specs.Draft.{Batch, Sending, nothing, too_big, batched, Plan, Planned as Answer, IsBatch, IsSending, IsPlan, IsPlanned, IsAnswer, Draft}
 use Rattle.rb_core_model.specs.Event.{Planned}
 use Rattle.rb_core_model.specs.Machine.{State, Opened, reply_for, batch_for, refusal_of, accepted, after, state_of}
-use Rattle.rb_core_model.specs.Standing.{OpenBatch, KnownClient, Standing, path_view, owed_at, path_tasks, task_in, batch_of_sending, batch_of, batch_opened, with_batch, after_answer}
+use Rattle.rb_core_model.specs.Standing.{OpenBatch, ClientState, Standing, path_view, owed_at, path_tasks, task_in, batch_of_sending, batch_of, batch_opened, with_batch, after_answer}
 use Rattle.rb_plan_client.specs.Task.{Message, ready_on, messages_of}
 use Rattle.rb_core_model.proofs.Drafted.{IsDrafted, drafted}
 use Rattle.rb_core_model.proofs.Floors.{floors_fit}
@@ -104,7 +104,7 @@ batches_right law config events d number is accepted_by reply =
       b.0,
       b.2,
       ap (λ (u : State). batch_open u.standing d.job.client) (after_accepted s d accepted_by)
-          ∙ ap (option_and_then (λ (c : KnownClient). c.batch)) (get_changed_same (after_answer d.answer) s.standing.clients d.job.client x.known x.is_known)
+          ∙ ap (option_and_then (λ (c : ClientState). c.batch)) (get_changed_same (after_answer d.answer) s.standing.clients d.job.client x.known x.is_known)
           ∙ ap (λ o. (with_batch x.known o).batch) opened,
       right_batch law s d x b.0 o (subst (λ t. IsAnswer t d.answer) x.task is),
     )

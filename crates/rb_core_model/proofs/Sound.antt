@@ -9,7 +9,7 @@ use Rattle.std.proofs.lemmas.List.Elements.{All-from_recursion, recursion_from_A
 use Rattle.std.proofs.lemmas.Option.{none-some, same_Some}
 use Rattle.rb_base.specs.Fee.{IsFeeTable}
 use Rattle.rb_base.specs.Window.{Span}
-use Rattle.rb_book.specs.Book.{Book, Known, height_of, time_of, record_at, set_of}
+use Rattle.rb_book.specs.Book.{Book, RecordAt, height_of, time_of, record_at, set_of}
 use Rattle.rb_book.specs.Header.{Record, Header}
 use Rattle.rb_book.specs.Intake.{set_refusal, header_refusal, record_refusal, after_set, after_header, after_record, with_set}
 use Rattle.rb_book.specs.Invariant.{IsBook}
@@ -33,7 +33,7 @@ use Rattle.rb_core_model.specs.Event.{Event, IsEvent, Window, Asked, SetSeen, He
 use Rattle.rb_core_model.specs.Machine.{State, opening, job_of, refusal_of, accepted, after, state_of}
 use Rattle.rb_script_types.specs.declared.refusal.Refusal.{Refusal}
 use Rattle.rb_script_types.specs.declared.refusal.Refusal.TheVariants.{OutOfOrder}
-use Rattle.rb_core_model.specs.Standing.{OpenBatch, KnownClient, KnownPath, Standing, empty_book, new_client, new_path, opening_standing, book_at, tracked, view_of_path, view_of, task_in, changed, changed_at, with_book, with_client, with_path, with_height, with_packet, new_packet, marked, with_mark, mark_of, batch_opened, with_batch, after_answer, after_batch, after_message, after_messages, settled_updates, settled_messages, sent_refusal}
+use Rattle.rb_core_model.specs.Standing.{OpenBatch, ClientState, PathState, Standing, empty_book, new_client, new_path, opening_standing, book_at, tracked, view_of_path, view_of, task_in, changed, changed_at, with_book, with_client, with_path, with_height, with_packet, new_packet, marked, with_mark, mark_of, batch_opened, with_batch, after_answer, after_batch, after_message, after_messages, settled_updates, settled_messages, sent_refusal}
 use Rattle.rb_plan_client.specs.Task.{Message, messages_of}
 use Rattle.rb_core_model.specs.Views.{ClientViewsAreViews, PathViewsArePaths}
 use Rattle.rb_core_model.specs.Batches.{AreApart, MessagesStandOnce}
@@ -53,7 +53,7 @@ abbrev pub IsRecorded : Book → ℕ → Type 0
 IsRecorded book height = IsSome (record_at book height)
 
 -- what is known of a client fits the books
-pub record IsSoundClient (books : List Book) (c : KnownClient) : Type 0 where
+pub record IsSoundClient (books : List Book) (c : ClientState) : Type 0 where
   pub tracks : c.config.tracks < length books
   pub fees : IsFeeTable c.config.fees
   pub rising : IsStrictlyIncreasing c.stored
@@ -62,7 +62,7 @@ pub record IsSoundClient (books : List Book) (c : KnownClient) : Type 0 where
   pub apart : (b : OpenBatch) → c.batch ≡ Some b → Up AreApart b.messages
 
 -- a path's packets rise, from its first one on
-pub record IsSoundPath (p : KnownPath) : Type 0 where
+pub record IsSoundPath (p : PathState) : Type 0 where
   pub rising : IsStrictlyIncreasing (sequences_of p.packets)
   pub from_first : AllByRecursion (λ (q : Packet). p.config.first ≤ q.sequence) p.packets
 
@@ -125,7 +125,7 @@ keeps_at books chain b keeps n height is = elim (cases_eq n chain) [
   ]
 ]
 
-client_kept : (books other : List Book) (c : KnownClient) → length other ≡ length books → ((n : ℕ) → Keeps (book_at books n) (book_at other n)) → IsSoundClient books c → IsSoundClient other c
+client_kept : (books other : List Book) (c : ClientState) → length other ≡ length books → ((n : ℕ) → Keeps (book_at books n) (book_at other n)) → IsSoundClient books c → IsSoundClient other c
 unfolding Keeps
 client_kept books other c long keeps is = record {
   tracks = subst (λ n. c.config.tracks < n) (sym long) is.tracks;
@@ -144,10 +144,10 @@ with_book_sound s chain b sound book keeps = record {
   paths = sound.paths;
 }
 
-with_client_sound : (s : Standing) (place : ℕ) (f : KnownClient → KnownClient) → IsSound s → ((c : KnownClient) → slice_get s.clients place ≡ Some c → IsSoundClient s.books c → IsSoundClient s.books (f c)) → IsSound (with_client s place f)
+with_client_sound : (s : Standing) (place : ℕ) (f : ClientState → ClientState) → IsSound s → ((c : ClientState) → slice_get s.clients place ≡ Some c → IsSoundClient s.books c → IsSoundClient s.books (f c)) → IsSound (with_client s place f)
 with_client_sound s place f sound one = record { window = sound.window; books = sound.books; clients = all_changed (IsSoundClient s.books) f s.clients place one sound.clients; paths = sound.paths }
 
-with_path_sound : (s : Standing) (place : ℕ) (f : KnownPath → KnownPath) → IsSound s → ((p : KnownPath) → slice_get s.paths place ≡ Some p → IsSoundPath p → IsSoundPath (f p)) → IsSound (with_path s place f)
+with_path_sound : (s : Standing) (place : ℕ) (f : PathState → PathState) → IsSound s → ((p : PathState) → slice_get s.paths place ≡ Some p → IsSoundPath p → IsSoundPath (f p)) → IsSound (with_path s place f)
 with_path_sound s place f sound one = record { window = sound.window; books = sound.books; clients = sound.clients; paths = all_changed IsSoundPath f s.paths place one sound.paths }
 
 -- ---- what is added to a book
@@ -179,7 +179,7 @@ module _ (finds : FindsWhatWasAdded) where
 
 -- ---- heights that are stored
 
-one_stored : (books : List Book) (c : KnownClient) (height : ℕ) → IsSoundClient books c → IsRecorded (book_at books c.config.tracks) height → IsSoundClient books (record c { stored = with_height height c.stored })
+one_stored : (books : List Book) (c : ClientState) (height : ℕ) → IsSoundClient books c → IsRecorded (book_at books c.config.tracks) height → IsSoundClient books (record c { stored = with_height height c.stored })
 one_stored books c height is recorded = record {
   tracks = is.tracks;
   fees = is.fees;
@@ -192,12 +192,12 @@ one_stored books c height is recorded = record {
 abbrev stored_after : List ℕ → List Update → List ℕ
 stored_after heights us = fold (λ heights (u : Update). with_height u.height heights) heights us
 
-all_stored : (books : List Book) (c : KnownClient) (us : List Update) → IsSoundClient books c → AllByRecursion (λ (u : Update). IsRecorded (book_at books c.config.tracks) u.height) us
+all_stored : (books : List Book) (c : ClientState) (us : List Update) → IsSoundClient books c → AllByRecursion (λ (u : Update). IsRecorded (book_at books c.config.tracks) u.height) us
     → IsSoundClient books (record c { stored = stored_after c.stored us })
 all_stored books c [] is all = is
 all_stored books c (u ∷ us) is all = all_stored books (record c { stored = with_height u.height c.stored }) us (one_stored books c u.height is all.0) all.1
 
-closed_sound : (books : List Book) (c : KnownClient) → IsSoundClient books c → IsSoundClient books (record c { batch = None })
+closed_sound : (books : List Book) (c : ClientState) → IsSoundClient books c → IsSoundClient books (record c { batch = None })
 closed_sound books c is = record { tracks = is.tracks; fees = is.fees; rising = is.rising; recorded = is.recorded; updates = λ b e. absurd (none-some b e); apart = λ b e. absurd (none-some b e) }
 
 -- ---- packets
@@ -218,7 +218,7 @@ from_marked f same n first (q ∷ ps) all = (one (eqb q.sequence n), from_marked
     one true = subst (λ m. first ≤ m) (sym (same q)) all.0
     one false = all.0
 
-mark_sound : (f : Packet → Packet) → ((q : Packet) → (f q).sequence ≡ q.sequence) → (n : ℕ) (p : KnownPath) → IsSoundPath p → IsSoundPath (with_mark f n p)
+mark_sound : (f : Packet → Packet) → ((q : Packet) → (f q).sequence ≡ q.sequence) → (n : ℕ) (p : PathState) → IsSoundPath p → IsSoundPath (with_mark f n p)
 mark_sound f same n p is = record { rising = subst IsStrictlyIncreasing (sym (sequences_marked f same n p.packets)) is.rising; from_first = from_marked f same n p.config.first p.packets is.from_first }
 
 mark_of_same : (kind : Kind) (q : Packet) → (mark_of kind q).sequence ≡ q.sequence
@@ -226,18 +226,18 @@ mark_of_same Receive q = refl
 mark_of_same Acknowledge q = refl
 mark_of_same Timeout q = refl
 
-message_sound : (m : Message) (p : KnownPath) → IsSoundPath p → IsSoundPath (after_message m.packet p)
+message_sound : (m : Message) (p : PathState) → IsSoundPath p → IsSoundPath (after_message m.packet p)
 message_sound m p is =
     let marked_is = mark_sound (mark_of m.packet.kind) (mark_of_same m.packet.kind) m.packet.sequence p is in
     record { rising = marked_is.rising; from_first = marked_is.from_first }
 
-messages_sound : (ms : List Message) (ps : List KnownPath) → AllByRecursion IsSoundPath ps → AllByRecursion IsSoundPath (after_messages ps ms)
+messages_sound : (ms : List Message) (ps : List PathState) → AllByRecursion IsSoundPath ps → AllByRecursion IsSoundPath (after_messages ps ms)
 messages_sound [] ps all = all
 messages_sound (m ∷ ms) ps all = messages_sound ms (changed_at (after_message m.packet) ps m.path) (all_changed IsSoundPath (after_message m.packet) ps m.path (λ p e is. message_sound m p is) all)
 
 -- ---- views
 
-pub client_view_sound : (s : Standing) (window : Span) (c : KnownClient) → IsSound s → s.window ≡ Some window → IsSoundClient s.books c → IsView (view_of window (book_at s.books c.config.tracks) c)
+pub client_view_sound : (s : Standing) (window : Span) (c : ClientState) → IsSound s → s.window ≡ Some window → IsSoundClient s.books c → IsView (view_of window (book_at s.books c.config.tracks) c)
 client_view_sound s window c sound is_window is = record {
   stored = record { rising = is.rising; recorded = All-from_recursion (IsRecorded (book_at s.books c.config.tracks)) c.stored is.recorded };
   window = sound.window window is_window;
@@ -259,7 +259,7 @@ runs_recorded v orderly (u ∷ us) stored runs = (live (record_at v.book u.heigh
 
 module _ (finds : FindsWhatWasAdded) (stays : StaysABook) (orderly : ViewsAreOrderly) where
   -- a right answer for a client as things stand leaves it sound
-  pub answer_sound : (s : Standing) (window : Span) (client : ℕ) (c : KnownClient) (answer : Option Answer) → IsSound s → s.window ≡ Some window → IsSoundClient s.books c
+  pub answer_sound : (s : Standing) (window : Span) (client : ℕ) (c : ClientState) (answer : Option Answer) → IsSound s → s.window ≡ Some window → IsSoundClient s.books c
       → IsAnswer (task_in s window client c) answer → IsSoundClient s.books (with_batch c (batch_opened c answer))
   answer_sound s window client c answer sound is_window sound_c right = go (batch_opened c answer) refl
     where
@@ -308,7 +308,7 @@ module _ (finds : FindsWhatWasAdded) (stays : StaysABook) (orderly : ViewsAreOrd
             (λ c at is.
             let same : x.known ≡ c = same_Some x.known c (sym x.is_known ∙ at) in
             let us = settled_updates x.batch done in
-            let recorded = all_take (λ (u : Update). IsRecorded (book_at s.standing.books c.config.tracks) u.height) _ x.batch.updates (is.updates x.batch (ap (λ (k : KnownClient). k.batch) (sym same) ∙ x.is_open)) in
+            let recorded = all_take (λ (u : Update). IsRecorded (book_at s.standing.books c.config.tracks) u.height) _ x.batch.updates (is.updates x.batch (ap (λ (k : ClientState). k.batch) (sym same) ∙ x.is_open)) in
             closed_sound s.standing.books (record c { stored = stored_after c.stored us }) (all_stored s.standing.books c us is recorded)) sound.clients;
         paths = messages_sound (settled_messages x.batch done) s.standing.paths sound.paths;
       })
@@ -320,7 +320,7 @@ module _ (finds : FindsWhatWasAdded) (stays : StaysABook) (orderly : ViewsAreOrd
       let b = after_record (book_at s.books chain) height r in
       let there = with_book_sound s chain b sound ((stays (book_at s.books chain) book).1 height r ok) (keeps_record finds (book_at s.books chain) height r book ok) in
       with_client_sound (with_book s chain b) client (λ c. record c { stored = with_height height c.stored }) there (λ c at is.
-      let its : chain ≡ c.config.tracks = ap (λ o. option_map_or (λ (k : KnownClient). k.config.tracks) o 0) at in
+      let its : chain ≡ c.config.tracks = ap (λ o. option_map_or (λ (k : ClientState). k.config.tracks) o 0) at in
       let within : chain < length s.books = subst (λ n. n < length s.books) (sym its) (subst (λ n. c.config.tracks < n) (length-set s.books chain b) is.tracks) in
       one_stored (set s.books chain b) c height is
       (subst (λ (x : Book). IsRecorded x height) (sym (ap (book_at (set s.books chain b)) (sym its) ∙ get_or-set_same s.books chain b (empty_book 1) within)) (now_recorded finds (book_at s.books chain) height r book ok)))
@@ -410,7 +410,7 @@ module _ (finds : FindsWhatWasAdded) (stays : StaysABook) (orderly : ViewsAreOrd
   stand_once config es is are client b opened =
       let s = state_of config es in
       let sound = sound_after config es is are in
-      let c = chained (λ (k : KnownClient). k.batch) (slice_get s.standing.clients client) b opened in
+      let c = chained (λ (k : ClientState). k.batch) (slice_get s.standing.clients client) b opened in
       pairs_from_up AreApart b.messages ((all_at (IsSoundClient s.standing.books) s.standing.clients client c.0 sound.clients c.1).apart b c.2)
 
   pub client_views : ClientViewsAreViews
@@ -422,11 +422,11 @@ module _ (finds : FindsWhatWasAdded) (stays : StaysABook) (orderly : ViewsAreOrd
       subst (λ (j : Job). IsView j.task.view) c.2
       (client_view_sound s.standing w.0 c.0 sound w.1 (all_at (IsSoundClient s.standing.books) s.standing.clients client c.0 sound.clients c.1))
 
-  heights_same : (ks : List Known) → map (λ (r : ℕ × ℕ). r.0) (map (λ (k : Known). (height_of k, time_of k)) ks) ≡ map height_of ks
+  heights_same : (ks : List RecordAt) → map (λ (r : ℕ × ℕ). r.0) (map (λ (k : RecordAt). (height_of k, time_of k)) ks) ≡ map height_of ks
   heights_same [] = refl
   heights_same (k ∷ ks) = ap (λ hs. height_of k ∷ hs) (heights_same ks)
 
-  times_same : (ks : List Known) → map (λ (r : ℕ × ℕ). r.1) (map (λ (k : Known). (height_of k, time_of k)) ks) ≡ map time_of ks
+  times_same : (ks : List RecordAt) → map (λ (r : ℕ × ℕ). r.1) (map (λ (k : RecordAt). (height_of k, time_of k)) ks) ≡ map time_of ks
   times_same [] = refl
   times_same (k ∷ ks) = ap (λ ts. time_of k ∷ ts) (times_same ks)
 

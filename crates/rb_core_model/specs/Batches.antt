@@ -19,7 +19,7 @@ use Rattle.rb_plan_client.specs.Draft.{Draft, IsDraft}
 use Rattle.rb_core_model.specs.Event.{Event, IsEvent, Planned, Settled}
 use Rattle.rb_core_model.specs.Machine.{Opened, refusal_of, reply_of, after, state_of}
 use Rattle.rb_plan_client.specs.Reach.{IsReach}
-use Rattle.rb_core_model.specs.Standing.{OpenBatch, KnownClient, Standing, path_view, task_in, settled_messages}
+use Rattle.rb_core_model.specs.Standing.{OpenBatch, ClientState, Standing, path_view, task_in, settled_messages}
 use Rattle.rb_plan_client.specs.Task.{Message, goal_of, messages_of, gases}
 
 -- ---- a batch when it is opened
@@ -40,7 +40,7 @@ AreInTurn v sequences = sequences ≡ range_with_len (next_sequence v Receive) (
 -- batch's height, and the receives of an ORDERED path come in turn.
 pub record IsRightBatch (s : Standing) (client : ℕ) (b : OpenBatch) : Type 0 where
   pub window : Span
-  pub known : KnownClient
+  pub known : ClientState
   pub reach : Option ℕ
   pub goal : Goal
   pub is_window : s.window ≡ Some window
@@ -58,7 +58,7 @@ pub record IsRightBatch (s : Standing) (client : ℕ) (b : OpenBatch) : Type 0 w
 -- ---- batches that are open
 
 abbrev pub batch_open : Standing → ℕ → Option OpenBatch
-batch_open s client = option_and_then (λ (c : KnownClient). c.batch) (slice_get s.clients client)
+batch_open s client = option_and_then (λ (c : ClientState). c.batch) (slice_get s.clients client)
 
 -- a client's open batch has a message of a kind for a packet, by its path's place and its sequence
 pub record Carries (s : Standing) (client path : ℕ) (kind : Kind) (sequence : ℕ) : Type 0 where

@@ -4,8 +4,8 @@ use Rattle.rb_base.specs.Fee.{IsFeeTable}
 use Rattle.rb_script_types.specs.Config.{Config, IsConfig}
 use Rattle.rb_script_types.specs.declared.config.ClientConfig.{ClientConfig}
 use Rattle.rb_script_types.specs.declared.config.PathConfig.{PathConfig}
-use Rattle.rb_scan.specs.declared.scan.Part.{Part}
-use Rattle.rb_scan.specs.declared.scan.Part.TheVariants.{Packets, Channel}
+use Rattle.rb_base.specs.declared.gate.Part.{Part}
+use Rattle.rb_base.specs.declared.gate.Part.TheVariants.{Packets, Channel}
 
 -- the part of what a path owes that is for a client; none where the path isn't one of the client's
 abbrev pub part_for : PathConfig → ℕ → Option Part

@@ -2,7 +2,7 @@
 use Rattle.std.specs.Prelude.{ℕ, List, [], ◌∷◌, Option, Some}
 use Rattle.std.specs.Option.{option_map, option_map_or}
 use Rattle.rb_script_types.specs.Config.{Config}
-use Rattle.rb_scan.specs.declared.scan.Part.{Part}
+use Rattle.rb_base.specs.declared.gate.Part.{Part}
 use Rattle.rb_plan_client.specs.Draft.{Planned as Answer}
 use Rattle.rb_core_model.specs.Event.{Event, Window, Asked, SetSeen, HeaderSeen, StoredSeen, Sent, Received, AckWritten, Cleared, Closed, Scanned, Planned, Settled}
 use Rattle.rb_core_model.specs.Machine.{State, opening, client_view, after}

@@ -10,7 +10,7 @@ use Rattle.rb_scan.specs.declared.message.Kind.TheVariants.{Receive, Timeout}
 use Rattle.rb_scan.specs.declared.message.PacketMsg.{PacketMsg}
 use Rattle.rb_scan.specs.declared.path.Order.{Order}
 use Rattle.rb_scan.specs.declared.path.Order.TheVariants.{Ordered, Unordered}
-use Rattle.rb_scan.specs.declared.scan.Part.TheVariants.{Packets, Channel}
+use Rattle.rb_base.specs.declared.gate.Part.TheVariants.{Packets, Channel}
 use Rattle.rb_script_types.specs.Config.{Config}
 use Rattle.rb_script_types.specs.declared.config.ClientConfig.{ClientConfig}
 use Rattle.rb_plan_client.specs.Draft.{batched, Planned as Answer, Job, Draft}
@@ -18,7 +18,7 @@ use Rattle.rb_core_model.specs.Event.{Event, Window, Asked, StoredSeen, Sent, Re
 use Rattle.rb_core_model.specs.Machine.{State, Opened, client_view, client_view_refusal, path_view_refusal, max_events, refusal_of, reply_of, state_of}
 use Rattle.rb_script_types.specs.declared.refusal.Refusal.{Refusal}
 use Rattle.rb_script_types.specs.declared.refusal.Refusal.TheVariants.{Conflict, UnknownObject, Stale, Busy, Repeat, OutOfOrder, WindowBack, NotOwed, LogFull}
-use Rattle.rb_core_model.specs.Standing.{KnownClient, path_view, view_of_path, after_message}
+use Rattle.rb_core_model.specs.Standing.{ClientState, path_view, view_of_path, after_message}
 use Rattle.rb_plan_client.specs.Task.{PathTask, Message}
 
 -- two chains, a client on each, and a path from the first chain to the second
@@ -115,7 +115,7 @@ abbrev pub opened_two : List Event
 opened_two = scanned Ordered beginning ++ plan_with (draft_of Ordered (scanned Ordered beginning) 0 (Some two_transactions))
 
 abbrev pub stored_by : List Event → ℕ → Option (List ℕ)
-stored_by events client = option_map (λ (c : KnownClient). c.stored) (slice_get (at Ordered events).standing.clients client)
+stored_by events client = option_map (λ (c : ClientState). c.stored) (slice_get (at Ordered events).standing.clients client)
 
 abbrev pub owed_to : Order → List Event → ℕ → Option (List PathTask)
 owed_to order events client = option_map (λ (j : Job). j.task.paths) (client_view (at order events) client)

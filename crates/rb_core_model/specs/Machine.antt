@@ -6,8 +6,8 @@ use Rattle.rb_base.specs.Window.{Span}
 use Rattle.rb_scan.specs.Path.{Path}
 use Rattle.rb_scan.specs.Same.{same_path}
 use Rattle.rb_scan.specs.declared.message.PacketMsg.{PacketMsg}
-use Rattle.rb_scan.specs.declared.scan.Part.{Part}
-use Rattle.rb_scan.specs.declared.scan.Part.TheVariants.{Packets, Channel}
+use Rattle.rb_base.specs.declared.gate.Part.{Part}
+use Rattle.rb_base.specs.declared.gate.Part.TheVariants.{Packets, Channel}
 use Rattle.rb_script_types.specs.Config.{Config}
 use Rattle.rb_core_model.specs.Config.{part_for}
 use Rattle.rb_plan_client.specs.Draft.{Job, Draft}
@@ -17,7 +17,7 @@ use Rattle.rb_script_types.specs.declared.refusal.Refusal.{Refusal}
 use Rattle.rb_script_types.specs.declared.refusal.Refusal.TheVariants.{UnknownObject, Stale, Busy, Repeat, OutOfOrder, NotOwed, LogFull}
 use Rattle.rb_core_model.specs.Refusal.{refused_if}
 use Rattle.rb_plan_client.specs.Same.{same_job}
-use Rattle.rb_core_model.specs.Standing.{OpenBatch, KnownClient, KnownPath, Standing, opening_standing, path_view, owed_at, path_tasks, task_of, judged, changed, batch_opened}
+use Rattle.rb_core_model.specs.Standing.{OpenBatch, ClientState, PathState, Standing, opening_standing, path_view, owed_at, path_tasks, task_of, judged, changed, batch_opened}
 
 -- each part of a path as it was last scanned
 pub record Scans : Type 0 where
@@ -61,7 +61,7 @@ abbrev pub is_scanned : State → ℕ → Part → Bool
 is_scanned s path part = option_map_or (is_view s path) (scan_of (slice_index_or s.scans path no_scans) part) false
 
 -- both parts of each path of a client have one
-abbrev pub is_missed : State → ℕ → ℕ × KnownPath → Bool
+abbrev pub is_missed : State → ℕ → ℕ × PathState → Bool
 is_missed s client (place, p) = is_some (part_for p.config client) && not (is_scanned s place Packets && is_scanned s place Channel)
 
 abbrev pub all_scanned : State → ℕ → Bool
@@ -76,7 +76,7 @@ seen_owed s path part = if is_scanned s path part then owed_at s.standing path p
 abbrev pub plan_number : State → ℕ → ℕ
 plan_number s client = slice_index_or s.plans client 0
 
-abbrev pub job_of : State → ℕ → Span → KnownClient → Job
+abbrev pub job_of : State → ℕ → Span → ClientState → Job
 job_of s client window c = record {
   client = client;
   task = task_of window s.standing.books (path_tasks (seen_owed s) s.standing.paths client) c;
@@ -137,7 +137,7 @@ scan_refusal s path scan =
     refused_if (is_scanned s path scan.part) Repeat None)
 
 abbrev pub is_held : State → ℕ → Bool
-is_held s client = option_map_or (λ (c : KnownClient). is_some c.batch) (slice_get s.standing.clients client) false
+is_held s client = option_map_or (λ (c : ClientState). is_some c.batch) (slice_get s.standing.clients client) false
 
 abbrev pub is_job : State → Job → Bool
 is_job s job = option_map_or (same_job job) (client_view s job.client) false

@@ -16,7 +16,7 @@ use Rattle.rb_scan.specs.declared.message.Kind.{Kind}
 use Rattle.rb_scan.specs.declared.message.Kind.TheVariants.{Receive, Acknowledge, Timeout}
 use Rattle.rb_scan.specs.declared.message.PacketMsg.{PacketMsg}
 use Rattle.rb_scan.specs.declared.path.Order.TheVariants.{Ordered}
-use Rattle.rb_scan.specs.declared.scan.Part.{Part}
+use Rattle.rb_base.specs.declared.gate.Part.{Part}
 use Rattle.rb_step.specs.LightClient.{Update}
 use Rattle.rb_step.specs.View.{View}
 use Rattle.rb_script_types.specs.Config.{Config}
@@ -42,7 +42,7 @@ pub record OpenBatch : Type 0 where
 
 -- a client: its configuration, the heights that it has stored, rising, the goal that it was asked for, how many batches it
 -- has opened, and the one that is open
-pub record KnownClient : Type 0 where
+pub record ClientState : Type 0 where
   pub config : ClientConfig
   pub stored : List ℕ
   pub asked : Option Goal
@@ -50,7 +50,7 @@ pub record KnownClient : Type 0 where
   pub batch : Option OpenBatch
 
 -- a path: its configuration, the packets that were sent, by rising sequence, and whether it is closed
-pub record KnownPath : Type 0 where
+pub record PathState : Type 0 where
   pub config : PathConfig
   pub packets : List Packet
   pub closed : Bool
@@ -59,18 +59,18 @@ pub record KnownPath : Type 0 where
 pub record Standing : Type 0 where
   pub window : Option Span
   pub books : List Book
-  pub clients : List KnownClient
-  pub paths : List KnownPath
+  pub clients : List ClientState
+  pub paths : List PathState
 
 -- ---- before the first event
 
 abbrev pub empty_book : ℕ → Book
 empty_book limit = record { limit = limit; sets = []; records = []; headers = [] }
 
-abbrev pub new_client : ClientConfig → KnownClient
+abbrev pub new_client : ClientConfig → ClientState
 new_client config = record { config = config; stored = []; asked = None; batches = 0; batch = None }
 
-abbrev pub new_path : PathConfig → KnownPath
+abbrev pub new_path : PathConfig → PathState
 new_path config = record { config = config; packets = []; closed = false }
 
 abbrev pub opening_standing : Config → Standing
@@ -87,11 +87,11 @@ abbrev pub book_at : List Book → ℕ → Book
 book_at books chain = slice_index_or books chain (empty_book 1)
 
 -- the chain that a client tracks
-abbrev pub tracked : List KnownClient → ℕ → ℕ
-tracked clients client = option_map_or (λ (c : KnownClient). c.config.tracks) (slice_get clients client) 0
+abbrev pub tracked : List ClientState → ℕ → ℕ
+tracked clients client = option_map_or (λ (c : ClientState). c.config.tracks) (slice_get clients client) 0
 
 -- a path as it is scanned
-abbrev pub view_of_path : List Book → KnownPath → Path
+abbrev pub view_of_path : List Book → PathState → Path
 view_of_path books p = record {
   order = p.config.order;
   first = p.config.first;
@@ -108,19 +108,19 @@ abbrev pub owed_at : Standing → ℕ → Part → List PacketMsg
 owed_at s path part = option_map_or (λ v. owed_part v part) (path_view s path) []
 
 -- the paths of a client, with the messages that are for it, by what each part of each path owes
-abbrev pub path_task : (ℕ → Part → List PacketMsg) → ℕ → ℕ × KnownPath → Option PathTask
+abbrev pub path_task : (ℕ → Part → List PacketMsg) → ℕ → ℕ × PathState → Option PathTask
 path_task owed client (place, p) =
     option_map (λ part. record { path = place; order = p.config.order; gas = p.config.gas; owed = owed place part }) (part_for p.config client)
 
-abbrev pub path_tasks : (ℕ → Part → List PacketMsg) → List KnownPath → ℕ → List PathTask
+abbrev pub path_tasks : (ℕ → Part → List PacketMsg) → List PathState → ℕ → List PathTask
 path_tasks owed paths client = filter_map (path_task owed client) (enumerate_from 0 paths)
 
 -- a client in a window, over the book of the chain that it tracks
-abbrev pub view_of : Span → Book → KnownClient → View
+abbrev pub view_of : Span → Book → ClientState → View
 view_of window book c =
     record { options = c.config.options; fees = c.config.fees; stored = c.stored; window = window; book = book }
 
-abbrev pub task_of : Span → List Book → List PathTask → KnownClient → Task
+abbrev pub task_of : Span → List Book → List PathTask → ClientState → Task
 task_of window books paths c = record {
   view = view_of window (book_at books c.config.tracks) c;
   gas = c.config.gas;
@@ -131,7 +131,7 @@ task_of window books paths c = record {
 }
 
 -- what a client is to be brought to as things stand, in a window: all that its paths owe it counts
-abbrev pub task_in : Standing → Span → ℕ → KnownClient → Task
+abbrev pub task_in : Standing → Span → ℕ → ClientState → Task
 task_in s window client c = task_of window s.books (path_tasks (owed_at s) s.paths client) c
 
 -- ---- why an event is refused
@@ -173,15 +173,15 @@ cleared_refusal None = Some OutOfOrder
 cleared_refusal (Some p) = refused_if (is_cleared p) Repeat None
 
 -- a client's batch with this number, if it is the open one
-abbrev pub open_batch : KnownClient → ℕ → Option OpenBatch
+abbrev pub open_batch : ClientState → ℕ → Option OpenBatch
 open_batch c number = option_and_then (λ (b : OpenBatch). if b.number == number then Some b else None) c.batch
 
 -- a batch is settled once, while it is open, and no more of it than it has
-abbrev pub settled_refusal_of : KnownClient → ℕ → ℕ → Option OpenBatch → Option Refusal
+abbrev pub settled_refusal_of : ClientState → ℕ → ℕ → Option OpenBatch → Option Refusal
 settled_refusal_of c number done None = refused_if (nat_le 1 number && nat_le number c.batches) Repeat (Some OutOfOrder)
 settled_refusal_of c number done (Some b) = refused_if (nat_lt (length b.transactions) done) OutOfOrder None
 
-abbrev pub settled_refusal : KnownClient → ℕ → ℕ → Option Refusal
+abbrev pub settled_refusal : ClientState → ℕ → ℕ → Option Refusal
 settled_refusal c number done = settled_refusal_of c number done (open_batch c number)
 
 -- why an event is refused by how things stand: the first reason that applies. Scans and plans are judged by the relayer.
@@ -209,10 +209,10 @@ with_book s chain book = record s { books = slice_set s.books chain book }
 abbrev pub changed_at : {X : Type 0} → (X → X) → List X → ℕ → List X
 changed_at f xs place = option_map_or (λ x. slice_set xs place (f x)) (slice_get xs place) xs
 
-abbrev pub with_client : Standing → ℕ → (KnownClient → KnownClient) → Standing
+abbrev pub with_client : Standing → ℕ → (ClientState → ClientState) → Standing
 with_client s client f = record s { clients = changed_at f s.clients client }
 
-abbrev pub with_path : Standing → ℕ → (KnownPath → KnownPath) → Standing
+abbrev pub with_path : Standing → ℕ → (PathState → PathState) → Standing
 with_path s path f = record s { paths = changed_at f s.paths path }
 
 -- rising heights with one more, which may be there already
@@ -221,7 +221,7 @@ with_height height heights =
     if list_any (λ h. h == height) heights then heights else placed (λ h. nat_lt h height) height heights
 
 -- the packets with one more in its place
-abbrev pub with_packet : Packet → KnownPath → KnownPath
+abbrev pub with_packet : Packet → PathState → PathState
 with_packet q p = record p { packets = placed (λ (other : Packet). nat_lt other.sequence q.sequence) q p.packets }
 
 abbrev pub new_packet : ℕ → ℕ → Option ℕ → Option ℕ → Packet
@@ -241,7 +241,7 @@ new_packet sequence block timeout_height timeout_time = record {
 abbrev pub marked : (Packet → Packet) → ℕ → Packet → Packet
 marked f sequence q = if q.sequence == sequence then f q else q
 
-abbrev pub with_mark : (Packet → Packet) → ℕ → KnownPath → KnownPath
+abbrev pub with_mark : (Packet → Packet) → ℕ → PathState → PathState
 with_mark f sequence p = record p { packets = map (marked f sequence) p.packets }
 
 -- ---- plans and batches
@@ -258,15 +258,15 @@ batch_of number answer =
     option_and_then (λ (a : Answer). option_and_then (λ (p : Plan). batch_of_sending number p p.sending) a.plan) answer
 
 -- batches are numbered from 1
-abbrev pub batch_opened : KnownClient → Option Answer → Option OpenBatch
+abbrev pub batch_opened : ClientState → Option Answer → Option OpenBatch
 batch_opened c answer = batch_of (c.batches + 1) answer
 
 -- a client after a plan: what it was asked for is done with, and the plan's batch is open
-abbrev pub with_batch : KnownClient → Option OpenBatch → KnownClient
+abbrev pub with_batch : ClientState → Option OpenBatch → ClientState
 with_batch c None = record c { asked = None; batch = None }
 with_batch c (Some b) = record c { asked = None; batches = b.number; batch = Some b }
 
-abbrev pub after_answer : Option Answer → KnownClient → KnownClient
+abbrev pub after_answer : Option Answer → ClientState → ClientState
 after_answer answer c = with_batch c (batch_opened c answer)
 
 -- ---- settlements
@@ -283,7 +283,7 @@ abbrev pub settled_messages : OpenBatch → ℕ → List Message
 settled_messages b done = take (count_in b done - length b.updates) b.messages
 
 -- a client after a batch of its was settled: the heights of those updates are stored, and the batch is closed
-abbrev pub after_batch : OpenBatch → ℕ → KnownClient → KnownClient
+abbrev pub after_batch : OpenBatch → ℕ → ClientState → ClientState
 after_batch b done c =
     record c { stored = fold (λ heights (u : Update). with_height u.height heights) c.stored (settled_updates b done); batch = None }
 
@@ -294,10 +294,10 @@ mark_of Acknowledge q = record q { outcome_settled = true }
 mark_of Timeout q = record q { outcome_settled = true }
 
 -- a path after it: a settled timeout closes an ORDERED path
-abbrev pub after_message : PacketMsg → KnownPath → KnownPath
+abbrev pub after_message : PacketMsg → PathState → PathState
 after_message m p = record (with_mark (mark_of m.kind) m.sequence p) { closed = p.closed || (same_kind m.kind Timeout && same_order p.config.order Ordered) }
 
-abbrev pub after_messages : List KnownPath → List Message → List KnownPath
+abbrev pub after_messages : List PathState → List Message → List PathState
 after_messages paths ms = fold (λ paths (m : Message). changed_at (after_message m.packet) paths m.path) paths ms
 
 abbrev pub after_settled : Standing → ℕ → ℕ → Option OpenBatch → Standing

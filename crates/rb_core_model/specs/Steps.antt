@@ -2,12 +2,12 @@
 use Rattle.std.specs.Prelude.{◌≡◌, ℕ, ◌<◌, true, false, length, Some, None, slice_get}
 use Rattle.rb_base.specs.Window.{Span}
 use Rattle.rb_scan.specs.Path.{Path}
-use Rattle.rb_scan.specs.declared.scan.Part.{Part}
+use Rattle.rb_base.specs.declared.gate.Part.{Part}
 use Rattle.rb_plan_client.specs.Draft.{Draft}
 use Rattle.rb_core_model.specs.Event.{Event, Scanned, Planned}
 use Rattle.rb_core_model.specs.Scan.{Scan}
 use Rattle.rb_core_model.specs.Machine.{State, is_scanned, client_view, max_events, is_known, knows_path, refusal_of, after}
-use Rattle.rb_core_model.specs.Standing.{KnownClient, path_view, task_in, judged, standing_after, with_client, after_answer}
+use Rattle.rb_core_model.specs.Standing.{ClientState, path_view, task_in, judged, standing_after, with_client, after_answer}
 
 -- the event is neither a scan nor a plan
 abbrev pub IsFromOutside : Event → Type 0
@@ -41,7 +41,7 @@ ScansLast =
 -- a draft that is made for a client as it is seen is accepted, where no batch of the client's is open and all is scanned
 abbrev pub PresentDraftsAreAccepted : Type 0
 PresentDraftsAreAccepted =
-    (s : State) (client : ℕ) (c : KnownClient) (d : Draft) → s.front < max_events → client_view s client ≡ Some d.job
+    (s : State) (client : ℕ) (c : ClientState) (d : Draft) → s.front < max_events → client_view s client ≡ Some d.job
     → slice_get s.standing.clients client ≡ Some c → c.batch ≡ None
     → ((p : ℕ) (part : Part) → p < length s.standing.paths → is_scanned s p part ≡ true) → refusal_of s (Planned d) ≡ None
 
@@ -49,7 +49,7 @@ PresentDraftsAreAccepted =
 -- scans stay.
 pub record IsOfTheMoment (s : State) (d : Draft) : Type 0 where
   pub window : Span
-  pub known : KnownClient
+  pub known : ClientState
   pub is_window : s.standing.window ≡ Some window
   pub is_known : slice_get s.standing.clients d.job.client ≡ Some known
   pub none_open : known.batch ≡ None

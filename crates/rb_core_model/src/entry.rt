@@ -4,9 +4,8 @@ ghost use Rattle.rb_core_model.specs.Entry.{entry_view, logged_of};
 ghost use Rattle.rb_core_model.specs.Seen.{event_view};
 
 use crate::event::Event;
-use rb_base::Window;
+use rb_base::{Part, Window};
 use rb_plan_client::{Planned, copy_answer};
-use rb_scan::Part;
 use rb_script_types::{Asked, Observation, Settlement};
 use std::alloc::{AllocError, Allocator, Global};
 
@@ -35,7 +34,7 @@ pub enum Entry<A: Allocator = Global> {
 }
 
 impl<A: Allocator + Copy> Entry<A> {
-    /// What a log keeps of an event. An error comes only where a growth is refused.
+    /// What a log keeps of an event.
     pub fn of(event: &Event<A>) -> Result<Entry<A>, AllocError>
         ensures { IfOk result (λ entry. entry_view entry ≡ logged_of (event_view event.now)) }
     {

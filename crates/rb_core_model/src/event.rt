@@ -29,8 +29,7 @@ pub enum Event<A: Allocator = Global> {
 }
 
 impl<A: Allocator + Copy> Event<A> {
-    /// An equal event, on the allocator of this one; a scan and the book of a plan are shared. An
-    /// error comes only where a growth is refused.
+    /// An equal event, on the allocator of this one; a scan and the book of a plan are shared.
     pub fn copy(&self) -> Result<Event<A>, AllocError>
         ensures { IfOk result (λ event. event_view event ≡ event_view self.now) }
     {
@@ -47,7 +46,7 @@ impl<A: Allocator + Copy> Event<A> {
         })
     }
 
-    /// Tells what every event keeps. Takes no memory.
+    /// Tells what every event keeps.
     pub(crate) fn rules(&self)
         ensures { IsEvent (event_view self.now) }
     {

@@ -2,7 +2,8 @@
 ghost use Rattle.std.specs.Prelude.{◌≡◌, IfOk};
 ghost use Rattle.rb_scan.specs.Owed.{owed_part};
 
-use rb_scan::{PacketMsg, Part, PathView};
+use rb_base::Part;
+use rb_scan::{PacketMsg, PathView};
 use std::alloc::{AllocError, Allocator, Global};
 use std::marker::Model;
 use std::sync::Arc;
@@ -99,7 +100,7 @@ impl<A: Allocator> Scan<A> {
 }
 
 impl<A: Allocator + Copy> Scan<A> {
-    /// The scan of a part, whose messages these are. An error comes only where a growth is refused.
+    /// The scan of a part, whose messages these are.
     pub(crate) fn new(
         view: PathView<A>,
         part: Part,

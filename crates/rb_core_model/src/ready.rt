@@ -33,8 +33,8 @@ impl<A: Allocator> Model for Ready<A> {
 }
 
 impl<A: Allocator + Copy> Ready<A> {
-    /// The event, with what a log keeps of it. A core takes it in only where it has judged it itself. An
-    /// error comes only where a growth is refused.
+    /// The event, with what a log keeps of it. A core takes it in only where it has judged it
+    /// itself.
     pub fn new(alloc: A, front: usize, event: Event<A>) -> Result<Ready<A>, AllocError>
         ensures { IfOk result (λ ready. ready ≡ record { front = front; event = event_view event }) }
     {
@@ -47,7 +47,7 @@ impl<A: Allocator + Copy> Ready<A> {
         })
     }
 
-    /// How many events the core had taken in when it judged this one. Takes no memory.
+    /// How many events the core had taken in when it judged this one.
     pub fn front(&self) -> usize
         ensures { result ≡ self.now.front }
     {

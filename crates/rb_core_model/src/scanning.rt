@@ -2,12 +2,12 @@
 ghost use Rattle.std.specs.Prelude.{◌≡◌, IfOk};
 
 use crate::path_scan::Scan;
-use rb_scan::{Part, PathView, ScanError, owed_part};
-use std::alloc::Allocator;
+use rb_base::Part;
+use rb_scan::{PathView, owed_part};
+use std::alloc::{AllocError, Allocator};
 
-/// What a part of a path owes as the path is seen; the view goes into the scan. `NoMemory` where a
-/// growth is refused.
-pub fn scan<A: Allocator + Copy>(view: PathView<A>, part: Part) -> Result<Scan<A>, ScanError>
+/// What a part of a path owes as the path is seen; the view goes into the scan.
+pub fn scan<A: Allocator + Copy>(view: PathView<A>, part: Part) -> Result<Scan<A>, AllocError>
     ensures { IfOk result (λ scan. scan ≡ record { view = view; part = part }) }
 {
     let owed = owed_part(&view, part)?;

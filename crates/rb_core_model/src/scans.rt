@@ -5,7 +5,7 @@ ghost use Rattle.rb_core_model.specs.Machine.{no_scans, scan_of, with_scan};
 ghost use Rattle.rb_core_model.specs.Scan.{Scan};
 
 use crate::path_scan::Scan;
-use rb_scan::Part;
+use rb_base::Part;
 use std::alloc::{AllocError, Allocator, Global};
 use std::marker::Model;
 
@@ -19,7 +19,7 @@ pub struct Scans<A: Allocator = Global> {
 impl<A: Allocator> Model for Scans<A> {
     ghost use Rattle.std.specs.Prelude.{◌≡◌};
     ghost use Rattle.std.specs.Option.{option_map, ForSome};
-    ghost use Rattle.rb_scan.specs.declared.scan.Part.TheVariants.{Packets, Channel};
+    ghost use Rattle.rb_base.specs.declared.gate.Part.TheVariants.{Packets, Channel};
     ghost use Rattle.rb_core_model.specs.Machine as machines;
     ghost use Rattle.rb_core_model.specs.Scan.{Scan};
 
@@ -51,7 +51,7 @@ impl<A: Allocator> Scans<A> {
         }
     }
 
-    /// Puts a scan in the place of the last one of its part. Takes no memory.
+    /// Puts a scan in the place of the last one of its part.
     pub fn put(&mut self, scan: Scan<A>)
         ensures { self.new ≡ with_scan scan.view scan.part self.old }
     {

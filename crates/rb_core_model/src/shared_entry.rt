@@ -25,7 +25,7 @@ impl<A: Allocator> Model for SharedEntry<A> {
 }
 
 impl<A: Allocator + Copy> SharedEntry<A> {
-    /// What a log keeps of an event. An error comes only where a growth is refused.
+    /// What a log keeps of an event.
     pub fn of(alloc: A, event: &Event<A>) -> Result<SharedEntry<A>, AllocError>
         ensures { IfOk result (λ entry. entry ≡ logged_of (event_view event.now)) }
     {

@@ -12,9 +12,9 @@ use Rattle.rb_script_types.specs.declared.refusal.Refusal.TheVariants.{OutOfOrde
 use Rattle.rb_scan.specs.Packet.{Packet, is_finished}
 use Rattle.rb_scan.specs.Path.{sequences_of, AreFrom}
 use Rattle.rb_scan.specs.declared.message.Kind.TheVariants.{Receive, Acknowledge, Timeout}
-use Rattle.rb_core_state.specs.Held.{next_among, next_of, IsHeldPath}
+use Rattle.rb_core_state.specs.Room.{next_among, next_of, IsPathWithRoom}
 use Rattle.rb_core_state.specs.Marked.{mark_by}
-use Rattle.rb_core_model.specs.Standing.{KnownPath, marked, with_mark, with_packet, mark_of, max_packets, view_of_path, sent_refusal}
+use Rattle.rb_core_model.specs.Standing.{PathState, marked, with_mark, with_packet, mark_of, max_packets, view_of_path, sent_refusal}
 use Rattle.rb_core_state.specs.declared.mark.Mark.{Mark}
 use Rattle.rb_core_state.specs.declared.mark.Mark.TheVariants.{Received, Written, Cleared, Settled}
 use Rattle.rb_core_model.proofs.Marks.{has, find_map, marked_sequence, insert_other, mark_of_sequence}
@@ -102,7 +102,7 @@ marked_finished m s q e = go (eqb q.sequence s)
     go true = mark_finished m q e
     go false = e
 
-pub next_marked : (m : Mark) (s : ℕ) (p : KnownPath) → next_of p ≤ next_of (with_mark (mark_by m) s p)
+pub next_marked : (m : Mark) (s : ℕ) (p : PathState) → next_of p ≤ next_of (with_mark (mark_by m) s p)
 next_marked m s p =
     let same = length-map p.packets (marked (mark_by m) s) in
     let more = passes_more (done_at p.packets) (done_at (map (marked (mark_by m) s) p.packets)) still p.config.first (length p.packets) (length (map (marked (mark_by m) s) p.packets)) (omega arith) in
@@ -122,7 +122,7 @@ long_insert xs zero x = refl
 long_insert [] (suc n) x = refl
 long_insert (y ∷ xs) (suc n) x = ap suc (long_insert xs n x)
 
-pub next_placed : (q : Packet) (p : KnownPath) → find (has q.sequence) p.packets ≡ None → next_of p ≤ next_of (with_packet q p)
+pub next_placed : (q : Packet) (p : PathState) → find (has q.sequence) p.packets ≡ None → next_of p ≤ next_of (with_packet q p)
 next_placed q p new = go (count_by (λ (other : Packet). ltb other.sequence q.sequence) p.packets)
   where
     still : (i n : ℕ) → done_at p.packets n ≡ true → done_at (insert p.packets i q) n ≡ true
@@ -147,7 +147,7 @@ from_marked : (f : Packet → Packet) → ((q : Packet) → (f q).sequence ≡ q
 from_marked f same s first [] all = tt
 from_marked f same s first (q ∷ ps) all = (subst (λ n. first ≤ n) (sym (marked_sequence f same s q)) all.0, from_marked f same s first ps all.1)
 
-pub held_marked : (m : Mark) (s count : ℕ) (p : KnownPath) → IsHeldPath p count → IsHeldPath (with_mark (mark_by m) s p) count
+pub held_marked : (m : Mark) (s count : ℕ) (p : PathState) → IsPathWithRoom p count → IsPathWithRoom (with_mark (mark_by m) s p) count
 held_marked m s count p h = record {
   rising = subst IsStrictlyIncreasing (sym (sequences_marked (mark_by m) (mark_sequence m) s p.packets)) h.rising;
   from_first = All-from_recursion (λ (q : Packet). p.config.first ≤ q.sequence) _ (from_marked (mark_by m) (mark_sequence m) s p.config.first p.packets (recursion_from_All (λ (q : Packet). p.config.first ≤ q.sequence) p.packets h.from_first));
@@ -155,7 +155,7 @@ held_marked m s count p h = record {
   run = (let more = next_marked m s p in let run = h.run in omega arith);
 }
 
-pub held_placed : (q : Packet) (count : ℕ) (p : KnownPath) → find (has q.sequence) p.packets ≡ None → p.config.first ≤ q.sequence → length p.packets < max_packets → IsHeldPath p count → IsHeldPath (with_packet q p) count
+pub held_placed : (q : Packet) (count : ℕ) (p : PathState) → find (has q.sequence) p.packets ≡ None → p.config.first ≤ q.sequence → length p.packets < max_packets → IsPathWithRoom p count → IsPathWithRoom (with_packet q p) count
 held_placed q count p new above room h = record {
   rising = new_rises (λ (x : Packet). x.sequence) p.packets q h.rising new;
   from_first = All-from_recursion (λ (x : Packet). p.config.first ≤ x.sequence) _ (all_insert (λ (x : Packet). p.config.first ≤ x.sequence) p.packets _ q above (recursion_from_All (λ (x : Packet). p.config.first ≤ x.sequence) p.packets h.from_first));
@@ -184,7 +184,7 @@ none_some None e = refl
 none_some (Some x) e = absurd (true≢false e)
 
 -- one that is accepted is new, from the first on, and there is room for it
-pub sent_held : (q : Packet) (count : ℕ) (p : KnownPath) → sent_refusal (view_of_path [] p) q.sequence ≡ None → IsHeldPath p count → IsHeldPath (with_packet q p) count
+pub sent_held : (q : Packet) (count : ℕ) (p : PathState) → sent_refusal (view_of_path [] p) q.sequence ≡ None → IsPathWithRoom p count → IsPathWithRoom (with_packet q p) count
 sent_held q count p accepted h =
     let one = passes (ltb q.sequence p.config.first) OutOfOrder _ accepted in
     let two = passes (is_some (find (has q.sequence) p.packets)) Repeat _ one.1 in
@@ -196,7 +196,7 @@ sent_held q count p accepted h =
     below false at e = leb-false max_packets (length p.packets) at
 
 -- so it isn't known already
-pub sent_new : (q : Packet) (p : KnownPath) (k : ℕ) → sent_refusal (view_of_path [] p) q.sequence ≡ None → IsKnownPlace (has q.sequence) p.packets k → ⊥
+pub sent_new : (q : Packet) (p : PathState) (k : ℕ) → sent_refusal (view_of_path [] p) q.sequence ≡ None → IsKnownPlace (has q.sequence) p.packets k → ⊥
 sent_new q p k accepted known =
     let one = passes (ltb q.sequence p.config.first) OutOfOrder _ accepted in
     let two = passes (is_some (find (has q.sequence) p.packets)) Repeat _ one.1 in

@@ -6,11 +6,11 @@ use Rattle.std.specs.Borrow.{Bor}
 use Rattle.std.specs.Slice.{IsItemAt}
 use Rattle.std.proofs.lemmas.Option.{slice_get-map, slice_get_past, unwrap_or-slice_get}
 use Rattle.std.specs.List.Sorted.{IsStrictlyIncreasing}
-use Rattle.rb_book.specs.Book.{Book, Known, height_of, time_of, heights_and_times_of}
+use Rattle.rb_book.specs.Book.{Book, RecordAt, height_of, time_of, heights_and_times_of}
 use Rattle.rb_book.specs.Invariant.{IsBook}
 use Rattle.rb_book.specs.Shared.{Shared}
 use Rattle.rb_scan.specs.Path.{heights_of as path_heights, times_of as path_times}
-use Rattle.rb_core_state.specs.Held.{books_of}
+use Rattle.rb_core_state.specs.Room.{books_of}
 use Rattle.rb_core_model.specs.Standing.{book_at, empty_book}
 
 pub index_or-found : {X : Type 0} (xs : List X) (i : ℕ) (x d : X) → slice_get xs i ≡ Some x → get_or xs i d ≡ x
@@ -49,10 +49,10 @@ times_rise b list good e = (
   subst (λ (l : List (ℕ × ℕ)). IsStrictlyIncreasing (path_times l)) (sym e) (subst IsStrictlyIncreasing (sym (times_same b.records)) good.records.times),
 )
   where
-    heights_same : (ks : List Known) → map (λ (r : ℕ × ℕ). r.0) (map (λ (k : Known). (height_of k, time_of k)) ks) ≡ map height_of ks
+    heights_same : (ks : List RecordAt) → map (λ (r : ℕ × ℕ). r.0) (map (λ (k : RecordAt). (height_of k, time_of k)) ks) ≡ map height_of ks
     heights_same [] = refl
     heights_same (k ∷ ks) = ap (λ hs. height_of k ∷ hs) (heights_same ks)
 
-    times_same : (ks : List Known) → map (λ (r : ℕ × ℕ). r.1) (map (λ (k : Known). (height_of k, time_of k)) ks) ≡ map time_of ks
+    times_same : (ks : List RecordAt) → map (λ (r : ℕ × ℕ). r.1) (map (λ (k : RecordAt). (height_of k, time_of k)) ks) ≡ map time_of ks
     times_same [] = refl
     times_same (k ∷ ks) = ap (λ ts. time_of k ∷ ts) (times_same ks)

@@ -6,8 +6,8 @@ use Rattle.std.proofs.lemmas.Bool.{true≢false}
 use Rattle.std.proofs.lemmas.Option.{slice_get-get_or}
 use Rattle.rb_book.specs.Intake.{placed}
 use Rattle.rb_book.specs.Search.{IsKnownPlace, IsNewPlace}
-use Rattle.rb_core_state.specs.Held.{HeldClient}
-use Rattle.rb_core_model.specs.Standing.{OpenBatch, KnownClient, with_height}
+use Rattle.rb_core_state.specs.Room.{ClientWithRoom}
+use Rattle.rb_core_model.specs.Standing.{OpenBatch, ClientState, with_height}
 
 any_found : {X : Type 0} (t : X → Bool) (xs : List X) → list_any t xs ≡ is_some (find t xs)
 any_found t [] = refl
@@ -40,8 +40,8 @@ length_take (suc n) [] = omega arith
 length_take (suc n) (x ∷ xs) = (let rest = length_take n xs in omega arith)
 
 -- room for what is settled stays where a client stays and its room doesn't shrink
-pub settle_kept : (x y : HeldClient) → y.client ≡ x.client → ((n : ℕ) → n ≤ x.room → n ≤ y.room) → IsSomeAnd x.client.batch (λ (b : OpenBatch). length b.updates ≤ x.room) → IsSomeAnd y.client.batch (λ (b : OpenBatch). length b.updates ≤ y.room)
-settle_kept x y same more h = subst (λ (c : KnownClient). IsSomeAnd c.batch (λ (b : OpenBatch). length b.updates ≤ y.room)) (sym same) (weaker x.client.batch h)
+pub settle_kept : (x y : ClientWithRoom) → y.client ≡ x.client → ((n : ℕ) → n ≤ x.room → n ≤ y.room) → IsSomeAnd x.client.batch (λ (b : OpenBatch). length b.updates ≤ x.room) → IsSomeAnd y.client.batch (λ (b : OpenBatch). length b.updates ≤ y.room)
+settle_kept x y same more h = subst (λ (c : ClientState). IsSomeAnd c.batch (λ (b : OpenBatch). length b.updates ≤ y.room)) (sym same) (weaker x.client.batch h)
   where
     weaker : (o : Option OpenBatch) → IsSomeAnd o (λ (b : OpenBatch). length b.updates ≤ x.room) → IsSomeAnd o (λ (b : OpenBatch). length b.updates ≤ y.room)
     weaker None h = absurd h

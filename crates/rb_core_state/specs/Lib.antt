@@ -1,2 +1,2 @@
 pub mod Marked
-pub mod Held
+pub mod Room

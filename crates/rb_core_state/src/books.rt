@@ -3,7 +3,7 @@ ghost use Rattle.std.specs.Prelude.{◌≡◌, ◌<◌, ◌≤◌, ℕ, None, le
 ghost use Rattle.std.specs.Option.{option_and_then};
 ghost use Rattle.rb_book.specs.Intake.{set_refusal, header_refusal, record_refusal, after_set, after_header, after_record};
 ghost use Rattle.rb_script_types.specs.Refusal.{of_book};
-ghost use Rattle.rb_core_state.specs.Held.{books_of, IsApart};
+ghost use Rattle.rb_core_state.specs.Room.{books_of, IsApart};
 ghost use Rattle.rb_core_model.specs.Standing.{book_at, empty_book};
 
 use rb_base::Height;
@@ -20,7 +20,7 @@ pub(crate) fn book_in<A: Allocator + Copy>(books: &[SharedBook<A>], chain: usize
     books[chain].book()
 }
 
-/// Why a set of a chain would be refused. Takes no memory.
+/// Why a set of a chain would be refused.
 pub fn refuse_set<A: Allocator + Copy>(
     books: &[SharedBook<A>],
     chain: usize,
@@ -35,7 +35,7 @@ pub fn refuse_set<A: Allocator + Copy>(
     }
 }
 
-/// Why a header of a chain would be refused. Takes no memory.
+/// Why a header of a chain would be refused.
 pub fn refuse_header<A: Allocator + Copy>(
     books: &[SharedBook<A>],
     chain: usize,
@@ -50,7 +50,7 @@ pub fn refuse_header<A: Allocator + Copy>(
     }
 }
 
-/// Why a record of a chain would be refused. Takes no memory.
+/// Why a record of a chain would be refused.
 pub fn refuse_record<A: Allocator + Copy>(
     books: &[SharedBook<A>],
     chain: usize,
@@ -93,7 +93,7 @@ pub fn set_apart_for<A: Allocator + Copy>(
     books[chain].set_apart_for(set)
 }
 
-/// Puts a set that is not refused into a chain's book, which stands apart. Takes no memory.
+/// Puts a set that is not refused into a chain's book, which stands apart.
 pub fn put_set<A: Allocator + Copy>(
     books: &mut Vec<SharedBook<A>, A>,
     chain: usize,
@@ -107,7 +107,7 @@ pub fn put_set<A: Allocator + Copy>(
     books[chain].put_set(set);
 }
 
-/// Puts a header that is not refused into a chain's book, which stands apart. Takes no memory.
+/// Puts a header that is not refused into a chain's book, which stands apart.
 pub fn put_header<A: Allocator + Copy>(
     books: &mut Vec<SharedBook<A>, A>,
     chain: usize,
@@ -121,7 +121,7 @@ pub fn put_header<A: Allocator + Copy>(
     books[chain].put_header(header);
 }
 
-/// Puts a record that is not refused into a chain's book, which stands apart. Takes no memory.
+/// Puts a record that is not refused into a chain's book, which stands apart.
 pub fn put_record<A: Allocator + Copy>(
     books: &mut Vec<SharedBook<A>, A>,
     chain: usize,
@@ -136,7 +136,7 @@ pub fn put_record<A: Allocator + Copy>(
     books[chain].put_record(height, entry);
 }
 
-/// A book for each chain, with room for so many headers. An error comes only where a growth is refused.
+/// A book for each chain, with room for so many headers.
 pub fn new_books<A: Allocator + Copy>(
     alloc: A,
     chains: usize,
@@ -152,8 +152,7 @@ pub fn new_books<A: Allocator + Copy>(
     Ok(books)
 }
 
-/// The same books, with one more owner each; one that stands apart is copied. An error comes only where a
-/// growth is refused.
+/// The same books, with one more owner each; one that stands apart is copied.
 pub fn share_books<A: Allocator + Copy>(
     alloc: A,
     books: &[SharedBook<A>],

@@ -20,7 +20,7 @@ use std::marker::Model;
 /// for, how many batches it has opened, and the one that is open. A contract also sees for how many
 /// more stored heights there is room.
 #[derive(Drop)]
-pub struct KnownClient<A: Allocator = Global> {
+pub struct ClientState<A: Allocator = Global> {
     config: ClientConfig,
     stored: Vec<Height, A>,
     asked: Option<Goal>,
@@ -28,12 +28,12 @@ pub struct KnownClient<A: Allocator = Global> {
     batch: Option<OpenBatch<A>>,
 }
 
-impl<A: Allocator> Model for KnownClient<A> {
+impl<A: Allocator> Model for ClientState<A> {
     ghost use Rattle.std.specs.Prelude.{◌-◌, vec_len, vec_capacity};
     ghost use Rattle.std.specs.List.Sorted.{IsStrictlyIncreasing};
-    ghost use Rattle.rb_core_state.specs.Held as held;
+    ghost use Rattle.rb_core_state.specs.Room as room;
 
-    ghost Value = { held.HeldClient };
+    ghost Value = { room.ClientWithRoom };
 
     ghost view = { λ c. record {
       client = record { config = c.config; stored = c.stored.items; asked = c.asked; batches = c.batches; batch = c.batch };
@@ -43,12 +43,12 @@ impl<A: Allocator> Model for KnownClient<A> {
     ghost invariant = { λ c. IsStrictlyIncreasing c.stored.items };
 }
 
-impl<A: Allocator> KnownClient<A> {
+impl<A: Allocator> ClientState<A> {
     /// A client to which nothing has happened.
-    pub fn new(alloc: A, config: ClientConfig) -> KnownClient<A>
+    pub fn new(alloc: A, config: ClientConfig) -> ClientState<A>
         ensures { result.client ≡ new_client config }
     {
-        KnownClient {
+        ClientState {
             config,
             stored: Vec::new(alloc),
             asked: None,
@@ -105,7 +105,7 @@ impl<A: Allocator> KnownClient<A> {
         }
     }
 
-    /// Why the settlement of so many transactions of a batch would be refused. Takes no memory.
+    /// Why the settlement of so many transactions of a batch would be refused.
     pub(crate) fn refuse_settled(&self, number: u64, done: u64) -> Option<Refusal>
         ensures { result ≡ settled_refusal self.now.client number done }
     {
@@ -117,7 +117,7 @@ impl<A: Allocator> KnownClient<A> {
         }
     }
 
-    /// Asks for a goal. Takes no memory.
+    /// Asks for a goal.
     pub(crate) fn ask(&mut self, goal: Goal)
         ensures client { self.new.client ≡ record self.old.client { asked = Some goal } }
         ensures room { self.new.room ≡ self.old.room }
@@ -144,7 +144,7 @@ impl<A: Allocator> KnownClient<A> {
         self.stored.reserve(count)
     }
 
-    /// Stores a height, which may be stored already. Takes no memory.
+    /// Stores a height, which may be stored already.
     pub(crate) fn store(&mut self, height: Height)
         requires { 0 < self.old.room }
         ensures client { self.new.client ≡ record self.old.client { stored = with_height height self.old.client.stored } }
@@ -153,8 +153,8 @@ impl<A: Allocator> KnownClient<A> {
         put_height(&mut self.stored, height);
     }
 
-    /// Drops what was asked for, and opens the next batch, if a plan opens one, whose number is then
-    /// the answer. Takes no memory.
+    /// Drops what was asked for, and opens the next batch, if a plan opens one, whose number is
+    /// then the answer.
     pub(crate) fn open(&mut self, answer: Option<Planned<A>>) -> Option<u64>
         requires { self.old.client.batches < max_events }
         ensures client { self.new.client ≡ after_answer answer self.old.client }
@@ -168,7 +168,7 @@ impl<A: Allocator> KnownClient<A> {
         Some(number)
     }
 
-    /// Stores the heights of updates. Takes no memory.
+    /// Stores the heights of updates.
     pub(crate) fn store_all(&mut self, updates: &[Update])
         requires { length updates.now ≤ self.old.room }
         ensures { self.new.client ≡ record self.old.client { stored = fold (λ heights (u : Update). with_height u.height heights) self.old.client.stored updates.now } }
@@ -176,7 +176,7 @@ impl<A: Allocator> KnownClient<A> {
         put_heights(&mut self.stored, updates);
     }
 
-    /// Closes the batch that is open. Takes no memory.
+    /// Closes the batch that is open.
     pub(crate) fn close(&mut self) -> Option<OpenBatch<A>>
         ensures batch { result ≡ self.old.client.batch }
         ensures client { self.new.client ≡ record self.old.client { batch = None } }
@@ -199,7 +199,7 @@ fn place(heights: &[Height], height: Height) -> Result<usize, usize>
     )
 }
 
-/// Puts a height in its place among rising ones, unless it is there already. Takes no memory.
+/// Puts a height in its place among rising ones, unless it is there already.
 fn put_height<A: Allocator>(heights: &mut Vec<Height, A>, height: Height)
     requires rising { IsStrictlyIncreasing heights.old.items }
     requires room { vec_len heights.old < vec_capacity heights.old }
@@ -213,7 +213,7 @@ fn put_height<A: Allocator>(heights: &mut Vec<Height, A>, height: Height)
     }
 }
 
-/// Puts the heights of updates in their places. Takes no memory.
+/// Puts the heights of updates in their places.
 fn put_heights<A: Allocator>(heights: &mut Vec<Height, A>, updates: &[Update])
     requires rising { IsStrictlyIncreasing heights.old.items }
     requires room { vec_len heights.old + length updates.now ≤ vec_capacity heights.old }
@@ -237,12 +237,12 @@ fn copy_batch<A: Allocator + Copy>(
     })
 }
 
-impl<A: Allocator + Copy> KnownClient<A> {
+impl<A: Allocator + Copy> ClientState<A> {
     /// An equal client.
-    pub fn copy(&self) -> Result<KnownClient<A>, AllocError>
+    pub fn copy(&self) -> Result<ClientState<A>, AllocError>
         ensures { IfOk result (λ copy. copy.client ≡ self.now.client) }
     {
-        Ok(KnownClient {
+        Ok(ClientState {
             config: self.config,
             stored: Vec::from_slice(*self.stored.allocator(), self.stored.as_slice())?,
             asked: self.asked,

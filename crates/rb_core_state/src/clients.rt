@@ -2,11 +2,11 @@
 ghost use Rattle.std.specs.Prelude.{◌≡◌, ◌<◌, ℕ, length, map, slice_get, Some, IfOk, IfSome, IsSome, IsSomeAnd, OnOk};
 ghost use Rattle.std.specs.Option.{option_copied, option_map, option_and_then};
 ghost use Rattle.rb_core_model.specs.Machine.{max_events};
-ghost use Rattle.rb_core_state.specs.Held.{clients_of, HasStoredRoom, HasSettleRoom};
+ghost use Rattle.rb_core_state.specs.Room.{clients_of, HasStoredRoom, HasSettleRoom};
 ghost use Rattle.rb_core_model.specs.Standing as standings;
 ghost use Rattle.rb_core_model.specs.Standing.{changed_at, tracked, new_client, with_height, batch_opened, after_answer, settled_refusal, after_batch};
 
-use crate::client::KnownClient;
+use crate::client::ClientState;
 use crate::opened::OpenBatch;
 use crate::settling::settled_updates;
 use rb_base::Height;
@@ -15,7 +15,7 @@ use rb_script_types::{ClientConfig, Goal, Refusal};
 use std::alloc::{AllocError, Allocator};
 
 /// The client at a place.
-pub(crate) fn client_in<A: Allocator>(clients: &[KnownClient<A>], client: usize) -> &KnownClient<A>
+pub(crate) fn client_in<A: Allocator>(clients: &[ClientState<A>], client: usize) -> &ClientState<A>
     requires { client < length clients.now }
     ensures { slice_get (clients_of clients.now) client ≡ Some result.now.client }
 {
@@ -23,16 +23,16 @@ pub(crate) fn client_in<A: Allocator>(clients: &[KnownClient<A>], client: usize)
 }
 
 /// The chain that a client tracks.
-pub fn tracked<A: Allocator>(clients: &[KnownClient<A>], client: usize) -> usize
+pub fn tracked<A: Allocator>(clients: &[ClientState<A>], client: usize) -> usize
     requires { client < length clients.now }
     ensures { result ≡ tracked (clients_of clients.now) client }
 {
     client_in(clients, client).config().tracks
 }
 
-/// The batch of a client that is open, if there is such a client. Takes no memory.
-pub fn open_batch<A: Allocator>(clients: &[KnownClient<A>], client: usize) -> Option<&OpenBatch<A>>
-    ensures { option_copied result ≡ option_and_then (λ (c : standings.KnownClient). c.batch) (slice_get (clients_of clients.now) client) }
+/// The batch of a client that is open, if there is such a client.
+pub fn open_batch<A: Allocator>(clients: &[ClientState<A>], client: usize) -> Option<&OpenBatch<A>>
+    ensures { option_copied result ≡ option_and_then (λ (c : standings.ClientState). c.batch) (slice_get (clients_of clients.now) client) }
 {
     match clients.get(client) {
         Some(client) => client.batch(),
@@ -40,9 +40,9 @@ pub fn open_batch<A: Allocator>(clients: &[KnownClient<A>], client: usize) -> Op
     }
 }
 
-/// Why a settlement would be refused. Takes no memory.
+/// Why a settlement would be refused.
 pub fn refuse_settled<A: Allocator>(
-    clients: &[KnownClient<A>],
+    clients: &[ClientState<A>],
     client: usize,
     number: u64,
     done: u64,
@@ -53,8 +53,8 @@ pub fn refuse_settled<A: Allocator>(
     client_in(clients, client).refuse_settled(number, done)
 }
 
-/// Asks a client for a goal. Takes no memory.
-pub fn ask<A: Allocator>(clients: &mut Vec<KnownClient<A>, A>, client: usize, goal: Goal)
+/// Asks a client for a goal.
+pub fn ask<A: Allocator>(clients: &mut Vec<ClientState<A>, A>, client: usize, goal: Goal)
     requires { client < length clients.old.items }
     ensures { clients_of clients.new.items ≡ changed_at (λ c. record c { asked = Some goal }) (clients_of clients.old.items) client }
 {
@@ -63,7 +63,7 @@ pub fn ask<A: Allocator>(clients: &mut Vec<KnownClient<A>, A>, client: usize, go
 
 /// Makes room for so many more stored heights of a client.
 pub fn make_stored_room<A: Allocator>(
-    clients: &mut Vec<KnownClient<A>, A>,
+    clients: &mut Vec<ClientState<A>, A>,
     client: usize,
     count: usize,
 ) -> Result<(), AllocError>
@@ -76,8 +76,8 @@ pub fn make_stored_room<A: Allocator>(
     clients[client].make_room(count)
 }
 
-/// Stores a height of a client, which may be stored already. Takes no memory.
-pub fn store<A: Allocator>(clients: &mut Vec<KnownClient<A>, A>, client: usize, height: Height)
+/// Stores a height of a client, which may be stored already.
+pub fn store<A: Allocator>(clients: &mut Vec<ClientState<A>, A>, client: usize, height: Height)
     requires within { client < length clients.old.items }
     requires room { HasStoredRoom 1 clients.old.items client }
     ensures { clients_of clients.new.items ≡ changed_at (λ c. record c { stored = with_height height c.stored }) (clients_of clients.old.items) client }
@@ -85,15 +85,15 @@ pub fn store<A: Allocator>(clients: &mut Vec<KnownClient<A>, A>, client: usize, 
     clients[client].store(height);
 }
 
-/// Drops what a client was asked for, and opens its next batch, if a plan opens one, whose number is
-/// then the answer. Takes no memory.
+/// Drops what a client was asked for, and opens its next batch, if a plan opens one, whose number
+/// is then the answer.
 pub fn open<A: Allocator>(
-    clients: &mut Vec<KnownClient<A>, A>,
+    clients: &mut Vec<ClientState<A>, A>,
     client: usize,
     answer: Option<Planned<A>>,
 ) -> Option<u64>
     requires within { client < length clients.old.items }
-    requires few { IfSome (slice_get (clients_of clients.old.items) client) (λ (c : standings.KnownClient). c.batches < max_events) }
+    requires few { IfSome (slice_get (clients_of clients.old.items) client) (λ (c : standings.ClientState). c.batches < max_events) }
     ensures clients { clients_of clients.new.items ≡ changed_at (after_answer answer) (clients_of clients.old.items) client }
     ensures number { result ≡ option_map (λ (b : standings.OpenBatch). b.number) (option_and_then (λ c. batch_opened c answer) (slice_get (clients_of clients.old.items) client)) }
 {
@@ -101,15 +101,15 @@ pub fn open<A: Allocator>(
 }
 
 /// Closes the batch of a client that is open, and stores the heights of the updates in its first
-/// transactions. Takes no memory.
+/// transactions.
 pub fn settle<A: Allocator>(
-    clients: &mut Vec<KnownClient<A>, A>,
+    clients: &mut Vec<ClientState<A>, A>,
     client: usize,
     done: u64,
 ) -> OpenBatch<A>
     requires within { client < length clients.old.items }
     requires room { HasSettleRoom clients.old.items client }
-    ensures batch { option_and_then (λ (c : standings.KnownClient). c.batch) (slice_get (clients_of clients.old.items) client) ≡ Some result }
+    ensures batch { option_and_then (λ (c : standings.ClientState). c.batch) (slice_get (clients_of clients.old.items) client) ≡ Some result }
     ensures clients { clients_of clients.new.items ≡ changed_at (after_batch result done) (clients_of clients.old.items) client }
 {
     let known = &mut clients[client];
@@ -120,11 +120,11 @@ pub fn settle<A: Allocator>(
 
 /// Makes room for the heights of all updates of a client's batch, which is open.
 pub fn make_settle_room<A: Allocator>(
-    clients: &mut Vec<KnownClient<A>, A>,
+    clients: &mut Vec<ClientState<A>, A>,
     client: usize,
 ) -> Result<(), AllocError>
     requires within { client < length clients.old.items }
-    requires open { IsSomeAnd (slice_get (clients_of clients.old.items) client) (λ (c : standings.KnownClient). IsSome c.batch) }
+    requires open { IsSomeAnd (slice_get (clients_of clients.old.items) client) (λ (c : standings.ClientState). IsSome c.batch) }
     ensures same { clients_of clients.new.items ≡ clients_of clients.old.items }
     ensures room { OnOk result (HasSettleRoom clients.new.items client) }
     ensures kept { (some other : ℕ) → HasStoredRoom some clients.old.items other → HasStoredRoom some clients.new.items other }
@@ -135,25 +135,25 @@ pub fn make_settle_room<A: Allocator>(
     known.make_room(count)
 }
 
-/// The clients as they are configured, with nothing stored. An error comes only where a growth is refused.
+/// The clients as they are configured, with nothing stored.
 pub fn new_clients<A: Allocator + Copy>(
     alloc: A,
     configs: &[ClientConfig],
-) -> Result<Vec<KnownClient<A>, A>, AllocError>
+) -> Result<Vec<ClientState<A>, A>, AllocError>
     ensures { IfOk result (λ clients. clients_of clients.items ≡ map new_client configs.now) }
 {
     let mut clients = Vec::with_capacity(alloc, configs.len())?;
     for config in configs {
-        clients.push(KnownClient::new(alloc, *config))?;
+        clients.push(ClientState::new(alloc, *config))?;
     }
     Ok(clients)
 }
 
-/// Equal clients. An error comes only where a growth is refused.
+/// Equal clients.
 pub fn copy_clients<A: Allocator + Copy>(
     alloc: A,
-    clients: &[KnownClient<A>],
-) -> Result<Vec<KnownClient<A>, A>, AllocError>
+    clients: &[ClientState<A>],
+) -> Result<Vec<ClientState<A>, A>, AllocError>
     ensures { IfOk result (λ copies. clients_of copies.items ≡ clients_of clients.now) }
 {
     let mut copies = Vec::with_capacity(alloc, clients.len())?;

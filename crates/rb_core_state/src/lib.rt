@@ -14,8 +14,8 @@ pub mod paths;
 mod settling;
 pub mod views;
 
-pub use client::KnownClient;
+pub use client::ClientState;
 pub use mark::Mark;
 pub use opened::OpenBatch;
-pub use path::KnownPath;
+pub use path::PathState;
 pub use settling::settled_messages;

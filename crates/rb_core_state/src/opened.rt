@@ -82,7 +82,7 @@ impl<A: Allocator> OpenBatch<A> {
 }
 
 impl<A: Allocator + Copy> OpenBatch<A> {
-    /// An equal batch, on the same allocator. An error comes only where a growth is refused.
+    /// An equal batch, on the same allocator.
     pub fn copy(&self) -> Result<OpenBatch<A>, AllocError>
         ensures { IfOk result (λ copy. copy ≡ self.now) }
     {
@@ -96,7 +96,7 @@ impl<A: Allocator + Copy> OpenBatch<A> {
     }
 }
 
-/// The batch that a plan opens under a number, if it opens one. Takes no memory.
+/// The batch that a plan opens under a number, if it opens one.
 pub(crate) fn batch_of<A: Allocator>(
     number: u64,
     answer: Option<Planned<A>>,

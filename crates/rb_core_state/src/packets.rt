@@ -68,7 +68,7 @@ pub(crate) fn is_finished(packets: &[Packet], sequence: u64) -> bool
     }
 }
 
-/// Puts a mark on the packet with this sequence, if there is one. Takes no memory.
+/// Puts a mark on the packet with this sequence, if there is one.
 pub(crate) fn put_mark<A: Allocator>(packets: &mut Vec<Packet, A>, sequence: u64, mark: Mark)
     requires { IsStrictlyIncreasing (sequences_of packets.old.items) }
     ensures items { packets.new.items ≡ map (marked (mark_by mark) sequence) packets.old.items }

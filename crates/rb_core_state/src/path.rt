@@ -5,7 +5,7 @@ ghost use Rattle.std.specs.Option.{option_copied};
 ghost use Rattle.rb_scan.specs.Owed.{packet_at};
 ghost use Rattle.rb_scan.specs.Packet.{Packet};
 ghost use Rattle.rb_scan.specs.Path.{sequences_of, AreFrom};
-ghost use Rattle.rb_core_state.specs.Held.{next_among};
+ghost use Rattle.rb_core_state.specs.Room.{next_among};
 ghost use Rattle.rb_core_state.specs.Marked.{mark_by};
 ghost use Rattle.rb_core_model.specs.Refusal.{refused_if};
 ghost use Rattle.rb_core_model.specs.Standing.{max_packets, view_of_path, new_path, sent_refusal, comes_early, received_refusal, written_refusal, cleared_refusal, with_packet, with_mark, after_message};
@@ -25,28 +25,28 @@ const MAX_PACKETS: usize = 4096;
 /// from the first on are finished, as far as it was counted, and whether it is closed. A contract
 /// sees for how many more packets there is room, and not how far was counted.
 #[derive(Drop)]
-pub struct KnownPath<A: Allocator = Global> {
+pub struct PathState<A: Allocator = Global> {
     config: PathConfig,
     packets: Vec<Packet, A>,
     run: usize,
     closed: bool,
 }
 
-impl<A: Allocator> Model for KnownPath<A> {
+impl<A: Allocator> Model for PathState<A> {
     ghost use Rattle.std.specs.Prelude.{◌-◌, vec_len, vec_capacity};
-    ghost use Rattle.rb_core_state.specs.Held as held;
+    ghost use Rattle.rb_core_state.specs.Room as room;
 
-    ghost Value = { held.HeldPath };
+    ghost Value = { room.PathWithRoom };
 
     ghost view = { λ p. record {
       path = record { config = p.config; packets = p.packets.items; closed = p.closed };
       room = vec_capacity p.packets - vec_len p.packets;
     } };
 
-    ghost invariant = { λ p. held.IsHeldPath (record { config = p.config; packets = p.packets.items; closed = p.closed }) p.run };
+    ghost invariant = { λ p. room.IsPathWithRoom (record { config = p.config; packets = p.packets.items; closed = p.closed }) p.run };
 }
 
-/// Counts on how many sequences from the first on are finished. Takes no memory.
+/// Counts on how many sequences from the first on are finished.
 fn count_run(packets: &[Packet], first: Sequence, run: usize) -> usize
     requires rising { IsStrictlyIncreasing (sequences_of packets.now) }
     requires few { length packets.now ≤ max_packets }
@@ -61,12 +61,12 @@ fn count_run(packets: &[Packet], first: Sequence, run: usize) -> usize
     run
 }
 
-impl<A: Allocator> KnownPath<A> {
+impl<A: Allocator> PathState<A> {
     /// A path on which nothing has happened.
-    pub fn new(alloc: A, config: PathConfig) -> KnownPath<A>
+    pub fn new(alloc: A, config: PathConfig) -> PathState<A>
         ensures { result.path ≡ new_path config }
     {
-        KnownPath {
+        PathState {
             config,
             packets: Vec::new(alloc),
             run: 0,
@@ -116,7 +116,7 @@ impl<A: Allocator> KnownPath<A> {
         self.config.first.get() + (run as u64) < sequence.get()
     }
 
-    /// Why a packet that was sent would be refused. Takes no memory.
+    /// Why a packet that was sent would be refused.
     pub(crate) fn refuse_sent(&self, sequence: Sequence) -> Option<Refusal>
         ensures { result ≡ sent_refusal (view_of_path [] self.now.path) sequence }
     {
@@ -132,7 +132,7 @@ impl<A: Allocator> KnownPath<A> {
         None
     }
 
-    /// Why a packet that was received would be refused. Takes no memory.
+    /// Why a packet that was received would be refused.
     pub(crate) fn refuse_received(&self, sequence: Sequence) -> Option<Refusal>
         ensures { result ≡ received_refusal (view_of_path [] self.now.path) sequence (packet_at (view_of_path [] self.now.path) sequence) }
     {
@@ -148,7 +148,7 @@ impl<A: Allocator> KnownPath<A> {
         None
     }
 
-    /// Why an acknowledgement that was written would be refused. Takes no memory.
+    /// Why an acknowledgement that was written would be refused.
     pub(crate) fn refuse_written(&self, sequence: Sequence, block: Height) -> Option<Refusal>
         ensures { result ≡ written_refusal block (packet_at (view_of_path [] self.now.path) sequence) }
     {
@@ -165,7 +165,7 @@ impl<A: Allocator> KnownPath<A> {
         None
     }
 
-    /// Why a packet that was cleared would be refused. Takes no memory.
+    /// Why a packet that was cleared would be refused.
     pub(crate) fn refuse_cleared(&self, sequence: Sequence) -> Option<Refusal>
         ensures { result ≡ cleared_refusal (packet_at (view_of_path [] self.now.path) sequence) }
     {
@@ -178,7 +178,7 @@ impl<A: Allocator> KnownPath<A> {
         None
     }
 
-    /// Why the path's being closed would be refused. Takes no memory.
+    /// Why the path's being closed would be refused.
     pub(crate) fn refuse_closed(&self) -> Option<Refusal>
         ensures { result ≡ refused_if self.now.path.closed Refusal.Repeat None }
     {
@@ -197,7 +197,7 @@ impl<A: Allocator> KnownPath<A> {
         self.packets.reserve(1)
     }
 
-    /// Puts a packet that is not refused in its place. Takes no memory.
+    /// Puts a packet that is not refused in its place.
     pub(crate) fn put_sent(&mut self, packet: Packet)
         requires accepted { sent_refusal (view_of_path [] self.old.path) packet.sequence ≡ None }
         requires room { 0 < self.old.room }
@@ -209,7 +209,7 @@ impl<A: Allocator> KnownPath<A> {
         }
     }
 
-    /// Puts a mark on the packet with this sequence, if there is one. Takes no memory.
+    /// Puts a mark on the packet with this sequence, if there is one.
     pub(crate) fn put_mark(&mut self, sequence: Sequence, mark: Mark)
         ensures path { self.new.path ≡ with_mark (mark_by mark) sequence self.old.path }
         ensures room { self.new.room ≡ self.old.room }
@@ -217,14 +217,14 @@ impl<A: Allocator> KnownPath<A> {
         put_mark(&mut self.packets, sequence.get(), mark);
     }
 
-    /// Counts on how many sequences are finished. Takes no memory.
+    /// Counts on how many sequences are finished.
     pub(crate) fn count_on(&mut self)
         ensures { self.new ≡ self.old }
     {
         self.run = count_run(self.packets.as_slice(), self.config.first, self.run);
     }
 
-    /// Closes the path. Takes no memory.
+    /// Closes the path.
     pub(crate) fn close(&mut self)
         ensures path { self.new.path ≡ record self.old.path { closed = true } }
         ensures room { self.new.room ≡ self.old.room }
@@ -233,7 +233,6 @@ impl<A: Allocator> KnownPath<A> {
     }
 
     /// Marks the packet of a message that was settled; a settled timeout closes an ORDERED path.
-    /// Takes no memory.
     pub(crate) fn settle(&mut self, message: PacketMsg)
         ensures path { self.new.path ≡ after_message message self.old.path }
         ensures room { self.new.room ≡ self.old.room }
@@ -245,12 +244,12 @@ impl<A: Allocator> KnownPath<A> {
     }
 }
 
-impl<A: Allocator + Copy> KnownPath<A> {
+impl<A: Allocator + Copy> PathState<A> {
     /// An equal path.
-    pub fn copy(&self) -> Result<KnownPath<A>, AllocError>
+    pub fn copy(&self) -> Result<PathState<A>, AllocError>
         ensures { IfOk result (λ copy. copy.path ≡ self.now.path) }
     {
-        Ok(KnownPath {
+        Ok(PathState {
             config: self.config,
             packets: Vec::from_slice(*self.packets.allocator(), self.packets.as_slice())?,
             run: self.run,

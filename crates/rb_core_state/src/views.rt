@@ -6,12 +6,12 @@ ghost use Rattle.std.specs.List.Sorted.{IsStrictlyIncreasing};
 ghost use Rattle.rb_book.specs.Book.{height_of, time_of, heights_and_times_of};
 ghost use Rattle.rb_scan.specs.Path.{heights_of as path_heights, times_of as path_times};
 ghost use Rattle.rb_scan.specs.Same.{same_order, same_packet, same_path, same_record};
-ghost use Rattle.rb_core_state.specs.Held.{books_of};
+ghost use Rattle.rb_core_state.specs.Room.{books_of};
 ghost use Rattle.rb_core_model.specs.Standing.{book_at, empty_book, view_of_path};
 
-use crate::path::KnownPath;
+use crate::path::PathState;
 use rb_base::{Height, Moment};
-use rb_book::{Known as KnownRecord, SharedBook};
+use rb_book::{RecordAt, SharedBook};
 use rb_scan::{Packet, PathView};
 use std::alloc::{AllocError, Allocator};
 
@@ -27,7 +27,7 @@ pub fn find_book<A: Allocator + Copy>(
 }
 
 /// The records of the book of a chain.
-fn records_in<A: Allocator + Copy>(books: &[SharedBook<A>], chain: usize) -> &[KnownRecord]
+fn records_in<A: Allocator + Copy>(books: &[SharedBook<A>], chain: usize) -> &[RecordAt]
     ensures { result.now ≡ (book_at (books_of books.now) chain).records }
 {
     match find_book(books, chain) {
@@ -53,11 +53,11 @@ fn times_in<A: Allocator + Copy>(
     Ok(list)
 }
 
-/// A path as it is scanned. An error comes only where a growth is refused.
+/// A path as it is scanned.
 pub fn view_of<A: Allocator + Copy>(
     alloc: A,
     books: &[SharedBook<A>],
-    path: &KnownPath<A>,
+    path: &PathState<A>,
 ) -> Result<PathView<A>, AllocError>
     ensures { IfOk result (λ view. view ≡ view_of_path (books_of books.now) path.now.path) }
 {
@@ -74,7 +74,7 @@ fn same_packets(packets: &[Packet], others: &[Packet]) -> bool
 }
 
 /// Whether these are the heights and the times of records.
-fn are_times_of(times: &[(Height, Moment)], records: &[KnownRecord]) -> bool
+fn are_times_of(times: &[(Height, Moment)], records: &[RecordAt]) -> bool
     ensures { result ≡ pointwise same_record times.now (map (λ k. (height_of k, time_of k)) records.now) }
 {
     if times.len() != records.len() {
@@ -91,7 +91,7 @@ fn are_times_of(times: &[(Height, Moment)], records: &[KnownRecord]) -> bool
 
 /// Whether a path has the order, the first sequence and the packets that were seen, and is closed as
 /// was seen.
-fn is_sent_as_seen<A: Allocator + Copy>(path: &KnownPath<A>, view: &PathView<A>) -> bool
+fn is_sent_as_seen<A: Allocator + Copy>(path: &PathState<A>, view: &PathView<A>) -> bool
     ensures { let p = path.now.path in let v = view.now
         in result ≡ (same_order v.order p.config.order && (v.first == p.config.first) && beq v.closed p.closed && pointwise same_packet v.packets p.packets) }
 {
@@ -102,10 +102,10 @@ fn is_sent_as_seen<A: Allocator + Copy>(path: &KnownPath<A>, view: &PathView<A>)
         && same_packets(view.packets(), path.packets())
 }
 
-/// Whether a path is as it was seen. Takes no memory.
+/// Whether a path is as it was seen.
 pub fn is_as_seen<A: Allocator + Copy>(
     books: &[SharedBook<A>],
-    path: &KnownPath<A>,
+    path: &PathState<A>,
     view: &PathView<A>,
 ) -> bool
     ensures { result ≡ same_path view.now (view_of_path (books_of books.now) path.now.path) }

@@ -1,11 +1,9 @@
 //! A step table that is made by several threads: each row by the thread that drew its number.
 #![tactic(auto)]
 
-mod gate;
 pub mod laws;
 mod making;
 mod table;
 
-pub use gate::{Gate, OpenGate, Place};
 pub use making::{build, make_rows};
 pub use table::{ClaimSeat, ClaimTable, open};

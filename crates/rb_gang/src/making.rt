@@ -4,11 +4,11 @@ ghost use Rattle.std.specs.Thread.{IsSync};
 ghost use denote.Param.Send.{IsSend, Frees};
 ghost use Rattle.rb_gang.specs.Shifts.{IsFresh, IsShift};
 
-use crate::gate::{Gate, Place};
 use crate::laws::{claim, count, join, split_off};
 use crate::table::{ClaimSeat, ClaimTable, open};
+use rb_base::{Gate, WorkItem};
 use rb_book::ChainBook;
-use rb_graph::{Cause, Frame, FrameRow, Graph};
+use rb_graph::{Frame, FrameRow, Graph, TableError};
 use std::alloc::{AllocError, Allocator};
 use std::thread;
 use std::thread::Threads;
@@ -37,9 +37,9 @@ pub fn build<R: Threads + Sync, G: Gate + Sync, A: Allocator + Copy + Send + Syn
     room.append(&mut rows)?;
     match frame.finish(room) {
         Ok(graph) => Ok(graph),
-        Err((_, _, Cause::NoMemory)) => Err(AllocError),
-        Err((_, _, Cause::RowTwice(_))) => unreachable!(),
-        Err((_, _, Cause::RowMissing(_))) => unreachable!(),
+        Err((_, _, TableError::NoMemory)) => Err(AllocError),
+        Err((_, _, TableError::RowTwice(_))) => unreachable!(),
+        Err((_, _, TableError::RowMissing(_))) => unreachable!(),
     }
 }
 
@@ -101,9 +101,9 @@ fn work<G: Gate, A: Allocator + Copy>(
         if n >= frame.rows() as u64 {
             return Ok((seat, rows));
         }
-        gate.before(Place::Row(n as usize));
+        gate.before(WorkItem::Row(n as usize));
         rows.push(frame.row(n as usize)?)?;
-        gate.after(Place::Row(n as usize));
+        gate.after(WorkItem::Row(n as usize));
         low = n + 1;
     }
 }

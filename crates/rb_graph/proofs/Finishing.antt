@@ -11,10 +11,10 @@ use Rattle.std.proofs.lemmas.Option.{slice_get-get_or, slice_get-map, slice_get_
 use Rattle.std.proofs.lemmas.List.Sorted.{sum_by-IsPermutation}
 use Rattle.rb_book.specs.Header.{Header}
 use Rattle.rb_book.specs.Book.{Book}
-use Rattle.rb_graph_rows.specs.Kept.{Kept, kept_of}
-use Rattle.rb_graph.specs.declared.cause.Cause.{Cause}
-use Rattle.rb_graph.specs.declared.cause.Cause.TheVariants.{RowMissing, RowTwice, NoMemory}
-use Rattle.rb_graph.specs.Cause.{Explains}
+use Rattle.rb_graph_rows.specs.StoredRow.{StoredRow, stored_row_of}
+use Rattle.rb_graph.specs.declared.error.TableError.{TableError}
+use Rattle.rb_graph.specs.declared.error.TableError.TheVariants.{RowMissing, RowTwice, NoMemory}
+use Rattle.rb_graph.specs.TableError.{Explains}
 use Rattle.rb_graph.specs.Frame.{FrameRow, kept_rows, IsRowOf, IsWhole, IsFirstTwice, IsFirstMissing, made}
 use Rattle.rb_graph.specs.Ordered.{AreOrdered, AreBelow, AreInPlace}
 
@@ -213,7 +213,7 @@ placed_in_place rows total ordered below once placed = (
 
 pub all_kept : (b : Book) (rows : List FrameRow) → All (IsRowOf b) rows → AreInPlace (length b.headers) rows → map (λ (row : FrameRow). row.kept) rows ≡ kept_rows b
 all_kept b rows right placed =
-    let long : length rows ≡ length (kept_rows b) = placed.0 ∙ sym (length-map b.headers (kept_of b)) in
+    let long : length rows ≡ length (kept_rows b) = placed.0 ∙ sym (length-map b.headers (stored_row_of b)) in
     ext_get_or no_row.kept (map (λ (row : FrameRow). row.kept) rows) (kept_rows b) (length-map rows (λ (row : FrameRow). row.kept) ∙ long) (λ k lt.
     let within : k < length rows = omega (arith, lt, length-map rows (λ (row : FrameRow). row.kept)) in
     let there = right k no_row within in
@@ -223,7 +223,7 @@ all_kept b rows right placed =
     ∙ sym (get_or_from_slice_get (kept_rows b) k (get_or rows k no_row).kept no_row.kept at))
 
 pub rows_below : (b : Book) (rows : List FrameRow) → All (IsRowOf b) rows → AreBelow (length b.headers) rows
-rows_below b rows right k d lt = omega (arith, slice_get_within (kept_rows b) (get_or rows k d).number (get_or rows k d).kept (right k d lt), length-map b.headers (kept_of b))
+rows_below b rows right k d lt = omega (arith, slice_get_within (kept_rows b) (get_or rows k d).number (get_or rows k d).kept (right k d lt), length-map b.headers (stored_row_of b))
 
 -- a number that some row has is below the number of rows
 pub made_within : (total : ℕ) (rows : List FrameRow) (n : ℕ) → AreBelow total rows → 0 < made n rows → n < total
@@ -242,7 +242,7 @@ made_same m rows sorted same = sum_by-IsPermutation (λ (row : FrameRow). cond (
 pub whole_before : (total : ℕ) (rows sorted : List FrameRow) → IsPermutation rows sorted → IsWhole total sorted → IsWhole total rows
 whole_before total rows sorted same whole n lt = sym (made_same n rows sorted same) ∙ whole n lt
 
-pub explains_before : (total : ℕ) (rows sorted : List FrameRow) (cause : Cause) → IsPermutation rows sorted → Explains total sorted cause → Explains total rows cause
+pub explains_before : (total : ℕ) (rows sorted : List FrameRow) (cause : TableError) → IsPermutation rows sorted → Explains total sorted cause → Explains total rows cause
 explains_before total rows sorted (RowMissing n) same why = record {
   within = why.within;
   once = λ m. omega (arith, made_same m rows sorted same, why.once m);
@@ -276,5 +276,5 @@ made_one_more n rows new row is e made_below = rw e (
 )
 
 -- what is kept of the header at a place is the book's row of that number
-pub row_there : (b : Book) (n : ℕ) (h : Header) (kept : Kept) → slice_get b.headers n ≡ Some h → kept ≡ kept_of b h → slice_get (kept_rows b) n ≡ Some kept
-row_there b n h kept there is = slice_get-map (kept_of b) b.headers n ∙ ap (option_map (kept_of b)) there ∙ ap (λ (k : Kept). Some k) (sym is)
+pub row_there : (b : Book) (n : ℕ) (h : Header) (kept : StoredRow) → slice_get b.headers n ≡ Some h → kept ≡ stored_row_of b h → slice_get (kept_rows b) n ≡ Some kept
+row_there b n h kept there is = slice_get-map (stored_row_of b) b.headers n ∙ ap (option_map (stored_row_of b)) there ∙ ap (λ (k : StoredRow). Some k) (sym is)

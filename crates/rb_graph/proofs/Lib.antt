@@ -6,7 +6,7 @@ pub mod Sources
 pub mod Accepted
 pub mod Walk
 pub mod Headers
-pub mod Known
+pub mod RecordAt
 pub mod Into
 pub mod Charges
 pub mod Targets

@@ -6,7 +6,7 @@ use Rattle.std.specs.Option.{option_map}
 use Rattle.std.proofs.lemmas.Bool.{true≢false}
 use Rattle.std.proofs.lemmas.Option.{same_Some, none-some, slice_get-get_or, slice_get_within, get_or_from_slice_get}
 use Rattle.rb_book.specs.Header.{Header}
-use Rattle.rb_book.specs.Book.{Known, height_of, is_at, header_at}
+use Rattle.rb_book.specs.Book.{RecordAt, height_of, is_at, header_at}
 use Rattle.rb_book.specs.Invariant.{IsBook}
 use Rattle.rb_step.specs.StepRule.{AcceptsWithin}
 use Rattle.rb_step.specs.KnownStep.{step_at}
@@ -17,16 +17,16 @@ use Rattle.rb_graph.proofs.Charges.{charge_by_source}
 use Rattle.rb_graph.proofs.Filtered.{low-within}
 use Rattle.rb_graph.proofs.Headers.{backed_at}
 use Rattle.rb_graph.proofs.Into.{accepted_is, step_is}
-use Rattle.rb_graph.proofs.Known.{no_header}
+use Rattle.rb_graph.proofs.RecordAt.{no_header}
 use Rattle.rb_graph_rows.proofs.Rising.{heights_up}
 use Rattle.rb_graph.proofs.Lower.{lower-at, length-lower}
 use Rattle.rb_graph.proofs.Members.{find-In, in_at}
 
-no_known : Known
+no_known : RecordAt
 no_known = record { height = 0; record_of = record { time = 0; root = []; next = [] } }
 
 module _ (law : SuccessIsAcceptance) (x : Target) (book : IsBook x.book) (ordered : x.window.from ≤ x.window.until) where
-  module _ (h : Header) (found : header_at x.book x.height ≡ Some h) (k : Known) (p : ℕ) (at : slice_get x.book.records p ≡ Some k) where
+  module _ (h : Header) (found : header_at x.book x.height ≡ Some h) (k : RecordAt) (p : ℕ) (at : slice_get x.book.records p ≡ Some k) where
     abbrev s : Source
     s = source_of x.book h
 
@@ -44,7 +44,7 @@ module _ (law : SuccessIsAcceptance) (x : Target) (book : IsBook x.book) (ordere
     by_accepted true (Some fee) e is = (
       rw step_known (accepted.0 e),
       same_Some fee (charge_from x.fees s k.record_of) is
-          ∙ charge_by_source x.fees x.book k.height x.height s k.record_of book (ap (option_map (λ (j : Known). j.record_of)) known) (sym (ap (option_map (source_of x.book)) found)),
+          ∙ charge_by_source x.fees x.book k.height x.height s k.record_of book (ap (option_map (λ (j : RecordAt). j.record_of)) known) (sym (ap (option_map (source_of x.book)) found)),
     )
     by_accepted false None e is = λ a. true≢false (sym (accepted.1 (rw step_known at a)) ∙ e)
     by_accepted false (Some fee) e is = absurd (none-some _ (sym is))
@@ -61,8 +61,8 @@ module _ (law : SuccessIsAcceptance) (x : Target) (book : IsBook x.book) (ordere
   abbrev Told : ℕ → Option ℕ → Type 0
   Told p r = IsSomeAnd (slice_get x.book.records p) (λ k. IsStepFee x k.height r)
 
-  told : (p : ℕ) (r : Option ℕ) (k : Known) → slice_get x.book.records p ≡ Some k → IsStepFee x k.height r → Told p r
-  told p r k at is = subst (λ (o : Option Known). IsSomeAnd o (λ j. IsStepFee x j.height r)) (sym at) is
+  told : (p : ℕ) (r : Option ℕ) (k : RecordAt) → slice_get x.book.records p ≡ Some k → IsStepFee x k.height r → Told p r
+  told p r k at is = subst (λ (o : Option RecordAt). IsSomeAnd o (λ j. IsStepFee x j.height r)) (sym at) is
 
   taken : (h : Header) (p : ℕ) (r : Option ℕ) → header_at x.book x.height ≡ Some h → p < length x.book.records → p < length (lower_records x.book h.height)
       → IsSomeAnd (slice_get (lower_records x.book h.height) p) (λ k. r ≡ fee_from x.options x.window x.fees (source_of x.book h) k) → Told p r
@@ -70,7 +70,7 @@ module _ (law : SuccessIsAcceptance) (x : Target) (book : IsBook x.book) (ordere
       let k = get_or x.book.records p no_known in
       let at : slice_get x.book.records p ≡ Some k = slice_get-get_or x.book.records p no_known within in
       let here : r ≡ fee_from x.options x.window x.fees (source_of x.book h) k =
-      subst (λ (o : Option Known). IsSomeAnd o (λ j. r ≡ fee_from x.options x.window x.fees (source_of x.book h) j)) (lower-at x.book h.height p book low ∙ at) is in
+      subst (λ (o : Option RecordAt). IsSomeAnd o (λ j. r ≡ fee_from x.options x.window x.fees (source_of x.book h) j)) (lower-at x.book h.height p book low ∙ at) is in
       told p r k at (by_accepted h found k p at (is_accepted_from x.options x.window (source_of x.book h) k) r refl here)
 
   pub fee_taken : (s : Source) (p : ℕ) (r : Option ℕ) → Some s ≡ option_map (source_of x.book) (header_at x.book x.height) → p < length x.book.records
@@ -103,7 +103,7 @@ module _ (law : SuccessIsAcceptance) (x : Target) (book : IsBook x.book) (ordere
   pub fee_nowhere : (p : ℕ) → None ≡ option_map (source_of x.book) (header_at x.book x.height) → p < length x.book.records → Told p None
   fee_nowhere p source within = by (header_at x.book x.height) refl source
     where
-      k : Known
+      k : RecordAt
       k = get_or x.book.records p no_known
 
       by : (o : Option Header) → header_at x.book x.height ≡ o → ◌≡◌ {A = Option Source} None (option_map (source_of x.book) o) → Told p None

@@ -1,16 +1,16 @@
 -- The rows of a step table one by one, and when they are all its rows (own choice of form).
 use Rattle.std.specs.Prelude.{◌≡◌, ℕ, ◌<◌, ◌≤◌, ◌==◌, List, map, count_by, Some, slice_get}
 use Rattle.rb_book.specs.Book.{Book}
-use Rattle.rb_graph_rows.specs.Kept.{Kept, kept_of}
+use Rattle.rb_graph_rows.specs.StoredRow.{StoredRow, stored_row_of}
 
 -- a row by itself: its number, and what the table keeps of the header at that place
 pub record FrameRow : Type 0 where
   pub number : ℕ
-  pub kept : Kept
+  pub kept : StoredRow
 
 -- what the table keeps of a book's headers, by their places
-abbrev pub kept_rows : Book → List Kept
-kept_rows b = map (kept_of b) b.headers
+abbrev pub kept_rows : Book → List StoredRow
+kept_rows b = map (stored_row_of b) b.headers
 
 -- the book has a row of this number, and this is it
 abbrev pub IsRowOf : Book → FrameRow → Type 0

@@ -5,14 +5,14 @@ use Rattle.rb_base.specs.Fee.{Fees, charge_of}
 use Rattle.rb_base.specs.Options.{ClientOptions}
 use Rattle.rb_base.specs.Window.{Span}
 use Rattle.rb_book.specs.Header.{Record, Header, is_commit}
-use Rattle.rb_book.specs.Book.{Book, Known, height_of, set_of}
+use Rattle.rb_book.specs.Book.{Book, RecordAt, height_of, set_of}
 use Rattle.rb_step.specs.StepRule.{Step, step_of}
 use Rattle.rb_step.specs.Fee.{size_of}
 use Rattle.rb_step.specs.Answer.{answer_within}
 use Rattle.rb_step.specs.declared.verdict.Verdict.{Verdict}
 use Rattle.rb_step.specs.declared.verdict.Verdict.TheVariants.{Success, NotEnoughTrust, Invalid}
 use Rattle.rb_graph.specs.StepTable.{Cell, Row, cell_of, lower_records, row_of}
-use Rattle.rb_graph_rows.specs.Kept.{own_set}
+use Rattle.rb_graph_rows.specs.StoredRow.{own_set}
 
 -- a header in its book
 pub record Source : Type 0 where
@@ -28,11 +28,11 @@ is_success (NotEnoughTrust signed total) = false
 is_success (Invalid reason) = false
 
 -- the step from a known record to the header
-abbrev pub step_from : Source → Known → Step
+abbrev pub step_from : Source → RecordAt → Step
 step_from s k = step_of k.height k.record_of (set_of s.book k.record_of.next) s.header (own_set s.book s.header)
 
 -- whether the client accepts it at every moment of the window
-unfoldable pub is_accepted_from : ClientOptions → Span → Source → Known → Bool
+unfoldable pub is_accepted_from : ClientOptions → Span → Source → RecordAt → Bool
 is_accepted_from o w s k = is_success (answer_within o w (step_from s k))
 
 -- the cells, and the accepted trusted heights, from a place among the lower records on
@@ -54,5 +54,5 @@ abbrev pub charge_from : Fees → Source → Record → ℕ
 charge_from fees s r = charge_with fees s (size_of (set_of s.book r.next))
 
 -- the charge for the step from a known record, where it is accepted
-abbrev pub fee_from : ClientOptions → Span → Fees → Source → Known → Option ℕ
+abbrev pub fee_from : ClientOptions → Span → Fees → Source → RecordAt → Option ℕ
 fee_from o w fees s k = if is_accepted_from o w s k then Some (charge_from fees s k.record_of) else None

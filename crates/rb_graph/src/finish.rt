@@ -2,14 +2,14 @@
 ghost use Rattle.std.specs.Prelude.{◌≡◌, ◌≤◌, ℕ, [], All, IfOk, IfErr, IfSome, IfNone, OnOk, MatchOption, map, length, vec_len, vec_capacity};
 ghost use Rattle.std.specs.List.Sorted.{IsPermutation};
 ghost use Rattle.rb_graph.specs.Frame.{IsRowOf, IsWhole, IsFirstTwice, IsFirstMissing, made};
-ghost use Rattle.rb_graph.specs.Cause.{Explains};
+ghost use Rattle.rb_graph.specs.TableError.{Explains};
 ghost use Rattle.rb_graph.specs.Ordered.{AreOrdered, AreBelow, AreInPlace};
 
-use crate::cause::Cause;
+use crate::error::TableError;
 use crate::frame::Frame;
 use crate::frame_row::FrameRow;
 use crate::graph::Graph;
-use rb_graph_rows::{Kept, Lanes};
+use rb_graph_rows::{Lanes, StoredRow};
 use std::alloc::{Allocator, Global};
 
 impl<A: Allocator + Copy> Frame<A> {
@@ -20,7 +20,7 @@ impl<A: Allocator + Copy> Frame<A> {
     pub fn finish(
         self,
         mut rows: Vec<FrameRow<A>, A>,
-    ) -> Result<Graph<A>, (Frame<A>, Vec<FrameRow<A>, A>, Cause)>
+    ) -> Result<Graph<A>, (Frame<A>, Vec<FrameRow<A>, A>, TableError)>
         requires { All (IsRowOf self) rows.items }
         ensures table { IfOk result (λ graph. graph ≡ self) }
         ensures whole { OnOk result (IsWhole (length self.headers) rows.items) }
@@ -33,7 +33,7 @@ impl<A: Allocator + Copy> Frame<A> {
             return Err((self, rows, cause));
         }
         let Ok(kept) = Vec::with_capacity(*rows.allocator(), rows.len()) else {
-            return Err((self, rows, Cause::NoMemory));
+            return Err((self, rows, TableError::NoMemory));
         };
         let Frame {
             book,
@@ -65,7 +65,7 @@ fn sort_by_number<A: Allocator>(rows: &mut Vec<FrameRow<A>, A>)
 }
 
 /// Why rows by rising number aren't so many, each once.
-fn flaw<A: Allocator>(rows: &[FrameRow<A>], total: usize) -> Option<Cause>
+fn flaw<A: Allocator>(rows: &[FrameRow<A>], total: usize) -> Option<TableError>
     requires ordered { AreOrdered rows.now }
     requires below { AreBelow total rows.now }
     ensures cause { IfSome result (Explains total rows.now) }
@@ -73,10 +73,10 @@ fn flaw<A: Allocator>(rows: &[FrameRow<A>], total: usize) -> Option<Cause>
     ensures in_place { IfNone result (AreInPlace total rows.now) }
 {
     if let Some(n) = first_twice(rows) {
-        return Some(Cause::RowTwice(n));
+        return Some(TableError::RowTwice(n));
     }
     let n = first_missing(rows, total)?;
-    Some(Cause::RowMissing(n))
+    Some(TableError::RowMissing(n))
 }
 
 /// The least number that two of the rows have.
@@ -115,7 +115,10 @@ fn first_missing<A: Allocator>(rows: &[FrameRow<A>], total: usize) -> Option<usi
 }
 
 /// What the rows keep, in room that was made for it.
-fn kept_in_order<A: Allocator>(rows: Vec<FrameRow<A>, A>, room: Vec<Kept<A>, A>) -> Vec<Kept<A>, A>
+fn kept_in_order<A: Allocator>(
+    rows: Vec<FrameRow<A>, A>,
+    room: Vec<StoredRow<A>, A>,
+) -> Vec<StoredRow<A>, A>
     requires empty { room.items ≡ [] }
     requires room { vec_len rows ≤ vec_capacity room }
     ensures { result.items ≡ map (λ row. row.kept) rows.items }

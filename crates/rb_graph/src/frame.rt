@@ -1,13 +1,13 @@
 //! A book whose rows are to be made.
 ghost use Rattle.std.specs.Prelude.{◌≡◌, ◌<◌, All, IfOk, Some, length, map, slice_get};
 ghost use Rattle.rb_book.specs.Invariant.{IsBacked};
-ghost use Rattle.rb_graph_rows.specs.Kept.{first_naming};
+ghost use Rattle.rb_graph_rows.specs.StoredRow.{first_naming};
 ghost use Rattle.rb_graph.specs.Frame.{IsRowOf, IsWhole};
 
 use crate::frame_row::FrameRow;
 use rb_base::Height;
 use rb_book::{ChainBook, Header};
-use rb_graph_rows::{first_namings, kept_of, next_places, number_sets, tallies_of};
+use rb_graph_rows::{first_namings, next_places, number_sets, stored_row_of, tallies_of};
 use rb_lanes::{Columns, Tally};
 use std::alloc::{AllocError, Allocator, Global};
 use std::marker::Model;
@@ -26,7 +26,7 @@ pub struct Frame<A: Allocator = Global> {
 impl<A: Allocator> Model for Frame<A> {
     ghost use Rattle.std.specs.Prelude.{◌≡◌, map, All};
     ghost use Rattle.rb_book.specs.Book.{Book};
-    ghost use Rattle.rb_graph_rows.specs.Kept as tables;
+    ghost use Rattle.rb_graph_rows.specs.StoredRow as tables;
     ghost use Rattle.rb_graph_rows.specs.Numbering as numbers;
 
     ghost Value = { Book };
@@ -57,7 +57,7 @@ impl<A: Allocator + Copy> Frame<A> {
         })
     }
 
-    /// The number of rows: one for each header. Takes no memory.
+    /// The number of rows: one for each header.
     pub fn rows(&self) -> usize
         ensures { result ≡ length self.now.headers }
     {
@@ -93,7 +93,7 @@ impl<A: Allocator + Copy> Frame<A> {
         ensures number { IfOk result (λ row. row.number ≡ n) }
         ensures row { IfOk result (λ row. IsRowOf self.now row) }
     {
-        let kept = kept_of(
+        let kept = stored_row_of(
             *self.lowest.allocator(),
             &self.book,
             self.header(n),

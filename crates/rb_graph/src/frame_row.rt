@@ -3,7 +3,7 @@ ghost use Rattle.std.specs.Prelude.{◌≡◌, ◌↔◌, IsTrue};
 ghost use Rattle.rb_graph.specs.Frame.{IsRowOf};
 
 use crate::frame::Frame;
-use rb_graph_rows::{Kept, is_kept_of};
+use rb_graph_rows::{StoredRow, is_stored_row_of};
 use std::alloc::{Allocator, Global};
 use std::marker::Model;
 
@@ -11,7 +11,7 @@ use std::marker::Model;
 #[derive(Debug, Drop)]
 pub struct FrameRow<A: Allocator = Global> {
     number: usize,
-    kept: Kept<A>,
+    kept: StoredRow<A>,
 }
 
 impl<A: Allocator> Model for FrameRow<A> {
@@ -23,7 +23,7 @@ impl<A: Allocator> Model for FrameRow<A> {
 }
 
 impl<A: Allocator> FrameRow<A> {
-    pub(crate) fn new(number: usize, kept: Kept<A>) -> FrameRow<A>
+    pub(crate) fn new(number: usize, kept: StoredRow<A>) -> FrameRow<A>
         ensures { result ≡ record { number = number; kept = kept } }
     {
         FrameRow { number, kept }
@@ -36,7 +36,7 @@ impl<A: Allocator> FrameRow<A> {
         self.number
     }
 
-    pub(crate) fn into_kept(self) -> Kept<A>
+    pub(crate) fn into_kept(self) -> StoredRow<A>
         ensures { result ≡ self.kept }
     {
         self.kept
@@ -53,6 +53,6 @@ impl<A: Allocator + Copy> FrameRow<A> {
             return false;
         }
         let header = frame.header(self.number);
-        is_kept_of(frame.book(), header, frame.lowest(), &self.kept)
+        is_stored_row_of(frame.book(), header, frame.lowest(), &self.kept)
     }
 }

@@ -15,16 +15,16 @@ use Rattle.rb_valset.specs.ValidatorSet.{set_hash, total_of}
 use Rattle.rb_book.specs.declared.error.BookError.{BookError}
 use Rattle.rb_book.specs.declared.error.BookError.TheVariants.{UnknownSet, WrongVerdictCount, BadVote, Conflict, TimeOrder, Full, HashClash, NoMemory}
 use Rattle.rb_book.specs.Header.{Record, Header, IsSignedBy, same_record}
-use Rattle.rb_book.specs.Book.{Book, Known, height_of, is_below, has_hash, set_of, record_at, header_at, header_is_below, is_before, max_sets}
+use Rattle.rb_book.specs.Book.{Book, RecordAt, height_of, is_below, has_hash, set_of, record_at, header_at, header_is_below, is_before, max_sets}
 use Rattle.rb_book.specs.Invariant.{IsBook, IsBacked}
 use Rattle.rb_book.specs.Intake.{unless, unless_none, breaker, IsRefusal, header_refusal, record_refusal, record_refusal_beside, with_record, with_set, with_header, after_record, after_header, after_set}
 use Rattle.rb_book.proofs.Additions.{stays_a_book}
-use Rattle.rb_book.proofs.Kept.{fine, header_record_accepted, set_elsewhere}
+use Rattle.rb_book.proofs.StoredRow.{fine, header_record_accepted, set_elsewhere}
 use Rattle.rb_book.proofs.Lists.{none_at}
 use Rattle.rb_book.proofs.Positions.{before_strict, position_none}
 use Rattle.rb_step.specs.SignedPower.{signed_power}
 use Rattle.rb_step.specs.Answer.{exceeds}
-use Rattle.rb_graph_rows.specs.Kept.{own_set, first_naming, is_lower, next_place, next_places, kept_power, kept_of, Kept}
+use Rattle.rb_graph_rows.specs.StoredRow.{own_set, first_naming, is_lower, next_place, next_places, stored_power, stored_row_of, StoredRow}
 use Rattle.rb_graph_rows.proofs.Rising.{Up, heights_up}
 use Rattle.rb_graph_rows.proofs.OwnSet.{own_known}
 use Rattle.rb_graph_rows.proofs.Inserted.{map-insert, any-insert, map-same, map-set, position-insert_here, position-insert_other, removed-insert}
@@ -113,10 +113,10 @@ either false b x y = refl
 module _ (b : Book) (height : ℕ) (r : Record) (book : IsBook b) (after : IsBook (with_record b height r)) where
   named_after : (set : List Member) (n : ℕ) → is_lower (first_naming (with_record b height r) set) n ≡ ((has_hash r.next set && nat_lt height n) || is_lower (first_naming b set) n)
   named_after set n =
-      let k : Known = record { height = height; record_of = r } in
-      let p : Known → Bool = λ x. has_hash x.record_of.next set in
+      let k : RecordAt = record { height = height; record_of = r } in
+      let p : RecordAt → Bool = λ x. has_hash x.record_of.next set in
       lower_any height_of p n (insert b.records (count_by (is_below height) b.records) k) (heights_up (with_record b height r) after)
-      ∙ any-insert (λ (x : Known). p x && nat_lt (height_of x) n) b.records (count_by (is_below height) b.records) k
+      ∙ any-insert (λ (x : RecordAt). p x && nat_lt (height_of x) n) b.records (count_by (is_below height) b.records) k
       ∙ ap (λ (c : Bool). (has_hash r.next set && nat_lt height n) || c) (sym (lower_any height_of p n b.records (heights_up b book)))
 
   -- where a set is first named from then on
@@ -140,18 +140,18 @@ module _ (b : Book) (height : ℕ) (r : Record) (book : IsBook b) (after : IsBoo
   first_higher set (Some low) named is above = same_lower (Some height) (first_naming (with_record b height r) set) (λ n. sym (
       first_named set (Some low) n named is ∙ higher_hides height low n (above low refl)))
 
-  power_after : (h : Header) (set : List Member) → kept_power (with_record b height r) h set ≡ cond (has_hash r.next set && nat_lt height h.height) (Some (signed_power set (own_set b h) h)) (kept_power b h set)
-  unfolding kept_power
+  power_after : (h : Header) (set : List Member) → stored_power (with_record b height r) h set ≡ cond (has_hash r.next set && nat_lt height h.height) (Some (signed_power set (own_set b h) h)) (stored_power b h set)
+  unfolding stored_power
   power_after h set =
       ap (λ (c : Bool). cond c (Some (signed_power set (own_set b h) h)) None) (named_after set h.height)
       ∙ either (has_hash r.next set && nat_lt height h.height) (is_lower (first_naming b set) h.height) (Some (signed_power set (own_set b h) h)) None
 
-  power_not_named : (h : Header) (set : List Member) → has_hash r.next set ≡ false → kept_power b h set ≡ kept_power (with_record b height r) h set
+  power_not_named : (h : Header) (set : List Member) → has_hash r.next set ≡ false → stored_power b h set ≡ stored_power (with_record b height r) h set
   power_not_named h set other =
-      sym (power_after h set ∙ ap (λ (c : Bool). cond (c && nat_lt height h.height) (Some (signed_power set (own_set b h) h)) (kept_power b h set)) other)
+      sym (power_after h set ∙ ap (λ (c : Bool). cond (c && nat_lt height h.height) (Some (signed_power set (own_set b h) h)) (stored_power b h set)) other)
 
-  row_of_powers : (h : Header) → map (kept_power b h) b.sets ≡ map (kept_power (with_record b height r) h) b.sets → kept_of b h ≡ kept_of (with_record b height r) h
-  unfolding kept_of
+  row_of_powers : (h : Header) → map (stored_power b h) b.sets ≡ map (stored_power (with_record b height r) h) b.sets → stored_row_of b h ≡ stored_row_of (with_record b height r) h
+  unfolding stored_row_of
   row_of_powers h same = λ i. record {
     size = length (own_set b h);
     is_signed = exceeds (signed_power (own_set b h) (own_set b h) h) (total_of (own_set b h)) two_thirds;
@@ -159,38 +159,38 @@ module _ (b : Book) (height : ℕ) (r : Record) (book : IsBook b) (after : IsBoo
   }
 
   -- no set is first named elsewhere
-  row_as_before : (h : Header) → map (first_naming b) b.sets ≡ map (first_naming (with_record b height r)) b.sets → kept_of b h ≡ kept_of (with_record b height r) h
-  unfolding kept_power
+  row_as_before : (h : Header) → map (first_naming b) b.sets ≡ map (first_naming (with_record b height r)) b.sets → stored_row_of b h ≡ stored_row_of (with_record b height r) h
+  unfolding stored_power
   row_as_before h same =
-      row_of_powers h (map-same (kept_power b h) (kept_power (with_record b height r) h) b.sets (λ k d lt.
+      row_of_powers h (map-same (stored_power b h) (stored_power (with_record b height r) h) b.sets (λ k d lt.
       let set = get_or b.sets k d in
       let first : first_naming b set ≡ first_naming (with_record b height r) set =
       sym (get_or-map (first_naming b) b.sets k d None lt) ∙ ap (λ (l : List (Option ℕ)). get_or l k None) same ∙ get_or-map (first_naming (with_record b height r)) b.sets k d None lt in
       ap (λ (o : Option ℕ). cond (is_lower o h.height) (Some (signed_power set (own_set b h) h)) None) first))
 
-  pub rows_as_before : (rows : List Kept) → map (first_naming b) b.sets ≡ map (first_naming (with_record b height r)) b.sets → rows ≡ map (kept_of b) b.headers → rows ≡ map (kept_of (with_record b height r)) b.headers
-  rows_as_before rows same is = is ∙ map-same (kept_of b) (kept_of (with_record b height r)) b.headers (λ k d lt. row_as_before (get_or b.headers k d) same)
+  pub rows_as_before : (rows : List StoredRow) → map (first_naming b) b.sets ≡ map (first_naming (with_record b height r)) b.sets → rows ≡ map (stored_row_of b) b.headers → rows ≡ map (stored_row_of (with_record b height r)) b.headers
+  rows_as_before rows same is = is ∙ map-same (stored_row_of b) (stored_row_of (with_record b height r)) b.headers (λ k d lt. row_as_before (get_or b.headers k d) same)
 
   pub lowest_unnamed : (lowest : List (Option ℕ)) → position (has_hash r.next) b.sets ≡ None → lowest ≡ map (first_naming b) b.sets → lowest ≡ map (first_naming (with_record b height r)) b.sets
   lowest_unnamed lowest none is = is ∙ map-same (first_naming b) (first_naming (with_record b height r)) b.sets (λ k d lt.
       first_unnamed (get_or b.sets k d) (none_at (has_hash r.next) b.sets none k d lt))
 
   -- a header that isn't above the record
-  pub row_below : (h : Header) → h.height ≤ height → kept_of b h ≡ kept_of (with_record b height r) h
+  pub row_below : (h : Header) → h.height ≤ height → stored_row_of b h ≡ stored_row_of (with_record b height r) h
   row_below h le =
-      row_of_powers h (map-same (kept_power b h) (kept_power (with_record b height r) h) b.sets (λ k d lt.
+      row_of_powers h (map-same (stored_power b h) (stored_power (with_record b height r) h) b.sets (λ k d lt.
       let set = get_or b.sets k d in
       sym (power_after h set
-      ∙ ap (λ (c : Bool). cond (has_hash r.next set && c) (Some (signed_power set (own_set b h) h)) (kept_power b h set)) (le-ltb height h.height le)
-      ∙ ap (λ (c : Bool). cond c (Some (signed_power set (own_set b h) h)) (kept_power b h set)) (and_none (has_hash r.next set)))))
+      ∙ ap (λ (c : Bool). cond (has_hash r.next set && c) (Some (signed_power set (own_set b h) h)) (stored_power b h set)) (le-ltb height h.height le)
+      ∙ ap (λ (c : Bool). cond c (Some (signed_power set (own_set b h) h)) (stored_power b h set)) (and_none (has_hash r.next set)))))
 
-  pub stays_below : (h : Header) (row : Kept) → row ≡ kept_of b h → h.height ≤ height → row ≡ kept_of (with_record b height r) h
+  pub stays_below : (h : Header) (row : StoredRow) → row ≡ stored_row_of b h → h.height ≤ height → row ≡ stored_row_of (with_record b height r) h
   stays_below h row is le = is ∙ row_below h le
 
   -- no set is named
-  pub row_unnamed : (h : Header) → position (has_hash r.next) b.sets ≡ None → kept_of b h ≡ kept_of (with_record b height r) h
+  pub row_unnamed : (h : Header) → position (has_hash r.next) b.sets ≡ None → stored_row_of b h ≡ stored_row_of (with_record b height r) h
   row_unnamed h none =
-      row_of_powers h (map-same (kept_power b h) (kept_power (with_record b height r) h) b.sets (λ k d lt.
+      row_of_powers h (map-same (stored_power b h) (stored_power (with_record b height r) h) b.sets (λ k d lt.
       power_not_named h (get_or b.sets k d) (none_at (has_hash r.next) b.sets none k d lt)))
 
   -- the set at a place is named, and no other
@@ -254,29 +254,29 @@ module _ (b : Book) (height : ℕ) (r : Record) (book : IsBook b) (after : IsBoo
         let same : low ≡ k = (cc) in
         omega (arith, le, same))
 
-    power_named : (h : Header) (d : List Member) → height < h.height → kept_power (with_record b height r) h (get_or b.sets s d) ≡ Some (signed_power (get_or b.sets s d) (own_set b h) h)
+    power_named : (h : Header) (d : List Member) → height < h.height → stored_power (with_record b height r) h (get_or b.sets s d) ≡ Some (signed_power (get_or b.sets s d) (own_set b h) h)
     power_named h d lt =
         power_after h (get_or b.sets s d)
-        ∙ ap (λ (c : Bool). cond (c && nat_lt height h.height) (Some (signed_power (get_or b.sets s d) (own_set b h) h)) (kept_power b h (get_or b.sets s d))) (named d)
-        ∙ ap (λ (c : Bool). cond c (Some (signed_power (get_or b.sets s d) (own_set b h) h)) (kept_power b h (get_or b.sets s d))) (lt-ltb height h.height lt)
+        ∙ ap (λ (c : Bool). cond (c && nat_lt height h.height) (Some (signed_power (get_or b.sets s d) (own_set b h) h)) (stored_power b h (get_or b.sets s d))) (named d)
+        ∙ ap (λ (c : Bool). cond c (Some (signed_power (get_or b.sets s d) (own_set b h) h)) (stored_power b h (get_or b.sets s d))) (lt-ltb height h.height lt)
 
     -- its signed power is kept from then on
-    pub row_named : (h : Header) (row : Kept) (set : List Member) (power : ℕ) → height < h.height → row ≡ kept_of b h → set ≡ get_or b.sets s set → power ≡ signed_power set (own_set b h) h
-        → ◌≡◌ {A = Kept} (record { size = row.size; is_signed = row.is_signed; signed = Rattle.std.proofs.Common.set row.signed s (Some power) }) (kept_of (with_record b height r) h)
-    unfolding kept_of
+    pub row_named : (h : Header) (row : StoredRow) (set : List Member) (power : ℕ) → height < h.height → row ≡ stored_row_of b h → set ≡ get_or b.sets s set → power ≡ signed_power set (own_set b h) h
+        → ◌≡◌ {A = StoredRow} (record { size = row.size; is_signed = row.is_signed; signed = Rattle.std.proofs.Common.set row.signed s (Some power) }) (stored_row_of (with_record b height r) h)
+    unfolding stored_row_of
     row_named h row set power above is at sum =
-        let here : Some power ≡ kept_power (with_record b height r) h (get_or b.sets s set) =
+        let here : Some power ≡ stored_power (with_record b height r) h (get_or b.sets s set) =
         ap (λ (n : ℕ). Some n) (sum ∙ ap (λ (t : List Member). signed_power t (own_set b h) h) at) ∙ sym (power_named h set above) in
-        let all = map-set (kept_power b h) (kept_power (with_record b height r) h) b.sets s set (Some power) place_within here
+        let all = map-set (stored_power b h) (stored_power (with_record b height r) h) b.sets s set (Some power) place_within here
         (λ t d lt other. power_not_named h (get_or b.sets t d) (not_named t d lt other)) in
         λ i. record {
-          size = (ap (λ (k : Kept). k.size) is) i;
-          is_signed = (ap (λ (k : Kept). k.is_signed) is) i;
-          signed = (ap (λ (k : Kept). Rattle.std.proofs.Common.set k.signed s (Some power)) is ∙ all) i;
+          size = (ap (λ (k : StoredRow). k.size) is) i;
+          is_signed = (ap (λ (k : StoredRow). k.is_signed) is) i;
+          signed = (ap (λ (k : StoredRow). Rattle.std.proofs.Common.set k.signed s (Some power)) is ∙ all) i;
         }
 
-    old_power : (h : Header) (d : List Member) → is_some (kept_power b h (get_or b.sets s d)) ≡ true → kept_power b h (get_or b.sets s d) ≡ Some (signed_power (get_or b.sets s d) (own_set b h) h)
-    unfolding kept_power
+    old_power : (h : Header) (d : List Member) → is_some (stored_power b h (get_or b.sets s d)) ≡ true → stored_power b h (get_or b.sets s d) ≡ Some (signed_power (get_or b.sets s d) (own_set b h) h)
+    unfolding stored_power
     old_power h d e = by (is_lower (first_naming b (get_or b.sets s d)) h.height) e
       where
         by : (c : Bool) → is_some (cond c (Some (signed_power (get_or b.sets s d) (own_set b h) h)) None) ≡ true → cond c (Some (signed_power (get_or b.sets s d) (own_set b h) h)) None ≡ Some (signed_power (get_or b.sets s d) (own_set b h) h)
@@ -284,28 +284,28 @@ module _ (b : Book) (height : ℕ) (r : Record) (book : IsBook b) (after : IsBoo
         by false q = absurd (true≢false (sym q))
 
     -- or was kept before
-    pub row_known : (h : Header) (row : Kept) → height < h.height → row ≡ kept_of b h → is_some (get_or row.signed s None) ≡ true → kept_of b h ≡ kept_of (with_record b height r) h
-    unfolding kept_of
+    pub row_known : (h : Header) (row : StoredRow) → height < h.height → row ≡ stored_row_of b h → is_some (get_or row.signed s None) ≡ true → stored_row_of b h ≡ stored_row_of (with_record b height r) h
+    unfolding stored_row_of
     row_known h row above is kept =
-        row_of_powers h (map-same (kept_power b h) (kept_power (with_record b height r) h) b.sets (λ t d lt. by t d lt))
+        row_of_powers h (map-same (stored_power b h) (stored_power (with_record b height r) h) b.sets (λ t d lt. by t d lt))
       where
-        by : (t : ℕ) (d : List Member) → t < length b.sets → kept_power b h (get_or b.sets t d) ≡ kept_power (with_record b height r) h (get_or b.sets t d)
+        by : (t : ℕ) (d : List Member) → t < length b.sets → stored_power b h (get_or b.sets t d) ≡ stored_power (with_record b height r) h (get_or b.sets t d)
         by t d lt = elim (cases_Bool (has_hash r.next (get_or b.sets t d))) [
           | inl has ↦
               let e : t ≡ s = one_place t d lt has in
-              let at : get_or row.signed s None ≡ kept_power b h (get_or b.sets s d) = ap (λ (k : Kept). get_or k.signed s None) is ∙ get_or-map (kept_power b h) b.sets s d None place_within in
+              let at : get_or row.signed s None ≡ stored_power b h (get_or b.sets s d) = ap (λ (k : StoredRow). get_or k.signed s None) is ∙ get_or-map (stored_power b h) b.sets s d None place_within in
               let old = old_power h d (sym (ap (λ (o : Option ℕ). is_some o) at) ∙ kept) in
-              subst (λ (n : ℕ). kept_power b h (get_or b.sets n d) ≡ kept_power (with_record b height r) h (get_or b.sets n d)) (sym e) (old ∙ sym (power_named h d above))
+              subst (λ (n : ℕ). stored_power b h (get_or b.sets n d) ≡ stored_power (with_record b height r) h (get_or b.sets n d)) (sym e) (old ∙ sym (power_named h d above))
           | inr isnt ↦ power_not_named h (get_or b.sets t d) isnt
         ]
 
-    pub stays_known : (h : Header) (row : Kept) → row ≡ kept_of b h → height < h.height → is_some (get_or row.signed s None) ≡ true → row ≡ kept_of (with_record b height r) h
+    pub stays_known : (h : Header) (row : StoredRow) → row ≡ stored_row_of b h → height < h.height → is_some (get_or row.signed s None) ≡ true → row ≡ stored_row_of (with_record b height r) h
     stays_known h row is above kept = is ∙ row_known h row above is kept
 
     -- each row has a signed power or none for each set
-    pub place_in_row : (h : Header) (row : Kept) → row ≡ kept_of b h → s < length row.signed
-    unfolding kept_of
-    place_in_row h row is = omega (arith, ap (λ (k : Kept). length k.signed) is, length-map b.sets (kept_power b h), place_within)
+    pub place_in_row : (h : Header) (row : StoredRow) → row ≡ stored_row_of b h → s < length row.signed
+    unfolding stored_row_of
+    place_in_row h row is = omega (arith, ap (λ (k : StoredRow). length k.signed) is, length-map b.sets (stored_power b h), place_within)
 
 -- ---- one more set
 
@@ -323,33 +323,33 @@ module _ (b : Book) (set : List Member) (new : set_of b (set_hash set) ≡ None)
   own_after h backed = ap (λ (o : Option (List Member)). unwrap_or o []) (set_elsewhere b set h.set_hash (other_hash h backed))
 
   -- the row with one more signed power
-  pub row_with_set : (h : Header) (row : Kept) (at : ℕ) (power : Option ℕ) → IsBacked b h → row ≡ kept_of b h → at ≡ count_by (is_before (set_hash set)) b.sets → power ≡ kept_power b h set
-      → ◌≡◌ {A = Kept} (record { size = row.size; is_signed = row.is_signed; signed = insert row.signed at power }) (kept_of (with_set b set) h)
-  unfolding kept_of kept_power
+  pub row_with_set : (h : Header) (row : StoredRow) (at : ℕ) (power : Option ℕ) → IsBacked b h → row ≡ stored_row_of b h → at ≡ count_by (is_before (set_hash set)) b.sets → power ≡ stored_power b h set
+      → ◌≡◌ {A = StoredRow} (record { size = row.size; is_signed = row.is_signed; signed = insert row.signed at power }) (stored_row_of (with_set b set) h)
+  unfolding stored_row_of stored_power
   row_with_set h row at power backed is there sum =
       let own : own_set b h ≡ own_set (with_set b set) h = sym (own_after h backed) in
       let place = count_by (is_before (set_hash set)) b.sets in
-      let more : insert (map (kept_power b h) b.sets) place (kept_power b h set) ≡ map (kept_power b h) (insert b.sets place set) = sym (map-insert (kept_power b h) b.sets place set) in
-      let first : insert row.signed at power ≡ insert (map (kept_power b h) b.sets) place (kept_power b h set) = λ i. insert ((is i).signed) (there i) (sum i) in
+      let more : insert (map (stored_power b h) b.sets) place (stored_power b h set) ≡ map (stored_power b h) (insert b.sets place set) = sym (map-insert (stored_power b h) b.sets place set) in
+      let first : insert row.signed at power ≡ insert (map (stored_power b h) b.sets) place (stored_power b h set) = λ i. insert ((is i).signed) (there i) (sum i) in
       λ i. record {
-        size = (ap (λ (k : Kept). k.size) is ∙ ap (λ (o : List Member). length o) own) i;
-        is_signed = (ap (λ (k : Kept). k.is_signed) is ∙ ap (λ (o : List Member). exceeds (signed_power o o h) (total_of o) two_thirds) own) i;
+        size = (ap (λ (k : StoredRow). k.size) is ∙ ap (λ (o : List Member). length o) own) i;
+        is_signed = (ap (λ (k : StoredRow). k.is_signed) is ∙ ap (λ (o : List Member). exceeds (signed_power o o h) (total_of o) two_thirds) own) i;
         signed = (first ∙ more ∙ ap (λ (o : List Member). map (λ (t : List Member). cond (is_lower (first_naming b t) h.height) (Some (signed_power t o h)) None) (insert b.sets place set)) own) i;
       }
 
   -- the row without it
-  pub row_without_set : (h : Header) (row : Kept) (at : ℕ) → IsBacked b h → row ≡ kept_of (with_set b set) h → at ≡ count_by (is_before (set_hash set)) b.sets
-      → ◌≡◌ {A = Kept} (record { size = row.size; is_signed = row.is_signed; signed = remove row.signed at }) (kept_of b h)
-  unfolding kept_of
+  pub row_without_set : (h : Header) (row : StoredRow) (at : ℕ) → IsBacked b h → row ≡ stored_row_of (with_set b set) h → at ≡ count_by (is_before (set_hash set)) b.sets
+      → ◌≡◌ {A = StoredRow} (record { size = row.size; is_signed = row.is_signed; signed = remove row.signed at }) (stored_row_of b h)
+  unfolding stored_row_of
   row_without_set h row at backed is there =
       let place = count_by (is_before (set_hash set)) b.sets in
-      let whole : row ≡ record { size = (kept_of b h).size; is_signed = (kept_of b h).is_signed; signed = insert (kept_of b h).signed place (kept_power b h set) } =
-      is ∙ sym (row_with_set h (kept_of b h) place (kept_power b h set) backed refl refl refl) in
-      let fits : place ≤ length (map (kept_power b h) b.sets) = omega (arith, count_by-le-length (is_before (set_hash set)) b.sets, length-map b.sets (kept_power b h)) in
+      let whole : row ≡ record { size = (stored_row_of b h).size; is_signed = (stored_row_of b h).is_signed; signed = insert (stored_row_of b h).signed place (stored_power b h set) } =
+      is ∙ sym (row_with_set h (stored_row_of b h) place (stored_power b h set) backed refl refl refl) in
+      let fits : place ≤ length (map (stored_power b h) b.sets) = omega (arith, count_by-le-length (is_before (set_hash set)) b.sets, length-map b.sets (stored_power b h)) in
       λ i. record {
-        size = (ap (λ (k : Kept). k.size) whole) i;
-        is_signed = (ap (λ (k : Kept). k.is_signed) whole) i;
-        signed = ((λ j. remove ((whole j).signed) (there j)) ∙ removed-insert (map (kept_power b h) b.sets) place (kept_power b h set) fits) i;
+        size = (ap (λ (k : StoredRow). k.size) whole) i;
+        is_signed = (ap (λ (k : StoredRow). k.is_signed) whole) i;
+        signed = ((λ j. remove ((whole j).signed) (there j)) ∙ removed-insert (map (stored_power b h) b.sets) place (stored_power b h set) fits) i;
       }
 
   -- where the set's place is
@@ -357,19 +357,19 @@ module _ (b : Book) (set : List Member) (new : set_of b (set_hash set) ≡ None)
   place_fits = count_by-le-length (is_before (set_hash set)) b.sets
 
   -- and in a row
-  pub place_fits_row : (h : Header) (row : Kept) (at : ℕ) → row ≡ kept_of b h → at ≡ count_by (is_before (set_hash set)) b.sets → at ≤ length row.signed
-  unfolding kept_of
-  place_fits_row h row at is there = omega (arith, there, place_fits, ap (λ (k : Kept). length k.signed) is, length-map b.sets (kept_power b h))
+  pub place_fits_row : (h : Header) (row : StoredRow) (at : ℕ) → row ≡ stored_row_of b h → at ≡ count_by (is_before (set_hash set)) b.sets → at ≤ length row.signed
+  unfolding stored_row_of
+  place_fits_row h row at is there = omega (arith, there, place_fits, ap (λ (k : StoredRow). length k.signed) is, length-map b.sets (stored_power b h))
 
   -- and before the end of a row that has the set's
-  pub place_before_row : (h : Header) (row : Kept) (at : ℕ) → row ≡ kept_of (with_set b set) h → at ≡ count_by (is_before (set_hash set)) b.sets → at < length row.signed
-  unfolding kept_of
+  pub place_before_row : (h : Header) (row : StoredRow) (at : ℕ) → row ≡ stored_row_of (with_set b set) h → at ≡ count_by (is_before (set_hash set)) b.sets → at < length row.signed
+  unfolding stored_row_of
   place_before_row h row at is there = omega (
     arith,
     there,
     place_fits,
-    ap (λ (k : Kept). length k.signed) is,
-    length-map (insert b.sets (count_by (is_before (set_hash set)) b.sets) set) (kept_power (with_set b set) h),
+    ap (λ (k : StoredRow). length k.signed) is,
+    length-map (insert b.sets (count_by (is_before (set_hash set)) b.sets) set) (stored_power (with_set b set) h),
     length-insert b.sets (count_by (is_before (set_hash set)) b.sets) set place_fits,
   )
 
@@ -377,19 +377,19 @@ module _ (b : Book) (set : List Member) (new : set_of b (set_hash set) ≡ None)
   no_set = position_none (λ (s t : List Member). is_before (set_hash t) s ≡ true) before_strict (has_hash (set_hash set)) b.sets new
 
   -- the place of a record's next set
-  pub next_named : (k : Known) → has_hash k.record_of.next set ≡ true → next_place (with_set b set) k ≡ Some (count_by (is_before (set_hash set)) b.sets)
+  pub next_named : (k : RecordAt) → has_hash k.record_of.next set ≡ true → next_place (with_set b set) k ≡ Some (count_by (is_before (set_hash set)) b.sets)
   next_named k has =
       let same : set_hash set ≡ k.record_of.next = (bytes_eq-Decides _ _).0 has in
       position-insert_here (has_hash k.record_of.next) b.sets (count_by (is_before (set_hash set)) b.sets) set place_fits has
       (none_at (has_hash k.record_of.next) b.sets (subst (λ (hash : List ℕ). position (has_hash hash) b.sets ≡ None) same no_set))
 
-  pub next_other : (k : Known) (next : Option ℕ) → has_hash k.record_of.next set ≡ false → next ≡ next_place b k → option_map (moved (count_by (is_before (set_hash set)) b.sets)) next ≡ next_place (with_set b set) k
+  pub next_other : (k : RecordAt) (next : Option ℕ) → has_hash k.record_of.next set ≡ false → next ≡ next_place b k → option_map (moved (count_by (is_before (set_hash set)) b.sets)) next ≡ next_place (with_set b set) k
   next_other k next other is =
       ap (option_map (moved (count_by (is_before (set_hash set)) b.sets))) is
       ∙ sym (position-insert_other (has_hash k.record_of.next) b.sets (count_by (is_before (set_hash set)) b.sets) set place_fits other)
 
 -- the place of a next set is no high number
-pub next_few : (b : Book) (k : Known) (next : Option ℕ) (place : ℕ) → IsBook b → next ≡ next_place b k → next ≡ Some place → place ≤ max_sets
+pub next_few : (b : Book) (k : RecordAt) (next : Option ℕ) (place : ℕ) → IsBook b → next ≡ next_place b k → next ≡ Some place → place ≤ max_sets
 next_few b k next place book is at = omega (arith, (position-Some (has_hash k.record_of.next) b.sets place [] (sym is ∙ at)).0, book.few_sets)
 
 -- ---- a record that is known already, or is new
@@ -418,9 +418,9 @@ places_with_record b height place r next places at is named =
     (λ i. insert (is i) (at i) (named i)) ∙ sym (map-insert (next_place b) b.records (count_by (is_below height) b.records) (record { height = height; record_of = r }))
 
 -- the rows, where the record names no known set
-pub rows_unnamed : (b : Book) (height : ℕ) (r : Record) (rows : List Kept) → IsBook b → IsBook (with_record b height r) → position (has_hash r.next) b.sets ≡ None → rows ≡ map (kept_of b) b.headers
-    → rows ≡ map (kept_of (with_record b height r)) b.headers
-rows_unnamed b height r rows book after none is = is ∙ map-same (kept_of b) (kept_of (with_record b height r)) b.headers (λ k d lt. row_unnamed b height r book after (get_or b.headers k d) none)
+pub rows_unnamed : (b : Book) (height : ℕ) (r : Record) (rows : List StoredRow) → IsBook b → IsBook (with_record b height r) → position (has_hash r.next) b.sets ≡ None → rows ≡ map (stored_row_of b) b.headers
+    → rows ≡ map (stored_row_of (with_record b height r)) b.headers
+rows_unnamed b height r rows book after none is = is ∙ map-same (stored_row_of b) (stored_row_of (with_record b height r)) b.headers (λ k d lt. row_unnamed b height r book after (get_or b.headers k d) none)
 
 -- ---- one more set
 
@@ -449,12 +449,12 @@ sets_stay b height r = by (is_some (record_at b height)) refl
     by false e = ap (λ (x : Book). x.sets) (record_comes b height r e)
 
 -- its own record brings no cell to its row
-row_beside_record : (b : Book) (height : ℕ) (r : Record) (h : Header) → IsBook b → record_refusal b height r ≡ None → h.height ≤ height → kept_of b h ≡ kept_of (after_record b height r) h
+row_beside_record : (b : Book) (height : ℕ) (r : Record) (h : Header) → IsBook b → record_refusal b height r ≡ None → h.height ≤ height → stored_row_of b h ≡ stored_row_of (after_record b height r) h
 row_beside_record b height r h book accepted le = by (is_some (record_at b height)) refl
   where
-    by : (t : Bool) → is_some (record_at b height) ≡ t → kept_of b h ≡ kept_of (after_record b height r) h
-    by true e = ap (λ (x : Book). kept_of x h) (record_stays b height r e)
-    by false e = row_below b height r book (record_makes_a_book b height r book accepted e) h le ∙ ap (λ (x : Book). kept_of x h) (record_comes b height r e)
+    by : (t : Bool) → is_some (record_at b height) ≡ t → stored_row_of b h ≡ stored_row_of (after_record b height r) h
+    by true e = ap (λ (x : Book). stored_row_of x h) (record_stays b height r e)
+    by false e = row_below b height r book (record_makes_a_book b height r book accepted e) h le ∙ ap (λ (x : Book). stored_row_of x h) (record_comes b height r e)
 
 module _ (b : Book) (h : Header) (accepted : header_refusal b h ≡ None) (unknown : header_at b h.height ≡ None) where
   with_header_is_after : with_header (after_record b h.height h.record_of) h ≡ after_header b h
@@ -472,17 +472,17 @@ module _ (b : Book) (h : Header) (accepted : header_refusal b h ≡ None) (unkno
       ∙ ap (map (first_naming (after_record b h.height h.record_of))) (sets_stay b h.height h.record_of)
       ∙ ap (λ (x : Book). map (first_naming x) x.sets) with_header_is_after
 
-  pub rows_with_header : (rows : List Kept) (place : ℕ) (row : Kept) → IsBook b → rows ≡ map (kept_of (after_record b h.height h.record_of)) b.headers
-      → place ≡ count_by (header_is_below h.height) b.headers → row ≡ kept_of b h → insert rows place row ≡ map (kept_of (after_header b h)) (after_header b h).headers
-  unfolding kept_of kept_power
+  pub rows_with_header : (rows : List StoredRow) (place : ℕ) (row : StoredRow) → IsBook b → rows ≡ map (stored_row_of (after_record b h.height h.record_of)) b.headers
+      → place ≡ count_by (header_is_below h.height) b.headers → row ≡ stored_row_of b h → insert rows place row ≡ map (stored_row_of (after_header b h)) (after_header b h).headers
+  unfolding stored_row_of stored_power
   rows_with_header rows place row book are there is =
       let m : Book = after_record b h.height h.record_of in
-      let same : row ≡ kept_of m h = is ∙ row_beside_record b h.height h.record_of h book (header_record_accepted b h unknown accepted) (omega arith) in
+      let same : row ≡ stored_row_of m h = is ∙ row_beside_record b h.height h.record_of h book (header_record_accepted b h unknown accepted) (omega arith) in
       let stay : b.headers ≡ m.headers = sym (headers_stay b h.height h.record_of) in
       (λ i. insert (are i) (there i) (same i))
-      ∙ sym (map-insert (kept_of m) b.headers (count_by (header_is_below h.height) b.headers) h)
-      ∙ ap (λ (hs : List Header). map (kept_of m) (insert hs (count_by (header_is_below h.height) hs) h)) stay
-      ∙ ap (λ (x : Book). map (kept_of x) x.headers) with_header_is_after
+      ∙ sym (map-insert (stored_row_of m) b.headers (count_by (header_is_below h.height) b.headers) h)
+      ∙ ap (λ (hs : List Header). map (stored_row_of m) (insert hs (count_by (header_is_below h.height) hs) h)) stay
+      ∙ ap (λ (x : Book). map (stored_row_of x) x.headers) with_header_is_after
 
 -- ---- refusals
 

@@ -7,7 +7,7 @@ use Rattle.std.proofs.lemmas.List.Elements.{All-from_recursion}
 use Rattle.std.proofs.lemmas.List.Folds.{find_at}
 use Rattle.std.proofs.lemmas.Option.{slice_get_past}
 use Rattle.rb_graph_rows.proofs.Rising.{Up}
-use Rattle.rb_graph_rows.specs.Kept.{is_lower}
+use Rattle.rb_graph_rows.specs.StoredRow.{is_lower}
 
 -- the place of the first that passes leads to it
 pub find-position : {X : Type 0} (p : X → Bool) (xs : List X) → option_and_then (λ i. slice_get xs i) (position p xs) ≡ find p xs

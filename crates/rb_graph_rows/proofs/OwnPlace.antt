@@ -5,7 +5,7 @@ use Rattle.std.specs.List.{position, slice_get}
 use Rattle.rb_valset.specs.Validator.{Member}
 use Rattle.rb_book.specs.Header.{Header}
 use Rattle.rb_book.specs.Book.{Book, has_hash, set_of}
-use Rattle.rb_graph_rows.specs.Kept.{own_set}
+use Rattle.rb_graph_rows.specs.StoredRow.{own_set}
 use Rattle.rb_graph_rows.proofs.Found.{find-position}
 
 module _ (b : Book) (h : Header) (known : set_of b h.set_hash ≡ Some (own_set b h)) where

@@ -5,7 +5,7 @@ use Rattle.rb_valset.specs.Validator.{Member}
 use Rattle.rb_book.specs.Header.{Header, IsSignedBy}
 use Rattle.rb_book.specs.Book.{Book, set_of}
 use Rattle.rb_book.specs.Invariant.{IsBacked}
-use Rattle.rb_graph_rows.specs.Kept.{own_set}
+use Rattle.rb_graph_rows.specs.StoredRow.{own_set}
 
 pub own_known : (b : Book) (h : Header) → IsBacked b h → set_of b h.set_hash ≡ Some (own_set b h)
 own_known b h backed =

@@ -1,4 +1,4 @@
 pub use Rattle.rb_book.specs.Book
-pub mod Kept
+pub mod StoredRow
 pub mod Numbering
 pub mod Moved

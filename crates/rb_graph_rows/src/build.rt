@@ -3,13 +3,13 @@ ghost use Rattle.std.specs.Prelude.{◌≡◌, ◌<◌, map, length, slice_get, 
 ghost use Rattle.std.specs.Option.{option_copied, option_map};
 ghost use Rattle.rb_book.specs.Invariant.{IsBook, IsBacked};
 ghost use Rattle.rb_book.specs.Header.{IsSignedBy};
-ghost use Rattle.rb_graph_rows.specs.Kept.{own_set, next_place, next_places, first_naming, kept_power, kept_of};
+ghost use Rattle.rb_graph_rows.specs.StoredRow.{own_set, next_place, next_places, first_naming, stored_power, stored_row_of};
 ghost use Rattle.rb_graph_rows.specs.Numbering.{AreNumbered, entries_of, IsVotersPlane};
 
-use crate::kept::Kept;
 use crate::numbers::{tallied, voters_plane};
+use crate::stored_row::StoredRow;
 use rb_base::{Fraction, Height};
-use rb_book::{ChainBook, Header, Known};
+use rb_book::{ChainBook, Header, RecordAt};
 use rb_lanes::{Columns, Plane, Tally};
 use rb_step::{is_signed_by_two_thirds, signed_power};
 use rb_valset::ValidatorSet;
@@ -25,7 +25,7 @@ pub fn next_places<A: Allocator + Copy>(
     book.records()
         .iter()
         .map(
-            |known: &Known| -> Option<usize>
+            |known: &RecordAt| -> Option<usize>
                 ensures { result ≡ next_place book.entry.now known.now }
             { book.set_place(known.record().next()) },
         )
@@ -98,8 +98,8 @@ fn own_at<'a, A: Allocator + Copy>(
 
 /// The signed power of a header in a set, where a lower record names the set. `tally` is the set's,
 /// and `plane` has the bits of the header's commit voters.
-#[tactic(auto, unfolding(crate::specs::Kept::kept_power))]
-fn kept_power<A: Allocator + Copy>(
+#[tactic(auto, unfolding(crate::specs::StoredRow::stored_power))]
+fn stored_power<A: Allocator + Copy>(
     book: &ChainBook<A>,
     header: &Header<A>,
     own: &ValidatorSet<A>,
@@ -114,7 +114,7 @@ fn kept_power<A: Allocator + Copy>(
     requires numbered { AreNumbered columns.now set.now }
     requires tally { tally.now ≡ entries_of columns.now set.now }
     requires plane { IsVotersPlane columns.now own.now header.now plane.now }
-    ensures { result ≡ kept_power book.now header.now set.now }
+    ensures { result ≡ stored_power book.now header.now set.now }
 {
     match lowest {
         Some(lowest) if lowest < header.height() => {
@@ -126,8 +126,8 @@ fn kept_power<A: Allocator + Copy>(
 
 /// What is kept of a header whose own set stands at a place: all its sums are read from one plane of
 /// its commit voters.
-#[tactic(auto, unfolding(crate::specs::Kept::kept_of))]
-pub fn kept_by_lanes<A: Allocator + Copy>(
+#[tactic(auto, unfolding(crate::specs::StoredRow::stored_row_of))]
+pub fn stored_row_by_columns<A: Allocator + Copy>(
     alloc: A,
     book: &ChainBook<A>,
     header: &Header<A>,
@@ -135,13 +135,13 @@ pub fn kept_by_lanes<A: Allocator + Copy>(
     lowest: &[Option<Height>],
     columns: &Columns<A>,
     tallies: &[Tally<A>],
-) -> Result<Kept<A>, AllocError>
+) -> Result<StoredRow<A>, AllocError>
     requires own { slice_get book.now.sets own_place ≡ Some (own_set book.now header.now) }
     requires signed { IsSignedBy header.now (own_set book.now header.now) }
     requires lowest { lowest.now ≡ map (first_naming book.now) book.now.sets }
     requires numbered { All (AreNumbered columns.now) book.now.sets }
     requires tallies { tallies.now ≡ map (entries_of columns.now) book.now.sets }
-    ensures { IfOk result (λ kept. kept ≡ kept_of book.now header.now) }
+    ensures { IfOk result (λ kept. kept ≡ stored_row_of book.now header.now) }
 {
     let own = own_at(book, header, own_place);
     let own_tally = &tallies[own_place];
@@ -150,7 +150,7 @@ pub fn kept_by_lanes<A: Allocator + Copy>(
     let is_signed = Fraction::two_thirds().is_exceeded_by(own_signed, own.total());
     let mut signed = Vec::with_capacity(alloc, lowest.len())?;
     for (place, set) in book.sets().iter().enumerate() {
-        signed.push(kept_power(
+        signed.push(stored_power(
             book,
             header,
             own,
@@ -161,32 +161,32 @@ pub fn kept_by_lanes<A: Allocator + Copy>(
             &plane,
         ))?;
     }
-    Ok(Kept::new(own.size(), is_signed, signed))
+    Ok(StoredRow::new(own.size(), is_signed, signed))
 }
 
 /// What is kept of a header of the book, made by columns: `lowest` has for each set the height of the
 /// lowest record that names it, `columns` and `tallies` have the sets' members and powers.
-pub fn kept_of<A: Allocator + Copy>(
+pub fn stored_row_of<A: Allocator + Copy>(
     alloc: A,
     book: &ChainBook<A>,
     header: &Header<A>,
     lowest: &[Option<Height>],
     columns: &Columns<A>,
     tallies: &[Tally<A>],
-) -> Result<Kept<A>, AllocError>
+) -> Result<StoredRow<A>, AllocError>
     requires backed { IsBacked book.now header.now }
     requires lowest { lowest.now ≡ map (first_naming book.now) book.now.sets }
     requires numbered { All (AreNumbered columns.now) book.now.sets }
     requires tallies { tallies.now ≡ map (entries_of columns.now) book.now.sets }
-    ensures { IfOk result (λ kept. kept ≡ kept_of book.now header.now) }
+    ensures { IfOk result (λ kept. kept ≡ stored_row_of book.now header.now) }
 {
     let place = own_place(book, header);
-    kept_by_lanes(alloc, book, header, place, lowest, columns, tallies)
+    stored_row_by_columns(alloc, book, header, place, lowest, columns, tallies)
 }
 
 /// The signed power of a header in a set, where a lower record names the set, by the members one
 /// after the other.
-#[tactic(auto, unfolding(crate::specs::Kept::kept_power))]
+#[tactic(auto, unfolding(crate::specs::StoredRow::stored_power))]
 fn plain_power<A: Allocator + Copy>(
     book: &ChainBook<A>,
     header: &Header<A>,
@@ -197,7 +197,7 @@ fn plain_power<A: Allocator + Copy>(
     requires own { own.now ≡ own_set book.now header.now }
     requires signed { IsSignedBy header.now own.now }
     requires lowest { lowest ≡ first_naming book.now set.now }
-    ensures { result ≡ kept_power book.now header.now set.now }
+    ensures { result ≡ stored_power book.now header.now set.now }
 {
     match lowest {
         Some(lowest) if lowest < header.height() => Some(signed_power(set, own, header)),
@@ -216,7 +216,7 @@ fn are_powers<A: Allocator + Copy>(
     requires own { own.now ≡ own_set book.now header.now }
     requires signed { IsSignedBy header.now own.now }
     requires lowest { lowest.now ≡ map (first_naming book.now) book.now.sets }
-    ensures { IsTrue result ↔ (signed.now ≡ map (kept_power book.now header.now) book.now.sets) }
+    ensures { IsTrue result ↔ (signed.now ≡ map (stored_power book.now header.now) book.now.sets) }
 {
     if signed.len() != lowest.len() {
         return false;
@@ -229,17 +229,17 @@ fn are_powers<A: Allocator + Copy>(
     true
 }
 
-/// Whether this is what is kept of a header. Takes no memory.
-#[tactic(auto, unfolding(crate::specs::Kept::kept_of))]
-pub fn is_kept_of<A: Allocator + Copy>(
+/// Whether this is what is kept of a header.
+#[tactic(auto, unfolding(crate::specs::StoredRow::stored_row_of))]
+pub fn is_stored_row_of<A: Allocator + Copy>(
     book: &ChainBook<A>,
     header: &Header<A>,
     lowest: &[Option<Height>],
-    kept: &Kept<A>,
+    kept: &StoredRow<A>,
 ) -> bool
     requires backed { IsBacked book.now header.now }
     requires lowest { lowest.now ≡ map (first_naming book.now) book.now.sets }
-    ensures { IsTrue result ↔ (kept.now ≡ kept_of book.now header.now) }
+    ensures { IsTrue result ↔ (kept.now ≡ stored_row_of book.now header.now) }
 {
     let own = own_set(book, header);
     kept.size() == own.size()

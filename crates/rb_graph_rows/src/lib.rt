@@ -4,15 +4,15 @@
 #![tactic(auto)]
 
 mod build;
-mod kept;
 mod lanes;
 mod numbers;
 mod reached;
+mod stored_row;
 
-pub use build::{first_naming, first_namings, is_kept_of, kept_of, next_places};
-pub use kept::Kept;
+pub use build::{first_naming, first_namings, is_stored_row_of, next_places, stored_row_of};
 pub use lanes::{Lanes, enter_set};
 pub use numbers::{number_sets, tallies_of};
 pub use reached::{
     enter_powers, enter_record, late_powers, lower_headers, lower_sets, move_places, new_row,
 };
+pub use stored_row::StoredRow;

@@ -7,14 +7,14 @@ ghost use Rattle.rb_book.specs.Book.{has_hash, set_of, is_before, header_height,
 ghost use Rattle.rb_book.specs.Invariant.{IsBook, IsBacked};
 ghost use Rattle.rb_book.specs.Intake.{record_refusal, header_refusal, with_record, with_set, after_record};
 ghost use Rattle.rb_graph_rows.specs.Moved.{moved};
-ghost use Rattle.rb_graph_rows.specs.Kept.{own_set, next_place, next_places, first_naming, kept_power, kept_of};
+ghost use Rattle.rb_graph_rows.specs.StoredRow.{own_set, next_place, next_places, first_naming, stored_power, stored_row_of};
 ghost use Rattle.rb_graph_rows.specs.Numbering.{AreLanesOf};
 
-use crate::build::{first_naming, kept_by_lanes, own_set};
-use crate::kept::Kept;
+use crate::build::{first_naming, own_set, stored_row_by_columns};
 use crate::lanes::{Lanes, lanes_of};
+use crate::stored_row::StoredRow;
 use rb_base::Height;
-use rb_book::{ChainBook, Header, Known, Record, header_place};
+use rb_book::{ChainBook, Header, Record, RecordAt, header_place};
 use rb_step::signed_power;
 use rb_valset::ValidatorSet;
 use std::alloc::{AllocError, Allocator};
@@ -38,21 +38,21 @@ pub fn new_row<A: Allocator + Copy>(
     header: &Header<A>,
     lowest: &[Option<Height>],
     lanes: &mut Option<Lanes<A>>,
-) -> Result<Kept<A>, AllocError>
+) -> Result<StoredRow<A>, AllocError>
     requires accepted { header_refusal book.now header.now ≡ None }
     requires lowest { lowest.now ≡ map (first_naming book.now) book.now.sets }
     requires lanes { IfSome lanes.old (λ l. AreLanesOf book.now.sets l.columns l.tallies.items) }
-    ensures row { IfOk result (λ kept. kept ≡ kept_of book.now header.now) }
+    ensures row { IfOk result (λ kept. kept ≡ stored_row_of book.now header.now) }
     ensures lanes { IfSome lanes.new (λ l. AreLanesOf book.now.sets l.columns l.tallies.items) }
 {
     let place = own_place_of_new(book, header);
     if let Some(known) = lanes {
         let tallies = known.tallies.as_slice();
-        return kept_by_lanes(alloc, book, header, place, lowest, &known.columns, tallies);
+        return stored_row_by_columns(alloc, book, header, place, lowest, &known.columns, tallies);
     }
     let made = lanes_of(alloc, book.sets())?;
     let tallies = made.tallies.as_slice();
-    let row = kept_by_lanes(alloc, book, header, place, lowest, &made.columns, tallies)?;
+    let row = stored_row_by_columns(alloc, book, header, place, lowest, &made.columns, tallies)?;
     *lanes = Some(made);
     Ok(row)
 }
@@ -83,17 +83,17 @@ fn header_at<A: Allocator + Copy>(book: &ChainBook<A>, place: usize) -> &Header<
 fn add_cell<A: Allocator + Copy>(
     book: &ChainBook<A>,
     header: &Header<A>,
-    row: &mut Kept<A>,
+    row: &mut StoredRow<A>,
     height: Height,
     entry: &Record,
     set_place: usize,
 )
     requires backed { IsBacked book.now header.now }
-    requires row { row.old ≡ kept_of book.now header.now }
+    requires row { row.old ≡ stored_row_of book.now header.now }
     requires known { IsBook book.now }
     requires book { IsBook (with_record book.now height entry.now) }
     requires place { position (has_hash entry.now.next) book.now.sets ≡ Some set_place }
-    ensures { row.new ≡ kept_of (with_record book.now height entry.now) header.now }
+    ensures { row.new ≡ stored_row_of (with_record book.now height entry.now) header.now }
 {
     if header.height() <= height {
         return;
@@ -109,16 +109,16 @@ fn add_cell<A: Allocator + Copy>(
 /// The same for each row.
 fn add_cells<A: Allocator + Copy>(
     book: &ChainBook<A>,
-    rows: &mut [Kept<A>],
+    rows: &mut [StoredRow<A>],
     height: Height,
     entry: &Record,
     set_place: usize,
 )
-    requires rows { rows.old ≡ map (kept_of book.now) book.now.headers }
+    requires rows { rows.old ≡ map (stored_row_of book.now) book.now.headers }
     requires known { IsBook book.now }
     requires book { IsBook (with_record book.now height entry.now) }
     requires place { position (has_hash entry.now.next) book.now.sets ≡ Some set_place }
-    ensures { rows.new ≡ map (kept_of (with_record book.now height entry.now)) book.now.headers }
+    ensures { rows.new ≡ map (stored_row_of (with_record book.now height entry.now)) book.now.headers }
 {
     for place in 0..rows.len() {
         let row = &mut rows[place];
@@ -157,16 +157,16 @@ pub fn enter_record<A: Allocator + Copy>(
     book: &ChainBook<A>,
     places: &mut Vec<Option<usize>, A>,
     lowest: &mut Vec<Option<Height>, A>,
-    rows: &mut [Kept<A>],
+    rows: &mut [StoredRow<A>],
     height: Height,
     entry: &Record,
 ) -> Result<(), AllocError>
     requires accepted { record_refusal book.now height entry.now ≡ None }
     requires places { places.old.items ≡ next_places book.now }
     requires lowest { lowest.old.items ≡ map (first_naming book.now) book.now.sets }
-    requires rows { rows.old ≡ map (kept_of book.now) book.now.headers }
+    requires rows { rows.old ≡ map (stored_row_of book.now) book.now.headers }
     ensures places { OnOk result (places.new.items ≡ next_places (after_record book.now height entry.now)) }
-    ensures rows { OnOk result (rows.new ≡ map (kept_of (after_record book.now height entry.now)) book.now.headers) }
+    ensures rows { OnOk result (rows.new ≡ map (stored_row_of (after_record book.now height entry.now)) book.now.headers) }
     ensures lowest { OnOk result (lowest.new.items ≡ map (first_naming (after_record book.now height entry.now)) book.now.sets) }
     ensures same_places { OnErr result (places.new.items ≡ places.old.items) }
     ensures same_lowest { OnErr result (lowest.new.items ≡ lowest.old.items) }
@@ -208,7 +208,7 @@ fn moved(new: usize, place: usize) -> usize
 #[tactic(auto, using(crate::proofs::Entered::next_few))]
 fn next_with<A: Allocator + Copy>(
     book: &ChainBook<A>,
-    known: &Known,
+    known: &RecordAt,
     next: Option<usize>,
     set: &ValidatorSet<A>,
     new: usize,
@@ -247,7 +247,7 @@ pub fn move_places<A: Allocator + Copy>(
 
 /// The signed power of a header in a set that comes, where a lower record names it: the lowest record
 /// that does is at this height.
-#[tactic(auto, unfolding(crate::specs::Kept::kept_power))]
+#[tactic(auto, unfolding(crate::specs::StoredRow::stored_power))]
 fn late_power<A: Allocator + Copy>(
     book: &ChainBook<A>,
     header: &Header<A>,
@@ -256,7 +256,7 @@ fn late_power<A: Allocator + Copy>(
 ) -> Option<u64>
     requires backed { IsBacked book.now header.now }
     requires lowest { lowest.now ≡ first_naming book.now set.now }
-    ensures { result ≡ kept_power book.now header.now set.now }
+    ensures { result ≡ stored_power book.now header.now set.now }
 {
     match lowest {
         Some(lowest) if *lowest < header.height() => {
@@ -272,7 +272,7 @@ pub fn late_powers<A: Allocator + Copy>(
     book: &ChainBook<A>,
     set: &ValidatorSet<A>,
 ) -> Result<Vec<Option<u64>, A>, AllocError>
-    ensures { IfOk result (λ powers. powers.items ≡ map (λ h. kept_power book.now h set.now) book.now.headers) }
+    ensures { IfOk result (λ powers. powers.items ≡ map (λ h. stored_power book.now h set.now) book.now.headers) }
 {
     let lowest = first_naming(book, set);
     let count = book.headers().len();
@@ -288,17 +288,17 @@ pub fn late_powers<A: Allocator + Copy>(
 fn enter_power<A: Allocator + Copy>(
     book: &ChainBook<A>,
     header: &Header<A>,
-    row: &mut Kept<A>,
+    row: &mut StoredRow<A>,
     set: &ValidatorSet<A>,
     place: usize,
     power: Option<u64>,
 ) -> Result<(), AllocError>
     requires backed { IsBacked book.now header.now }
-    requires row { row.old ≡ kept_of book.now header.now }
+    requires row { row.old ≡ stored_row_of book.now header.now }
     requires unknown { set_of book.now (set_hash set.now) ≡ None }
     requires place { place ≡ count_by (is_before (set_hash set.now)) book.now.sets }
-    requires power { power ≡ kept_power book.now header.now set.now }
-    ensures entered { OnOk result (row.new ≡ kept_of (with_set book.now set.now) header.now) }
+    requires power { power ≡ stored_power book.now header.now set.now }
+    ensures entered { OnOk result (row.new ≡ stored_row_of (with_set book.now set.now) header.now) }
     ensures unchanged { OnErr result (row.new ≡ row.old) }
 {
     row.insert(place, power)
@@ -308,15 +308,15 @@ fn enter_power<A: Allocator + Copy>(
 fn leave_power<A: Allocator + Copy>(
     book: &ChainBook<A>,
     header: &Header<A>,
-    row: &mut Kept<A>,
+    row: &mut StoredRow<A>,
     set: &ValidatorSet<A>,
     place: usize,
 )
     requires backed { IsBacked book.now header.now }
-    requires row { row.old ≡ kept_of (with_set book.now set.now) header.now }
+    requires row { row.old ≡ stored_row_of (with_set book.now set.now) header.now }
     requires unknown { set_of book.now (set_hash set.now) ≡ None }
     requires place { place ≡ count_by (is_before (set_hash set.now)) book.now.sets }
-    ensures { row.new ≡ kept_of book.now header.now }
+    ensures { row.new ≡ stored_row_of book.now header.now }
 {
     row.remove(place);
 }
@@ -324,16 +324,16 @@ fn leave_power<A: Allocator + Copy>(
 /// Takes it out of the first so many rows again.
 fn leave_powers<A: Allocator + Copy>(
     book: &ChainBook<A>,
-    rows: &mut [Kept<A>],
+    rows: &mut [StoredRow<A>],
     count: usize,
     set: &ValidatorSet<A>,
     place: usize,
 )
     requires count { count ≤ length book.now.headers }
-    requires rows { rows.old ≡ map (kept_of (with_set book.now set.now)) (take count book.now.headers) ++ drop count (map (kept_of book.now) book.now.headers) }
+    requires rows { rows.old ≡ map (stored_row_of (with_set book.now set.now)) (take count book.now.headers) ++ drop count (map (stored_row_of book.now) book.now.headers) }
     requires unknown { set_of book.now (set_hash set.now) ≡ None }
     requires place { place ≡ count_by (is_before (set_hash set.now)) book.now.sets }
-    ensures { rows.new ≡ map (kept_of book.now) book.now.headers }
+    ensures { rows.new ≡ map (stored_row_of book.now) book.now.headers }
 {
     for index in 0..count {
         let row = &mut rows[index];
@@ -344,16 +344,16 @@ fn leave_powers<A: Allocator + Copy>(
 /// Puts the headers' signed powers in a new set into their rows; an error changes none.
 pub fn enter_powers<A: Allocator + Copy>(
     book: &ChainBook<A>,
-    rows: &mut [Kept<A>],
+    rows: &mut [StoredRow<A>],
     set: &ValidatorSet<A>,
     place: usize,
     powers: &[Option<u64>],
 ) -> Result<(), AllocError>
-    requires rows { rows.old ≡ map (kept_of book.now) book.now.headers }
+    requires rows { rows.old ≡ map (stored_row_of book.now) book.now.headers }
     requires unknown { set_of book.now (set_hash set.now) ≡ None }
     requires place { place ≡ count_by (is_before (set_hash set.now)) book.now.sets }
-    requires powers { powers.now ≡ map (λ h. kept_power book.now h set.now) book.now.headers }
-    ensures entered { OnOk result (rows.new ≡ map (kept_of (with_set book.now set.now)) book.now.headers) }
+    requires powers { powers.now ≡ map (λ h. stored_power book.now h set.now) book.now.headers }
+    ensures entered { OnOk result (rows.new ≡ map (stored_row_of (with_set book.now set.now)) book.now.headers) }
     ensures unchanged { OnErr result (rows.new ≡ rows.old) }
 {
     for index in 0..rows.len() {

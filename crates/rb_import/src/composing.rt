@@ -1,13 +1,13 @@
 //! The script of a setup and of answers.
 ghost use Rattle.std.specs.Prelude.{◌≡◌, ◌≤◌, ◌++◌, ℕ, List, length, IfOk, IfErr, string_bytes};
 ghost use Rattle.rb_import_setup.specs.Documents.{max_bytes};
-ghost use Rattle.rb_import_merge.specs.Problems.{IsToldIn};
+ghost use Rattle.rb_import_merge.specs.Errors.{IsToldIn};
 ghost use Rattle.rb_import_merge.specs.Seen.{HoldsOfSeen};
 ghost use Rattle.rb_import_notices.specs.Whole.{AreNoticesOf};
 ghost use Rattle.rb_import.specs.Texts.{warning};
 
 use crate::text::push_script;
-use rb_import_check::{ImportError, ProblemName, SavedAnswers};
+use rb_import_check::{CheckErrorName, ImportError, SavedAnswers};
 use rb_import_merge::seen_in;
 use rb_import_notices::{Notices, notices_of};
 use rb_import_setup::{MAX_BYTES, Setup};
@@ -44,7 +44,7 @@ pub fn compose<'a>(
     push_script(&mut body, setup, &seen)?;
     let text = with_warning(alloc, body.as_str())?;
     if text.len() > MAX_BYTES {
-        return Err(ImportError::of(ProblemName::ScriptTooBig, "-"));
+        return Err(ImportError::of(CheckErrorName::ScriptTooBig, "-"));
     }
     let notices = notices_of(alloc, setup, answers, &seen)?;
     Ok(Composed { text, notices })

@@ -8,7 +8,7 @@ mod text;
 
 pub use composing::{Composed, compose};
 pub use rb_import_check::{
-    ImportError, Problem, ProblemName, Saved, SavedAnswers, SavedError, read_saved,
+    CheckError, CheckErrorName, ImportError, Saved, SavedAnswers, SavedError, read_saved,
 };
 pub use rb_import_notices::{
     FutureHeaders, MissingHeaders, MissingNextSet, MissingSearches, NothingFresh, NothingTrusted,

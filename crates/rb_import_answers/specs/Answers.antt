@@ -4,15 +4,15 @@ use Rattle.std.specs.Str.{is_utf8}
 use Rattle.serde_json.specs.Data.{Data}
 use Rattle.serde_json.specs.Find.{get, as_null}
 use Rattle.serde_json.specs.Read.{read as read_text}
-use Rattle.rb_import_answers.specs.declared.answer.Answer.{Answer}
-use Rattle.rb_import_answers.specs.declared.answer.Answer.TheVariants as answers
+use Rattle.rb_import_answers.specs.declared.answer.NodeAnswer.{NodeAnswer}
+use Rattle.rb_import_answers.specs.declared.answer.NodeAnswer.TheVariants as answers
 use Rattle.rb_import_answers.specs.declared.client.ClientState.{ClientState}
-use Rattle.rb_import_json.specs.declared.flaw.Flaw.{Flaw}
-use Rattle.rb_import_json.specs.declared.flaw.FlawName.{FlawName}
-use Rattle.rb_import_json.specs.declared.flaw.FlawName.TheVariants.{TooBig, NotJson, UnknownShape, NodeError}
-use Rattle.rb_import_json.specs.declared.place.Key.{Key}
-use Rattle.rb_import_json.specs.declared.place.Part.{Part}
-use Rattle.rb_import_json.specs.Flaws.{◌>>=◌, or_flaw}
+use Rattle.rb_import_json.specs.declared.error.FieldError.{FieldError}
+use Rattle.rb_import_json.specs.declared.error.FieldErrorName.{FieldErrorName}
+use Rattle.rb_import_json.specs.declared.error.FieldErrorName.TheVariants.{TooBig, NotJson, UnknownShape, NodeError}
+use Rattle.rb_import_json.specs.declared.field_path.Key.{Key}
+use Rattle.rb_import_json.specs.declared.field_path.Segment.{Segment}
+use Rattle.rb_import_json.specs.FieldErrors.{◌>>=◌, or_flaw}
 use Rattle.rb_import_json.specs.Fields.{Object}
 use Rattle.rb_import_answers.specs.Headers.{Signed, signed, signed_view}
 use Rattle.rb_import_answers.specs.Validators.{Page, page, page_view}
@@ -26,7 +26,7 @@ pub data Told : Type 0 where
   stored : States → Told
   transactions : Search → Told
 
-abbrev pub answer_view : Answer → Told
+abbrev pub answer_view : NodeAnswer → Told
 answer_view (answers.Commit header) = commit (signed_view header)
 answer_view (answers.Validators page) = validators (page_view page)
 answer_view (answers.ClientState state) = judging state
@@ -34,14 +34,14 @@ answer_view (answers.ConsensusStates page) = stored (states_view page)
 answer_view (answers.Transactions page) = transactions (search_view page)
 
 -- the flaw of this name at the whole answer
-abbrev pub whole : FlawName → Flaw
-whole name = record { name = name; place = record { part = Part.Answer; index = None; key = Key.Whole } }
+abbrev pub whole : FieldErrorName → FieldError
+whole name = record { name = name; place = record { part = Segment.Answer; index = None; key = Key.Whole } }
 
 abbrev pub has : List ℕ → Data → Bool
 has name d = is_some (get name d)
 
 -- one of CometBFT's answers, known by a member of its `result`
-unfoldable pub result : Object → Result Told Flaw
+unfoldable pub result : Object → Result Told FieldError
 result o =
     if has (codes "signed_header") o.value then (signed o >>= λ s. Ok (commit s))
     else if has (codes "validators") o.value then (page o >>= λ p. Ok (validators p))
@@ -49,7 +49,7 @@ result o =
     else Err (whole UnknownShape)
 
 -- one of the REST gateway's answers
-unfoldable pub state : Object → Result Told Flaw
+unfoldable pub state : Object → Result Told FieldError
 state o =
     if has (codes "client_state") o.value then (client_state o >>= λ s. Ok (judging s))
     else if has (codes "consensus_states") o.value then (states o >>= λ s. Ok (stored s))
@@ -63,11 +63,11 @@ tells_error None gateway = gateway
 unfoldable pub is_error : Data → Bool
 is_error d = tells_error (get (codes "error") d) (has (codes "code") d && has (codes "message") d)
 
-abbrev pub of_shape : Option Data → Data → Result Told Flaw
-of_shape (Some r) d = result (record { value = r; part = Part.Result; index = None })
-of_shape None d = state (record { value = d; part = Part.Answer; index = None })
+abbrev pub of_shape : Option Data → Data → Result Told FieldError
+of_shape (Some r) d = result (record { value = r; part = Segment.Result; index = None })
+of_shape None d = state (record { value = d; part = Segment.Answer; index = None })
 
-unfoldable pub answer : Data → Result Told Flaw
+unfoldable pub answer : Data → Result Told FieldError
 answer d = if is_error d then Err (whole NodeError) else of_shape (get (codes "result") d) d
 
 -- JSON in UTF-8
@@ -79,7 +79,7 @@ abbrev pub max_bytes : ℕ
 max_bytes = 16777216
 
 -- what an answer's bytes tell
-unfoldable pub told : List ℕ → Result Told Flaw
+unfoldable pub told : List ℕ → Result Told FieldError
 told bytes =
     if nat_lt max_bytes (length bytes) then Err (whole TooBig)
     else (or_flaw (whole NotJson) (json bytes) >>= λ d. answer d)

@@ -6,39 +6,39 @@ use Rattle.rb_import_answers.specs.declared.client.ClientState.{ClientState}
 use Rattle.rb_import_answers.specs.declared.client.ConsensusPage.{ConsensusPage}
 use Rattle.rb_import_answers.specs.declared.client.ConsensusState.{ConsensusState}
 use Rattle.rb_import_answers.specs.declared.client.TrustLevel.{TrustLevel}
-use Rattle.rb_import_json.specs.declared.flaw.Flaw.{Flaw}
-use Rattle.rb_import_json.specs.declared.flaw.FlawName.TheVariants.{ForeignClient, FrozenClient, BadTrust, BadDuration}
-use Rattle.rb_import_json.specs.declared.place.Key.{Key}
-use Rattle.rb_import_json.specs.declared.place.Part.{Part}
-use Rattle.rb_import_json.specs.Flaws.{◌>>=◌, or_flaw, must}
+use Rattle.rb_import_json.specs.declared.error.FieldError.{FieldError}
+use Rattle.rb_import_json.specs.declared.error.FieldErrorName.TheVariants.{ForeignClient, FrozenClient, BadTrust, BadDuration}
+use Rattle.rb_import_json.specs.declared.field_path.Key.{Key}
+use Rattle.rb_import_json.specs.declared.field_path.Segment.{Segment}
+use Rattle.rb_import_json.specs.FieldErrors.{◌>>=◌, or_flaw, must}
 use Rattle.rb_import_json.specs.Fields.{Object, flaw_at, field, inner, object, items, text, number, height, chain, time, hex, base64, each}
 use Rattle.rb_import_answers.specs.Durations.{nanoseconds_of}
 use Rattle.rb_import_answers.specs.Numbers.{script_number}
 
 -- only Tendermint's light clients are read
-unfoldable pub tendermint : Object → Result ⊤ Flaw
+unfoldable pub tendermint : Object → Result ⊤ FieldError
 tendermint state = do
   kind ← text Key.TypeUrl state
   must (flaw_at state Key.TypeUrl ForeignClient) (bytes_eq kind (codes "/ibc.lightclients.tendermint.v1.ClientState"))
 
 -- the height at which a client is frozen is 0-0 where it isn't
-unfoldable pub live : Object → Result ⊤ Flaw
+unfoldable pub live : Object → Result ⊤ FieldError
 live state = do
-  frozen ← object Key.FrozenHeight Part.FrozenHeight state
+  frozen ← object Key.FrozenHeight Segment.FrozenHeight state
   revision ← number Key.RevisionNumber frozen
   at ← number Key.RevisionHeight frozen
   must (flaw_at state Key.FrozenHeight FrozenClient) (revision == 0 && at == 0)
 
 -- the revision number of the chain that a client tracks is that of its latest height
-unfoldable pub revision : Object → Result ℕ Flaw
+unfoldable pub revision : Object → Result ℕ FieldError
 revision state = do
-  latest ← object Key.LatestHeight Part.LatestHeight state
+  latest ← object Key.LatestHeight Segment.LatestHeight state
   number Key.RevisionNumber latest
 
 -- a trust level is from a third to one, in numbers that a script takes
-unfoldable pub trust : Object → Result TrustLevel Flaw
+unfoldable pub trust : Object → Result TrustLevel FieldError
 trust state = do
-  level ← object Key.TrustLevel Part.TrustLevel state
+  level ← object Key.TrustLevel Segment.TrustLevel state
   numerator ← script_number Key.Numerator level
   denominator ← script_number Key.Denominator level
   _ ← must (flaw_at state Key.TrustLevel BadTrust) (nat_lt 0 denominator && nat_le denominator (3 * numerator) && nat_le numerator denominator)
@@ -47,7 +47,7 @@ trust state = do
 unfoldable pub period_of : ℕ → Option ℕ
 period_of n = if nat_le 1 n && nat_lt n (2 ^ 63) then Some n else None
 
-unfoldable pub period : Object → Result ℕ Flaw
+unfoldable pub period : Object → Result ℕ FieldError
 period state = do
   t ← text Key.TrustingPeriod state
   or_flaw (flaw_at state Key.TrustingPeriod BadDuration) (option_and_then period_of (nanoseconds_of t))
@@ -55,14 +55,14 @@ period state = do
 unfoldable pub drift_of : ℕ → Option ℕ
 drift_of n = if nat_lt n (2 ^ 63) then Some n else None
 
-unfoldable pub drift : Object → Result ℕ Flaw
+unfoldable pub drift : Object → Result ℕ FieldError
 drift state = do
   t ← text Key.MaxClockDrift state
   or_flaw (flaw_at state Key.MaxClockDrift BadDuration) (option_and_then drift_of (nanoseconds_of t))
 
-unfoldable pub client_state : Object → Result ClientState Flaw
+unfoldable pub client_state : Object → Result ClientState FieldError
 client_state answer = do
-  state ← object Key.ClientState Part.ClientState answer
+  state ← object Key.ClientState Segment.ClientState answer
   _ ← tendermint state
   _ ← live state
   id ← chain Key.ChainId state
@@ -72,13 +72,13 @@ client_state answer = do
   skew ← drift state
   Ok (record { chain = id; revision = n; trust = level; period = long; drift = skew })
 
-unfoldable pub root : Object → Result (List ℕ) Flaw
+unfoldable pub root : Object → Result (List ℕ) FieldError
 root state = do
   r ← inner Key.Root state
   base64 Key.Hash r
 
 -- an entry of `consensus_states`: the revision number and the height that it is stored at, and what it holds
-unfoldable pub consensus_state : Object → Result ConsensusState Flaw
+unfoldable pub consensus_state : Object → Result ConsensusState FieldError
 consensus_state o = do
   at ← inner Key.Height o
   state ← inner Key.ConsensusState o
@@ -97,15 +97,15 @@ pub record States : Type 0 where
 abbrev pub states_view : ConsensusPage → States
 states_view p = record { states = p.states.items; is_last = p.is_last }
 
-unfoldable pub is_last : Object → Result Bool Flaw
+unfoldable pub is_last : Object → Result Bool FieldError
 is_last answer = do
-  pagination ← object Key.Pagination Part.Pagination answer
+  pagination ← object Key.Pagination Segment.Pagination answer
   next ← field Key.NextKey pagination
   Ok (is_some (as_null next))
 
-unfoldable pub states : Object → Result States Flaw
+unfoldable pub states : Object → Result States FieldError
 states answer = do
   last ← is_last answer
   entries ← items Key.ConsensusStates answer
-  read ← each consensus_state Part.ConsensusStates [] entries
+  read ← each consensus_state Segment.ConsensusStates [] entries
   Ok (record { states = read; is_last = last })

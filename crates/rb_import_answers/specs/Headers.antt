@@ -4,11 +4,11 @@ use Rattle.rb_import_answers.specs.declared.commit.BlockIdFlag.TheVariants.{Abse
 use Rattle.rb_import_answers.specs.declared.commit.BlockIdFlag.{BlockIdFlag}
 use Rattle.rb_import_answers.specs.declared.commit.Signature.{Signature}
 use Rattle.rb_import_answers.specs.declared.commit.SignedHeader.{SignedHeader}
-use Rattle.rb_import_json.specs.declared.flaw.Flaw.{Flaw}
-use Rattle.rb_import_json.specs.declared.flaw.FlawName.TheVariants.{OtherHeight}
-use Rattle.rb_import_json.specs.declared.place.Key.{Key}
-use Rattle.rb_import_json.specs.declared.place.Part.{Part}
-use Rattle.rb_import_json.specs.Flaws.{◌>>=◌, must}
+use Rattle.rb_import_json.specs.declared.error.FieldError.{FieldError}
+use Rattle.rb_import_json.specs.declared.error.FieldErrorName.TheVariants.{OtherHeight}
+use Rattle.rb_import_json.specs.declared.field_path.Key.{Key}
+use Rattle.rb_import_json.specs.declared.field_path.Segment.{Segment}
+use Rattle.rb_import_json.specs.FieldErrors.{◌>>=◌, must}
 use Rattle.rb_import_json.specs.Fields.{Object, flaw_at, object, items, height, chain, time, hex, each}
 use Rattle.rb_import_answers.specs.Votes.{flag}
 
@@ -24,7 +24,7 @@ pub record Header : Type 0 where
 abbrev pub header_view : SignedHeader → Header
 header_view h = record { chain = h.chain; height = h.height; time = h.time; root = h.root; set = h.set; next = h.next }
 
-unfoldable pub header : Object → Result Header Flaw
+unfoldable pub header : Object → Result Header FieldError
 header o = do
   id ← chain Key.ChainId o
   at ← height Key.Height o
@@ -35,13 +35,13 @@ header o = do
   Ok (record { chain = id; height = at; time = moment; root = root; set = set; next = next })
 
 -- whose signature it is: nobody's where it is absent
-abbrev pub signer : BlockIdFlag → Object → Result (Option (List ℕ)) Flaw
+abbrev pub signer : BlockIdFlag → Object → Result (Option (List ℕ)) FieldError
 signer Absent o = Ok None
 signer Commit o = hex 20 Key.ValidatorAddress o >>= λ a. Ok (Some a)
 signer Nil o = hex 20 Key.ValidatorAddress o >>= λ a. Ok (Some a)
 
 -- an entry of a commit's signatures (CometBFT, `CommitSig`)
-unfoldable pub signature : Object → Result Signature Flaw
+unfoldable pub signature : Object → Result Signature FieldError
 signature o = do
   vote ← flag o
   address ← signer vote o
@@ -56,18 +56,18 @@ abbrev pub signed_view : SignedHeader → Signed
 signed_view h = record { header = header_view h; signatures = h.signatures.items }
 
 -- the commit has to be of the header's height
-unfoldable pub of_height : ℕ → Object → Result ⊤ Flaw
+unfoldable pub of_height : ℕ → Object → Result ⊤ FieldError
 of_height wanted commit = do
   n ← height Key.Height commit
   must (flaw_at commit Key.Height OtherHeight) (n == wanted)
 
-unfoldable pub signed : Object → Result Signed Flaw
+unfoldable pub signed : Object → Result Signed FieldError
 signed result = do
-  both ← object Key.SignedHeader Part.SignedHeader result
-  head ← object Key.Header Part.Header both
-  commit ← object Key.Commit Part.Commit both
+  both ← object Key.SignedHeader Segment.SignedHeader result
+  head ← object Key.Header Segment.Header both
+  commit ← object Key.Commit Segment.Commit both
   entries ← items Key.Signatures commit
-  signatures ← each signature Part.Signatures [] entries
+  signatures ← each signature Segment.Signatures [] entries
   told ← header head
   _ ← of_height told.height commit
   Ok (record { header = told; signatures = signatures })

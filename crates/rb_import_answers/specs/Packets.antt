@@ -13,11 +13,11 @@ use Rattle.rb_import_answers.specs.declared.packets.PacketEvent.{PacketEvent}
 use Rattle.rb_import_answers.specs.declared.packets.PacketPage.{PacketPage}
 use Rattle.rb_import_answers.specs.declared.packets.RevisionHeight.{RevisionHeight}
 use Rattle.rb_import_answers.specs.declared.packets.Timeout.{Timeout as CodeTimeout}
-use Rattle.rb_import_json.specs.declared.flaw.Flaw.{Flaw}
-use Rattle.rb_import_json.specs.declared.flaw.FlawName.TheVariants.{MissingField, WrongType, BadNumber, BadBase64}
-use Rattle.rb_import_json.specs.declared.place.Key.{Key}
-use Rattle.rb_import_json.specs.declared.place.Part.{Part}
-use Rattle.rb_import_json.specs.Flaws.{◌>>=◌, or_flaw}
+use Rattle.rb_import_json.specs.declared.error.FieldError.{FieldError}
+use Rattle.rb_import_json.specs.declared.error.FieldErrorName.TheVariants.{MissingField, WrongType, BadNumber, BadBase64}
+use Rattle.rb_import_json.specs.declared.field_path.Key.{Key}
+use Rattle.rb_import_json.specs.declared.field_path.Segment.{Segment}
+use Rattle.rb_import_json.specs.FieldErrors.{◌>>=◌, or_flaw}
 use Rattle.rb_import_json.specs.Fields.{Object, flaw_at, field, inner, items, text, number, height}
 use Rattle.rb_import_json.specs.Names.{key_name}
 use Rattle.rb_import_json.specs.Values.{number_of}
@@ -54,10 +54,10 @@ abbrev pub if_utf8 : List ℕ → Option (List ℕ)
 if_utf8 bytes = if is_utf8 bytes then Some bytes else None
 
 -- the text that a value in base64 stands for
-unfoldable pub decoded : Key → Object → List ℕ → Result (List ℕ) Flaw
+unfoldable pub decoded : Key → Object → List ℕ → Result (List ℕ) FieldError
 decoded name event value = or_flaw (flaw_at event name BadBase64) (option_and_then if_utf8 (result_ok (decode_of standard value)))
 
-abbrev pub of_entry : Key → Object → Option (List ℕ) → Option (List ℕ) → Result (Option (List ℕ)) Flaw
+abbrev pub of_entry : Key → Object → Option (List ℕ) → Option (List ℕ) → Result (Option (List ℕ)) FieldError
 of_entry name event (Some key) (Some value) =
     if bytes_eq key (key_name name) then Ok (Some value)
     else if bytes_eq key (encoded_name name) then (decoded name event value >>= λ t. Ok (Some t))
@@ -66,19 +66,19 @@ of_entry name event (Some key) None = Ok None
 of_entry name event None value = Ok None
 
 -- the text of an attribute, if it is of this name
-unfoldable pub entry_text : Key → Object → Data → Result (Option (List ℕ)) Flaw
+unfoldable pub entry_text : Key → Object → Data → Result (Option (List ℕ)) FieldError
 entry_text name event d = of_entry name event (member_text (codes "key") d) (member_text (codes "value") d)
 
-abbrev pub or_else : Option (List ℕ) → Result (List ℕ) Flaw → Result (List ℕ) Flaw
+abbrev pub or_else : Option (List ℕ) → Result (List ℕ) FieldError → Result (List ℕ) FieldError
 or_else (Some t) rest = Ok t
 or_else None rest = rest
 
 -- the text of the first attribute of this name
-abbrev pub attribute : Key → Object → Items → Result (List ℕ) Flaw
+abbrev pub attribute : Key → Object → Items → Result (List ℕ) FieldError
 attribute name event no_items = Err (flaw_at event name MissingField)
 attribute name event (item d ds) = entry_text name event d >>= λ t. or_else t (attribute name event ds)
 
-unfoldable pub attribute_number : Key → Object → Items → Result ℕ Flaw
+unfoldable pub attribute_number : Key → Object → Items → Result ℕ FieldError
 attribute_number name event ds = do
   t ← attribute name event ds
   or_flaw (flaw_at event name BadNumber) (number_of t)
@@ -95,19 +95,19 @@ pair_of None height = None
 unfoldable pub revision_height_of : List ℕ → Option RevisionHeight
 revision_height_of t = if nat_lt (position_or_len is_dash t) (length t) then pair_of (number_of (before_first is_dash t)) (number_of (after_first is_dash t)) else None
 
-unfoldable pub attribute_height : Key → Object → Items → Result RevisionHeight Flaw
+unfoldable pub attribute_height : Key → Object → Items → Result RevisionHeight FieldError
 attribute_height name event ds = do
   t ← attribute name event ds
   or_flaw (flaw_at event name BadNumber) (revision_height_of t)
 
 -- a packet's sequence, which a script takes
-unfoldable pub sequence : Object → Items → Result ℕ Flaw
+unfoldable pub sequence : Object → Items → Result ℕ FieldError
 sequence event ds = do
   n ← attribute_number Key.PacketSequence event ds
   or_flaw (flaw_at event Key.PacketSequence BadNumber) (in_script n)
 
 -- an end of a packet's way: the port and the channel that these attributes hold, as `port/channel`
-unfoldable pub end_of : Key → Key → Object → Items → Result (List ℕ) Flaw
+unfoldable pub end_of : Key → Key → Object → Items → Result (List ℕ) FieldError
 end_of port channel event ds = do
   p ← attribute port event ds
   c ← attribute channel event ds
@@ -144,7 +144,7 @@ abbrev pub no_timeout : Timeout
 no_timeout = record { height = record { revision = 0; height = 0 }; time = 0 }
 
 -- the timeouts of a packet that was sent
-unfoldable pub timeout : PacketKind → Object → Items → Result Timeout Flaw
+unfoldable pub timeout : PacketKind → Object → Items → Result Timeout FieldError
 timeout Sent event ds = do
   h ← attribute_height Key.PacketTimeoutHeight event ds
   t ← attribute_number Key.PacketTimeoutTimestamp event ds
@@ -166,7 +166,7 @@ pub record Packet : Type 0 where
 abbrev pub packet_view : PacketEvent → Packet
 packet_view p = record { kind = p.kind; block = p.block; sequence = p.sequence; source = string_bytes p.source; dest = string_bytes p.dest; timeout = record { height = p.timeout_height; time = p.timeout_time } }
 
-unfoldable pub packet : PacketKind → ℕ → Object → Items → Result Packet Flaw
+unfoldable pub packet : PacketKind → ℕ → Object → Items → Result Packet FieldError
 packet kind block event ds = do
   n ← sequence event ds
   from ← end_of Key.PacketSrcPort Key.PacketSrcChannel event ds
@@ -175,20 +175,20 @@ packet kind block event ds = do
   Ok (record { kind = kind; block = block; sequence = n; source = from; dest = to; timeout = until })
 
 -- packets between clients are passed over
-unfoldable pub if_channels : PacketKind → ℕ → Object → Items → Result (Option Packet) Flaw
+unfoldable pub if_channels : PacketKind → ℕ → Object → Items → Result (Option Packet) FieldError
 if_channels kind block event ds = if are_of_clients ds then Ok None else (packet kind block event ds >>= λ p. Ok (Some p))
 
-unfoldable pub of_kind : PacketKind → ℕ → Object → Result (Option Packet) Flaw
+unfoldable pub of_kind : PacketKind → ℕ → Object → Result (Option Packet) FieldError
 of_kind kind block event = do
   ds ← items Key.Attributes event
   if_channels kind block event ds
 
-abbrev pub if_packet : ℕ → Object → Option PacketKind → Result (Option Packet) Flaw
+abbrev pub if_packet : ℕ → Object → Option PacketKind → Result (Option Packet) FieldError
 if_packet block event (Some kind) = of_kind kind block event
 if_packet block event None = Ok None
 
 -- an event, if it is about a packet of a channel
-unfoldable pub event : ℕ → Object → Result (Option Packet) Flaw
+unfoldable pub event : ℕ → Object → Result (Option Packet) FieldError
 event block o = do
   kind ← text Key.Type o
   if_packet block o (kind_of kind)
@@ -196,30 +196,30 @@ event block o = do
 -- ---- transactions
 
 -- what events that stand at the place of an object tell of packets, after those before them
-abbrev pub events : ℕ → Object → List Packet → Items → Result (List Packet) Flaw
+abbrev pub events : ℕ → Object → List Packet → Items → Result (List Packet) FieldError
 events block o before no_items = Ok before
 events block o before (item d ds) = event block (record { value = d; part = o.part; index = o.index }) >>= λ p. events block o (before ++ option_to_list p) ds
 
 -- the number of a failure, which is 0 where there was none
-unfoldable pub code : Object → Result ℕ Flaw
+unfoldable pub code : Object → Result ℕ FieldError
 code o = do
   d ← field Key.Code o
   or_flaw (flaw_at o Key.Code WrongType) (option_and_then as_u64 (as_number d))
 
-abbrev pub if_done : ℕ → ℕ → Object → Object → List Packet → Result (List Packet) Flaw
+abbrev pub if_done : ℕ → ℕ → Object → Object → List Packet → Result (List Packet) FieldError
 if_done number block o done before = if number == 0 then (items Key.Events done >>= events block o before) else Ok before
 
 -- what a transaction did, after those before it: nothing, if it failed
-unfoldable pub transaction : List Packet → Object → Result (List Packet) Flaw
+unfoldable pub transaction : List Packet → Object → Result (List Packet) FieldError
 transaction before o = do
   block ← height Key.Height o
   done ← inner Key.TxResult o
   n ← code done
   if_done n block o done before
 
-abbrev pub transactions : ℕ → List Packet → Items → Result (List Packet) Flaw
+abbrev pub transactions : ℕ → List Packet → Items → Result (List Packet) FieldError
 transactions index before no_items = Ok before
-transactions index before (item d ds) = transaction before (record { value = d; part = Part.Transactions; index = Some index }) >>= λ all. transactions (suc index) all ds
+transactions index before (item d ds) = transaction before (record { value = d; part = Segment.Transactions; index = Some index }) >>= λ all. transactions (suc index) all ds
 
 abbrev pub count_of : Items → ℕ
 count_of no_items = 0
@@ -234,7 +234,7 @@ pub record Search : Type 0 where
 abbrev pub search_view : PacketPage → Search
 search_view p = record { total = p.total; count = p.count; packets = map packet_view p.events.items }
 
-unfoldable pub found : Object → Result Search Flaw
+unfoldable pub found : Object → Result Search FieldError
 found result = do
   total ← number Key.TotalCount result
   ds ← items Key.Txs result

@@ -3,15 +3,15 @@ use Rattle.std.specs.Prelude.{ℕ, List, [], Option, Some, None, Result, Ok, ◌
 use Rattle.std.specs.Str.{bytes_eq}
 use Rattle.rb_valset.specs.Validator.{Member, max_power}
 use Rattle.rb_import_answers.specs.declared.validators.ValidatorsPage.{ValidatorsPage}
-use Rattle.rb_import_json.specs.declared.flaw.Flaw.{Flaw}
-use Rattle.rb_import_json.specs.declared.flaw.FlawName.TheVariants.{ForeignKey, BadPower}
-use Rattle.rb_import_json.specs.declared.place.Key.{Key}
-use Rattle.rb_import_json.specs.declared.place.Part.{Part}
-use Rattle.rb_import_json.specs.Flaws.{◌>>=◌, or_flaw, must}
+use Rattle.rb_import_json.specs.declared.error.FieldError.{FieldError}
+use Rattle.rb_import_json.specs.declared.error.FieldErrorName.TheVariants.{ForeignKey, BadPower}
+use Rattle.rb_import_json.specs.declared.field_path.Key.{Key}
+use Rattle.rb_import_json.specs.declared.field_path.Segment.{Segment}
+use Rattle.rb_import_json.specs.FieldErrors.{◌>>=◌, or_flaw, must}
 use Rattle.rb_import_json.specs.Fields.{Object, flaw_at, inner, items, text, number, height, base64, each}
 
 -- a validator's key, which has to be of ed25519
-unfoldable pub key : Object → Result (List ℕ) Flaw
+unfoldable pub key : Object → Result (List ℕ) FieldError
 key o = do
   k ← inner Key.PubKey o
   kind ← text Key.Type k
@@ -23,7 +23,7 @@ unfoldable pub member_of : List ℕ → ℕ → Option Member
 member_of key power = if nat_lt 0 power && nat_le power max_power then Some (record { key = key; power = power }) else None
 
 -- an entry of `validators`: the key and the power
-unfoldable pub validator : Object → Result Member Flaw
+unfoldable pub validator : Object → Result Member FieldError
 validator o = do
   k ← key o
   power ← number Key.VotingPower o
@@ -38,10 +38,10 @@ pub record Page : Type 0 where
 abbrev pub page_view : ValidatorsPage → Page
 page_view p = record { height = p.height; total = p.total; validators = p.validators.items }
 
-unfoldable pub page : Object → Result Page Flaw
+unfoldable pub page : Object → Result Page FieldError
 page result = do
   at ← height Key.BlockHeight result
   total ← number Key.Total result
   entries ← items Key.Validators result
-  validators ← each validator Part.Validators [] entries
+  validators ← each validator Segment.Validators [] entries
   Ok (record { height = at; total = total; validators = validators })

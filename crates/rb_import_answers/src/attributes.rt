@@ -1,7 +1,7 @@
 //! The attributes of an event.
 ghost use Rattle.std.specs.Prelude.{◌≡◌, ◌&&◌, not, option_map, string_bytes};
 ghost use Rattle.serde_json.specs.View.{view, items_view};
-ghost use Rattle.rb_import_json.specs.Flaws.{Gives};
+ghost use Rattle.rb_import_json.specs.FieldErrors.{Gives};
 ghost use Rattle.rb_import_json.specs.Fields.{object_view, flaw_at};
 ghost use Rattle.rb_import_answers.specs.Packets.{encoded_name, member_text, decoded, if_utf8, entry_text, attribute, attribute_number, attribute_height, sequence, end_of, is_named, is_there, are_of_clients, revision_height_of};
 
@@ -9,7 +9,7 @@ use crate::number::in_script;
 use crate::packets::RevisionHeight;
 use base64::DecodeAllocError;
 use base64::engine::general_purpose::STANDARD;
-use rb_import_json::{AnswerError, FlawName, Key, Object, number_of};
+use rb_import_json::{AnswerError, FieldErrorName, Key, Object, number_of};
 use serde_json::Value;
 use std::alloc::Global;
 
@@ -45,7 +45,7 @@ impl Attributes<'_> {
     {
         match number_of(self.text(name)?.as_str()) {
             Some(number) => Ok(number),
-            None => Err(self.flaw(name, FlawName::BadNumber)),
+            None => Err(self.flaw(name, FieldErrorName::BadNumber)),
         }
     }
 
@@ -56,7 +56,7 @@ impl Attributes<'_> {
     {
         match revision_height(self.text(name)?.as_str()) {
             Some(height) => Ok(height),
-            None => Err(self.flaw(name, FlawName::BadNumber)),
+            None => Err(self.flaw(name, FieldErrorName::BadNumber)),
         }
     }
 
@@ -67,7 +67,7 @@ impl Attributes<'_> {
     {
         match in_script(self.number(Key::PacketSequence)?) {
             Some(number) => Ok(number),
-            None => Err(self.flaw(Key::PacketSequence, FlawName::BadNumber)),
+            None => Err(self.flaw(Key::PacketSequence, FieldErrorName::BadNumber)),
         }
     }
 
@@ -112,7 +112,7 @@ impl Attributes<'_> {
                 return Ok(text);
             }
         }
-        Err(self.flaw(name, FlawName::MissingField))
+        Err(self.flaw(name, FieldErrorName::MissingField))
     }
 
     /// The text that an entry holds, if it is of this name.
@@ -140,17 +140,17 @@ impl Attributes<'_> {
         match STANDARD.decode(self.alloc, value.as_bytes()) {
             Ok(bytes) => match text_of(bytes.as_slice()) {
                 Some(text) => Ok(String::from_str(self.alloc, text)?),
-                None => Err(self.flaw(name, FlawName::BadBase64)),
+                None => Err(self.flaw(name, FieldErrorName::BadBase64)),
             },
             Err(DecodeAllocError::OutOfMemory) => Err(AnswerError::NoMemory),
-            Err(_) => Err(self.flaw(name, FlawName::BadBase64)),
+            Err(_) => Err(self.flaw(name, FieldErrorName::BadBase64)),
         }
     }
 
-    fn flaw(&self, name: Key, flaw: FlawName) -> AnswerError
-        ensures { result ≡ AnswerError.Flaw (flaw_at (object_view self.now.event) name flaw) }
+    fn flaw(&self, name: Key, flaw: FieldErrorName) -> AnswerError
+        ensures { result ≡ AnswerError.FieldError (flaw_at (object_view self.now.event) name flaw) }
     {
-        AnswerError::Flaw(self.event.flaw(name, flaw))
+        AnswerError::Field(self.event.flaw(name, flaw))
     }
 }
 

@@ -2,14 +2,14 @@
 //! has stored.
 ghost use Rattle.std.specs.Prelude.{◌≡◌, []};
 ghost use Rattle.serde_json.specs.View.{items_view};
-ghost use Rattle.rb_import_json.specs.Flaws.{Reads, Gives};
+ghost use Rattle.rb_import_json.specs.FieldErrors.{Reads, Gives};
 ghost use Rattle.rb_import_json.specs.Fields.{object_view, each};
 ghost use Rattle.rb_import_answers.specs.Clients.{tendermint, live, revision, trust, period_of, period, drift_of, drift, client_state, root, consensus_state, is_last, states, states_view};
 
 use crate::duration::nanoseconds_of;
 use crate::number::{MAX_NUMBER, script_number};
 use rb_base::{ChainId, Fraction, Height, Moment, Period};
-use rb_import_json::{AnswerError, Flaw, FlawName, Key, Object, Part};
+use rb_import_json::{AnswerError, FieldError, FieldErrorName, Key, Object, Segment};
 use serde_json::Value;
 use std::alloc::Global;
 
@@ -50,10 +50,10 @@ pub struct ConsensusPage {
 
 /// Reads an answer of `client_states/ID`.
 #[tactic(auto, using(rb_import_json::proofs::Steps::steps), unfolding(crate::specs::Clients::client_state))]
-pub(crate) fn read_client_state(answer: &Object<'_>) -> Result<ClientState, Flaw>
+pub(crate) fn read_client_state(answer: &Object<'_>) -> Result<ClientState, FieldError>
     ensures { Reads (λ s. s) result (client_state (object_view answer.now)) }
 {
-    let state = answer.object(Key::ClientState, Part::ClientState)?;
+    let state = answer.object(Key::ClientState, Segment::ClientState)?;
     judge_type(&state)?;
     judge_frozen(&state)?;
     let chain = state.chain(Key::ChainId)?;
@@ -72,44 +72,44 @@ pub(crate) fn read_client_state(answer: &Object<'_>) -> Result<ClientState, Flaw
 
 /// Refuses a client that isn't Tendermint's.
 #[tactic(auto, using(rb_import_json::proofs::Steps::steps), unfolding(crate::specs::Clients::tendermint))]
-fn judge_type(state: &Object<'_>) -> Result<(), Flaw>
+fn judge_type(state: &Object<'_>) -> Result<(), FieldError>
     ensures { Reads (λ u. u) result (tendermint (object_view state.now)) }
 {
     match state.text(Key::TypeUrl)? {
         "/ibc.lightclients.tendermint.v1.ClientState" => Ok(()),
-        _ => Err(state.flaw(Key::TypeUrl, FlawName::ForeignClient)),
+        _ => Err(state.flaw(Key::TypeUrl, FieldErrorName::ForeignClient)),
     }
 }
 
 /// Refuses a client that is frozen, as its frozen height says, which is 0-0 for others.
 #[tactic(auto, using(rb_import_json::proofs::Steps::steps), unfolding(crate::specs::Clients::live))]
-fn judge_frozen(state: &Object<'_>) -> Result<(), Flaw>
+fn judge_frozen(state: &Object<'_>) -> Result<(), FieldError>
     ensures { Reads (λ u. u) result (live (object_view state.now)) }
 {
-    let frozen = state.object(Key::FrozenHeight, Part::FrozenHeight)?;
+    let frozen = state.object(Key::FrozenHeight, Segment::FrozenHeight)?;
     let revision = frozen.number(Key::RevisionNumber)?;
     let height = frozen.number(Key::RevisionHeight)?;
     if revision == 0 && height == 0 {
         Ok(())
     } else {
-        Err(state.flaw(Key::FrozenHeight, FlawName::FrozenClient))
+        Err(state.flaw(Key::FrozenHeight, FieldErrorName::FrozenClient))
     }
 }
 
 /// The revision number of the chain that it tracks.
 #[tactic(auto, using(rb_import_json::proofs::Steps::steps), unfolding(crate::specs::Clients::revision))]
-fn read_revision(state: &Object<'_>) -> Result<u64, Flaw>
+fn read_revision(state: &Object<'_>) -> Result<u64, FieldError>
     ensures { Reads (λ n. n) result (revision (object_view state.now)) }
 {
-    let latest = state.object(Key::LatestHeight, Part::LatestHeight)?;
+    let latest = state.object(Key::LatestHeight, Segment::LatestHeight)?;
     latest.number(Key::RevisionNumber)
 }
 
 #[tactic(auto, using(rb_import_json::proofs::Steps::steps), unfolding(crate::specs::Clients::trust))]
-fn read_trust(state: &Object<'_>) -> Result<TrustLevel, Flaw>
+fn read_trust(state: &Object<'_>) -> Result<TrustLevel, FieldError>
     ensures { Reads (λ t. t) result (trust (object_view state.now)) }
 {
-    let level = state.object(Key::TrustLevel, Part::TrustLevel)?;
+    let level = state.object(Key::TrustLevel, Segment::TrustLevel)?;
     let numerator = script_number(&level, Key::Numerator)?;
     let denominator = script_number(&level, Key::Denominator)?;
     match Fraction::new(numerator, denominator) {
@@ -117,17 +117,17 @@ fn read_trust(state: &Object<'_>) -> Result<TrustLevel, Flaw>
             numerator,
             denominator,
         }),
-        Err(_) => Err(state.flaw(Key::TrustLevel, FlawName::BadTrust)),
+        Err(_) => Err(state.flaw(Key::TrustLevel, FieldErrorName::BadTrust)),
     }
 }
 
 #[tactic(auto, using(rb_import_json::proofs::Steps::steps), unfolding(crate::specs::Clients::period))]
-fn read_period(state: &Object<'_>) -> Result<Period, Flaw>
+fn read_period(state: &Object<'_>) -> Result<Period, FieldError>
     ensures { Reads (λ p. p) result (period (object_view state.now)) }
 {
     match nanoseconds_of(state.text(Key::TrustingPeriod)?).and_then(period_of) {
         Some(period) => Ok(period),
-        None => Err(state.flaw(Key::TrustingPeriod, FlawName::BadDuration)),
+        None => Err(state.flaw(Key::TrustingPeriod, FieldErrorName::BadDuration)),
     }
 }
 
@@ -140,12 +140,12 @@ fn period_of(nanoseconds: u64) -> Option<Period>
 }
 
 #[tactic(auto, using(rb_import_json::proofs::Steps::steps), unfolding(crate::specs::Clients::drift))]
-fn read_drift(state: &Object<'_>) -> Result<u64, Flaw>
+fn read_drift(state: &Object<'_>) -> Result<u64, FieldError>
     ensures { Reads (λ d. d) result (drift (object_view state.now)) }
 {
     match nanoseconds_of(state.text(Key::MaxClockDrift)?).and_then(drift_of) {
         Some(drift) => Ok(drift),
-        None => Err(state.flaw(Key::MaxClockDrift, FlawName::BadDuration)),
+        None => Err(state.flaw(Key::MaxClockDrift, FieldErrorName::BadDuration)),
     }
 }
 
@@ -176,11 +176,11 @@ pub(crate) fn read_consensus_states(
 
 #[tactic(auto, using(rb_import_json::proofs::Steps::steps))]
 fn read_states(alloc: Global, items: &[Value]) -> Result<Vec<ConsensusState>, AnswerError>
-    ensures { Gives (λ v. v.items) result (each consensus_state Part.ConsensusStates [] (items_view items.now)) }
+    ensures { Gives (λ v. v.items) result (each consensus_state Segment.ConsensusStates [] (items_view items.now)) }
 {
     let mut states = Vec::with_capacity(alloc, items.len())?;
     for value in items {
-        let entry = Object::element(value, Part::ConsensusStates, states.len());
+        let entry = Object::element(value, Segment::ConsensusStates, states.len());
         states.push(read_consensus_state(&entry)?)?;
     }
     Ok(states)
@@ -188,16 +188,16 @@ fn read_states(alloc: Global, items: &[Value]) -> Result<Vec<ConsensusState>, An
 
 /// Whether no page follows, as the key of the next one says.
 #[tactic(auto, using(rb_import_json::proofs::Steps::steps), unfolding(crate::specs::Clients::is_last))]
-fn read_is_last(answer: &Object<'_>) -> Result<bool, Flaw>
+fn read_is_last(answer: &Object<'_>) -> Result<bool, FieldError>
     ensures { Reads (λ b. b) result (is_last (object_view answer.now)) }
 {
-    let pagination = answer.object(Key::Pagination, Part::Pagination)?;
+    let pagination = answer.object(Key::Pagination, Segment::Pagination)?;
     let next = pagination.field(Key::NextKey)?;
     Ok(next.is_null())
 }
 
 #[tactic(auto, using(rb_import_json::proofs::Steps::steps), unfolding(crate::specs::Clients::consensus_state))]
-fn read_consensus_state(entry: &Object<'_>) -> Result<ConsensusState, Flaw>
+fn read_consensus_state(entry: &Object<'_>) -> Result<ConsensusState, FieldError>
     ensures { Reads (λ s. s) result (consensus_state (object_view entry.now)) }
 {
     let at = entry.inner(Key::Height)?;
@@ -217,7 +217,7 @@ fn read_consensus_state(entry: &Object<'_>) -> Result<ConsensusState, Flaw>
 }
 
 #[tactic(auto, using(rb_import_json::proofs::Steps::steps), unfolding(crate::specs::Clients::root))]
-fn read_root(state: &Object<'_>) -> Result<[u8; 32], Flaw>
+fn read_root(state: &Object<'_>) -> Result<[u8; 32], FieldError>
     ensures { Reads (λ r. r) result (root (object_view state.now)) }
 {
     let root = state.inner(Key::Root)?;

@@ -1,13 +1,13 @@
 //! The answer of CometBFT's `/commit`: a header, and each validator's part in its commit.
 ghost use Rattle.std.specs.Prelude.{◌≡◌, [], IfOk};
 ghost use Rattle.serde_json.specs.View.{items_view};
-ghost use Rattle.rb_import_json.specs.Flaws.{Reads, Gives};
+ghost use Rattle.rb_import_json.specs.FieldErrors.{Reads, Gives};
 ghost use Rattle.rb_import_json.specs.Fields.{object_view, each};
 ghost use Rattle.rb_import_answers.specs.Votes.{flag};
 ghost use Rattle.rb_import_answers.specs.Headers.{header, header_view, signature, of_height, signed, signed_view};
 
 use rb_base::{ChainId, Height, Moment};
-use rb_import_json::{AnswerError, Flaw, FlawName, Key, Object, Part};
+use rb_import_json::{AnswerError, FieldError, FieldErrorName, Key, Object, Segment};
 use serde_json::Value;
 use std::alloc::Global;
 
@@ -74,9 +74,9 @@ pub struct SignedHeader {
 pub(crate) fn read_commit(alloc: Global, answer: &Object<'_>) -> Result<SignedHeader, AnswerError>
     ensures { Gives (λ h. signed_view h) result (signed (object_view answer.now)) }
 {
-    let both = answer.object(Key::SignedHeader, Part::SignedHeader)?;
-    let head = both.object(Key::Header, Part::Header)?;
-    let commit = both.object(Key::Commit, Part::Commit)?;
+    let both = answer.object(Key::SignedHeader, Segment::SignedHeader)?;
+    let head = both.object(Key::Header, Segment::Header)?;
+    let commit = both.object(Key::Commit, Segment::Commit)?;
     let signatures = read_signatures(alloc, commit.items(Key::Signatures)?)?;
     let told = read_header(&head, signatures)?;
     judge_height(&commit, told.height)?;
@@ -85,7 +85,7 @@ pub(crate) fn read_commit(alloc: Global, answer: &Object<'_>) -> Result<SignedHe
 
 /// Reads the header that these signatures belong to.
 #[tactic(auto, using(rb_import_json::proofs::Steps::steps), unfolding(crate::specs::Headers::header))]
-fn read_header(head: &Object<'_>, signatures: Vec<Signature>) -> Result<SignedHeader, Flaw>
+fn read_header(head: &Object<'_>, signatures: Vec<Signature>) -> Result<SignedHeader, FieldError>
     ensures header { Reads (λ h. header_view h) result (header (object_view head.now)) }
     ensures signatures { IfOk result (λ read. read.signatures ≡ signatures) }
 {
@@ -108,31 +108,31 @@ fn read_header(head: &Object<'_>, signatures: Vec<Signature>) -> Result<SignedHe
 
 /// Refuses a commit of another height than the header's.
 #[tactic(auto, using(rb_import_json::proofs::Steps::steps), unfolding(crate::specs::Headers::of_height))]
-fn judge_height(commit: &Object<'_>, height: Height) -> Result<(), Flaw>
+fn judge_height(commit: &Object<'_>, height: Height) -> Result<(), FieldError>
     ensures { Reads (λ u. u) result (of_height height (object_view commit.now)) }
 {
     if commit.height(Key::Height)? == height {
         Ok(())
     } else {
-        Err(commit.flaw(Key::Height, FlawName::OtherHeight))
+        Err(commit.flaw(Key::Height, FieldErrorName::OtherHeight))
     }
 }
 
 /// Reads the entries of `signatures`, in order.
 #[tactic(auto, using(rb_import_json::proofs::Steps::steps))]
 fn read_signatures(alloc: Global, items: &[Value]) -> Result<Vec<Signature>, AnswerError>
-    ensures { Gives (λ v. v.items) result (each signature Part.Signatures [] (items_view items.now)) }
+    ensures { Gives (λ v. v.items) result (each signature Segment.Signatures [] (items_view items.now)) }
 {
     let mut signatures = Vec::with_capacity(alloc, items.len())?;
     for value in items {
-        let entry = Object::element(value, Part::Signatures, signatures.len());
+        let entry = Object::element(value, Segment::Signatures, signatures.len());
         signatures.push(read_signature(&entry)?)?;
     }
     Ok(signatures)
 }
 
 #[tactic(auto, using(rb_import_json::proofs::Steps::steps), unfolding(crate::specs::Headers::signature))]
-fn read_signature(entry: &Object<'_>) -> Result<Signature, Flaw>
+fn read_signature(entry: &Object<'_>) -> Result<Signature, FieldError>
     ensures { Reads (λ s. s) result (signature (object_view entry.now)) }
 {
     let flag = read_flag(entry)?;
@@ -144,14 +144,14 @@ fn read_signature(entry: &Object<'_>) -> Result<Signature, Flaw>
 }
 
 #[tactic(auto, using(rb_import_json::proofs::Steps::steps), unfolding(crate::specs::Votes::flag))]
-fn read_flag(entry: &Object<'_>) -> Result<BlockIdFlag, Flaw>
+fn read_flag(entry: &Object<'_>) -> Result<BlockIdFlag, FieldError>
     ensures { Reads (λ f. f) result (flag (object_view entry.now)) }
 {
     let Some(number) = entry.field(Key::BlockIdFlag)?.as_u64() else {
-        return Err(entry.flaw(Key::BlockIdFlag, FlawName::WrongType));
+        return Err(entry.flaw(Key::BlockIdFlag, FieldErrorName::WrongType));
     };
     match BlockIdFlag::of_number(number) {
         Some(flag) => Ok(flag),
-        None => Err(entry.flaw(Key::BlockIdFlag, FlawName::BadFlag)),
+        None => Err(entry.flaw(Key::BlockIdFlag, FieldErrorName::BadFlag)),
     }
 }

@@ -14,11 +14,11 @@ mod revision;
 mod said;
 mod validators;
 
-pub use answer::{Answer, MAX_ANSWER_BYTES, read_answer};
+pub use answer::{MAX_ANSWER_BYTES, NodeAnswer, read_answer};
 pub use client::{ClientState, ConsensusPage, ConsensusState, TrustLevel};
 pub use commit::{BlockIdFlag, Signature, SignedHeader};
 pub use packets::{PacketEvent, PacketKind, PacketPage, RevisionHeight};
-pub use rb_import_json::{AnswerError, Flaw, FlawName, Key, Part, Place};
+pub use rb_import_json::{AnswerError, FieldError, FieldErrorName, FieldPath, Key, Segment};
 pub use revision::revision_of;
 pub use said::said_in;
 pub use validators::ValidatorsPage;

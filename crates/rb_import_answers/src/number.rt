@@ -1,10 +1,10 @@
 //! Numbers that a script takes.
 ghost use Rattle.std.specs.Prelude.{◌≡◌};
-ghost use Rattle.rb_import_json.specs.Flaws.{Reads};
+ghost use Rattle.rb_import_json.specs.FieldErrors.{Reads};
 ghost use Rattle.rb_import_json.specs.Fields.{object_view};
 ghost use Rattle.rb_import_answers.specs.Numbers.{in_script, script_number};
 
-use rb_import_json::{Flaw, FlawName, Key, Object};
+use rb_import_json::{FieldError, FieldErrorName, Key, Object};
 
 /// The largest number that a script takes: 2^63 - 1.
 pub(crate) const MAX_NUMBER: u64 = i64::MAX as u64;
@@ -23,11 +23,11 @@ pub fn in_script(number: u64) -> Option<u64>
 
 /// The number that a field holds, else `BadNumber`, as where a script doesn't take it.
 #[tactic(auto, using(rb_import_json::proofs::Steps::steps), unfolding(crate::specs::Numbers::script_number))]
-pub fn script_number(object: &Object<'_>, key: Key) -> Result<u64, Flaw>
+pub fn script_number(object: &Object<'_>, key: Key) -> Result<u64, FieldError>
     ensures { Reads (λ n. n) result (script_number key (object_view object.now)) }
 {
     match in_script(object.number(key)?) {
         Some(number) => Ok(number),
-        None => Err(object.flaw(key, FlawName::BadNumber)),
+        None => Err(object.flaw(key, FieldErrorName::BadNumber)),
     }
 }

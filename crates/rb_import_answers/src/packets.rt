@@ -1,13 +1,13 @@
 //! The answer of CometBFT's `/tx_search`: what transactions did with packets (ICS 4).
 ghost use Rattle.std.specs.Prelude.{◌≡◌, [], map, option_map, string_bytes};
 ghost use Rattle.serde_json.specs.View.{view, items_view};
-ghost use Rattle.rb_import_json.specs.Flaws.{Reads, Gives};
+ghost use Rattle.rb_import_json.specs.FieldErrors.{Reads, Gives};
 ghost use Rattle.rb_import_json.specs.Fields.{object_view};
 ghost use Rattle.rb_import_answers.specs.Packets.{packet_view, search_view, found, transactions, transaction, code, events, event, of_kind, if_channels, packet, timeout, timeout_view};
 
 use crate::attributes::Attributes;
 use rb_base::Height;
-use rb_import_json::{AnswerError, Flaw, FlawName, Key, Object, Part};
+use rb_import_json::{AnswerError, FieldError, FieldErrorName, Key, Object, Segment};
 use serde_json::Value;
 use std::alloc::Global;
 
@@ -99,7 +99,7 @@ fn read_all(alloc: Global, items: &[Value]) -> Result<Vec<PacketEvent>, AnswerEr
 {
     let mut all = Vec::new(alloc);
     for (index, value) in items.iter().enumerate() {
-        let entry = Object::element(value, Part::Transactions, index);
+        let entry = Object::element(value, Segment::Transactions, index);
         read_transaction(&entry, &mut all)?;
     }
     Ok(all)
@@ -121,12 +121,12 @@ fn read_transaction(entry: &Object<'_>, all: &mut Vec<PacketEvent>) -> Result<()
 
 /// The number of the failure of a transaction, which is 0 where there was none.
 #[tactic(auto, using(rb_import_json::proofs::Steps::steps), unfolding(crate::specs::Packets::code))]
-fn read_code(done: &Object<'_>) -> Result<u64, Flaw>
+fn read_code(done: &Object<'_>) -> Result<u64, FieldError>
     ensures { Reads (λ n. n) result (code (object_view done.now)) }
 {
     match done.field(Key::Code)?.as_u64() {
         Some(code) => Ok(code),
-        None => Err(done.flaw(Key::Code, FlawName::WrongType)),
+        None => Err(done.flaw(Key::Code, FieldErrorName::WrongType)),
     }
 }
 

@@ -1,12 +1,12 @@
 //! The answer of CometBFT's `/validators`: a page of the validators at a height.
 ghost use Rattle.std.specs.Prelude.{◌≡◌, []};
 ghost use Rattle.serde_json.specs.View.{items_view};
-ghost use Rattle.rb_import_json.specs.Flaws.{Reads, Gives};
+ghost use Rattle.rb_import_json.specs.FieldErrors.{Reads, Gives};
 ghost use Rattle.rb_import_json.specs.Fields.{object_view, each};
 ghost use Rattle.rb_import_answers.specs.Validators.{key, validator, member_of, page, page_view};
 
 use rb_base::Height;
-use rb_import_json::{AnswerError, Flaw, FlawName, Key, Object, Part};
+use rb_import_json::{AnswerError, FieldError, FieldErrorName, Key, Object, Segment};
 use rb_valset::Validator;
 use serde_json::Value;
 use std::alloc::Global;
@@ -36,25 +36,25 @@ pub(crate) fn read_page(alloc: Global, answer: &Object<'_>) -> Result<Validators
 
 #[tactic(auto, using(rb_import_json::proofs::Steps::steps))]
 fn read_validators(alloc: Global, items: &[Value]) -> Result<Vec<Validator>, AnswerError>
-    ensures { Gives (λ v. v.items) result (each validator Part.Validators [] (items_view items.now)) }
+    ensures { Gives (λ v. v.items) result (each validator Segment.Validators [] (items_view items.now)) }
 {
     let mut validators = Vec::with_capacity(alloc, items.len())?;
     for value in items {
-        let entry = Object::element(value, Part::Validators, validators.len());
+        let entry = Object::element(value, Segment::Validators, validators.len());
         validators.push(read_validator(&entry)?)?;
     }
     Ok(validators)
 }
 
 #[tactic(auto, using(rb_import_json::proofs::Steps::steps), unfolding(crate::specs::Validators::validator))]
-fn read_validator(entry: &Object<'_>) -> Result<Validator, Flaw>
+fn read_validator(entry: &Object<'_>) -> Result<Validator, FieldError>
     ensures { Reads (λ v. v) result (validator (object_view entry.now)) }
 {
     let key = read_key(entry)?;
     let power = entry.number(Key::VotingPower)?;
     match validator_of(key, power) {
         Some(validator) => Ok(validator),
-        None => Err(entry.flaw(Key::VotingPower, FlawName::BadPower)),
+        None => Err(entry.flaw(Key::VotingPower, FieldErrorName::BadPower)),
     }
 }
 
@@ -68,12 +68,12 @@ fn validator_of(key: [u8; 32], power: u64) -> Option<Validator>
 
 /// The key, which has to be of ed25519.
 #[tactic(auto, using(rb_import_json::proofs::Steps::steps), unfolding(crate::specs::Validators::key))]
-fn read_key(entry: &Object<'_>) -> Result<[u8; 32], Flaw>
+fn read_key(entry: &Object<'_>) -> Result<[u8; 32], FieldError>
     ensures { Reads (λ k. k) result (key (object_view entry.now)) }
 {
     let public = entry.inner(Key::PubKey)?;
     match public.text(Key::Type)? {
         "tendermint/PubKeyEd25519" => public.base64(Key::Value),
-        _ => Err(public.flaw(Key::Type, FlawName::ForeignKey)),
+        _ => Err(public.flaw(Key::Type, FieldErrorName::ForeignKey)),
     }
 }

@@ -9,11 +9,11 @@ use Rattle.std.proofs.lemmas.List.Kept.{AllPairs-from_increasing}
 use Rattle.std.proofs.lemmas.List.Sorted.{searched}
 use Rattle.rb_import_check.specs.declared.chain.Commit.{Commit}
 use Rattle.rb_import_check.specs.declared.client.Stored.{Stored}
-use Rattle.rb_import_check.specs.declared.error.ProblemName.{ProblemName}
+use Rattle.rb_import_check.specs.declared.error.CheckErrorName.{CheckErrorName}
 use Rattle.rb_import_check.specs.declared.error.ImportError.{ImportError}
 use Rattle.rb_import_check.specs.declared.error.ImportError.TheVariants as errors
 use Rattle.rb_import_check.specs.Accord.{AgreesWith, IsAsHeader}
-use Rattle.rb_import_check.specs.Problems.{IsTold}
+use Rattle.rb_import_check.specs.Errors.{IsTold}
 
 abbrev pub height_of : Commit → ℕ
 height_of c = c.header.now.height
@@ -90,8 +90,8 @@ disagrees commits s i c within is at other agrees = other (subst (IsAsHeader s) 
 
 -- of some records, where it is told of one
 pub tells_other : (commits : List Commit) (stored : List Stored) (i : ℕ) (s : Stored) (e : ImportError) → i < length stored → s ≡ get_or stored i s
-    → IsTold ProblemName.OtherRecord (AgreesWith commits s → ⊥) e → IsTold ProblemName.OtherRecord (Any (λ (x : Stored). ¬ AgreesWith commits x) stored) e
-tells_other commits stored i s (errors.Problem p) small is w = (w.0, (i, s, small, sym is, w.1))
+    → IsTold CheckErrorName.OtherRecord (AgreesWith commits s → ⊥) e → IsTold CheckErrorName.OtherRecord (Any (λ (x : Stored). ¬ AgreesWith commits x) stored) e
+tells_other commits stored i s (errors.CheckError p) small is w = (w.0, (i, s, small, sym is, w.1))
 tells_other commits stored i s errors.NoMemory small is w = tt
 
 pub ruleset according = (tells_other, agrees_where_found, disagrees)

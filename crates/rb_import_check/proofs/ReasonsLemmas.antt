@@ -9,19 +9,19 @@ use Rattle.std.proofs.lemmas.List.{length-append}
 use Rattle.std.proofs.lemmas.List.Sums.{sum_by-cons}
 use Rattle.std.proofs.lemmas.List.Sorted.{sum_by-IsPermutation, Contains-permutation, IsPermutation-sym}
 use Rattle.rb_import_answers.specs.Revisions.{IsRevision, IsNumbered, at_last_dash}
-use Rattle.rb_import_answers.specs.declared.answer.Answer.{Answer}
-use Rattle.rb_import_answers.specs.declared.answer.Answer.TheVariants as answers
+use Rattle.rb_import_answers.specs.declared.answer.NodeAnswer.{NodeAnswer}
+use Rattle.rb_import_answers.specs.declared.answer.NodeAnswer.TheVariants as answers
 use Rattle.rb_import_answers.specs.declared.client.ClientState.{ClientState}
 use Rattle.rb_import_answers.specs.declared.client.ConsensusPage.{ConsensusPage}
 use Rattle.rb_import_answers.specs.declared.client.ConsensusState.{ConsensusState}
 use Rattle.rb_import_setup.specs.declared.setup.ClientSetup.{ClientSetup}
 use Rattle.rb_import_check.specs.declared.client.Stored.{Stored}
-use Rattle.rb_import_check.specs.declared.error.ProblemName.{ProblemName}
+use Rattle.rb_import_check.specs.declared.error.CheckErrorName.{CheckErrorName}
 use Rattle.rb_import_check.specs.declared.error.ImportError.{ImportError}
 use Rattle.rb_import_check.specs.declared.error.ImportError.TheVariants as errors
 use Rattle.rb_import_check.specs.declared.saved.Saved.{Saved}
 use Rattle.rb_import_check.specs.Clients.{HaveStates, HasReason, HasOtherRevision, TellsTwice, Refuses, Falls, IsOfRevision, client_states_in, client_states_of, stored_of, current_of, is_of_client}
-use Rattle.rb_import_check.specs.Problems.{IsTold}
+use Rattle.rb_import_check.specs.Errors.{IsTold}
 use Rattle.rb_import_check.proofs.Sorting.{taken}
 
 -- ---- one revision
@@ -63,7 +63,7 @@ any_one P f xs i x a small is there p = any_in P f xs i x small (sym is) (subst 
 
 -- ---- what belongs elsewhere
 
-pub is_foreign : (a : Answer) → ((state : ClientState) → a ≡ answers.ClientState state → ⊥) → ((page : ConsensusPage) → a ≡ answers.ConsensusStates page → ⊥) → is_of_client a ≡ false
+pub is_foreign : (a : NodeAnswer) → ((state : ClientState) → a ≡ answers.ClientState state → ⊥) → ((page : ConsensusPage) → a ≡ answers.ConsensusStates page → ⊥) → is_of_client a ≡ false
 is_foreign (answers.Commit header) first second = refl
 is_foreign (answers.Validators page) first second = refl
 is_foreign (answers.ClientState state) first second = absurd (first state refl)
@@ -179,9 +179,9 @@ two_records states (x ∷ xs) same order (i, small, low) =
 
 -- ---- the reasons of the errors
 
-pub tells_foreign : (setup : ClientSetup) (tracked : List ℕ) (saved : List Saved) (e : ImportError) → IsTold ProblemName.WrongFolder (Any (λ s. is_of_client s.answer ≡ false) saved) e
+pub tells_foreign : (setup : ClientSetup) (tracked : List ℕ) (saved : List Saved) (e : ImportError) → IsTold CheckErrorName.WrongFolder (Any (λ s. is_of_client s.answer ≡ false) saved) e
     → HasReason setup tracked saved e
-tells_foreign setup tracked saved (errors.Problem p) w = subst (λ name. Refuses name setup tracked saved) (sym w.0) w.1
+tells_foreign setup tracked saved (errors.CheckError p) w = subst (λ name. Refuses name setup tracked saved) (sym w.0) w.1
 tells_foreign setup tracked saved errors.NoMemory w = tt
 
 from_at : (p : ConsensusState → Bool) (Q : ConsensusState → Type 0) (b : Bool) (x : ConsensusState) (xs ys : List ConsensusState) → p x ≡ b
@@ -206,16 +206,16 @@ later revision saved w =
     (from_filter (λ (s : ConsensusState). nat_le revision s.revision) (λ (s : ConsensusState). s.revision ≢ revision) (stored_of saved) w)
 
 pub tells_revision : (setup : ClientSetup) (tracked : List ℕ) (saved : List Saved) (revision : ℕ) (stored : List Stored) (e : ImportError) → IsRevision tracked revision
-    → HaveStates (current_of revision saved) stored → IsTold ProblemName.OtherRevision (Any (λ s. s.state.now.revision ≢ revision) stored) e → HasReason setup tracked saved e
-tells_revision setup tracked saved revision stored (errors.Problem p) is same w =
+    → HaveStates (current_of revision saved) stored → IsTold CheckErrorName.OtherRevision (Any (λ s. s.state.now.revision ≢ revision) stored) e → HasReason setup tracked saved e
+tells_revision setup tracked saved revision stored (errors.CheckError p) is same w =
     subst (λ name. Refuses name setup tracked saved) (sym w.0)
     (inr (revision, is, later revision saved (in_states (λ (s : ConsensusState). s.revision ≢ revision) (current_of revision saved) stored same w.1)))
 tells_revision setup tracked saved revision stored errors.NoMemory is same w = tt
 
 pub tells_twice : (setup : ClientSetup) (tracked : List ℕ) (saved : List Saved) (revision : ℕ) (stored : List Stored) (e : ImportError) → IsRevision tracked revision
     → HaveStates (current_of revision saved) stored → IsNonDecreasingBy (λ (s : Stored). s.state.now.height) stored
-    → IsTold ProblemName.TwoAnswers (Falls (map (λ (s : Stored). s.state.now.height) stored)) e → HasReason setup tracked saved e
-tells_twice setup tracked saved revision stored (errors.Problem p) is same order w =
+    → IsTold CheckErrorName.TwoAnswers (Falls (map (λ (s : Stored). s.state.now.height) stored)) e → HasReason setup tracked saved e
+tells_twice setup tracked saved revision stored (errors.CheckError p) is same order w =
     subst (λ name. Refuses name setup tracked saved) (sym w.0) (inr (revision, is, two_records (current_of revision saved) stored same order w.1))
 tells_twice setup tracked saved revision stored errors.NoMemory is same order w = tt
 

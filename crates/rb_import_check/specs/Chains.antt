@@ -4,8 +4,8 @@ use Rattle.std.specs.List.{AllZip, flat_map}
 use Rattle.std.specs.List.Sorted.{IsPermutation, IsStrictlyIncreasing}
 use Rattle.rb_valset.specs.Validator.{Member}
 use Rattle.rb_valset.specs.ValidatorSet.{set_hash, in_set_order}
-use Rattle.rb_import_answers.specs.declared.answer.Answer.{Answer}
-use Rattle.rb_import_answers.specs.declared.answer.Answer.TheVariants as answers
+use Rattle.rb_import_answers.specs.declared.answer.NodeAnswer.{NodeAnswer}
+use Rattle.rb_import_answers.specs.declared.answer.NodeAnswer.TheVariants as answers
 use Rattle.rb_import_answers.specs.declared.commit.SignedHeader.{SignedHeader}
 use Rattle.rb_import_answers.specs.declared.validators.ValidatorsPage.{ValidatorsPage}
 use Rattle.rb_import_check.specs.declared.saved.Saved.{Saved}
@@ -14,7 +14,7 @@ use Rattle.rb_import_check.specs.declared.chain.Page.{Page}
 use Rattle.rb_import_check.specs.declared.sets.SeenSet.{SeenSet}
 use Rattle.rb_import_check.specs.Sets.{WasSeen}
 
-abbrev pub headers_in : Answer → List SignedHeader
+abbrev pub headers_in : NodeAnswer → List SignedHeader
 headers_in (answers.Commit header) = header ∷ []
 headers_in (answers.Validators page) = []
 headers_in (answers.ClientState state) = []
@@ -54,7 +54,7 @@ AreAllPages pages = (0 < length pages) × All (λ p. p.total ≡ length (validat
 abbrev pub IsSetOf : List ValidatorsPage → List Member → Type 0
 IsSetOf pages set = AreAllPages pages × (set ≡ in_set_order (validators_of pages))
 
-abbrev pub pages_in : Answer → List ValidatorsPage
+abbrev pub pages_in : NodeAnswer → List ValidatorsPage
 pages_in (answers.Commit header) = []
 pages_in (answers.Validators page) = page ∷ []
 pages_in (answers.ClientState state) = []

@@ -2,8 +2,8 @@
 use Rattle.std.specs.Prelude.{◌≡◌, ◌≢◌, ◌⊎◌, ◌+◌, ◌<◌, ◌≤◌, ⊤, ℕ, List, [], ◌∷◌, Bool, true, false, Option, Some, None, Any, length, map, filter, count_by, ◌==◌, nat_le, slice_index}
 use Rattle.std.specs.List.{flat_map, list_any}
 use Rattle.std.specs.List.Sorted.{IsPermutation}
-use Rattle.rb_import_answers.specs.declared.answer.Answer.{Answer}
-use Rattle.rb_import_answers.specs.declared.answer.Answer.TheVariants as answers
+use Rattle.rb_import_answers.specs.declared.answer.NodeAnswer.{NodeAnswer}
+use Rattle.rb_import_answers.specs.declared.answer.NodeAnswer.TheVariants as answers
 use Rattle.rb_import_answers.specs.declared.client.ClientState.{ClientState}
 use Rattle.rb_import_answers.specs.declared.client.ConsensusState.{ConsensusState}
 use Rattle.rb_import_answers.specs.Revisions.{IsRevision}
@@ -11,7 +11,7 @@ use Rattle.rb_import_setup.specs.declared.setup.ClientSetup.{ClientSetup}
 use Rattle.rb_import_check.specs.declared.client.SeenClient.{SeenClient}
 use Rattle.rb_import_check.specs.declared.client.Stored.{Stored}
 use Rattle.rb_import_check.specs.declared.saved.Saved.{Saved}
-use Rattle.rb_import_check.specs.declared.error.ProblemName.{ProblemName}
+use Rattle.rb_import_check.specs.declared.error.CheckErrorName.{CheckErrorName}
 use Rattle.rb_import_check.specs.declared.error.ImportError.{ImportError}
 use Rattle.rb_import_check.specs.declared.error.ImportError.TheVariants as errors
 
@@ -19,7 +19,7 @@ use Rattle.rb_import_check.specs.declared.error.ImportError.TheVariants as error
 abbrev pub IsOfRevision : List ℕ → Stored → Type 0
 IsOfRevision tracked s = IsRevision tracked s.state.now.revision
 
-abbrev pub client_states_in : Answer → List ClientState
+abbrev pub client_states_in : NodeAnswer → List ClientState
 client_states_in (answers.Commit header) = []
 client_states_in (answers.Validators page) = []
 client_states_in (answers.ClientState state) = state ∷ []
@@ -42,7 +42,7 @@ JudgesAs setup states c =
     × (chosen setup.drift (λ s. s.drift) states ≡ Some c.drift)
     × (chosen setup.trust (λ s. s.trust) states ≡ Some c.trust)
 
-abbrev pub stored_in : Answer → List ConsensusState
+abbrev pub stored_in : NodeAnswer → List ConsensusState
 stored_in (answers.Commit header) = []
 stored_in (answers.Validators page) = []
 stored_in (answers.ClientState state) = []
@@ -65,7 +65,7 @@ AtRevision tracked P = (revision : ℕ) × IsRevision tracked revision × P revi
 abbrev pub HaveStates : List ConsensusState → List Stored → Type 0
 HaveStates states stored = IsPermutation states (map (λ (s : Stored). s.state.now) stored)
 
-abbrev pub is_last_in : Answer → Bool
+abbrev pub is_last_in : NodeAnswer → Bool
 is_last_in (answers.Commit header) = false
 is_last_in (answers.Validators page) = false
 is_last_in (answers.ClientState state) = false
@@ -79,7 +79,7 @@ has_last saved = list_any (λ s. is_last_in s.answer) saved
 -- ---- why a client's answers aren't taken
 
 -- whether an answer belongs into a client's folder
-abbrev pub is_of_client : Answer → Bool
+abbrev pub is_of_client : NodeAnswer → Bool
 is_of_client (answers.Commit header) = false
 is_of_client (answers.Validators page) = false
 is_of_client (answers.ClientState state) = true
@@ -107,16 +107,16 @@ abbrev pub LeavesOut : ClientSetup → Type 0
 LeavesOut setup = (setup.period ≡ None) ⊎ (setup.drift ≡ None) ⊎ (setup.trust ≡ None)
 
 -- what doesn't hold of a client's answers, by the name that is told; no other name is
-abbrev pub Refuses : ProblemName → ClientSetup → List ℕ → List Saved → Type 0
-Refuses ProblemName.WrongFolder setup tracked saved = Any (λ s. is_of_client s.answer ≡ false) saved
-Refuses ProblemName.OtherChain setup tracked saved = Any (λ s. s.chain ≢ tracked) (client_states_of saved)
-Refuses ProblemName.OtherRevision setup tracked saved = HasOtherRevision tracked saved
-Refuses ProblemName.TwoAnswers setup tracked saved = TellsTwice tracked saved
-Refuses ProblemName.MissingConsensusStates setup tracked saved = has_last saved ≡ false
-Refuses ProblemName.MissingClientState setup tracked saved = LeavesOut setup × (client_states_of saved ≡ [])
+abbrev pub Refuses : CheckErrorName → ClientSetup → List ℕ → List Saved → Type 0
+Refuses CheckErrorName.WrongFolder setup tracked saved = Any (λ s. is_of_client s.answer ≡ false) saved
+Refuses CheckErrorName.OtherChain setup tracked saved = Any (λ s. s.chain ≢ tracked) (client_states_of saved)
+Refuses CheckErrorName.OtherRevision setup tracked saved = HasOtherRevision tracked saved
+Refuses CheckErrorName.TwoAnswers setup tracked saved = TellsTwice tracked saved
+Refuses CheckErrorName.MissingConsensusStates setup tracked saved = has_last saved ≡ false
+Refuses CheckErrorName.MissingClientState setup tracked saved = LeavesOut setup × (client_states_of saved ≡ [])
 Refuses other setup tracked saved = ⊥
 
 -- the error has its reason in the answers; memory may run out at any
 abbrev pub HasReason : ClientSetup → List ℕ → List Saved → ImportError → Type 0
-HasReason setup tracked saved (errors.Problem p) = Refuses p.name setup tracked saved
+HasReason setup tracked saved (errors.CheckError p) = Refuses p.name setup tracked saved
 HasReason setup tracked saved errors.NoMemory = ⊤

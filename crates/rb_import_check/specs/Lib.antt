@@ -1,5 +1,5 @@
 pub mod Names
-pub mod Problems
+pub mod Errors
 pub mod Saved
 pub mod Sets
 pub mod Chains

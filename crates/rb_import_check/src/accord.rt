@@ -1,11 +1,11 @@
 //! Whether what a client has stored is what the chain's headers say.
 ghost use Rattle.std.specs.Prelude.{◌≡◌, ◌↔◌, IsTrue, map, All, Any, IfErr, OnOk};
 ghost use Rattle.rb_import_check.specs.Accord.{AgreesWith, IsAsHeader};
-ghost use Rattle.rb_import_check.specs.Problems.{IsTold, IsToldOf};
+ghost use Rattle.rb_import_check.specs.Errors.{IsTold, IsToldOf};
 
 use crate::chain::{Commit, SeenChain, heights_of};
 use crate::client::Stored;
-use crate::error::{ImportError, ProblemName};
+use crate::error::{CheckErrorName, ImportError};
 use rb_base::Height;
 use std::alloc::Global;
 
@@ -19,7 +19,7 @@ pub fn judge_records<'a>(
     stored: &[Stored<'a>],
 ) -> Result<(), ImportError<'a>>
     ensures accord { OnOk result (All (AgreesWith chain.now.commits.items) stored.now) }
-    ensures other { IfErr result (IsTold ProblemName.OtherRecord (Any (λ s. ¬ AgreesWith chain.now.commits.items s) stored.now)) }
+    ensures other { IfErr result (IsTold CheckErrorName.OtherRecord (Any (λ s. ¬ AgreesWith chain.now.commits.items s) stored.now)) }
     ensures told { IfErr result (IsToldOf id.entry.now) }
 {
     let heights = heights_of(alloc, chain.commits.as_slice())?;
@@ -38,7 +38,7 @@ fn judge_record<'a>(
 ) -> Result<(), ImportError<'a>>
     requires { heights.now ≡ map (λ c. c.header.now.height) chain.now.commits.items }
     ensures accord { OnOk result (AgreesWith chain.now.commits.items stored.now) }
-    ensures other { IfErr result (IsTold ProblemName.OtherRecord (¬ AgreesWith chain.now.commits.items stored.now)) }
+    ensures other { IfErr result (IsTold CheckErrorName.OtherRecord (¬ AgreesWith chain.now.commits.items stored.now)) }
     ensures told { IfErr result (IsToldOf id.entry.now) }
 {
     let Ok(place) = heights.binary_search(&stored.state.height) else {
@@ -49,7 +49,7 @@ fn judge_record<'a>(
         return Ok(());
     }
     let height = stored.state.height.get();
-    let name = ProblemName::OtherRecord;
+    let name = CheckErrorName::OtherRecord;
     Err(ImportError::between(name, id, height, stored.file, commit.file))
 }
 

@@ -2,16 +2,16 @@
 ghost use Rattle.std.specs.Prelude.{◌≡◌, ◌≤◌, ◌==◌, ℕ, List, length, map, filter, All, IfOk, IfErr, OnOk, IfSome, IfNone};
 ghost use Rattle.std.specs.List.Sorted.{IsNonDecreasingBy, IsStrictlyIncreasing};
 ghost use Rattle.rb_valset.specs.ValidatorSet.{set_hash, in_set_order};
-ghost use Rattle.rb_import_check.specs.Problems.{IsToldOf};
+ghost use Rattle.rb_import_check.specs.Errors.{IsToldOf};
 ghost use Rattle.rb_import_check.specs.Sets.{WasSeen};
 ghost use Rattle.rb_import_check.specs.Chains.{AreAllPages, HaveHeaders, HaveSets, HasSet, IsOfChain, TakesSetOf, headers_of, pages_at, pages_of, validators_of, without_files};
 
-use crate::error::{ImportError, ProblemName};
+use crate::error::{CheckErrorName, ImportError};
 use crate::repeat::repeated;
 use crate::saved::Saved;
 use crate::sets::{SeenSet, SeenSets};
 use rb_base::Height;
-use rb_import_answers::{Answer, Signature, SignedHeader, ValidatorsPage};
+use rb_import_answers::{NodeAnswer, Signature, SignedHeader, ValidatorsPage};
 use rb_valset::{Validator, ValidatorSet};
 use std::alloc::{AllocError, Global};
 
@@ -88,9 +88,9 @@ fn all_commits<'a>(
     for saved in answers {
         let file = saved.file.as_str();
         match &saved.answer {
-            Answer::Commit(header) => commits.push(Commit { file, header })?,
-            Answer::Validators(_) => {}
-            _ => return Err(ImportError::at(ProblemName::WrongFolder, id, 0, file)),
+            NodeAnswer::Commit(header) => commits.push(Commit { file, header })?,
+            NodeAnswer::Validators(_) => {}
+            _ => return Err(ImportError::at(CheckErrorName::WrongFolder, id, 0, file)),
         }
     }
     Ok(commits)
@@ -116,7 +116,7 @@ fn judge_chain<'a>(id: &'a str, commit: &Commit<'a>) -> Result<(), ImportError<'
         Ok(())
     } else {
         let height = commit.header.height.get();
-        Err(ImportError::at(ProblemName::OtherChain, id, height, commit.file))
+        Err(ImportError::at(CheckErrorName::OtherChain, id, height, commit.file))
     }
 }
 
@@ -150,7 +150,13 @@ fn two_commits<'a>(id: &'a str, commit: &Commit<'a>, other: &Commit<'a>) -> Impo
     ensures { IsToldOf id.entry.now result }
 {
     let height = commit.header.height.get();
-    ImportError::between(ProblemName::TwoAnswers, id, height, commit.file, other.file)
+    ImportError::between(
+        CheckErrorName::TwoAnswers,
+        id,
+        height,
+        commit.file,
+        other.file,
+    )
 }
 
 /// The pages of validators by rising height, those of one height in the order of the answers.
@@ -170,7 +176,7 @@ fn all_pages<'a>(alloc: Global, answers: &'a [Saved]) -> Result<Vec<Page<'a>>, A
 {
     let mut pages = Vec::new(alloc);
     for saved in answers {
-        if let Answer::Validators(page) = &saved.answer {
+        if let NodeAnswer::Validators(page) = &saved.answer {
             let file = saved.file.as_str();
             pages.push(Page { file, page })?;
         }
@@ -263,7 +269,7 @@ fn missing_page<'a>(
 {
     match commit {
         Some(commit) => Err(ImportError::between(
-            ProblemName::MissingPage,
+            CheckErrorName::MissingPage,
             id,
             page.page.height.get(),
             commit.file,
@@ -291,7 +297,7 @@ fn members_of<'a>(
         members.extend_from_slice(page.page.validators.as_slice())?;
         if members.len() as u64 > page.page.total {
             let lower = before.unwrap_or(*page);
-            return Err(two_pages(ProblemName::TooManyValidators, id, &lower, page));
+            return Err(two_pages(CheckErrorName::TooManyValidators, id, &lower, page));
         }
         before = Some(*page);
     }
@@ -309,14 +315,14 @@ fn judge_total<'a>(
 {
     match before {
         Some(lower) if lower.page.total != page.page.total => {
-            Err(two_pages(ProblemName::OtherTotal, id, &lower, page))
+            Err(two_pages(CheckErrorName::OtherTotal, id, &lower, page))
         }
         _ => Ok(()),
     }
 }
 
 fn two_pages<'a>(
-    name: ProblemName,
+    name: CheckErrorName,
     id: &'a str,
     page: &Page<'a>,
     other: &Page<'a>,
@@ -340,7 +346,7 @@ fn set_of<'a>(
         Err(rb_valset::ValsetError::NoMemory) => Err(ImportError::NoMemory),
         Err(_) => {
             let height = page.page.height.get();
-            Err(ImportError::at(ProblemName::BadSet, id, height, page.file))
+            Err(ImportError::at(CheckErrorName::BadSet, id, height, page.file))
         }
     }
 }
@@ -357,7 +363,7 @@ fn judge_set<'a>(
 {
     match commit {
         Some(commit) if commit.header.set != *set.hash() => Err(ImportError::between(
-            ProblemName::OtherSet,
+            CheckErrorName::OtherSet,
             id,
             page.page.height.get(),
             commit.file,
@@ -394,7 +400,7 @@ fn judge_commit<'a>(
 {
     let height = commit.header.height.get();
     let Some(seen) = sets.with_hash(&commit.header.set) else {
-        return Err(ImportError::at(ProblemName::MissingSet, id, height, commit.file));
+        return Err(ImportError::at(CheckErrorName::MissingSet, id, height, commit.file));
     };
     match discord(commit.header.signatures.as_slice(), &seen.set) {
         Some(name) => Err(ImportError::between(name, id, height, commit.file, seen.file)),
@@ -404,11 +410,11 @@ fn judge_commit<'a>(
 
 /// How signatures don't fit a set, if they don't: there is one for each member, in set order, and
 /// each that isn't absent has its member's address.
-fn discord(signatures: &[Signature], set: &ValidatorSet) -> Option<ProblemName>
+fn discord(signatures: &[Signature], set: &ValidatorSet) -> Option<CheckErrorName>
     ensures { IfNone result (length signatures.now ≡ length set.now) }
 {
     if signatures.len() != set.size() {
-        return Some(ProblemName::SignatureCount);
+        return Some(CheckErrorName::SignatureCount);
     }
     let fits = signatures
         .iter()
@@ -417,7 +423,7 @@ fn discord(signatures: &[Signature], set: &ValidatorSet) -> Option<ProblemName>
     if fits {
         None
     } else {
-        Some(ProblemName::OtherSigner)
+        Some(CheckErrorName::OtherSigner)
     }
 }
 

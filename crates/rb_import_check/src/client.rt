@@ -1,14 +1,14 @@
 //! What a client has stored, and how it judges headers.
 ghost use Rattle.std.specs.Prelude.{◌≡◌, ◌≢◌, ◌↔◌, ◌++◌, ⊤, IsTrue, true, false, map, filter, nat_le, All, Any, IfOk, IfErr, OnOk, option_map, option_to_list};
-ghost use Rattle.rb_import_check.specs.Problems.{IsTold, IsToldOf};
+ghost use Rattle.rb_import_check.specs.Errors.{IsTold, IsToldOf};
 ghost use Rattle.std.specs.List.Sorted.{IsNonDecreasingBy, IsStrictlyIncreasing};
 ghost use Rattle.rb_import_check.specs.Clients.{IsOfRevision, JudgesAs, AtRevision, HaveStates, HasReason, Falls, client_states_of, current_of, is_of_client, is_last_in, has_last};
 
-use crate::error::{ImportError, ProblemName};
+use crate::error::{CheckErrorName, ImportError};
 use crate::repeat::repeated;
 use crate::saved::Saved;
 use rb_base::{ChainId, Height, Period};
-use rb_import_answers::{Answer, ClientState, ConsensusState, TrustLevel, revision_of};
+use rb_import_answers::{ClientState, ConsensusState, NodeAnswer, TrustLevel, revision_of};
 use rb_import_setup::ClientSetup;
 use std::alloc::{AllocError, Global};
 
@@ -56,7 +56,7 @@ pub fn seen_client<'a>(
             trust,
             stored,
         }),
-        _ => Err(ImportError::of(ProblemName::MissingClientState, setup.id.as_str())),
+        _ => Err(ImportError::of(CheckErrorName::MissingClientState, setup.id.as_str())),
     }
 }
 
@@ -74,16 +74,16 @@ fn state_of<'a>(
     let revision = revision_of(tracked.as_str());
     let mut found: Option<(&'a str, &'a ClientState)> = None;
     for saved in answers {
-        if let Answer::ClientState(state) = &saved.answer {
+        if let NodeAnswer::ClientState(state) = &saved.answer {
             let file = saved.file.as_str();
             if !is_of_chain(state, tracked) {
-                return Err(ImportError::at(ProblemName::OtherChain, id, 0, file));
+                return Err(ImportError::at(CheckErrorName::OtherChain, id, 0, file));
             }
             if state.revision != revision {
-                return Err(ImportError::at(ProblemName::OtherRevision, id, 0, file));
+                return Err(ImportError::at(CheckErrorName::OtherRevision, id, 0, file));
             }
             if let Some((earlier, _)) = found {
-                let name = ProblemName::TwoAnswers;
+                let name = CheckErrorName::TwoAnswers;
                 return Err(ImportError::between(name, id, 0, earlier, file));
             }
             found = Some((file, state));
@@ -119,7 +119,7 @@ fn stored_of<'a>(
     let revision = revision_of(tracked.as_str());
     let stored = sorted(current_of(alloc, id, revision, answers)?)?;
     if !has_last(answers) {
-        return Err(ImportError::of(ProblemName::MissingConsensusStates, id));
+        return Err(ImportError::of(CheckErrorName::MissingConsensusStates, id));
     }
     judge_revisions(id, revision, stored.as_slice())?;
     judge_heights(alloc, id, stored.as_slice())?;
@@ -150,11 +150,11 @@ fn has_last(answers: &[Saved]) -> bool
 }
 
 /// Whether an answer is the last page of records.
-fn is_last_in(answer: &Answer) -> bool
+fn is_last_in(answer: &NodeAnswer) -> bool
     ensures { result ≡ is_last_in answer.now }
 {
     match answer {
-        Answer::ConsensusStates(page) => page.is_last,
+        NodeAnswer::ConsensusStates(page) => page.is_last,
         _ => false,
     }
 }
@@ -168,18 +168,18 @@ fn current_of<'a>(
     answers: &'a [Saved],
 ) -> Result<Vec<Stored<'a>>, ImportError<'a>>
     ensures states { IfOk result (λ stored. map (λ s. s.state.now) stored.items ≡ current_of revision answers.entry.now) }
-    ensures foreign { IfErr result (IsTold ProblemName.WrongFolder (Any (λ s. is_of_client s.answer ≡ false) answers.entry.now)) }
+    ensures foreign { IfErr result (IsTold CheckErrorName.WrongFolder (Any (λ s. is_of_client s.answer ≡ false) answers.entry.now)) }
     ensures told { IfErr result (IsToldOf id.entry.now) }
 {
     let mut stored = Vec::new(alloc);
     for saved in answers {
         let file = saved.file.as_str();
         match &saved.answer {
-            Answer::ConsensusStates(page) => {
+            NodeAnswer::ConsensusStates(page) => {
                 add_states(file, revision, page.states.as_slice(), &mut stored)?;
             }
-            Answer::ClientState(_) => {}
-            _ => return Err(ImportError::at(ProblemName::WrongFolder, id, 0, file)),
+            NodeAnswer::ClientState(_) => {}
+            _ => return Err(ImportError::at(CheckErrorName::WrongFolder, id, 0, file)),
         }
     }
     Ok(stored)
@@ -209,13 +209,13 @@ fn judge_revisions<'a>(
     stored: &[Stored<'a>],
 ) -> Result<(), ImportError<'a>>
     ensures revision { OnOk result (All (λ s. s.state.now.revision ≡ revision) stored.now) }
-    ensures other { IfErr result (IsTold ProblemName.OtherRevision (Any (λ s. s.state.now.revision ≢ revision) stored.now)) }
+    ensures other { IfErr result (IsTold CheckErrorName.OtherRevision (Any (λ s. s.state.now.revision ≢ revision) stored.now)) }
     ensures told { IfErr result (IsToldOf id.entry.now) }
 {
     for record in stored {
         if record.state.revision != revision {
             let height = record.state.height.get();
-            return Err(ImportError::at(ProblemName::OtherRevision, id, height, record.file));
+            return Err(ImportError::at(CheckErrorName::OtherRevision, id, height, record.file));
         }
     }
     Ok(())
@@ -228,7 +228,7 @@ fn judge_heights<'a>(
     stored: &[Stored<'a>],
 ) -> Result<(), ImportError<'a>>
     ensures rising { OnOk result (IsStrictlyIncreasing (map (λ s. s.state.now.height) stored.now)) }
-    ensures falling { IfErr result (IsTold ProblemName.TwoAnswers (Falls (map (λ s. s.state.now.height) stored.now))) }
+    ensures falling { IfErr result (IsTold CheckErrorName.TwoAnswers (Falls (map (λ s. s.state.now.height) stored.now))) }
     ensures told { IfErr result (IsToldOf id.entry.now) }
 {
     let heights = heights_of(alloc, stored)?;
@@ -248,9 +248,15 @@ fn heights_of(alloc: Global, stored: &[Stored]) -> Result<Vec<Height>, AllocErro
 }
 
 fn two_records<'a>(id: &'a str, record: &Stored<'a>, other: &Stored<'a>) -> ImportError<'a>
-    ensures name { IsTold ProblemName.TwoAnswers ⊤ result }
+    ensures name { IsTold CheckErrorName.TwoAnswers ⊤ result }
     ensures told { IsToldOf id.entry.now result }
 {
     let height = record.state.height.get();
-    ImportError::between(ProblemName::TwoAnswers, id, height, record.file, other.file)
+    ImportError::between(
+        CheckErrorName::TwoAnswers,
+        id,
+        height,
+        record.file,
+        other.file,
+    )
 }

@@ -7,7 +7,7 @@ use thiserror::Error;
 
 /// What doesn't hold between answers.
 #[derive(Clone, Copy, Debug)]
-pub enum ProblemName {
+pub enum CheckErrorName {
     /// An answer of another kind than belongs into the folder.
     WrongFolder,
     /// An answer on another chain.
@@ -50,84 +50,84 @@ pub enum ProblemName {
     ScriptTooBig,
 }
 
-impl ProblemName {
-    ghost use Rattle.rb_import_check.specs.Names.{problem_name};
+impl CheckErrorName {
+    ghost use Rattle.rb_import_check.specs.Names.{check_error_name};
 
     /// The name.
     pub fn name(self) -> &'static str
-        ensures { result.now ≡ problem_name self }
+        ensures { result.now ≡ check_error_name self }
     {
         match self {
-            ProblemName::WrongFolder => "WrongFolder",
-            ProblemName::OtherChain => "OtherChain",
-            ProblemName::OtherRevision => "OtherRevision",
-            ProblemName::TwoAnswers => "TwoAnswers",
-            ProblemName::OtherTotal => "OtherTotal",
-            ProblemName::MissingPage => "MissingPage",
-            ProblemName::TooManyValidators => "TooManyValidators",
-            ProblemName::BadSet => "BadSet",
-            ProblemName::OtherSet => "OtherSet",
-            ProblemName::MissingSet => "MissingSet",
-            ProblemName::SignatureCount => "SignatureCount",
-            ProblemName::OtherSigner => "OtherSigner",
-            ProblemName::MissingClientState => "MissingClientState",
-            ProblemName::MissingConsensusStates => "MissingConsensusStates",
-            ProblemName::OtherRecord => "OtherRecord",
-            ProblemName::MissingTransactions => "MissingTransactions",
-            ProblemName::TwoChannels => "TwoChannels",
-            ProblemName::MissingSend => "MissingSend",
-            ProblemName::MissingReceive => "MissingReceive",
-            ProblemName::ScriptTooBig => "ScriptTooBig",
+            CheckErrorName::WrongFolder => "WrongFolder",
+            CheckErrorName::OtherChain => "OtherChain",
+            CheckErrorName::OtherRevision => "OtherRevision",
+            CheckErrorName::TwoAnswers => "TwoAnswers",
+            CheckErrorName::OtherTotal => "OtherTotal",
+            CheckErrorName::MissingPage => "MissingPage",
+            CheckErrorName::TooManyValidators => "TooManyValidators",
+            CheckErrorName::BadSet => "BadSet",
+            CheckErrorName::OtherSet => "OtherSet",
+            CheckErrorName::MissingSet => "MissingSet",
+            CheckErrorName::SignatureCount => "SignatureCount",
+            CheckErrorName::OtherSigner => "OtherSigner",
+            CheckErrorName::MissingClientState => "MissingClientState",
+            CheckErrorName::MissingConsensusStates => "MissingConsensusStates",
+            CheckErrorName::OtherRecord => "OtherRecord",
+            CheckErrorName::MissingTransactions => "MissingTransactions",
+            CheckErrorName::TwoChannels => "TwoChannels",
+            CheckErrorName::MissingSend => "MissingSend",
+            CheckErrorName::MissingReceive => "MissingReceive",
+            CheckErrorName::ScriptTooBig => "ScriptTooBig",
         }
     }
 
-    /// What is wrong, and what to do; of answers that are to be fetched for a height, and of another chain's, `Problem`
+    /// What is wrong, and what to do; of answers that are to be fetched for a height, and of another chain's, `CheckError`
     /// tells which.
     pub fn advice(self) -> &'static str {
         match self {
-            ProblemName::WrongFolder => {
+            CheckErrorName::WrongFolder => {
                 "a chain's folder has answers of /commit and /validators, a client's of client_states and consensus_states, a path's of /tx_search; move the file, or give the chain, the client and the path different identifiers"
             }
-            ProblemName::OtherChain => "the answer is on another chain",
-            ProblemName::OtherRevision => {
+            CheckErrorName::OtherChain => "the answer is on another chain",
+            CheckErrorName::OtherRevision => {
                 "the revision number isn't that of the chain's identifier; fetch the answer again, or mend the setup's chain"
             }
-            ProblemName::TwoAnswers => "both tell of the same; keep one of the two",
-            ProblemName::OtherTotal => "the pages tell different totals",
-            ProblemName::MissingPage => "pages are missing",
-            ProblemName::TooManyValidators => {
+            CheckErrorName::TwoAnswers => "both tell of the same; keep one of the two",
+            CheckErrorName::OtherTotal => "the pages tell different totals",
+            CheckErrorName::MissingPage => "pages are missing",
+            CheckErrorName::TooManyValidators => {
                 "the pages of this height hold more validators than they count: one is there twice, perhaps under another name; keep each page once"
             }
-            ProblemName::BadSet => "these validators make no set",
-            ProblemName::OtherSet => {
+            CheckErrorName::BadSet => "these validators make no set",
+            CheckErrorName::OtherSet => {
                 "the set's hash isn't the header's validators_hash; fetch /commit and /validators of this height from one node"
             }
-            ProblemName::MissingSet => "no answer has the validators that the header names",
-            ProblemName::SignatureCount => {
+            CheckErrorName::MissingSet => "no answer has the validators that the header names",
+            CheckErrorName::SignatureCount => {
                 "the commit has another number of signatures than the set has validators"
             }
-            ProblemName::OtherSigner => {
+            CheckErrorName::OtherSigner => {
                 "a signature is of another validator than that of its place"
             }
-            ProblemName::MissingClientState => {
+            CheckErrorName::MissingClientState => {
                 "the client's state isn't there, and the setup leaves out period_ns, drift_ns or trust; fetch /ibc/core/client/v1/client_states/ID"
             }
-            ProblemName::MissingConsensusStates => {
+            CheckErrorName::MissingConsensusStates => {
                 "consensus states are missing; fetch /ibc/core/client/v1/consensus_states/ID, all of its pages,"
             }
-            ProblemName::OtherRecord => {
+            CheckErrorName::OtherRecord => {
                 "the client's record has another time, root or next set than the chain's header of this height, so that one of the two isn't the chain's; fetch both again"
             }
-            ProblemName::MissingTransactions =>
+            CheckErrorName::MissingTransactions =>
                 "transactions are missing; fetch all pages of /tx_search",
-            ProblemName::TwoChannels => {
+            CheckErrorName::TwoChannels => {
                 "these packets are of two channels; write the source's port and channel into the setup's path"
             }
-            ProblemName::MissingSend =>
+            CheckErrorName::MissingSend =>
                 "no answer has the packet's send_packet; fetch /tx_search with it",
-            ProblemName::MissingReceive =>
+            CheckErrorName::MissingReceive =>
                 "no answer has the packet's recv_packet; fetch /tx_search with it",
-            ProblemName::ScriptTooBig =>
+            CheckErrorName::ScriptTooBig =>
                 "the script would have more than 16,777,216 bytes; take fewer answers",
         }
     }
@@ -136,27 +136,30 @@ impl ProblemName {
 /// What doesn't hold between answers: on which chain, client or path, at which height or sequence,
 /// and the files; no file where an answer isn't there.
 #[derive(Clone, Copy, Debug)]
-pub struct Problem<'a> {
-    pub name: ProblemName,
+pub struct CheckError<'a> {
+    pub name: CheckErrorName,
     pub object: &'a str,
     pub number: Option<u64>,
     pub file: Option<&'a str>,
     pub other: Option<&'a str>,
 }
 
-impl Problem<'_> {
+impl CheckError<'_> {
     /// Writes into which folder the answer belongs that isn't there: a chain's, a client's and a path's have
     /// its identifier.
     fn write_folder<W: fmt::Write>(&self, f: &mut fmt::Formatter<W>) -> fmt::Result {
         let object = self.object;
         match self.name {
-            ProblemName::MissingPage
-            | ProblemName::MissingSet
-            | ProblemName::MissingClientState
-            | ProblemName::MissingConsensusStates
-            | ProblemName::MissingTransactions
-            | ProblemName::MissingSend
-            | ProblemName::MissingReceive => write!(f, " into files *.json of the folder {object}"),
+            CheckErrorName::MissingPage
+            | CheckErrorName::MissingSet
+            | CheckErrorName::MissingClientState
+            | CheckErrorName::MissingConsensusStates
+            | CheckErrorName::MissingTransactions
+            | CheckErrorName::MissingSend
+            | CheckErrorName::MissingReceive => write!(
+                f,
+                " into files *.json of the folder {object}"
+            ),
             _ => Ok(()),
         }
     }
@@ -164,7 +167,7 @@ impl Problem<'_> {
     /// Writes what else can be done, where the answer may be gone.
     fn write_other_way<W: fmt::Write>(&self, f: &mut fmt::Formatter<W>) -> fmt::Result {
         match self.name {
-            ProblemName::MissingSend => f.write_str(
+            CheckErrorName::MissingSend => f.write_str(
                 ", or, where the node keeps it no more, set the path's `first` above it",
             ),
             _ => Ok(()),
@@ -175,29 +178,29 @@ impl Problem<'_> {
     /// an answer on another chain is then a client's.
     fn write_request<W: fmt::Write>(&self, f: &mut fmt::Formatter<W>, height: u64) -> fmt::Result {
         match self.name {
-            ProblemName::OtherTotal | ProblemName::BadSet => write!(
+            CheckErrorName::OtherTotal | CheckErrorName::BadSet => write!(
                 f,
                 "; fetch all pages of /validators?height={height}&per_page=100 again"
             ),
-            ProblemName::MissingPage | ProblemName::MissingSet => {
+            CheckErrorName::MissingPage | CheckErrorName::MissingSet => {
                 write!(
                     f,
                     "; fetch all pages of /validators?height={height}&per_page=100"
                 )
             }
-            ProblemName::SignatureCount | ProblemName::OtherSigner => {
+            CheckErrorName::SignatureCount | CheckErrorName::OtherSigner => {
                 write!(f, "; fetch /commit?height={height} again")
             }
-            ProblemName::OtherChain if height == 0 => f.write_str(
+            CheckErrorName::OtherChain if height == 0 => f.write_str(
                 "; this client follows another chain than the setup's `of` says: is the identifier right?",
             ),
-            ProblemName::OtherChain => f.write_str("; fetch it from this chain's node"),
+            CheckErrorName::OtherChain => f.write_str("; fetch it from this chain's node"),
             _ => Ok(()),
         }
     }
 }
 
-impl fmt::Display for Problem<'_> {
+impl fmt::Display for CheckError<'_> {
     fn fmt<W: fmt::Write>(&self, f: &mut fmt::Formatter<W>) -> fmt::Result {
         let name = self.name.name();
         let object = self.object;
@@ -224,7 +227,7 @@ impl fmt::Display for Problem<'_> {
 pub enum ImportError<'a> {
     /// Something doesn't hold between answers.
     #[error("{0}")]
-    Problem(Problem<'a>),
+    CheckError(CheckError<'a>),
     /// A growth was refused.
     #[error("no memory")]
     NoMemory,
@@ -232,10 +235,10 @@ pub enum ImportError<'a> {
 
 impl<'a> ImportError<'a> {
     /// A problem of a chain, a client or a path.
-    pub fn of(name: ProblemName, object: &'a str) -> ImportError<'a>
-        ensures { result ≡ ImportError.Problem (record { name = name; object = object.entry; number = None; file = None; other = None }) }
+    pub fn of(name: CheckErrorName, object: &'a str) -> ImportError<'a>
+        ensures { result ≡ ImportError.CheckError (record { name = name; object = object.entry; number = None; file = None; other = None }) }
     {
-        ImportError::Problem(Problem {
+        ImportError::CheckError(CheckError {
             name,
             object,
             number: None,
@@ -245,10 +248,10 @@ impl<'a> ImportError<'a> {
     }
 
     /// A problem in a file, at a height or a sequence.
-    pub fn at(name: ProblemName, object: &'a str, number: u64, file: &'a str) -> ImportError<'a>
-        ensures { result ≡ ImportError.Problem (record { name = name; object = object.entry; number = Some number; file = Some file.entry; other = None }) }
+    pub fn at(name: CheckErrorName, object: &'a str, number: u64, file: &'a str) -> ImportError<'a>
+        ensures { result ≡ ImportError.CheckError (record { name = name; object = object.entry; number = Some number; file = Some file.entry; other = None }) }
     {
-        ImportError::Problem(Problem {
+        ImportError::CheckError(CheckError {
             name,
             object,
             number: Some(number),
@@ -259,15 +262,15 @@ impl<'a> ImportError<'a> {
 
     /// A problem between two files, at a height or a sequence.
     pub fn between(
-        name: ProblemName,
+        name: CheckErrorName,
         object: &'a str,
         number: u64,
         file: &'a str,
         other: &'a str,
     ) -> ImportError<'a>
-        ensures { result ≡ ImportError.Problem (record { name = name; object = object.entry; number = Some number; file = Some file.entry; other = Some other.entry }) }
+        ensures { result ≡ ImportError.CheckError (record { name = name; object = object.entry; number = Some number; file = Some file.entry; other = Some other.entry }) }
     {
-        ImportError::Problem(Problem {
+        ImportError::CheckError(CheckError {
             name,
             object,
             number: Some(number),

@@ -4,14 +4,16 @@ ghost use Rattle.rb_import_answers.specs.Answers.{answer_view, told};
 ghost use Rattle.rb_import_answers.specs.Said.{IsPlain};
 ghost use Rattle.rb_import_check.specs.Saved.{IsFlawOf};
 
-use rb_import_answers::{Answer, AnswerError, Flaw, FlawName, read_answer, said_in};
+use rb_import_answers::{
+    AnswerError, FieldError, FieldErrorName, NodeAnswer, read_answer, said_in,
+};
 use std::alloc::{AllocError, Global};
 
 /// An answer, and the name of the file that it was saved in.
 #[derive(Drop)]
 pub struct Saved {
     pub file: String,
-    pub answer: Answer,
+    pub answer: NodeAnswer,
 }
 
 /// The answers of each chain, of each client and of each path of a setup, in its order.
@@ -26,9 +28,9 @@ pub struct SavedAnswers {
 #[derive(Drop)]
 pub enum SavedError {
     /// The file's content has a flaw; where that is an error that the node answered, what the node said of it.
-    Flaw {
+    FieldError {
         file: String,
-        flaw: Flaw,
+        flaw: FieldError,
         said: String,
     },
     /// A growth was refused.
@@ -43,29 +45,29 @@ pub fn read_saved(alloc: Global, file: String, bytes: &[u8]) -> Result<Saved, Sa
 {
     match read_answer(alloc, bytes) {
         Ok(answer) => Ok(Saved { file, answer }),
-        Err(AnswerError::Flaw(flaw)) => Err(flawed(alloc, file, bytes, flaw)),
+        Err(AnswerError::Field(flaw)) => Err(flawed(alloc, file, bytes, flaw)),
         Err(AnswerError::NoMemory) => Err(SavedError::NoMemory),
     }
 }
 
 /// The flaw that a file's content has.
-fn flawed(alloc: Global, file: String, bytes: &[u8], flaw: Flaw) -> SavedError
+fn flawed(alloc: Global, file: String, bytes: &[u8], flaw: FieldError) -> SavedError
     requires { told bytes.now ≡ Err flaw }
     ensures { IsFlawOf file bytes.now result }
 {
     match said_of(alloc, bytes, flaw) {
-        Ok(said) => SavedError::Flaw { file, flaw, said },
+        Ok(said) => SavedError::FieldError { file, flaw, said },
         Err(_) => SavedError::NoMemory,
     }
 }
 
 /// What a node said, where the flaw is an error that it answered; else nothing.
-fn said_of(alloc: Global, bytes: &[u8], flaw: Flaw) -> Result<String, AllocError>
+fn said_of(alloc: Global, bytes: &[u8], flaw: FieldError) -> Result<String, AllocError>
     ensures plain { IfOk result (λ said. All IsPlain (string_bytes said)) }
     ensures short { IfOk result (λ said. length (string_bytes said) ≤ 200) }
 {
     match flaw.name {
-        FlawName::NodeError => said_in(alloc, bytes),
+        FieldErrorName::NodeError => said_in(alloc, bytes),
         _ => Ok(String::new(alloc)),
     }
 }

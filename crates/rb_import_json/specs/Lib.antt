@@ -1,4 +1,4 @@
 pub mod Names
-pub mod Flaws
+pub mod FieldErrors
 pub mod Values
 pub mod Fields

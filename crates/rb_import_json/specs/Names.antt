@@ -1,11 +1,11 @@
 -- The names of fields and attributes as CometBFT's RPC and ibc-go's gateway spell them, and of flaws.
 use Rattle.std.specs.Prelude.{ℕ, List, [], ◌++◌, ◌==◌, length, Option, Some, None, codes, if◌then◌else◌}
 use Rattle.std.specs.Fmt.{decimal}
-use Rattle.rb_import_json.specs.declared.place.Key.{Key}
-use Rattle.rb_import_json.specs.declared.place.Part.{Part}
-use Rattle.rb_import_json.specs.declared.place.Place.{Place}
-use Rattle.rb_import_json.specs.declared.flaw.FlawName.{FlawName}
-use Rattle.rb_import_json.specs.declared.flaw.Flaw.{Flaw}
+use Rattle.rb_import_json.specs.declared.field_path.Key.{Key}
+use Rattle.rb_import_json.specs.declared.field_path.Segment.{Segment}
+use Rattle.rb_import_json.specs.declared.field_path.FieldPath.{FieldPath}
+use Rattle.rb_import_json.specs.declared.error.FieldErrorName.{FieldErrorName}
+use Rattle.rb_import_json.specs.declared.error.FieldError.{FieldError}
 
 -- `Whole` is shown for the whole answer
 abbrev pub key_name : Key → List ℕ
@@ -62,42 +62,42 @@ key_name Key.Value = codes "value"
 key_name Key.VotingPower = codes "voting_power"
 key_name Key.Whole = codes "-"
 
-abbrev pub part_path : Part → List ℕ
-part_path Part.Result = codes "result"
-part_path Part.SignedHeader = codes "result.signed_header"
-part_path Part.Header = codes "result.signed_header.header"
-part_path Part.Commit = codes "result.signed_header.commit"
-part_path Part.Signatures = codes "result.signed_header.commit.signatures"
-part_path Part.Validators = codes "result.validators"
-part_path Part.ClientState = codes "client_state"
-part_path Part.LatestHeight = codes "client_state.latest_height"
-part_path Part.FrozenHeight = codes "client_state.frozen_height"
-part_path Part.TrustLevel = codes "client_state.trust_level"
-part_path Part.ConsensusStates = codes "consensus_states"
-part_path Part.Pagination = codes "pagination"
-part_path Part.Transactions = codes "result.txs"
-part_path Part.Answer = []
+abbrev pub part_path : Segment → List ℕ
+part_path Segment.Result = codes "result"
+part_path Segment.SignedHeader = codes "result.signed_header"
+part_path Segment.Header = codes "result.signed_header.header"
+part_path Segment.Commit = codes "result.signed_header.commit"
+part_path Segment.Signatures = codes "result.signed_header.commit.signatures"
+part_path Segment.Validators = codes "result.validators"
+part_path Segment.ClientState = codes "client_state"
+part_path Segment.LatestHeight = codes "client_state.latest_height"
+part_path Segment.FrozenHeight = codes "client_state.frozen_height"
+part_path Segment.TrustLevel = codes "client_state.trust_level"
+part_path Segment.ConsensusStates = codes "consensus_states"
+part_path Segment.Pagination = codes "pagination"
+part_path Segment.Transactions = codes "result.txs"
+part_path Segment.Answer = []
 
-abbrev pub flaw_name : FlawName → List ℕ
-flaw_name FlawName.TooBig = codes "TooBig"
-flaw_name FlawName.NotJson = codes "NotJson"
-flaw_name FlawName.UnknownShape = codes "UnknownShape"
-flaw_name FlawName.NodeError = codes "NodeError"
-flaw_name FlawName.MissingField = codes "MissingField"
-flaw_name FlawName.WrongType = codes "WrongType"
-flaw_name FlawName.BadNumber = codes "BadNumber"
-flaw_name FlawName.BadHex = codes "BadHex"
-flaw_name FlawName.BadBase64 = codes "BadBase64"
-flaw_name FlawName.BadTime = codes "BadTime"
-flaw_name FlawName.BadDuration = codes "BadDuration"
-flaw_name FlawName.BadIdentifier = codes "BadIdentifier"
-flaw_name FlawName.BadFlag = codes "BadFlag"
-flaw_name FlawName.ForeignKey = codes "ForeignKey"
-flaw_name FlawName.BadPower = codes "BadPower"
-flaw_name FlawName.BadTrust = codes "BadTrust"
-flaw_name FlawName.ForeignClient = codes "ForeignClient"
-flaw_name FlawName.FrozenClient = codes "FrozenClient"
-flaw_name FlawName.OtherHeight = codes "OtherHeight"
+abbrev pub field_error_name : FieldErrorName → List ℕ
+field_error_name FieldErrorName.TooBig = codes "TooBig"
+field_error_name FieldErrorName.NotJson = codes "NotJson"
+field_error_name FieldErrorName.UnknownShape = codes "UnknownShape"
+field_error_name FieldErrorName.NodeError = codes "NodeError"
+field_error_name FieldErrorName.MissingField = codes "MissingField"
+field_error_name FieldErrorName.WrongType = codes "WrongType"
+field_error_name FieldErrorName.BadNumber = codes "BadNumber"
+field_error_name FieldErrorName.BadHex = codes "BadHex"
+field_error_name FieldErrorName.BadBase64 = codes "BadBase64"
+field_error_name FieldErrorName.BadTime = codes "BadTime"
+field_error_name FieldErrorName.BadDuration = codes "BadDuration"
+field_error_name FieldErrorName.BadIdentifier = codes "BadIdentifier"
+field_error_name FieldErrorName.BadFlag = codes "BadFlag"
+field_error_name FieldErrorName.ForeignKey = codes "ForeignKey"
+field_error_name FieldErrorName.BadPower = codes "BadPower"
+field_error_name FieldErrorName.BadTrust = codes "BadTrust"
+field_error_name FieldErrorName.ForeignClient = codes "ForeignClient"
+field_error_name FieldErrorName.FrozenClient = codes "FrozenClient"
+field_error_name FieldErrorName.OtherHeight = codes "OtherHeight"
 
 -- an element of an array of objects by its index, and no point where there is no part before the key
 abbrev pub joined : List ℕ → Option ℕ → List ℕ → List ℕ
@@ -105,9 +105,9 @@ joined path (Some index) key = path ++ codes "[" ++ decimal index ++ codes "]." 
 joined path None key = if length path == 0 then key else path ++ codes "." ++ key
 
 -- how a place is told
-abbrev pub place_text : Place → List ℕ
+abbrev pub place_text : FieldPath → List ℕ
 place_text p = joined (part_path p.part) p.index (key_name p.key)
 
 -- how a flaw is told
-abbrev pub flaw_text : Flaw → List ℕ
-flaw_text f = flaw_name f.name ++ codes " at " ++ place_text f.place
+abbrev pub flaw_text : FieldError → List ℕ
+flaw_text f = field_error_name f.name ++ codes " at " ++ place_text f.place

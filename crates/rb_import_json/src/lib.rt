@@ -2,12 +2,12 @@
 //! value stands, or what is wrong there.
 #![tactic(auto)]
 
-mod flaw;
+mod error;
+mod field_path;
 mod object;
-mod place;
 mod scalar;
 
-pub use flaw::{AnswerError, Flaw, FlawName};
+pub use error::{AnswerError, FieldError, FieldErrorName};
+pub use field_path::{FieldPath, Key, Segment};
 pub use object::Object;
-pub use place::{Key, Part, Place};
 pub use scalar::number_of;

@@ -1,10 +1,10 @@
 //! The fields of an object in an answer.
 ghost use Rattle.std.specs.Prelude.{◌≡◌, None, Some};
 ghost use Rattle.serde_json.specs.View.{view, items_view};
-ghost use Rattle.rb_import_json.specs.Flaws.{Reads};
+ghost use Rattle.rb_import_json.specs.FieldErrors.{Reads};
 
-use crate::flaw::{Flaw, FlawName};
-use crate::place::{Key, Part, Place};
+use crate::error::{FieldError, FieldErrorName};
+use crate::field_path::{FieldPath, Key, Segment};
 use crate::scalar::{address_of, chain_of, hash_of, height_of, key_of, moment_of, number_of};
 use rb_base::{ChainId, Height, Moment};
 use serde_json::Value;
@@ -13,7 +13,7 @@ use serde_json::Value;
 #[derive(Clone, Copy)]
 pub struct Object<'a> {
     pub value: &'a Value,
-    pub part: Part,
+    pub part: Segment,
     pub index: Option<usize>,
 }
 
@@ -21,7 +21,7 @@ impl<'a> Object<'a> {
     ghost use Rattle.rb_import_json.specs.Fields.{object_view, flaw_at, field, inner, object, items, text, number, height, chain, time, hex, base64};
 
     /// The object that is this part.
-    pub fn new(value: &'a Value, part: Part) -> Object<'a>
+    pub fn new(value: &'a Value, part: Segment) -> Object<'a>
         ensures { object_view result ≡ record { value = view value.now; part = part; index = None } }
     {
         Object {
@@ -32,7 +32,7 @@ impl<'a> Object<'a> {
     }
 
     /// The object that is an element of the array that is this part.
-    pub fn element(value: &'a Value, part: Part, index: usize) -> Object<'a>
+    pub fn element(value: &'a Value, part: Segment, index: usize) -> Object<'a>
         ensures { object_view result ≡ record { value = view value.now; part = part; index = Some index } }
     {
         Object {
@@ -43,12 +43,12 @@ impl<'a> Object<'a> {
     }
 
     /// The flaw of this name at a field.
-    pub fn flaw(&self, key: Key, name: FlawName) -> Flaw
+    pub fn flaw(&self, key: Key, name: FieldErrorName) -> FieldError
         ensures { result ≡ flaw_at (object_view self.now) key name }
     {
-        Flaw {
+        FieldError {
             name,
-            place: Place {
+            place: FieldPath {
                 part: self.part,
                 index: self.index,
                 key,
@@ -58,18 +58,18 @@ impl<'a> Object<'a> {
 
     /// What a field holds: `MissingField` where it isn't there.
     #[tactic(auto, using(crate::proofs::Steps::steps), unfolding(crate::specs::Fields::field))]
-    pub fn field(&self, key: Key) -> Result<&'a Value, Flaw>
+    pub fn field(&self, key: Key) -> Result<&'a Value, FieldError>
         ensures { Reads (λ x. view x.now) result (field key (object_view self.now)) }
     {
         match self.value.get(key.name()) {
             Some(value) => Ok(value),
-            None => Err(self.flaw(key, FlawName::MissingField)),
+            None => Err(self.flaw(key, FieldErrorName::MissingField)),
         }
     }
 
     /// What a field holds, told of at the place of this object.
     #[tactic(auto, using(crate::proofs::Steps::steps), unfolding(crate::specs::Fields::inner))]
-    pub fn inner(&self, key: Key) -> Result<Object<'a>, Flaw>
+    pub fn inner(&self, key: Key) -> Result<Object<'a>, FieldError>
         ensures { Reads (λ x. object_view x) result (inner key (object_view self.now)) }
     {
         let value = self.field(key)?;
@@ -82,114 +82,114 @@ impl<'a> Object<'a> {
 
     /// The object that a field holds, which is this part: `WrongType` where it holds none.
     #[tactic(auto, using(crate::proofs::Steps::steps), unfolding(crate::specs::Fields::object))]
-    pub fn object(&self, key: Key, part: Part) -> Result<Object<'a>, Flaw>
+    pub fn object(&self, key: Key, part: Segment) -> Result<Object<'a>, FieldError>
         ensures { Reads (λ x. object_view x) result (object key part (object_view self.now)) }
     {
         let value = self.field(key)?;
         if value.is_object() {
             Ok(Object::new(value, part))
         } else {
-            Err(self.flaw(key, FlawName::WrongType))
+            Err(self.flaw(key, FieldErrorName::WrongType))
         }
     }
 
     /// The elements of the array that a field holds: `WrongType` where it holds none.
     #[tactic(auto, using(crate::proofs::Steps::steps), unfolding(crate::specs::Fields::items))]
-    pub fn items(&self, key: Key) -> Result<&'a [Value], Flaw>
+    pub fn items(&self, key: Key) -> Result<&'a [Value], FieldError>
         ensures { Reads (λ x. items_view x.now) result (items key (object_view self.now)) }
     {
         match self.field(key)?.as_array() {
             Some(array) => Ok(array.as_slice()),
-            None => Err(self.flaw(key, FlawName::WrongType)),
+            None => Err(self.flaw(key, FieldErrorName::WrongType)),
         }
     }
 
     /// The text that a field holds: `WrongType` where it holds none.
     #[tactic(auto, using(crate::proofs::Steps::steps), unfolding(crate::specs::Fields::text))]
-    pub fn text(&self, key: Key) -> Result<&'a str, Flaw>
+    pub fn text(&self, key: Key) -> Result<&'a str, FieldError>
         ensures { Reads (λ x. x.now) result (text key (object_view self.now)) }
     {
         match self.field(key)?.as_str() {
             Some(text) => Ok(text),
-            None => Err(self.flaw(key, FlawName::WrongType)),
+            None => Err(self.flaw(key, FieldErrorName::WrongType)),
         }
     }
 
     /// The number below 2^64 that a field holds as a text of decimal digits, else `BadNumber`.
     #[tactic(auto, using(crate::proofs::Steps::steps), unfolding(crate::specs::Fields::number))]
-    pub fn number(&self, key: Key) -> Result<u64, Flaw>
+    pub fn number(&self, key: Key) -> Result<u64, FieldError>
         ensures { Reads (λ x. x) result (number key (object_view self.now)) }
     {
         match number_of(self.text(key)?) {
             Some(read) => Ok(read),
-            None => Err(self.flaw(key, FlawName::BadNumber)),
+            None => Err(self.flaw(key, FieldErrorName::BadNumber)),
         }
     }
 
     /// The height that a field holds as a text of decimal digits, else `BadNumber`.
     #[tactic(auto, using(crate::proofs::Steps::steps), unfolding(crate::specs::Fields::height))]
-    pub fn height(&self, key: Key) -> Result<Height, Flaw>
+    pub fn height(&self, key: Key) -> Result<Height, FieldError>
         ensures { Reads (λ x. x) result (height key (object_view self.now)) }
     {
         match height_of(self.number(key)?) {
             Some(read) => Ok(read),
-            None => Err(self.flaw(key, FlawName::BadNumber)),
+            None => Err(self.flaw(key, FieldErrorName::BadNumber)),
         }
     }
 
     /// The identifier of a chain that a field holds, else `BadIdentifier`.
     #[tactic(auto, using(crate::proofs::Steps::steps), unfolding(crate::specs::Fields::chain))]
-    pub fn chain(&self, key: Key) -> Result<ChainId, Flaw>
+    pub fn chain(&self, key: Key) -> Result<ChainId, FieldError>
         ensures { Reads (λ x. x) result (chain key (object_view self.now)) }
     {
         match chain_of(self.text(key)?) {
             Some(read) => Ok(read),
-            None => Err(self.flaw(key, FlawName::BadIdentifier)),
+            None => Err(self.flaw(key, FieldErrorName::BadIdentifier)),
         }
     }
 
     /// The moment that a field holds as a timestamp that `jiff` reads (RFC 3339, as CometBFT writes
     /// times, or ISO 8601 with an offset), else `BadTime`.
     #[tactic(auto, using(crate::proofs::Steps::steps), unfolding(crate::specs::Fields::time))]
-    pub fn time(&self, key: Key) -> Result<Moment, Flaw>
+    pub fn time(&self, key: Key) -> Result<Moment, FieldError>
         ensures { Reads (λ x. x) result (time key (object_view self.now)) }
     {
         match moment_of(self.text(key)?) {
             Some(read) => Ok(read),
-            None => Err(self.flaw(key, FlawName::BadTime)),
+            None => Err(self.flaw(key, FieldErrorName::BadTime)),
         }
     }
 
     /// The 32 bytes that a field holds in hexadecimal digits, else `BadHex`.
     #[tactic(auto, using(crate::proofs::Steps::steps), unfolding(crate::specs::Fields::hex))]
-    pub fn hash(&self, key: Key) -> Result<[u8; 32], Flaw>
+    pub fn hash(&self, key: Key) -> Result<[u8; 32], FieldError>
         ensures { Reads (λ x. x) result (hex 32 key (object_view self.now)) }
     {
         match hash_of(self.text(key)?) {
             Some(read) => Ok(read),
-            None => Err(self.flaw(key, FlawName::BadHex)),
+            None => Err(self.flaw(key, FieldErrorName::BadHex)),
         }
     }
 
     /// The 20 bytes that a field holds in hexadecimal digits, else `BadHex`.
     #[tactic(auto, using(crate::proofs::Steps::steps), unfolding(crate::specs::Fields::hex))]
-    pub fn address(&self, key: Key) -> Result<[u8; 20], Flaw>
+    pub fn address(&self, key: Key) -> Result<[u8; 20], FieldError>
         ensures { Reads (λ x. x) result (hex 20 key (object_view self.now)) }
     {
         match address_of(self.text(key)?) {
             Some(read) => Ok(read),
-            None => Err(self.flaw(key, FlawName::BadHex)),
+            None => Err(self.flaw(key, FieldErrorName::BadHex)),
         }
     }
 
     /// The 32 bytes that a field holds in base64, else `BadBase64`.
     #[tactic(auto, using(crate::proofs::Steps::steps), unfolding(crate::specs::Fields::base64))]
-    pub fn base64(&self, key: Key) -> Result<[u8; 32], Flaw>
+    pub fn base64(&self, key: Key) -> Result<[u8; 32], FieldError>
         ensures { Reads (λ x. x) result (base64 key (object_view self.now)) }
     {
         match key_of(self.text(key)?) {
             Some(read) => Ok(read),
-            None => Err(self.flaw(key, FlawName::BadBase64)),
+            None => Err(self.flaw(key, FieldErrorName::BadBase64)),
         }
     }
 }

@@ -6,11 +6,11 @@ use Rattle.rb_import_setup.specs.declared.setup.PathSetup.{PathSetup}
 use Rattle.rb_import_setup.specs.declared.setup.Setup.{Setup}
 use Rattle.rb_import_check.specs.declared.error.ImportError.{ImportError}
 use Rattle.rb_import_check.specs.declared.error.ImportError.TheVariants as errors
-use Rattle.rb_import_check.specs.Problems.{IsToldOf}
-use Rattle.rb_import_merge.specs.Problems.{IsToldIn, IsNamedIn}
+use Rattle.rb_import_check.specs.Errors.{IsToldOf}
+use Rattle.rb_import_merge.specs.Errors.{IsToldIn, IsNamedIn}
 
 told_in : (setup : Setup) (id : List ℕ) (e : ImportError) → IsNamedIn setup id → IsToldOf id e → IsToldIn setup e
-told_in setup id (errors.Problem p) named told = subst (IsNamedIn setup) (sym told) named
+told_in setup id (errors.CheckError p) named told = subst (IsNamedIn setup) (sym told) named
 told_in setup id errors.NoMemory named told = tt
 
 pub told_of_chain : (setup : Setup) (id : List ℕ) (i : ℕ) (e : ImportError) → i < length setup.chains.items → id ≡ get_or setup.chains.items i id → IsToldOf id e → IsToldIn setup e

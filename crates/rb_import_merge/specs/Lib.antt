@@ -2,7 +2,7 @@ pub mod Packets
 pub mod Counterparties
 pub mod Sources
 pub mod Lowest
-pub mod Problems
+pub mod Errors
 pub mod Room
 pub mod Sets
 pub mod Seen

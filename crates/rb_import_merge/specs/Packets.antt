@@ -4,8 +4,8 @@ use Rattle.std.specs.Global.{Global}
 use Rattle.std.specs.List.{flat_map, list_any, IsDistinct}
 use Rattle.std.specs.Option.{option_or}
 use Rattle.std.specs.Str.{bytes_eq}
-use Rattle.rb_import_answers.specs.declared.answer.Answer.{Answer}
-use Rattle.rb_import_answers.specs.declared.answer.Answer.TheVariants as answers
+use Rattle.rb_import_answers.specs.declared.answer.NodeAnswer.{NodeAnswer}
+use Rattle.rb_import_answers.specs.declared.answer.NodeAnswer.TheVariants as answers
 use Rattle.rb_import_answers.specs.declared.packets.PacketEvent.{PacketEvent}
 use Rattle.rb_import_answers.specs.declared.packets.PacketKind.{PacketKind}
 use Rattle.rb_import_answers.specs.declared.packets.RevisionHeight.{RevisionHeight}
@@ -63,7 +63,7 @@ IsOfPath setup end p =
 abbrev pub is_wanted : PathSetup → Option (List ℕ) → PacketEvent → Bool
 is_wanted setup end e = is_source setup.source_channel (string_bytes e.source) && is_dest end (string_bytes e.dest) && nat_le setup.first e.sequence
 
-abbrev pub events_in : Answer → List PacketEvent
+abbrev pub events_in : NodeAnswer → List PacketEvent
 events_in (answers.Commit header) = []
 events_in (answers.Validators page) = []
 events_in (answers.ClientState state) = []
@@ -142,7 +142,7 @@ Expires dest p = (revision : ℕ) × IsRevision dest revision × ExpiresAt revis
 -- ---- searches that aren't there
 
 -- whether an answer tells of an event of this kind
-abbrev pub tells_of : PacketKind → Answer → Bool
+abbrev pub tells_of : PacketKind → NodeAnswer → Bool
 tells_of kind (answers.Commit header) = false
 tells_of kind (answers.Validators page) = false
 tells_of kind (answers.ClientState state) = false
@@ -154,7 +154,7 @@ abbrev pub lacks : PacketKind → List Saved → Bool
 lacks kind saved = not (list_any (λ (s : Saved). tells_of kind s.answer) saved)
 
 -- whether an answer of `/tx_search` tells of no packet
-abbrev pub is_empty : Answer → Bool
+abbrev pub is_empty : NodeAnswer → Bool
 is_empty (answers.Commit header) = false
 is_empty (answers.Validators page) = false
 is_empty (answers.ClientState state) = false

@@ -4,7 +4,7 @@ ghost use Rattle.rb_import_merge.specs.Counterparties.{AreCounterparties, HasSev
 ghost use Rattle.rb_import_merge.specs.Packets.{counterparty, events_in, events_of, first_dest, is_other, is_sending};
 
 use crate::packets::{counts_as, is_source};
-use rb_import_answers::{Answer, PacketEvent, PacketKind};
+use rb_import_answers::{NodeAnswer, PacketEvent, PacketKind};
 use rb_import_check::Saved;
 use rb_import_setup::PathSetup;
 
@@ -73,11 +73,11 @@ fn first_dest_in<'a>(
 }
 
 /// The events that an answer tells of.
-pub fn events_in(answer: &Answer) -> &[PacketEvent]
+pub fn events_in(answer: &NodeAnswer) -> &[PacketEvent]
     ensures { result.now ≡ events_in answer.now }
 {
     match answer {
-        Answer::Transactions(page) => page.events.as_slice(),
+        NodeAnswer::Transactions(page) => page.events.as_slice(),
         _ => &[],
     }
 }

@@ -2,13 +2,13 @@
 ghost use Rattle.std.specs.Prelude.{◌≡◌, ◌+◌, ◌<◌, ℕ, All, Any, IfOk, IfErr, IsTrue, OnOk, Contains, length, slice_index_or};
 ghost use Rattle.std.specs.List.{IsDistinct, dedup};
 ghost use Rattle.std.specs.List.Sorted.{IsPermutation, IsSorted};
-ghost use Rattle.rb_import_check.specs.Problems.{IsToldOf};
+ghost use Rattle.rb_import_check.specs.Errors.{IsToldOf};
 ghost use Rattle.rb_import_merge.specs.Packets.{StandsFor, are_of_one, place_of};
 ghost use Rattle.rb_import_merge.specs.Lowest.{AreEqualSendings, block_cmp};
 
 use crate::packets::SeenPacket;
 use rb_import_answers::PacketKind;
-use rb_import_check::{ImportError, ProblemName};
+use rb_import_check::{CheckErrorName, ImportError};
 use std::alloc::AllocError;
 
 /// Of several events of one kind and sequence the one of the lowest block, by kind and sequence; two that
@@ -74,7 +74,7 @@ fn judge_sendings<'a>(id: &'a str, packets: &[SeenPacket<'a>]) -> Result<(), Imp
         let lower = &packets[place - 1];
         let seen = &packets[place];
         if !are_equal(lower, seen) {
-            let name = ProblemName::TwoAnswers;
+            let name = CheckErrorName::TwoAnswers;
             let sequence = seen.event.sequence;
             return Err(ImportError::between(name, id, sequence, lower.file, seen.file));
         }

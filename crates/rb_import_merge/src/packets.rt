@@ -2,14 +2,16 @@
 ghost use Rattle.std.specs.Prelude.{◌≡◌, [], ◌∷◌, ◌++◌, if◌then◌else◌, All, IfOk, IfErr, OnOk, count_by, filter, option_map};
 ghost use Rattle.std.specs.List.{flat_map, list_any};
 ghost use Rattle.std.specs.List.Sorted.{IsPermutation};
-ghost use Rattle.rb_import_check.specs.Problems.{IsToldOf};
+ghost use Rattle.rb_import_check.specs.Errors.{IsToldOf};
 ghost use Rattle.rb_import_merge.specs.Packets.{IsOfPath, HaveEvents, Expires, ExpiresAt, counterparty, expiry_at, within_heights, is_source, is_dest, is_wanted, counts_as, is_empty, lacks, one_if, some_timed_out, tells_of, events_of, seen_events};
 
 use crate::counterparties::counterparty;
 use crate::lowest::lowest_of;
 use rb_base::{ChainId, Height};
-use rb_import_answers::{Answer, PacketEvent, PacketKind, PacketPage, RevisionHeight, revision_of};
-use rb_import_check::{ImportError, ProblemName, Saved};
+use rb_import_answers::{
+    NodeAnswer, PacketEvent, PacketKind, PacketPage, RevisionHeight, revision_of,
+};
+use rb_import_check::{CheckErrorName, ImportError, Saved};
 use rb_import_setup::PathSetup;
 use std::alloc::{AllocError, Global};
 
@@ -157,11 +159,11 @@ fn tell_of(answers: &[Saved], kind: PacketKind) -> bool
 }
 
 /// Whether an answer tells of an event of this kind.
-fn tells_of(answer: &Answer, kind: PacketKind) -> bool
+fn tells_of(answer: &NodeAnswer, kind: PacketKind) -> bool
     ensures { result ≡ tells_of kind answer.now }
 {
     match answer {
-        Answer::Transactions(page) => has_kind(page.events.as_slice(), kind),
+        NodeAnswer::Transactions(page) => has_kind(page.events.as_slice(), kind),
         _ => false,
     }
 }
@@ -198,11 +200,11 @@ pub fn some_timed_out(packets: &[SeenPacket<'_>]) -> bool
 }
 
 /// Whether an answer tells of no packet.
-fn is_empty(answer: &Answer) -> bool
+fn is_empty(answer: &NodeAnswer) -> bool
     ensures { result ≡ is_empty answer.now }
 {
     match answer {
-        Answer::Transactions(page) => page.events.is_empty(),
+        NodeAnswer::Transactions(page) => page.events.is_empty(),
         _ => false,
     }
 }
@@ -220,8 +222,8 @@ fn pages_of<'a>(
     for saved in answers {
         let file = saved.file.as_str();
         match &saved.answer {
-            Answer::Transactions(page) => pages.push(Page { file, page })?,
-            _ => return Err(ImportError::at(ProblemName::WrongFolder, id, 0, file)),
+            NodeAnswer::Transactions(page) => pages.push(Page { file, page })?,
+            _ => return Err(ImportError::at(CheckErrorName::WrongFolder, id, 0, file)),
         }
     }
     Ok(pages)
@@ -236,7 +238,7 @@ fn judge_totals<'a>(id: &'a str, pages: &[Page<'a>]) -> Result<(), ImportError<'
         let total = page.page.total;
         let count = count_with(total, pages);
         if total == 0 && count != 0 || total != 0 && count % total != 0 {
-            return Err(ImportError::at(ProblemName::MissingTransactions, id, total, page.file));
+            return Err(ImportError::at(CheckErrorName::MissingTransactions, id, total, page.file));
         }
     }
     Ok(())
@@ -360,7 +362,7 @@ fn is_wanted<'a>(
     let source = seen.event.source.as_str();
     match (&setup.source_channel, first) {
         (None, Some(first)) if first.event.source.as_str() != source => {
-            let name = ProblemName::TwoChannels;
+            let name = CheckErrorName::TwoChannels;
             let sequence = seen.event.sequence;
             Err(ImportError::between(name, setup.id.as_str(), sequence, first.file, seen.file))
         }
@@ -386,12 +388,14 @@ fn judge_packets<'a>(id: &'a str, packets: &[SeenPacket<'a>]) -> Result<(), Impo
 }
 
 /// What an event wants, if it wants something.
-fn flaw_of(packets: &[SeenPacket], event: &PacketEvent) -> Option<ProblemName> {
+fn flaw_of(packets: &[SeenPacket], event: &PacketEvent) -> Option<CheckErrorName> {
     match event.kind {
         PacketKind::Received | PacketKind::Cleared | PacketKind::TimedOut
-            if !was(packets, PacketKind::Sent, event.sequence) => { Some(ProblemName::MissingSend) }
+            if !was(packets, PacketKind::Sent, event.sequence) => {
+            Some(CheckErrorName::MissingSend)
+        }
         PacketKind::AckWritten if !was(packets, PacketKind::Received, event.sequence) => {
-            Some(ProblemName::MissingReceive)
+            Some(CheckErrorName::MissingReceive)
         }
         _ => None,
     }

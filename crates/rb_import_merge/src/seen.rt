@@ -1,7 +1,7 @@
 //! What was seen of a setup's chains, clients and paths, as much of it as books have room for.
 ghost use Rattle.std.specs.Prelude.{◌≡◌, ◌≤◌, ◌↔◌, length, All, IsTrue, IfOk, IfErr, OnOk};
-ghost use Rattle.rb_import_check.specs.Problems.{IsToldOf};
-ghost use Rattle.rb_import_merge.specs.Problems.{IsToldIn};
+ghost use Rattle.rb_import_check.specs.Errors.{IsToldOf};
+ghost use Rattle.rb_import_merge.specs.Errors.{IsToldIn};
 ghost use Rattle.rb_import_merge.specs.Room.{AtEachPlace};
 ghost use Rattle.rb_import_merge.specs.Seen.{AgreesWithChain, AreSeenClients, AreSeenPaths, IsKeptSet, IsSeenChain, IsSeenIn, answers_at, surplus_of};
 

@@ -6,7 +6,7 @@ use Rattle.rb_base.specs.Window.{Span}
 use Rattle.rb_script_types.specs.declared.script.Asked.{Asked}
 use Rattle.rb_script_types.specs.declared.script.Settlement.{Settlement}
 use Rattle.rb_script_toml.specs.Faults.{Fault, ◌>>=◌, check}
-use Rattle.rb_script_toml.specs.Places.{child}
+use Rattle.rb_script_toml.specs.KeyPaths.{child}
 use Rattle.rb_script_toml.specs.Fields.{Section, items, only, needs, optional, or_default, time, elements}
 use Rattle.rb_script_toml.specs.declared.fault.FaultName.TheVariants.{BadWindow}
 use Rattle.rb_script_config.specs.Goals.{asked, settlement}

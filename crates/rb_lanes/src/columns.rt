@@ -33,7 +33,7 @@ impl<A: Allocator> Model for Columns<A> {
 }
 
 impl<A: Allocator + Copy> Columns<A> {
-    /// No column. Takes no memory.
+    /// No column.
     pub fn new(alloc: A) -> Columns<A>
         ensures { result ≡ [] }
     {
@@ -53,7 +53,7 @@ impl<A: Allocator> Columns<A> {
         self.known.len()
     }
 
-    /// The column of an address, if it has one. Takes no memory.
+    /// The column of an address, if it has one.
     pub fn column(&self, address: &[u8; 20]) -> Option<u32>
         ensures value { result ≡ position (bytes_eq address.now) self.now }
         ensures range { IfSome result (λ column. column < length self.now) }

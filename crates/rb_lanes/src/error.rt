@@ -1,6 +1,5 @@
 //! The refusals of this crate.
 ghost use Rattle.std.specs.Prelude.{◌≡◌};
-ghost use Rattle.rb_lanes.specs.Refusal.{number_of, name_of};
 
 use std::alloc::{AllocError, AllocFailed};
 use thiserror::Error;
@@ -14,28 +13,6 @@ pub enum LanesError {
     /// A growth was refused.
     #[error("NoMemory")]
     NoMemory,
-}
-
-impl LanesError {
-    /// The refusal's number; want of memory has none.
-    pub fn number(self) -> Option<u16>
-        ensures { result ≡ number_of self }
-    {
-        match self {
-            LanesError::ColumnsFull => Some(301),
-            LanesError::NoMemory => None,
-        }
-    }
-
-    /// The refusal's name.
-    pub fn name(self) -> &'static str
-        ensures { result.now ≡ name_of self }
-    {
-        match self {
-            LanesError::ColumnsFull => "ColumnsFull",
-            LanesError::NoMemory => "NoMemory",
-        }
-    }
 }
 
 impl From<AllocError> for LanesError {

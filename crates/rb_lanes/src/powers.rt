@@ -44,7 +44,7 @@ impl<A: Allocator> Powers<A> {
         Ok(())
     }
 
-    /// Adds to the power of a column. Takes no memory.
+    /// Adds to the power of a column.
     pub fn add(&mut self, column: usize, power: u64)
         requires column { column < length self.old }
         requires total { sum self.old + power ≤ max_total }

@@ -47,7 +47,7 @@ pub(crate) fn masked_sum_from<A: Allocator>(
 }
 
 /// The sum of the powers in the columns below both lengths whose bit is set, eight columns a step.
-/// Columns past the shorter of the two add nothing. Takes no memory.
+/// Columns past the shorter of the two add nothing.
 pub fn masked_sum<A: Allocator>(powers: &Powers<A>, plane: &Plane<A>) -> u64
     ensures value { result ≡ masked_total powers.now plane.now }
     ensures bound { result ≤ sum powers.now }
@@ -55,7 +55,7 @@ pub fn masked_sum<A: Allocator>(powers: &Powers<A>, plane: &Plane<A>) -> u64
     masked_sum_from(powers, plane, 0)
 }
 
-/// The same sum, one column after the other. Takes no memory.
+/// The same sum, one column after the other.
 pub fn plain_sum<A: Allocator>(powers: &Powers<A>, plane: &Plane<A>) -> u64
     ensures value { result ≡ masked_total powers.now plane.now }
     ensures bound { result ≤ sum powers.now }

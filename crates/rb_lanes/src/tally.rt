@@ -102,7 +102,7 @@ impl<A: Allocator> Tally<A> {
         self.members.as_slice()
     }
 
-    /// The sum of the powers whose column's bit is set. Takes no memory.
+    /// The sum of the powers whose column's bit is set.
     pub fn sum(&self, plane: &Plane<A>) -> u64
         ensures { result ≡ member_total self.now plane.now }
     {

@@ -13,13 +13,13 @@ use Rattle.std.proofs.lemmas.List.Elements.{All-push, All-set, All-weaker, All-c
 use Rattle.std.proofs.lemmas.List.Kept.{AllPairs-from_increasing}
 use Rattle.std.proofs.lemmas.List.Sorted.{All-permutation, Contains-permutation, IsPermutation-append_comm, IsPermutation-insert, IsPermutation-trans}
 use Rattle.rb_base.specs.Window.{IsWithin}
-use Rattle.rb_book.specs.Book.{Book, Known, height_of, time_of, heights_of, is_at, set_of, record_at, header_at}
+use Rattle.rb_book.specs.Book.{Book, RecordAt, height_of, time_of, heights_of, is_at, set_of, record_at, header_at}
 use Rattle.rb_book.specs.Header.{Record, Header, is_commit}
 use Rattle.rb_book.specs.Invariant.{IsBacked}
-use Rattle.rb_graph_rows.specs.Kept.{own_set}
+use Rattle.rb_graph_rows.specs.StoredRow.{own_set}
 use Rattle.rb_graph.specs.StepTable.{IsStepFee}
 use Rattle.rb_graph.proofs.Headers.{backed_at}
-use Rattle.rb_graph.proofs.Known.{known_step}
+use Rattle.rb_graph.proofs.RecordAt.{known_step}
 use Rattle.rb_graph_rows.proofs.Rising.{heights_up}
 use Rattle.rb_graph.proofs.Members.{find-In, in_at}
 use Rattle.rb_base.specs.Fraction.{Exceeds}
@@ -46,7 +46,7 @@ use Rattle.rb_plan.proofs.Raise.{AreLabelsSoFar, labels_next, labels_labelling, 
 use Rattle.rb_plan.proofs.Values.{same_value}
 use Rattle.rb_plan.proofs.Views.{step_has_header}
 
-no_known : Known
+no_known : RecordAt
 no_known = record { height = 0; record_of = record { time = 0; root = []; next = [] } }
 
 -- what the table tells of a step is what the client says
@@ -61,14 +61,14 @@ step_told v t h (Some fee) is = is
 pub told_at : (v : View) (h : ℕ) (o : Offer) (r : Option ℕ) → IsOffer v.book o → IsSomeAnd (slice_get v.book.records o.place) (λ k. IsStepFee (target_of v h) k.height r) → TellsStep (client_of v) o.label.height h r
 told_at v h o r offer told = by (slice_get v.book.records o.place) offer.placed told
   where
-    by : (k : Option Known) → IsSomeAnd k (λ k. k.height ≡ o.label.height) → IsSomeAnd k (λ k. IsStepFee (target_of v h) k.height r) → TellsStep (client_of v) o.label.height h r
+    by : (k : Option RecordAt) → IsSomeAnd k (λ k. k.height ≡ o.label.height) → IsSomeAnd k (λ k. IsStepFee (target_of v h) k.height r) → TellsStep (client_of v) o.label.height h r
     by None p q = absurd p
     by (Some k) p q = subst (λ (t : ℕ). TellsStep (client_of v) t h r) p (step_told v k.height h r q)
 
 pub offer_within : (book : Book) (o : Offer) → IsOffer book o → o.place < length book.records
 offer_within book o offer = by (slice_get book.records o.place) refl offer.placed
   where
-    by : (k : Option Known) → slice_get book.records o.place ≡ k → IsSomeAnd k (λ k. k.height ≡ o.label.height) → o.place < length book.records
+    by : (k : Option RecordAt) → slice_get book.records o.place ≡ k → IsSomeAnd k (λ k. k.height ≡ o.label.height) → o.place < length book.records
     by None e p = absurd p
     by (Some k) e p = slice_get_within book.records o.place k e
 
@@ -92,7 +92,7 @@ same_bytes xs ys e = (bytes_eq-Decides xs ys).0 e
 -- ---- offers taken in
 
 serves_itself : (book : Book) (o : Offer) → Serves book o o
-serves_itself book o = (λ k l k-at l-at. ap (λ (x : Known). x.record_of.next) (same_Some k l (sym k-at ∙ l-at)), CostsAtMost-refl o.label.cost)
+serves_itself book o = (λ k l k-at l-at. ap (λ (x : RecordAt). x.record_of.next) (same_Some k l (sym k-at ∙ l-at)), CostsAtMost-refl o.label.cost)
 
 cheaper_at_most : (a b : Cost) → IsCheaper a b → CostsAtMost a b
 cheaper_at_most a b (inl p) = inl p
@@ -187,14 +187,14 @@ added_push book before new = record {
 -- ---- steps from records that name one set
 
 module _ (v : View) (view : IsView v) where
-  recorded : (p : ℕ) (k : Known) → slice_get v.book.records p ≡ Some k → record_at v.book k.height ≡ Some k.record_of
-  recorded p k at = ap (option_map (λ (k : Known). k.record_of)) (find-In height_of k v.book.records (heights_up v.book view.book) (in_at v.book.records p k at))
+  recorded : (p : ℕ) (k : RecordAt) → slice_get v.book.records p ≡ Some k → record_at v.book k.height ≡ Some k.record_of
+  recorded p k at = ap (option_map (λ (k : RecordAt). k.record_of)) (find-In height_of k v.book.records (heights_up v.book view.book) (in_at v.book.records p k at))
 
   -- a higher record is later
-  later : (p : ℕ) (k : Known) (h : ℕ) (r : Record) → slice_get v.book.records p ≡ Some k → record_at v.book h ≡ Some r → k.height < h → k.record_of.time < r.time
+  later : (p : ℕ) (k : RecordAt) (h : ℕ) (r : Record) → slice_get v.book.records p ≡ Some k → record_at v.book h ≡ Some r → k.height < h → k.record_of.time < r.time
   later p k h r at there low = by (find (is_at h) v.book.records) refl there
     where
-      by : (o : Option Known) → find (is_at h) v.book.records ≡ o → option_map (λ (k : Known). k.record_of) o ≡ Some r → k.record_of.time < r.time
+      by : (o : Option RecordAt) → find (is_at h) v.book.records ≡ o → option_map (λ (k : RecordAt). k.record_of) o ≡ Some r → k.record_of.time < r.time
       by None e is = absurd (none-some r is)
       by (Some j) e is = at_places (find-some height_of v.book.records h j e)
         where
@@ -231,10 +231,10 @@ module _ (v : View) (view : IsView v) where
                       let eh : get_or (heights_of v.book) p 0 ≡ get_or (heights_of v.book) q 0 = ap (λ (i : ℕ). get_or (heights_of v.book) i 0) e in
                       absurd (omega (arith, eh, kh, jh, low, same))
 
-  abbrev step_from : Known → Header → Step
+  abbrev step_from : RecordAt → Header → Step
   step_from k x = step_of k.height k.record_of (set_of v.book k.record_of.next) x (own_set v.book x)
 
-  module _ (p q : ℕ) (k l : Known) (k-at : slice_get v.book.records p ≡ Some k) (l-at : slice_get v.book.records q ≡ Some l) (names : k.record_of.next ≡ l.record_of.next)
+  module _ (p q : ℕ) (k l : RecordAt) (k-at : slice_get v.book.records p ≡ Some k) (l-at : slice_get v.book.records q ≡ Some l) (names : k.record_of.next ≡ l.record_of.next)
       (h : ℕ) (k-low : k.height + 1 < h) (l-low : l.height + 1 < h) where
     module _ (x : Header) (found : header_at v.book h ≡ Some x) where
       backed : IsBacked v.book x
@@ -296,10 +296,10 @@ live_label client orderly label attained h c is = by (attained h c is)
     by (inl source) = source.0.1
     by (inr (t, leads)) = orderly.stores_live t h leads.2
 
-record_of_offer : (book : Book) (o : Offer) → IsOffer book o → (k : Known) × (slice_get book.records o.place ≡ Some k) × (k.height ≡ o.label.height)
+record_of_offer : (book : Book) (o : Offer) → IsOffer book o → (k : RecordAt) × (slice_get book.records o.place ≡ Some k) × (k.height ≡ o.label.height)
 record_of_offer book o offer = by (slice_get book.records o.place) refl offer.placed
   where
-    by : (k : Option Known) → slice_get book.records o.place ≡ k → IsSomeAnd k (λ k. k.height ≡ o.label.height) → (k : Known) × (slice_get book.records o.place ≡ Some k) × (k.height ≡ o.label.height)
+    by : (k : Option RecordAt) → slice_get book.records o.place ≡ k → IsSomeAnd k (λ k. k.height ≡ o.label.height) → (k : RecordAt) × (slice_get book.records o.place ≡ Some k) × (k.height ≡ o.label.height)
     by None e p = absurd p
     by (Some k) e p = (k, e, p)
 
@@ -311,7 +311,7 @@ module _ (v : View) (view : IsView v) (orderly : IsOrderly (client_of v)) (label
       × CostsAtMost (after_update o.label.cost ((client_of v).fee o.label.height h)) (after_update other.label.cost ((client_of v).fee other.label.height h))
   step_served o other h offer is offer' (names, most) low low' accepts = by (record_of_offer v.book o offer) (record_of_offer v.book other offer')
     where
-      by : (k : Known) × (slice_get v.book.records o.place ≡ Some k) × (k.height ≡ o.label.height) → (k : Known) × (slice_get v.book.records other.place ≡ Some k) × (k.height ≡ other.label.height)
+      by : (k : RecordAt) × (slice_get v.book.records o.place ≡ Some k) × (k.height ≡ o.label.height) → (k : RecordAt) × (slice_get v.book.records other.place ≡ Some k) × (k.height ≡ other.label.height)
           → (client_of v).Accepts o.label.height h
           × CostsAtMost (after_update o.label.cost ((client_of v).fee o.label.height h)) (after_update other.label.cost ((client_of v).fee other.label.height h))
       by (k, k-at, k-is) (l, l-at, l-is) =
@@ -386,7 +386,7 @@ module _ (v : View) (view : IsView v) (orderly : IsOrderly (client_of v)) (are :
           let small = All-contains (λ (l : Label). (l.cost.fee < 2 ^ 63) × (l.cost.count < 2 ^ 63)) (labels ++ new ∷ []) new labelling.small (Contains-push labels new) in
           let there = slice_get-get_or v.book.records n no_known (omega (arith, inside, records)) in
           record {
-            placed = subst (λ (o : Option Known). IsSomeAnd o (λ k. k.height ≡ h)) (sym there) (sym (read ∙ get_or-map height_of v.book.records n no_known h (omega (arith, inside, records))));
+            placed = subst (λ (o : Option RecordAt). IsSomeAnd o (λ k. k.height ≡ h)) (sym there) (sym (read ∙ get_or-map height_of v.book.records n no_known h (omega (arith, inside, records))));
             fee = small.0;
             count = small.1;
           }

@@ -3,9 +3,9 @@ use Rattle.std.proofs.Common.{◌≡◌, ◌↔◌, ℕ, ◌+◌, Bool, true, fa
 use Rattle.std.proofs.lemmas.Bool.{false≢true}
 use Rattle.std.specs.List.{find, slice_get}
 use Rattle.std.specs.Option.{option_map}
-use Rattle.rb_book.specs.Book.{Known, height_of, is_at}
+use Rattle.rb_book.specs.Book.{RecordAt, height_of, is_at}
 use Rattle.rb_graph.specs.StepTable.{Target, IsStepFee}
-use Rattle.rb_graph.proofs.Known.{no_record}
+use Rattle.rb_graph.proofs.RecordAt.{no_record}
 use Rattle.rb_step.specs.LightClient.{Client}
 use Rattle.rb_plan.specs.declared.cost.Cost.{Cost}
 use Rattle.rb_plan.specs.declared.labelling.Label.{Label}
@@ -31,9 +31,9 @@ pub fee_found : (x : Target) (t p : ℕ) (r : Option ℕ) → find (is_at t) x.b
     → IsSomeAnd (slice_get x.book.records p) (λ k. IsStepFee x k.height r) → IsStepFee x t r
 fee_found x t p r found told = by (slice_get x.book.records p) found told
   where
-    by : (o : Option Known) → find (is_at t) x.book.records ≡ o → IsSomeAnd o (λ k. IsStepFee x k.height r) → IsStepFee x t r
+    by : (o : Option RecordAt) → find (is_at t) x.book.records ≡ o → IsSomeAnd o (λ k. IsStepFee x k.height r) → IsStepFee x t r
     by None e is = absurd is
     by (Some k) e is = subst (λ (h : ℕ). IsStepFee x h r) (find-some height_of x.book.records t k e).1 is
 
 pub fee_absent : (x : Target) (t : ℕ) → find (is_at t) x.book.records ≡ None → IsStepFee x t None
-fee_absent x t absent = λ a. absurd (rw (no_record x.book t x.height (ap (option_map (λ (k : Known). k.record_of)) absent)) at a)
+fee_absent x t absent = λ a. absurd (rw (no_record x.book t x.height (ap (option_map (λ (k : RecordAt). k.record_of)) absent)) at a)

@@ -1,6 +1,6 @@
 -- the labelled records from which steps are tried
 use Rattle.std.specs.Prelude.{◌≡◌, ℕ, ◌+◌, ◌<◌, ◌^◌, ◌⊎◌, List, Some, All, Contains, IsSomeAnd, length, position, slice_get, unwrap_or}
-use Rattle.rb_book.specs.Book.{Book, Known, has_hash}
+use Rattle.rb_book.specs.Book.{Book, RecordAt, has_hash}
 use Rattle.rb_graph.specs.StepTable.{Target}
 use Rattle.rb_step.specs.LightClient.{Client}
 use Rattle.rb_step.specs.View.{View}
@@ -17,13 +17,13 @@ pub record IsOffer (book : Book) (o : Offer) : Type 0 where
   pub count : o.label.cost.count < 2 ^ 63
 
 -- the place of the set that a record names as its next, or the number of sets where the book doesn't know it
-abbrev pub next_slot : Book → Known → ℕ
+abbrev pub next_slot : Book → RecordAt → ℕ
 next_slot book k = unwrap_or (position (has_hash k.record_of.next) book.sets) (length book.sets)
 
 -- the records at two places name the same next set
 abbrev pub NamesSame : Book → ℕ → ℕ → Type 0
 NamesSame book p q =
-    (k l : Known) → slice_get book.records p ≡ Some k → slice_get book.records q ≡ Some l → k.record_of.next ≡ l.record_of.next
+    (k l : RecordAt) → slice_get book.records p ≡ Some k → slice_get book.records q ≡ Some l → k.record_of.next ≡ l.record_of.next
 
 -- the first names the same set as the other, and costs no more
 abbrev pub Serves : Book → Offer → Offer → Type 0

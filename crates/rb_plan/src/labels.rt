@@ -74,9 +74,9 @@ impl<A: Allocator + Copy> Planner<'_, A> {
     }
 }
 
-/// The exact labelling of the view's client: each height that some acceptable list of updates leaves
-/// stored and live, with the least cost of such a list. `graph` is the table of the view's book, as
-/// `Graph::is_of` tells. An error comes only where a growth is refused.
+/// The exact labelling of the view's client: each height that some acceptable list of updates
+/// leaves stored and live, with the least cost of such a list. `graph` is the table of the view's
+/// book, as `Graph::is_of` tells.
 pub fn label<A: Allocator + Copy>(
     alloc: A,
     view: &ClientView<A>,

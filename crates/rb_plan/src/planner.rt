@@ -9,7 +9,7 @@ ghost use Rattle.rb_plan.specs.Lookups.{AreAllKnown};
 ghost use Rattle.rb_plan.specs.Offers.{target_of};
 
 use rb_base::Height;
-use rb_book::{ChainBook, Known, record_place};
+use rb_book::{ChainBook, RecordAt, record_place};
 use rb_graph::{Graph, Target};
 use rb_step::ClientView;
 use rb_step::laws::views_are_orderly;
@@ -21,7 +21,7 @@ use std::marker::Model;
 pub struct Planner<'a, A: Allocator = Global> {
     view: &'a ClientView<'a, A>,
     graph: &'a Graph<A>,
-    records: &'a [Known],
+    records: &'a [RecordAt],
 }
 
 impl<'a, A: Allocator> Model for Planner<'a, A> {
@@ -62,7 +62,7 @@ impl<'a, A: Allocator + Copy> Planner<'a, A> {
     }
 
     /// The known records, by rising height.
-    pub fn records(&self) -> &'a [Known]
+    pub fn records(&self) -> &'a [RecordAt]
         ensures value { result.now ≡ self.now.book.records }
         ensures known { AreAllKnown (client_of self.now) (heights_of self.now.book) }
         ensures orderly { IsOrderly (client_of self.now) }

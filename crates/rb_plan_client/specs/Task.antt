@@ -4,7 +4,7 @@ use Rattle.std.specs.List.{flat_map}
 use Rattle.std.specs.Option.{option_map, option_map_or, option_or, option_and_then}
 use Rattle.rb_base.specs.Fee.{Fees}
 use Rattle.rb_batch.specs.Limits.{TransactionLimits}
-use Rattle.rb_book.specs.Book.{Known, record_at, height_of, time_of}
+use Rattle.rb_book.specs.Book.{RecordAt, record_at, height_of, time_of}
 use Rattle.rb_book.specs.Header.{Record}
 use Rattle.rb_script_types.specs.declared.goal.Goal.{Goal}
 use Rattle.rb_script_types.specs.declared.goal.Goal.TheVariants.{AtLeast}
@@ -66,7 +66,7 @@ abbrev pub is_due : ℕ → View → Bool
 is_due refresh v = not (refresh == 0) && option_map_or (λ (r : Record). nat_le (r.time + refresh) v.window.until) (newest_stored v) false
 
 -- a known record is not due
-abbrev pub is_fresh : ℕ → View → Known → Bool
+abbrev pub is_fresh : ℕ → View → RecordAt → Bool
 is_fresh refresh v k = nat_lt v.window.until (time_of k + refresh)
 
 -- the lowest such height, or one above it; none where the client is not due, or no record is fresh

@@ -8,8 +8,8 @@ use crate::planning::answer;
 use rb_graph::Graph;
 use std::alloc::{AllocError, Allocator};
 
-/// What is planned for a client as the worker got it, which the draft keeps. `graph` is the table of
-/// its book, as `Graph::is_of` tells. An error comes only where a growth is refused.
+/// What is planned for a client as the worker got it, which the draft keeps. `graph` is the table
+/// of its book, as `Graph::is_of` tells.
 pub fn draft<A: Allocator + Copy>(job: JobView<A>, graph: &Graph<A>) -> Result<Draft<A>, AllocError>
     requires { graph.now ≡ job.task.view.book }
     ensures job { IfOk result (λ draft. draft.job ≡ job) }

@@ -74,8 +74,7 @@ impl<A: Allocator> Draft<A> {
 }
 
 impl<A: Allocator + Copy> Draft<A> {
-    /// An equal draft, on the same allocator; the book is shared. An error comes only where a growth
-    /// is refused.
+    /// An equal draft, on the same allocator; the book is shared.
     pub fn copy(&self) -> Result<Draft<A>, AllocError>
         ensures { IfOk result (λ copy. copy ≡ self.now) }
     {
@@ -86,7 +85,7 @@ impl<A: Allocator + Copy> Draft<A> {
     }
 }
 
-/// An equal answer, if there is one. An error comes only where a growth is refused.
+/// An equal answer, if there is one.
 pub fn copy_answer<A: Allocator + Copy>(
     answer: Option<&Planned<A>>,
 ) -> Result<Option<Planned<A>>, AllocError>

@@ -7,7 +7,7 @@ ghost use Rattle.rb_plan_client.specs.Task.{Message, newest_stored, is_due, is_f
 use crate::message::Message;
 use crate::task::Task;
 use rb_base::Height;
-use rb_book::{Known, Record};
+use rb_book::{Record, RecordAt};
 use rb_plan::Goal;
 use rb_step::ClientView;
 use std::alloc::Allocator;
@@ -32,14 +32,17 @@ fn is_due<A: Allocator + Copy>(refresh: u64, view: &ClientView<A>) -> bool
 }
 
 /// Whether a known record is not due.
-fn is_fresh<A: Allocator + Copy>(refresh: u64, view: &ClientView<A>, known: &Known) -> bool
+fn is_fresh<A: Allocator + Copy>(refresh: u64, view: &ClientView<A>, known: &RecordAt) -> bool
     ensures { result ≡ is_fresh refresh view.now known.now }
 {
     view.window().until().nanoseconds() < known.record().time().nanoseconds() + u128::from(refresh)
 }
 
 /// The lowest known record that is fresh.
-fn first_fresh<'a, A: Allocator + Copy>(refresh: u64, view: &ClientView<'a, A>) -> Option<&'a Known>
+fn first_fresh<'a, A: Allocator + Copy>(
+    refresh: u64,
+    view: &ClientView<'a, A>,
+) -> Option<&'a RecordAt>
     ensures { option_copied result ≡ find (is_fresh refresh view.now) view.now.book.records }
 {
     view.book()

@@ -90,9 +90,9 @@ impl<A: Allocator> JobView<A> {
 }
 
 impl<A: Allocator + Copy> JobView<A> {
-    /// The client of a plan: its configuration, the heights that it has stored and what it is asked for,
-    /// the window, the book of the chain that it tracks, which has a record of each of those heights, and
-    /// its paths. An error comes only where a growth is refused.
+    /// The client of a plan: its configuration, the heights that it has stored and what it is asked
+    /// for, the window, the book of the chain that it tracks, which has a record of each of those
+    /// heights, and its paths.
     pub fn new(
         next: NextPlan,
         config: &ClientConfig,
@@ -134,7 +134,7 @@ impl<A: Allocator + Copy> JobView<A> {
         })
     }
 
-    /// The client in its window, over the book of the chain that it tracks. Takes no memory.
+    /// The client in its window, over the book of the chain that it tracks.
     pub fn view(&self) -> ClientView<'_, A>
         ensures { result ≡ self.now.task.view }
     {
@@ -147,7 +147,7 @@ impl<A: Allocator + Copy> JobView<A> {
         )
     }
 
-    /// All that a plan for the client goes by. Takes no memory.
+    /// All that a plan for the client goes by.
     pub fn task(&self) -> Task<'_, A>
         ensures { result ≡ self.now.task }
     {
@@ -196,8 +196,7 @@ impl<A: Allocator + Copy> JobView<A> {
         *self.stored.allocator()
     }
 
-    /// An equal one, on the same allocator; the book is shared. An error comes only where a growth is
-    /// refused.
+    /// An equal one, on the same allocator; the book is shared.
     pub fn copy(&self) -> Result<JobView<A>, AllocError>
         ensures { IfOk result (λ copy. copy ≡ self.now) }
     {
@@ -227,7 +226,7 @@ impl<A: Allocator + Copy> PartialEq for JobView<A> {
 
     ghost laws = { same_job-laws };
 
-    /// Whether the two are equal, by all that they say. Takes no memory.
+    /// Whether the two are equal, by all that they say.
     fn eq(&self, other: &JobView<A>) -> bool
         ensures value { result ≡ same_job self.now other.now }
         ensures equal { IsTrue result ↔ (self.now ≡ other.now) }

@@ -159,7 +159,7 @@ fn planned_if<A: Allocator + Copy>(
 }
 
 /// What is planned for a task: none where it has no goal. `graph` is the table of the view's book,
-/// as `Graph::is_of` tells. An error comes only where a growth is refused.
+/// as `Graph::is_of` tells.
 pub fn answer<A: Allocator + Copy>(
     alloc: A,
     task: &Task<A>,

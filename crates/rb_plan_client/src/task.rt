@@ -10,7 +10,7 @@ use crate::message::Message;
 use rb_base::{FeeTable, Height};
 use rb_batch::Limits;
 use rb_plan::Goal;
-use rb_scan::{Order, PacketMsg, ScanError, ready};
+use rb_scan::{Order, PacketMsg, ready};
 use rb_script_types::PathGas;
 use rb_step::ClientView;
 use std::alloc::{AllocError, Allocator, Global};
@@ -133,10 +133,7 @@ impl<A: Allocator + Copy> PathTask<A> {
     fn ready(&self, alloc: A, reach: Option<Height>) -> Result<Vec<PacketMsg, A>, AllocError>
         ensures { IfOk result (λ list. list.items ≡ ready self.now.owed self.now.order reach) }
     {
-        match ready(alloc, self.owed.as_slice(), self.order, reach) {
-            Ok(list) => Ok(list),
-            Err(ScanError::NoMemory) => Err(AllocError),
-        }
+        ready(alloc, self.owed.as_slice(), self.order, reach)
     }
 
     /// The message for a packet, with its gas.

@@ -10,8 +10,8 @@ use Rattle.rb_scan.specs.declared.path.Order.TheVariants.{Ordered, Unordered}
 use Rattle.rb_scan.specs.declared.message.Kind.{Kind}
 use Rattle.rb_scan.specs.declared.message.Kind.TheVariants.{Receive, Acknowledge, Timeout}
 use Rattle.rb_scan.specs.declared.message.PacketMsg.{PacketMsg}
-use Rattle.rb_scan.specs.declared.scan.Part.{Part}
-use Rattle.rb_scan.specs.declared.scan.Part.TheVariants.{Packets, Channel}
+use Rattle.rb_base.specs.declared.gate.Part.{Part}
+use Rattle.rb_base.specs.declared.gate.Part.TheVariants.{Packets, Channel}
 
 -- the table: the floor of each message that is owed for a packet, where the path is not closed
 abbrev pub floor_of : List (ℕ × ℕ) → Kind → Packet → Option ℕ

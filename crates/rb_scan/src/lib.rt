@@ -2,7 +2,6 @@
 //! are ready (ICS 4).
 #![tactic(auto)]
 
-mod error;
 pub mod laws;
 mod message;
 mod packet;
@@ -12,10 +11,9 @@ mod scan;
 mod sequence;
 mod table;
 
-pub use error::ScanError;
 pub use message::{Kind, PacketMsg};
 pub use packet::Packet;
 pub use path::{Order, PathView, is_path};
 pub use readiness::{ready, wanted};
-pub use scan::{Part, owed, owed_part};
+pub use scan::{owed, owed_part};
 pub use sequence::Sequence;

@@ -5,11 +5,10 @@ ghost use Rattle.std.specs.Cmp.Lexicographic.{pointwise};
 ghost use Rattle.rb_scan.specs.Path.{IsPath, AreFrom, sequences_of, heights_of, times_of};
 ghost use Rattle.rb_scan.specs.Same.{same_packet, same_record};
 
-use crate::error::ScanError;
 use crate::packet::Packet;
 use crate::sequence::Sequence;
 use rb_base::{Height, Moment};
-use std::alloc::{Allocator, Global};
+use std::alloc::{AllocError, Allocator, Global};
 use std::marker::Model;
 
 /// In which order the destination receives the packets of a path (ICS 4, channel ordering).
@@ -56,7 +55,7 @@ impl<A: Allocator> Model for PathView<A> {
 impl<A: Allocator> PathView<A> {
     /// The path of these packets, all below `first` being finished and cleared, with the heights
     /// and times of the destination's known records. The sequences rise strictly from `first` on,
-    /// and heights and times rise strictly, as `is_path` tells. Takes no memory.
+    /// and heights and times rise strictly, as `is_path` tells.
     pub fn new(
         order: Order,
         first: Sequence,
@@ -129,8 +128,8 @@ impl<A: Allocator + Copy> PathView<A> {
         *self.packets.allocator()
     }
 
-    /// An equal view; `NoMemory` where a growth is refused.
-    pub fn copy(&self) -> Result<PathView<A>, ScanError>
+    /// An equal view.
+    pub fn copy(&self) -> Result<PathView<A>, AllocError>
         ensures { IfOk result (λ view. view ≡ self.now) }
     {
         let alloc = self.allocator();

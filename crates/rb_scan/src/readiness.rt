@@ -2,22 +2,20 @@
 ghost use Rattle.std.specs.Prelude.{◌≡◌, IfOk};
 ghost use Rattle.rb_scan.specs.Owed.{ready, wanted, run_end, is_ready, same_kind};
 
-use crate::error::ScanError;
 use crate::message::{Kind, PacketMsg};
 use crate::path::Order;
 use rb_base::Height;
-use std::alloc::Allocator;
+use std::alloc::{AllocError, Allocator};
 
 /// The messages of one path's list that are ready where `reach` is the greatest height that can
 /// be reached: those whose floor is at most that. In an ORDERED list a receive is dropped once an
-/// earlier receive was, and so for acknowledgements. With no reach none is ready. `NoMemory` where
-/// the growth is refused.
+/// earlier receive was, and so for acknowledgements. With no reach none is ready.
 pub fn ready<A: Allocator>(
     alloc: A,
     messages: &[PacketMsg],
     order: Order,
     reach: Option<Height>,
-) -> Result<Vec<PacketMsg, A>, ScanError>
+) -> Result<Vec<PacketMsg, A>, AllocError>
     ensures { IfOk result (λ list. list.items ≡ ready messages.now order reach) }
 {
     let Some(reach) = reach else {
@@ -50,7 +48,7 @@ fn run_end(messages: &[PacketMsg], kind: Kind, reach: Height) -> usize
 }
 
 /// The greatest floor of the messages, which is the height that they want; none where there is no
-/// message. Takes no memory.
+/// message.
 pub fn wanted(messages: &[PacketMsg]) -> Option<Height>
     ensures { result ≡ wanted messages.now }
 {

@@ -5,28 +5,18 @@ ghost use Rattle.std.specs.Option.{some_prefix};
 ghost use Rattle.rb_scan.specs.Path.{IsPath};
 ghost use Rattle.rb_scan.specs.Owed.{message_of, packet_at, sequences_from, is_done, open_messages, messages, owed_part, owed};
 
-use crate::error::ScanError;
 use crate::message::{Kind, PacketMsg};
 use crate::packet::Packet;
 use crate::path::{Order, PathView};
+use rb_base::Part;
 use std::alloc::{AllocError, Allocator};
 
-/// A part of what a path owes.
-#[derive(Clone, Copy, Debug, PartialEq, Eq, Hash)]
-pub enum Part {
-    /// The receives.
-    Packets,
-    /// The acknowledgements and the timeouts.
-    Channel,
-}
-
 /// The messages of one part that a path owes (ICS 4): for the packets the receives, for the channel
-/// the acknowledgements, then the timeouts, each by rising sequence. `NoMemory` where the growth is
-/// refused.
+/// the acknowledgements, then the timeouts, each by rising sequence.
 pub fn owed_part<A: Allocator + Copy>(
     view: &PathView<A>,
     part: Part,
-) -> Result<Vec<PacketMsg, A>, ScanError>
+) -> Result<Vec<PacketMsg, A>, AllocError>
     ensures { IfOk result (λ list. list.items ≡ owed_part view.now part) }
 {
     match part {
@@ -36,8 +26,8 @@ pub fn owed_part<A: Allocator + Copy>(
 }
 
 /// The messages of both parts that a path owes: receives, acknowledgements and timeouts, each by
-/// rising sequence. `NoMemory` where the growth is refused.
-pub fn owed<A: Allocator + Copy>(view: &PathView<A>) -> Result<Vec<PacketMsg, A>, ScanError>
+/// rising sequence.
+pub fn owed<A: Allocator + Copy>(view: &PathView<A>) -> Result<Vec<PacketMsg, A>, AllocError>
     ensures { IfOk result (λ list. list.items ≡ owed view.now) }
 {
     list(view, &[Kind::Receive, Kind::Acknowledge, Kind::Timeout])
@@ -47,7 +37,7 @@ pub fn owed<A: Allocator + Copy>(view: &PathView<A>) -> Result<Vec<PacketMsg, A>
 fn list<A: Allocator + Copy>(
     view: &PathView<A>,
     kinds: &[Kind],
-) -> Result<Vec<PacketMsg, A>, ScanError>
+) -> Result<Vec<PacketMsg, A>, AllocError>
     ensures { IfOk result (λ list. list.items ≡ flat_map (messages view.now) kinds.now) }
 {
     let size = kinds.iter().fold(

@@ -16,7 +16,7 @@ use Rattle.rb_script_toml.specs.Faults.{Fault, ◌>>=◌, check}
 use Rattle.rb_script_toml.specs.declared.fault.FaultName.{FaultName}
 use Rattle.rb_script_toml.specs.declared.fault.FaultName.TheVariants.{OutOfRange, DuplicateIdentifier, SameChain, WrongClient, TooManyObjects}
 use Rattle.rb_script_toml.specs.Fields.{Field, Section, section_at, at_element, elements, identifier, needs, required, optional, or_default, only, number, fee_table, trust, max_number, items, items_count, array}
-use Rattle.rb_script_toml.specs.Places.{element}
+use Rattle.rb_script_toml.specs.KeyPaths.{element}
 use Rattle.rb_script_config.specs.Named.{known, reference, new_identifier}
 use Rattle.rb_script_config.specs.declared.version.Version.{Version}
 use Rattle.rb_script_config.specs.declared.version.Version.TheVariants as versions

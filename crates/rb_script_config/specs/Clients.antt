@@ -3,7 +3,7 @@ use Rattle.std.specs.Prelude.{ℕ, List, [], ◌∷◌, map, codes, Option, Some
 use Rattle.rb_batch.specs.Limits.{TransactionLimits}
 use Rattle.rb_script_types.specs.declared.config.ClientConfig.{ClientConfig}
 use Rattle.rb_script_toml.specs.Faults.{Fault, ◌>>=◌, check}
-use Rattle.rb_script_toml.specs.Places.{element}
+use Rattle.rb_script_toml.specs.KeyPaths.{element}
 use Rattle.rb_script_toml.specs.Fields.{Field, Section, only, needs, optional, or_default, number, within, three_integers, fee_table, trust, max_number}
 use Rattle.rb_script_toml.specs.declared.fault.FaultName.TheVariants.{OutOfRange, BadLimit, SameChain}
 use Rattle.rb_script_config.specs.declared.defaults.Defaults.{Defaults}

@@ -98,7 +98,7 @@ pub fn read_chains(
     Ok(chains)
 }
 
-/// The identifiers of these chains, at their places. An error comes only where a growth is refused.
+/// The identifiers of these chains, at their places.
 pub fn ids_of(alloc: Global, chains: &Directory<Chain>) -> Result<Directory<ChainId>, AllocError>
     ensures { IfOk result (λ d. d ≡ chain_ids chains.now) }
 {

@@ -38,7 +38,7 @@ impl<T: Named> Directory<T> {
         }
     }
 
-    /// These objects and one more. An error comes only where a growth is refused.
+    /// These objects and one more.
     pub fn with(self, object: T) -> Result<Directory<T>, AllocError>
         ensures { IfOk result (λ d. d ≡ self ++ object ∷ []) }
     {

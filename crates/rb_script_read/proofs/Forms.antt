@@ -20,19 +20,19 @@ use Rattle.rb_script_toml.specs.Faults.{Fault, check, Gives}
 use Rattle.rb_script_toml.specs.declared.fault.RunError.{RunError}
 use Rattle.rb_script_toml.specs.declared.fault.FaultName.TheVariants.{OutOfRange, TwoGoals, TooManyEvents, BadWindow}
 use Rattle.rb_script_toml.specs.Fields.{Section, section_at, elements, next_in_sequence, in_sequence, needs, optional, or_default, only, maybe, number, max_number, height, time, hash, zero_hash, items, items_count}
-use Rattle.rb_script_toml.specs.Places.{child, element}
+use Rattle.rb_script_toml.specs.KeyPaths.{child, element}
 use Rattle.rb_script_config.specs.Named.{reference}
 use Rattle.rb_script_config.specs.Chains.{chain}
 use Rattle.rb_script_config.specs.Clients.{client, client_ids}
-use Rattle.rb_script_read.specs.declared.event.Kind.{Kind}
-use Rattle.rb_script_read.specs.declared.event.Kind.TheVariants as kinds
+use Rattle.rb_script_read.specs.declared.event.EventKind.{EventKind}
+use Rattle.rb_script_read.specs.declared.event.EventKind.TheVariants as kinds
 use Rattle.rb_script_read.specs.Names.{Names, new_set_name, set_reference}
 use Rattle.rb_script_read.specs.Sets.{validators}
 use Rattle.rb_script_config.specs.Paths.{path, path_ids, sequence}
 use Rattle.rb_script_read.specs.Packets.{block, height_or_none, time_or_none, sent, sent_keys, received, ack_written, packet_keys, cleared, cleared_keys, closed, closed_keys}
 use Rattle.rb_script_read.specs.Events.{kind, votes, set_seen, set_keys, header_seen, header_keys, stored_seen, stored_keys, tracked_by, unnamed, event_of_kind, event}
 use Rattle.rb_script_config.specs.Goals.{asked, goal_keys, goal_of, one_goal, is_asked, settlement, settlement_keys}
-use Rattle.rb_script_read.specs.Turns.{Frame, Reading, taken, frame, turn_keys, turn}
+use Rattle.rb_script_read.specs.Turns.{TurnHead, Reading, taken, frame, turn_keys, turn}
 use Rattle.rb_script_config.specs.Tables.{tables, config}
 use Rattle.rb_script_read.specs.Scripts.{opening, script}
 use Rattle.rb_script_config.proofs.ConfigForms.{pass, same_ok, check-passed, needs-field, elements-keep, elements-count, reference-within, client-within, place-within, tables-few, config-form}
@@ -223,7 +223,7 @@ module _ (chains clients : ℕ) (paths : List PathConfig) (s : Section) (x : Obs
 abbrev IsSeenBy : Config → Observation Global → Type 0
 IsSeenBy c e = IsReadObservation (length c.chains) (length c.clients) (length c.paths) e
 
-of_kind-form : (k : Kind) (c : Config) (names : Names) (s : Section) (x : Observation Global × Names) → event_of_kind k c names s ≡ Ok x → IsSeenBy c x.0
+of_kind-form : (k : EventKind) (c : Config) (names : Names) (s : Section) (x : Observation Global × Names) → event_of_kind k c names s ≡ Ok x → IsSeenBy c x.0
 of_kind-form kinds.Set c names s x h = set_seen-form c.chains (length c.clients) (length c.paths) names s x h
 of_kind-form kinds.Header c names s x h =
     unnamed-form (length c.chains) (length c.clients) (length c.paths) names (header_seen c.chains names s) x h (header_seen-form c.chains (length c.clients) (length c.paths) names s)
@@ -252,13 +252,13 @@ events-form c path names ds all h =
 -- ---- turns
 
 -- a window that doesn't end before it begins, and the room that is left
-record IsFrame (room : ℕ) (f : Frame) : Type 0 where
+record IsTurnHead (room : ℕ) (f : TurnHead) : Type 0 where
   window : f.window.from ≤ f.window.until
   left : taken f.goals f.events f.settlements + f.room ≡ room
 
-frame-form : (room : ℕ) (s : Section) (f : Frame) → frame room s ≡ Ok f → IsFrame room f
+head-form : (room : ℕ) (s : Section) (f : TurnHead) → frame room s ≡ Ok f → IsTurnHead room f
 unfolding frame
-frame-form room s f h =
+head-form room s f h =
     pass (only turn_keys s) _ f h (λ u e0 h0.
     pass (needs (codes "from") time s) _ f h0 (λ from e1 h1.
     pass (needs (codes "until") time s) _ f h1 (λ until e2 h2.
@@ -268,7 +268,7 @@ frame-form room s f h =
     pass (check (nat_le (taken goals events settlements) room) TooManyEvents s.path) _ f h5 (λ v few h6.
     pass (check (nat_le from until) BadWindow s.path) _ f h6 (λ w ordered same.
     let fits = leb-true (taken goals events settlements) room (check-passed _ TooManyEvents s.path v few) in
-    subst (IsFrame room) (same_ok _ f same) (record {
+    subst (IsTurnHead room) (same_ok _ f same) (record {
       window = leb-true from until (check-passed _ BadWindow s.path w ordered);
       left = omega (arith, fits);
     })))))))))
@@ -287,7 +287,7 @@ turn-form c reading s x h =
     pass (elements (asked ids) (child s.path (codes "goal")) [] f.goals) _ x h0 (λ goals e1 h1.
     pass (in_sequence (event c) (child s.path (codes "event")) reading.names [] f.events) _ x h1 (λ events e2 h2.
     pass (elements (settlement ids) (child s.path (codes "settle")) [] f.settlements) _ x h2 (λ settlements e3 same.
-    let framed = frame-form reading.room s f e0 in
+    let framed = head-form reading.room s f e0 in
     let asked_well = subst (λ n. AreGoals n goals) count (goals-form ids (child s.path (codes "goal")) f.goals goals e1) in
     let settled_well = subst (λ n. All (λ (y : Settlement). y.client < n) settlements) count (settlements-form ids (child s.path (codes "settle")) f.settlements settlements e3) in
     let asked_count = elements-count (asked ids) (child s.path (codes "goal")) [] f.goals goals e1 in

@@ -12,8 +12,8 @@ use Rattle.rb_script_types.specs.declared.observation.Observation.TheVariants.{S
 use Rattle.rb_script_toml.specs.Faults.{Fault, ◌>>=◌, fault}
 use Rattle.rb_script_toml.specs.Fields.{Field, Section, text, only, needs, optional, or_default, height, time, hash, zero_hash}
 use Rattle.rb_script_toml.specs.declared.fault.FaultName.TheVariants.{BadKind, BadVotes}
-use Rattle.rb_script_read.specs.declared.event.Kind.{Kind}
-use Rattle.rb_script_read.specs.declared.event.Kind.TheVariants as kinds
+use Rattle.rb_script_read.specs.declared.event.EventKind.{EventKind}
+use Rattle.rb_script_read.specs.declared.event.EventKind.TheVariants as kinds
 use Rattle.rb_script_config.specs.Named.{reference}
 use Rattle.rb_script_read.specs.Names.{Names, with_name, new_set_name, set_reference}
 use Rattle.rb_script_config.specs.Clients.{client_ids}
@@ -22,7 +22,7 @@ use Rattle.rb_script_read.specs.Packets.{sent, received, ack_written, cleared, c
 
 -- ---- kinds and votes
 
-abbrev pub kind_of : List ℕ → Option Kind
+abbrev pub kind_of : List ℕ → Option EventKind
 kind_of word =
     if bytes_eq word (codes "set") then Some kinds.Set
     else if bytes_eq word (codes "header") then Some kinds.Header
@@ -34,11 +34,11 @@ kind_of word =
     else if bytes_eq word (codes "closed") then Some kinds.Closed
     else None
 
-abbrev pub known_kind : List ℕ → Option Kind → Result Kind Fault
+abbrev pub known_kind : List ℕ → Option EventKind → Result EventKind Fault
 known_kind path (Some k) = Ok k
 known_kind path None = fault BadKind path
 
-unfoldable pub kind : Field → Result Kind Fault
+unfoldable pub kind : Field → Result EventKind Fault
 kind f = do
   word ← text f
   known_kind f.path (kind_of word)
@@ -122,7 +122,7 @@ stored_seen clients names s = do
 abbrev pub unnamed : Names → Result (Observation Global) Fault → Result (Observation Global × Names) Fault
 unnamed names read = read >>= λ e. Ok (e, names)
 
-abbrev pub event_of_kind : Kind → Config → Names → Section → Result (Observation Global × Names) Fault
+abbrev pub event_of_kind : EventKind → Config → Names → Section → Result (Observation Global × Names) Fault
 event_of_kind kinds.Set c names s = set_seen c.chains names s
 event_of_kind kinds.Header c names s = unnamed names (header_seen c.chains names s)
 event_of_kind kinds.Stored c names s = unnamed names (stored_seen c.clients names s)

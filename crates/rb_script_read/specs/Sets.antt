@@ -7,7 +7,7 @@ use Rattle.rb_valset.specs.Validator.{Member, max_power}
 use Rattle.rb_valset.specs.ValidatorSet.{in_set_order}
 use Rattle.rb_valset.specs.Refusal.{set_refusal}
 use Rattle.rb_script_toml.specs.Faults.{Fault, ◌>>=◌, fault, check}
-use Rattle.rb_script_toml.specs.Places.{element}
+use Rattle.rb_script_toml.specs.KeyPaths.{element}
 use Rattle.rb_script_toml.specs.Fields.{Field, typed, within, hash_of, items, max_number}
 use Rattle.rb_script_toml.specs.declared.fault.FaultName.TheVariants.{OutOfRange, WrongType, BadSet}
 use Rattle.rb_script_read.specs.declared.set.GivenValidator.{GivenValidator}

@@ -7,11 +7,11 @@ use Rattle.rb_base.specs.Window.{Span}
 use Rattle.rb_script_types.specs.Config.{Config}
 use Rattle.rb_script_types.specs.Script.{Turn}
 use Rattle.rb_script_toml.specs.Faults.{Fault, ◌>>=◌, check}
-use Rattle.rb_script_toml.specs.Places.{child}
+use Rattle.rb_script_toml.specs.KeyPaths.{child}
 use Rattle.rb_script_toml.specs.Fields.{Section, items, items_count, only, needs, optional, or_default, time, elements, in_sequence, next_in_sequence}
 use Rattle.rb_script_toml.specs.declared.fault.FaultName.TheVariants.{TooManyEvents, BadWindow}
 use Rattle.rb_script_read.specs.declared.turn.Reading.{Reading as CodeReading}
-use Rattle.rb_script_read.specs.declared.turn.Frame.{Frame as CodeFrame}
+use Rattle.rb_script_read.specs.declared.turn.TurnHead.{TurnHead as CodeTurnHead}
 use Rattle.rb_script_read.specs.Names.{Names, names_of}
 use Rattle.rb_script_config.specs.Clients.{client_ids}
 use Rattle.rb_script_config.specs.Goals.{asked, settlement}
@@ -21,15 +21,15 @@ abbrev pub turn_keys : List (List ℕ)
 turn_keys = codes "from" ∷ codes "until" ∷ codes "goal" ∷ codes "event" ∷ codes "settle" ∷ []
 
 -- what a turn's own keys hold, and room for so many goals, events and settlements after it
-pub record Frame : Type 0 where
+pub record TurnHead : Type 0 where
   pub window : Span
   pub goals : Items
   pub events : Items
   pub settlements : Items
   pub room : ℕ
 
-abbrev pub frame_view : CodeFrame → Frame
-frame_view f = record {
+abbrev pub head_view : CodeTurnHead → TurnHead
+head_view f = record {
   window = f.window;
   goals = items_view f.goals.now;
   events = items_view f.events.now;
@@ -42,7 +42,7 @@ abbrev pub taken : Items → Items → Items → ℕ
 taken goals events settlements = items_count goals + items_count events + items_count settlements
 
 -- where there is room for so many of them
-unfoldable pub frame : ℕ → Section → Result Frame Fault
+unfoldable pub frame : ℕ → Section → Result TurnHead Fault
 frame room s = do
   _ ← only turn_keys s
   from ← needs (codes "from") time s

@@ -19,7 +19,7 @@ use toml::Value;
 
 /// The kinds of event.
 #[derive(Clone, Copy)]
-pub enum Kind {
+pub enum EventKind {
     Set,
     Header,
     Stored,
@@ -31,24 +31,24 @@ pub enum Kind {
 }
 
 #[tactic(auto, using(rb_script_toml::proofs::Steps::steps), unfolding(crate::specs::Events::kind))]
-fn read_kind(field: &Field<'_>) -> Result<Kind, RunError>
+fn read_kind(field: &Field<'_>) -> Result<EventKind, RunError>
     ensures { Gives (λ k. k) result (kind (field_view field.now)) }
 {
     match field.text()? {
-        "set" => Ok(Kind::Set),
-        "header" => Ok(Kind::Header),
-        "stored" => Ok(Kind::Stored),
-        "sent" => Ok(Kind::Sent),
-        "received" => Ok(Kind::Received),
-        "ack" => Ok(Kind::Ack),
-        "cleared" => Ok(Kind::Cleared),
-        "closed" => Ok(Kind::Closed),
+        "set" => Ok(EventKind::Set),
+        "header" => Ok(EventKind::Header),
+        "stored" => Ok(EventKind::Stored),
+        "sent" => Ok(EventKind::Sent),
+        "received" => Ok(EventKind::Received),
+        "ack" => Ok(EventKind::Ack),
+        "cleared" => Ok(EventKind::Cleared),
+        "closed" => Ok(EventKind::Closed),
         _ => Err(field.fault(FaultName::BadKind)),
     }
 }
 
 #[tactic(auto, using(rb_script_toml::proofs::Steps::steps))]
-fn needed_kind(section: &Section<'_>) -> Result<Kind, RunError>
+fn needed_kind(section: &Section<'_>) -> Result<EventKind, RunError>
     ensures { Gives (λ k. k) result (needs (codes "kind") kind (section_view section.now)) }
 {
     read_kind(&section.required("kind")?)
@@ -192,14 +192,14 @@ fn read_event(
     ensures { Gives (λ e. (e, names_of names.new)) result (event (setup_view setup.now) (names_of names.old) (section_view section.now)) }
 {
     match needed_kind(section)? {
-        Kind::Set => read_set(section, &setup.chains, names),
-        Kind::Header => read_header(section, &setup.chains, names),
-        Kind::Stored => read_stored(section, &setup.clients, names),
-        Kind::Sent => read_sent(section, &setup.paths),
-        Kind::Received => read_received(section, &setup.paths),
-        Kind::Ack => read_ack(section, &setup.paths),
-        Kind::Cleared => read_cleared(section, &setup.paths),
-        Kind::Closed => read_closed(section, &setup.paths),
+        EventKind::Set => read_set(section, &setup.chains, names),
+        EventKind::Header => read_header(section, &setup.chains, names),
+        EventKind::Stored => read_stored(section, &setup.clients, names),
+        EventKind::Sent => read_sent(section, &setup.paths),
+        EventKind::Received => read_received(section, &setup.paths),
+        EventKind::Ack => read_ack(section, &setup.paths),
+        EventKind::Cleared => read_cleared(section, &setup.paths),
+        EventKind::Closed => read_closed(section, &setup.paths),
     }
 }
 

@@ -2,7 +2,7 @@
 ghost use Rattle.std.specs.Prelude.{[], codes, map};
 ghost use Rattle.toml.specs.View.{view, items_view};
 ghost use Rattle.rb_script_toml.specs.Faults.{Gives};
-ghost use Rattle.rb_script_toml.specs.Places.{element};
+ghost use Rattle.rb_script_toml.specs.KeyPaths.{element};
 ghost use Rattle.rb_script_toml.specs.Fields.{field_view, section_view, needs};
 ghost use Rattle.rb_script_read.specs.Sets.{member_of, validator, validators, validators_after, with_powers, set_of};
 

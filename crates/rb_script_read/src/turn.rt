@@ -4,7 +4,7 @@ ghost use Rattle.toml.specs.View.{view};
 ghost use Rattle.rb_script_types.specs.Script.{turn_view};
 ghost use Rattle.rb_script_toml.specs.Faults.{Gives};
 ghost use Rattle.rb_script_toml.specs.Fields.{section_view, only};
-ghost use Rattle.rb_script_read.specs.Turns.{turn, turn_at, turn_keys, frame, frame_view, reading_view};
+ghost use Rattle.rb_script_read.specs.Turns.{turn, turn_at, turn_keys, frame, head_view, reading_view};
 ghost use Rattle.rb_script_config.specs.Setups.{setup_view};
 
 use crate::event::read_events;
@@ -17,7 +17,7 @@ use toml::Value;
 
 /// What a turn's own keys hold, and the room that it leaves.
 #[derive(Clone, Copy)]
-pub struct Frame<'a> {
+pub struct TurnHead<'a> {
     pub window: Window,
     pub goals: &'a [Value],
     pub events: &'a [Value],
@@ -49,8 +49,8 @@ fn room_after(room: usize, goals: usize, events: usize, settlements: usize) -> O
 }
 
 #[tactic(auto, using(rb_script_toml::proofs::Steps::steps, rb_script_toml::proofs::Steps::counted), unfolding(crate::specs::Turns::frame))]
-fn read_frame<'a>(section: Section<'a>, room: usize) -> Result<Frame<'a>, RunError>
-    ensures read { Gives frame_view result (frame room (section_view section.entry)) }
+fn read_head<'a>(section: Section<'a>, room: usize) -> Result<TurnHead<'a>, RunError>
+    ensures read { Gives head_view result (frame room (section_view section.entry)) }
 {
     only_turn_keys(&section)?;
     let from = section.time("from")?;
@@ -62,7 +62,7 @@ fn read_frame<'a>(section: Section<'a>, room: usize) -> Result<Frame<'a>, RunErr
         return Err(section.fault(FaultName::TooManyEvents));
     };
     match Window::new(from, until) {
-        Ok(window) => Ok(Frame {
+        Ok(window) => Ok(TurnHead {
             window,
             goals,
             events,
@@ -77,7 +77,7 @@ fn read_frame<'a>(section: Section<'a>, room: usize) -> Result<Frame<'a>, RunErr
 fn read_turn(section: &Section<'_>, setup: &Setup, reading: &mut Reading) -> Result<Turn, RunError>
     ensures { Gives (λ t. (turn_view t, reading_view reading.new)) result (turn (setup_view setup.now) (reading_view reading.old) (section_view section.now)) }
 {
-    let frame = read_frame(*section, reading.room)?;
+    let frame = read_head(*section, reading.room)?;
     reading.room = frame.room;
     let path = child_path(section.alloc, section.path, "goal")?;
     let goals = read_goals(section.alloc, path.as_str(), frame.goals, &setup.clients)?;

@@ -14,7 +14,7 @@ use Rattle.rb_script_toml.specs.declared.fault.FaultName.TheVariants.{MissingKey
 use Rattle.rb_script_toml.specs.declared.field.Field.{Field as CodeField}
 use Rattle.rb_script_toml.specs.declared.section.Section.{Section as CodeSection}
 use Rattle.rb_script_toml.specs.Faults.{Fault, ◌>>=◌, fault, check}
-use Rattle.rb_script_toml.specs.Places.{child, element, place_path, shown_key}
+use Rattle.rb_script_toml.specs.KeyPaths.{child, element, place_path, shown_key}
 use Rattle.rb_script_toml.specs.Identifiers.{is_identifier}
 
 -- a value and its path

@@ -1,5 +1,5 @@
 pub mod Faults
-pub mod Places
+pub mod KeyPaths
 pub mod Identifiers
 pub mod Fields
 pub mod Documents

@@ -1,13 +1,13 @@
 //! What one key of a table holds.
 ghost use Rattle.std.specs.Prelude.{◌≡◌, ◌≤◌, IfOk};
 ghost use Rattle.rb_script_toml.specs.Faults.{Gives, IsFault};
-ghost use Rattle.rb_script_toml.specs.Places.{element, below, place_path};
+ghost use Rattle.rb_script_toml.specs.KeyPaths.{element, below, place_path};
 ghost use Rattle.rb_script_toml.specs.Identifiers.{is_identifier};
 ghost use Rattle.toml.specs.Data.{as_integer};
 ghost use Rattle.toml.specs.View.{view, items_view};
 
 use crate::fault::{FaultName, RunError};
-use crate::place::Place;
+use crate::key_path::KeyPath;
 use hex::FromHex;
 use jiff::Timestamp;
 use rb_base::{ChainId, FeeTable, Fraction, Height, Moment};
@@ -21,7 +21,7 @@ pub const MAX_NUMBER: u64 = i64::MAX as u64;
 #[derive(Clone, Copy)]
 pub struct Field<'a> {
     pub alloc: Global,
-    pub place: Place<'a>,
+    pub place: KeyPath<'a>,
     pub value: &'a Value,
 }
 

@@ -5,11 +5,11 @@
 mod document;
 mod fault;
 mod field;
-mod place;
+mod key_path;
 mod section;
 
 pub use document::{MAX_BYTES, read_table};
 pub use fault::{Fault, FaultName, RunError};
 pub use field::{Field, MAX_NUMBER, is_identifier};
-pub use place::{Place, child_path, element_path};
+pub use key_path::{KeyPath, child_path, element_path};
 pub use section::{Section, fault_at, section_at};

@@ -5,12 +5,12 @@ ghost use Rattle.std.specs.Str.{bytes_eq};
 ghost use Rattle.toml.specs.Data.{get_member};
 ghost use Rattle.toml.specs.View.{view, items_view, table_view};
 ghost use Rattle.rb_script_toml.specs.Faults.{Gives, IsFault};
-ghost use Rattle.rb_script_toml.specs.Places.{child};
+ghost use Rattle.rb_script_toml.specs.KeyPaths.{child};
 ghost use Rattle.rb_script_toml.specs.Fields.{unknown_key, section_at, section_view};
 
 use crate::fault::{Fault, FaultName, RunError};
 use crate::field::Field;
-use crate::place::{Place, shown_key};
+use crate::key_path::{KeyPath, shown_key};
 use rb_base::{FeeTable, Height, Moment};
 use std::alloc::Global;
 use toml::{Table, Value};
@@ -25,14 +25,14 @@ pub struct Section<'a> {
 
 impl<'a> Section<'a> {
     ghost use Rattle.toml.specs.Data.{no_items};
-    ghost use Rattle.rb_script_toml.specs.Places.{place_path};
+    ghost use Rattle.rb_script_toml.specs.KeyPaths.{place_path};
     ghost use Rattle.rb_script_toml.specs.Fields.{field_view, only, optional, required, needs, or_default, maybe, number, height, fee_table, time, hash, zero_hash, array, items};
 
     /// The place of a key of this table.
-    pub fn place(&self, key: &'a str) -> Place<'a>
+    pub fn place(&self, key: &'a str) -> KeyPath<'a>
         ensures { place_path result ≡ child self.now.path.now key.entry.now }
     {
-        Place {
+        KeyPath {
             table: self.path,
             key,
         }
@@ -54,7 +54,7 @@ impl<'a> Section<'a> {
             return Ok(());
         };
         let key = shown_key(self.alloc, key.as_str())?;
-        let place = Place {
+        let place = KeyPath {
             table: self.path,
             key: key.as_str(),
         };

@@ -52,8 +52,7 @@ pub struct Config<A: Allocator = Global> {
 }
 
 impl<A: Allocator + Copy> Config<A> {
-    /// An equal configuration, on the allocator of this one. An error comes only where a growth is
-    /// refused.
+    /// An equal configuration, on the allocator of this one.
     pub fn copy(&self) -> Result<Config<A>, AllocError>
         ensures { IfOk result (λ config. config_view config ≡ config_view self.now) }
     {
@@ -113,7 +112,7 @@ fn are_paths(chains: usize, clients: &[ClientConfig], paths: &[PathConfig]) -> b
 
 /// Whether a configuration keeps what every relayer is set up with: identifiers differ, clients and
 /// paths name what is there and fit together, and there are at most 64 chains, 256 clients and 256
-/// paths, and 1 to 4,096 records in a book. Takes no memory.
+/// paths, and 1 to 4,096 records in a book.
 pub fn is_config<A: Allocator>(config: &Config<A>) -> bool
     ensures { IsTrue result ↔ IsConfig (config_view config.now) }
 {

@@ -61,8 +61,7 @@ pub enum Observation<A: Allocator = Global> {
 }
 
 impl<A: Allocator + Copy> Observation<A> {
-    /// An equal observation, on the allocator of this one. An error comes only where a growth is
-    /// refused.
+    /// An equal observation, on the allocator of this one.
     pub fn copy(&self) -> Result<Observation<A>, AllocError>
         ensures { IfOk result (λ observation. observation ≡ self.now) }
     {

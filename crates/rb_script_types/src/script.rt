@@ -131,7 +131,7 @@ fn are_few_entries<A: Allocator>(turns: &[Turn<A>]) -> bool
 
 /// Whether a script keeps what every script keeps: its configuration does (`is_config`), each turn
 /// asks a client at most once and names chains, clients and paths that are there, and there are at
-/// most 500 turns and 200,000 goals, events and settlements. Takes no memory.
+/// most 500 turns and 200,000 goals, events and settlements.
 pub fn is_script<A: Allocator>(script: &Script<A>) -> bool
     ensures { IsTrue result ↔ IsReadScript (script_view script.now) }
 {

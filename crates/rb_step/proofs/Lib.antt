@@ -1,7 +1,7 @@
 pub mod Voters
 pub mod Success
 pub mod Heights
-pub mod Known
+pub mod RecordAt
 pub mod Window
 pub mod Orderly
 pub mod Conditions

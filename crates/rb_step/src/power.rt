@@ -62,7 +62,7 @@ fn own_signed_power<A: Allocator + Copy>(own: &ValidatorSet<A>, header: &Header<
 }
 
 /// Whether the header's commit voters hold more than two thirds of its own set (CometBFT light
-/// client, `VerifyCommitLight`). Takes no memory.
+/// client, `VerifyCommitLight`).
 pub fn is_signed_by_two_thirds<A: Allocator + Copy>(
     header: &Header<A>,
     own: &ValidatorSet<A>,

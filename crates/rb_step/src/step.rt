@@ -102,7 +102,6 @@ impl<A: Allocator + Copy> Step<'_, A> {
 /// What a client that trusts the record at a height answers to a header at a moment: `Success`
 /// exactly where the step is accepted, else the first check that fails. `next` is the set whose
 /// hash the record gives for the next block, if it is known, and `own` the header's own set.
-/// Takes no memory.
 pub fn verify<A: Allocator + Copy>(
     options: &Options,
     trusted_height: Height,
@@ -131,7 +130,7 @@ pub fn verify<A: Allocator + Copy>(
 
 /// Whether a client that trusts the record at a height accepts a header at every moment of a
 /// window. `next` is the set whose hash the record gives for the next block, if it is known, and
-/// `own` the header's own set. Takes no memory.
+/// `own` the header's own set.
 pub fn accepts_in<A: Allocator + Copy>(
     options: &Options,
     trusted_height: Height,

@@ -56,7 +56,7 @@ fn have_records<A: Allocator + Copy>(heights: &[Height], book: &ChainBook<A>) ->
 }
 
 /// Whether heights rise strictly and each has a record in the book: the condition of
-/// `ClientView::new`. Takes no memory.
+/// `ClientView::new`.
 pub fn are_known<A: Allocator + Copy>(heights: &[Height], book: &ChainBook<A>) -> bool
     ensures { IsTrue result ↔ AreKnown book.now heights.now }
 {
@@ -65,7 +65,7 @@ pub fn are_known<A: Allocator + Copy>(heights: &[Height], book: &ChainBook<A>) -
 
 impl<'a, A: Allocator + Copy> ClientView<'a, A> {
     /// The view of these. The stored heights rise and each has a record in the book, as `are_known`
-    /// tells. Takes no memory.
+    /// tells.
     pub fn new(
         options: Options,
         fees: FeeTable,

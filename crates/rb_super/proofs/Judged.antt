@@ -11,7 +11,7 @@ use Rattle.rb_core_model.specs.Batches.{batch_open}
 use Rattle.rb_core.specs.Core.{Core, state_in}
 use Rattle.rb_plan_client.specs.Draft.{Job, Draft}
 use Rattle.rb_core_model.specs.Machine.{client_view}
-use Rattle.rb_core_model.specs.Standing.{OpenBatch, KnownClient, Standing, task_in}
+use Rattle.rb_core_model.specs.Standing.{OpenBatch, ClientState, Standing, task_in}
 use Rattle.rb_plan_client.specs.Task.{Task, goal_of}
 use Rattle.rb_core_model.proofs.Drafted.{drafted}
 use Rattle.rb_core_model.proofs.Options.{some_from}
@@ -27,10 +27,10 @@ use Rattle.rb_super_turn.proofs.Plans.{known_at, client_of_view, draft_accepted}
 
 -- ---- the client is one, and so is its goal
 
-pub one_known : (s : Standing) (client : ℕ) (k l : KnownClient) (t u : Task) → IsClientIn s client k t → IsClientIn s client l u → k ≡ l
+pub one_known : (s : Standing) (client : ℕ) (k l : ClientState) (t u : Task) → IsClientIn s client k t → IsClientIn s client l u → k ≡ l
 one_known s client k l t u a b = same_Some k l (sym a.is_known ∙ b.is_known)
 
-pub one_task : (s : Standing) (client : ℕ) (k l : KnownClient) (t u : Task) → IsClientIn s client k t → IsClientIn s client l u → t ≡ u
+pub one_task : (s : Standing) (client : ℕ) (k l : ClientState) (t u : Task) → IsClientIn s client k t → IsClientIn s client l u → t ≡ u
 one_task s client k l t u a b =
     let window : a.window ≡ b.window = same_Some a.window b.window (sym a.is_window ∙ b.is_window) in
     let known = one_known s client k l t u a b in
@@ -39,7 +39,7 @@ one_task s client k l t u a b =
 one_wanted : (t : Task) (g h : Option Goal) → IsWanted t g → IsWanted t h → g ≡ h
 one_wanted t g h a b = a.is_goal ∙ ap (goal_of t) (one_reach (client_of t.view) a.reach b.reach a.is_reach b.is_reach) ∙ sym b.is_goal
 
-pub one_goal : (k : KnownClient) (t : Task) (g h : Option Goal) → IsPlannedGoal k t g → IsPlannedGoal k t h → g ≡ h
+pub one_goal : (k : ClientState) (t : Task) (g h : Option Goal) → IsPlannedGoal k t g → IsPlannedGoal k t h → g ≡ h
 one_goal k t g h a b = go k.batch a b
   where
     go : (o : Option OpenBatch) → MatchOption o (IsWanted t g) (λ b. g ≡ None) → MatchOption o (IsWanted t h) (λ b. h ≡ None) → g ≡ h
@@ -49,11 +49,11 @@ one_goal k t g h a b = go k.batch a b
 -- ---- a client that is held
 
 pub held_there : (core : Core) (client : ℕ) (b : OpenBatch) → client < length core.config.clients → IsPlannable core → Some b ≡ batch_open (standing_in core) client
-    → (known : KnownClient) × (task : Task) × IsClientIn (standing_in core) client known task × IsPlannedGoal known task None
+    → (known : ClientState) × (task : Task) × IsClientIn (standing_in core) client known task × IsPlannedGoal known task None
 held_there core client b lt ready is_open =
     let k = known_at core client lt in
     let w = some_from (standing_in core).window ready.window in
-    let batch : k.0.batch ≡ Some b = sym (ap (option_and_then (λ (x : KnownClient). x.batch)) k.1) ∙ sym is_open in
+    let batch : k.0.batch ≡ Some b = sym (ap (option_and_then (λ (x : ClientState). x.batch)) k.1) ∙ sym is_open in
     let task = task_in (standing_in core) w.0 client k.0 in (
       k.0,
       task,
@@ -66,7 +66,7 @@ held_there core client b lt ready is_open =
 -- what is seen of it is how it stands
 pub job_there : (core : Core) (client : ℕ) (job : Job) → client < length core.config.clients → HasLogRoom core 1 → IsPlannable core
     → batch_open (standing_in core) client ≡ None → client_view (state_in core) client ≡ Some job
-    → (known : KnownClient) × IsClientIn (standing_in core) client known job.task × (known.batch ≡ None)
+    → (known : ClientState) × IsClientIn (standing_in core) client known job.task × (known.batch ≡ None)
 job_there core client job lt room ready none_open view =
     let d : Draft = record { job = job; answer = None } in
     let x = drafted (state_in core) d (draft_accepted core client d lt room ready none_open view) in
@@ -81,7 +81,7 @@ job_there core client job lt room ready none_open view =
       x.none_open,
     )
 
-wanted_free : (k : KnownClient) (t : Task) (goal : Option Goal) → k.batch ≡ None → IsWanted t goal → IsPlannedGoal k t goal
+wanted_free : (k : ClientState) (t : Task) (goal : Option Goal) → k.batch ≡ None → IsWanted t goal → IsPlannedGoal k t goal
 wanted_free k t goal free wanted = subst (λ o. MatchOption o (IsWanted t goal) (λ b. goal ≡ None)) (sym free) wanted
 
 module _ (core : Core) (client : ℕ) (job : Job) (lt : client < length core.config.clients) (room : HasLogRoom core 1) (ready : IsPlannable core)
@@ -115,16 +115,16 @@ module _ (core : Core) (client : ℕ) (job : Job) (lt : client < length core.con
       let g = own.goal in
       let knowns : own.known ≡ x.0 = one_known (standing_in core) client own.known x.0 own.task job.task own.is x.1 in
       let tasks : own.task ≡ job.task = one_task (standing_in core) client own.known x.0 own.task job.task own.is x.1 in
-      let mine : IsPlannedGoal x.0 job.task (Some g) = subst (λ (p : KnownClient × Task). IsPlannedGoal p.0 p.1 (Some g)) (λ i. (knowns i, tasks i)) own.is_planned in
+      let mine : IsPlannedGoal x.0 job.task (Some g) = subst (λ (p : ClientState × Task). IsPlannedGoal p.0 p.1 (Some g)) (λ i. (knowns i, tasks i)) own.is_planned in
       let goals : goal ≡ Some g = one_goal x.0 job.task goal (Some g) (wanted_free x.0 job.task goal x.2 wanted) mine in
       accepts g goals (subst (λ (t : Task). IsExact (client_of t.view) labels) tasks own.exact) (subst (λ (t : Task). Shows (client_of t.view) g claim) tasks own.shows)
 
 -- one that is held has no answer
 pub held_alone : (core : Core) (client : ℕ) (b : OpenBatch) → client < length core.config.clients → IsPlannable core → Some b ≡ batch_open (standing_in core) client
-    → (known : KnownClient) (task : Task) (g : Goal) → IsClientIn (standing_in core) client known task → IsPlannedGoal known task (Some g) → ⊥
+    → (known : ClientState) (task : Task) (g : Goal) → IsClientIn (standing_in core) client known task → IsPlannedGoal known task (Some g) → ⊥
 held_alone core client b lt ready is_open known task g is planned =
     let x = held_there core client b lt ready is_open in
     let knowns : known ≡ x.0 = one_known (standing_in core) client known x.0 task x.1 is x.2 in
     let tasks : task ≡ x.1 = one_task (standing_in core) client known x.0 task x.1 is x.2 in
-    let mine : IsPlannedGoal x.0 x.1 (Some g) = subst (λ (p : KnownClient × Task). IsPlannedGoal p.0 p.1 (Some g)) (λ i. (knowns i, tasks i)) planned in
+    let mine : IsPlannedGoal x.0 x.1 (Some g) = subst (λ (p : ClientState × Task). IsPlannedGoal p.0 p.1 (Some g)) (λ i. (knowns i, tasks i)) planned in
     none-some g (one_goal x.0 x.1 None (Some g) x.3 mine)

@@ -20,7 +20,7 @@ use Rattle.rb_step.specs.LightClient.{Update, Client}
 use Rattle.rb_step.specs.View.{client_of}
 use Rattle.rb_plan_client.specs.Draft.{Batch, Sending, nothing, too_big, batched, Plan, Planned as Answer, IsBatch, IsSending, IsPlan, IsPlanned, IsIdle}
 use Rattle.rb_plan_client.specs.Reach.{IsReach}
-use Rattle.rb_core_model.specs.Standing.{OpenBatch, KnownClient, Standing, task_in}
+use Rattle.rb_core_model.specs.Standing.{OpenBatch, ClientState, Standing, task_in}
 use Rattle.rb_plan_client.specs.Task.{Task, Message, goal_of, messages_of, gas_of, gases}
 use Rattle.rb_super_turn.specs.Report.{Outcome, held, idle, planned, ClientReport, TurnReport}
 use Rattle.rb_super_turn.specs.Script.{Turn}
@@ -129,10 +129,10 @@ module _ (one : AnswersAreOne) (cuts : LeastCutIsOne) where
   idle_or_planned t p a b =
       none-some p.goal (sym a.goal ∙ ap (goal_of t) (one_reach (client_of t.view) a.reach b.reach a.is_reach b.is_reach) ∙ b.goal)
 
-  held_or_free : (c : KnownClient) (n : ℕ) → option_map (λ (b : OpenBatch). b.number) c.batch ≡ Some n → c.batch ≡ None → ⊥
+  held_or_free : (c : ClientState) (n : ℕ) → option_map (λ (b : OpenBatch). b.number) c.batch ≡ Some n → c.batch ≡ None → ⊥
   held_or_free c n e free = none-some n (sym (ap (option_map (λ (b : OpenBatch). b.number)) free) ∙ e)
 
-  one_outcome : (t : Task) (c : KnownClient) (a b : Outcome) → IsOutcome t c a → IsOutcome t c b → a ≡ b
+  one_outcome : (t : Task) (c : ClientState) (a b : Outcome) → IsOutcome t c a → IsOutcome t c b → a ≡ b
   one_outcome t c (held m) (held n) p q = ap (λ x. held x) (same_Some m n (sym p ∙ q))
   one_outcome t c (held m) idle p q = absurd (held_or_free c m p q.0)
   one_outcome t c (held m) (planned b) p q = absurd (held_or_free c m p q.0)
@@ -146,7 +146,7 @@ module _ (one : AnswersAreOne) (cuts : LeastCutIsOne) where
 
   -- ---- turns
 
-  one_client : (s : Standing) (c : ℕ × KnownClient) (r q : ClientReport) → IsClientReport s c r → IsClientReport s c q → r ≡ q
+  one_client : (s : Standing) (c : ℕ × ClientState) (r q : ClientReport) → IsClientReport s c r → IsClientReport s c q → r ≡ q
   one_client s c r q a b =
       let window : a.window ≡ b.window = same_Some a.window b.window (sym a.is_window ∙ b.is_window) in
       let id : r.id ≡ q.id = a.id ∙ sym b.id in
@@ -154,7 +154,7 @@ module _ (one : AnswersAreOne) (cuts : LeastCutIsOne) where
       one_outcome (task_in s b.window c.0 c.1) c.1 r.outcome q.outcome (subst (λ w. IsOutcome (task_in s w c.0 c.1) c.1 r.outcome) window a.outcome) b.outcome in
       λ i. record { id = id i; outcome = outcome i }
 
-  one_row : (s : Standing) (cs : List (ℕ × KnownClient)) (rs qs : List ClientReport) → AllZip (IsClientReport s) cs rs → AllZip (IsClientReport s) cs qs → rs ≡ qs
+  one_row : (s : Standing) (cs : List (ℕ × ClientState)) (rs qs : List ClientReport) → AllZip (IsClientReport s) cs rs → AllZip (IsClientReport s) cs qs → rs ≡ qs
   one_row s [] [] [] a b = refl
   one_row s [] [] (q ∷ qs) a b = absurd b
   one_row s [] (r ∷ rs) qs a b = absurd a

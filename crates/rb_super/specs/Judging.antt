@@ -5,7 +5,7 @@ use Rattle.rb_base.specs.Window.{Span}
 use Rattle.rb_cert.specs.declared.verdict.Judgement.{Judgement}
 use Rattle.rb_cert.specs.Judgement.{Judges}
 use Rattle.rb_plan_client.specs.Reach.{IsReach}
-use Rattle.rb_core_model.specs.Standing.{KnownClient, Standing, opening_standing, task_in}
+use Rattle.rb_core_model.specs.Standing.{ClientState, Standing, opening_standing, task_in}
 use Rattle.rb_plan_client.specs.Task.{Task, goal_of}
 use Rattle.rb_script_types.specs.declared.goal.Goal.{Goal}
 use Rattle.rb_plan.specs.Answer.{Shows}
@@ -32,7 +32,7 @@ pub record IsPlanPhase (script : Script) (turn : ℕ) (s : Standing) : Type 0 wh
   pub taken_in : s ≡ before_plans begun this
 
 -- a client, by its place, as it is known then, and what a plan for it goes by in the window
-pub record IsClientIn (s : Standing) (client : ℕ) (known : KnownClient) (task : Task) : Type 0 where
+pub record IsClientIn (s : Standing) (client : ℕ) (known : ClientState) (task : Task) : Type 0 where
   pub window : Span
   pub is_window : s.window ≡ Some window
   pub is_known : slice_get s.clients client ≡ Some known
@@ -45,7 +45,7 @@ pub record IsWanted (task : Task) (goal : Option Goal) : Type 0 where
   pub is_goal : goal ≡ goal_of task reach
 
 -- the goal that it is planned for: none while a batch of its is open
-abbrev pub IsPlannedGoal : KnownClient → Task → Option Goal → Type 0
+abbrev pub IsPlannedGoal : ClientState → Task → Option Goal → Type 0
 IsPlannedGoal known task goal = MatchOption known.batch (IsWanted task goal) (λ b. goal ≡ None)
 
 -- ---- what is said
@@ -58,7 +58,7 @@ IsVerdictFor v (Some goal) labels claim (Some verdict) = Judges (client_of v) la
 
 -- the verdict on an answer for a client as things stand
 pub record IsVerdictIn (s : Standing) (client : ℕ) (labels : Labels) (claim : Option (List Update)) (verdict : Option Judgement) : Type 0 where
-  pub known : KnownClient
+  pub known : ClientState
   pub task : Task
   pub is : IsClientIn s client known task
   pub goal : Option Goal
@@ -67,7 +67,7 @@ pub record IsVerdictIn (s : Standing) (client : ℕ) (labels : Labels) (claim : 
 
 -- the labelling is sound, and the claim true for the goal that the client is planned for as things stand
 pub record IsRightAs (s : Standing) (client : ℕ) (labels : Labels) (claim : Option (List Update)) : Type 0 where
-  pub known : KnownClient
+  pub known : ClientState
   pub task : Task
   pub is : IsClientIn s client known task
   pub goal : Goal
@@ -77,7 +77,7 @@ pub record IsRightAs (s : Standing) (client : ℕ) (labels : Labels) (claim : Op
 
 -- the same of an exact labelling
 pub record IsExactAs (s : Standing) (client : ℕ) (labels : Labels) (claim : Option (List Update)) : Type 0 where
-  pub known : KnownClient
+  pub known : ClientState
   pub task : Task
   pub is : IsClientIn s client known task
   pub goal : Goal

@@ -1,9 +1,8 @@
 //! What workers find, where they are told to look.
+use rb_base::{Gate, Part, WorkItem};
 use rb_core::{Draft, Scan};
-use rb_gang::{Gate, Place};
-use rb_scan::Part;
 use rb_super_turn::Found;
-use rb_super_worker::{Held, Order, Team};
+use rb_super_worker::{Inbox, Order, Team};
 use std::alloc::{AllocError, Global};
 use std::sync::Wait;
 
@@ -13,13 +12,13 @@ use std::sync::Wait;
 pub(crate) struct FoundByWorkers<'a, R, G: Gate> {
     pub(crate) rt: &'a R,
     pub(crate) team: Team<G>,
-    pub(crate) held: Held,
+    pub(crate) inbox: Inbox,
 }
 
 impl<'a, R: Wait, G: Gate> FoundByWorkers<'a, R, G> {
-    /// Tells a worker to do a job. An error comes only where a growth is refused.
+    /// Tells a worker to do a job.
     pub(crate) fn order(&mut self, order: Order) -> Result<(), AllocError> {
-        self.team.order(self.rt, &mut self.held, order)
+        self.team.order(self.rt, &mut self.inbox, order)
     }
 
     /// Waits until each job has come to an end; gives the team back. An error comes only where a growth was refused
@@ -28,9 +27,9 @@ impl<'a, R: Wait, G: Gate> FoundByWorkers<'a, R, G> {
         let FoundByWorkers {
             rt,
             mut team,
-            mut held,
+            mut inbox,
         } = self;
-        let finished = team.finish(rt, &mut held);
+        let finished = team.finish(rt, &mut inbox);
         (team, finished)
     }
 }
@@ -38,13 +37,13 @@ impl<'a, R: Wait, G: Gate> FoundByWorkers<'a, R, G> {
 impl<'a, R: Wait, G: Gate> Found<Global> for FoundByWorkers<'a, R, G> {
     fn take_scan(&mut self, path: usize, part: Part) -> Option<Scan> {
         self.team
-            .wait_for(self.rt, &mut self.held, Place::Scan(path, part));
-        self.held.take_scan(path, part)
+            .wait_for(self.rt, &mut self.inbox, WorkItem::Scan(path, part));
+        self.inbox.take_scan(path, part)
     }
 
     fn take_draft(&mut self, client: usize) -> Option<Draft> {
         self.team
-            .wait_for(self.rt, &mut self.held, Place::Plan(client));
-        self.held.take_draft(client)
+            .wait_for(self.rt, &mut self.inbox, WorkItem::Plan(client));
+        self.inbox.take_draft(client)
     }
 }

@@ -17,10 +17,10 @@ ghost use Rattle.rb_super_turn.specs.Turns.{IsReportOf};
 
 use crate::run::run_turns;
 use crate::supervisor::Supervisor;
+use rb_base::{Gate, OpenGate};
 use rb_batch::laws::least_cut_is_one;
 use rb_cert::{Judgement, certify_par};
 use rb_core::JobView;
-use rb_gang::{Gate, OpenGate};
 use rb_plan::laws::answers_are_one;
 use rb_plan::{Answer, Goal};
 use rb_script_types::{Script, Turn};

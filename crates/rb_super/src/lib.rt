@@ -6,13 +6,13 @@ mod found;
 mod head;
 mod judging;
 mod orders;
+mod parallel;
 mod run;
 mod scripts;
 mod supervisor;
-mod workers;
 
 pub use judging::judge;
+pub use parallel::ParallelSupervisor;
 pub use run::{run_by_workers, run_script};
 pub use scripts::read_scripts_are_scripts;
 pub use supervisor::Supervisor;
-pub use workers::Workers;

@@ -4,9 +4,8 @@ ghost use denote.Param.Send.{Frees};
 
 use crate::found::FoundByWorkers;
 use crate::head::Head;
+use rb_base::{Gate, Part};
 use rb_board::Note;
-use rb_gang::Gate;
-use rb_scan::Part;
 use rb_super_turn::{Crew, Relayer, table_for};
 use rb_super_worker::Order;
 use std::alloc::{AllocError, Global};
@@ -20,8 +19,7 @@ fn note_of(relayer: &Relayer<Global, Head>) -> Note {
     }
 }
 
-/// Tells workers to scan the parts of paths that have no valid scan, in the order of the paths. An error
-/// comes only where a growth is refused.
+/// Tells workers to scan the parts of paths that have no valid scan, in the order of the paths.
 pub(crate) fn order_scans<R: Wait, G: Gate + Send + Sync + Drop + 'static>(
     relayer: &Relayer<Global, Head>,
     found: &mut FoundByWorkers<'_, R, G>,
@@ -56,8 +54,8 @@ fn plan_order<R: Threads + Sync, G: Gate + Sync>(
     })
 }
 
-/// Tells workers to plan for the clients that have no open batch, in their order; each begins as soon as it
-/// is told. An error comes only where a growth is refused.
+/// Tells workers to plan for the clients that have no open batch, in their order; each begins as
+/// soon as it is told.
 pub(crate) fn order_plans<R, G>(
     crew: &Crew<R, G>,
     alloc: Global,

@@ -9,10 +9,9 @@ ghost use Rattle.rb_super_turn.specs.Phases.{standing_in, HasLogRoom, IsLater};
 ghost use Rattle.rb_super_turn.specs.Views.{turn_report_view, report_view};
 ghost use Rattle.rb_super.specs.AsEvents.{code_turn_as_events, as_events, IsTurnFor, most_events};
 
+use crate::parallel::ParallelSupervisor;
 use crate::supervisor::Supervisor;
-use crate::workers::Workers;
-use rb_base::PathId;
-use rb_gang::Gate;
+use rb_base::{Gate, PathId};
 use rb_script_types::{PathConfig, Script, Turn};
 use rb_super_turn::{Crew, Report, TurnReport};
 use std::alloc::{AllocError, Allocator, Global};
@@ -58,10 +57,9 @@ pub(crate) fn run_turns<R: Threads + Sync, G: Gate + Sync, A: Allocator + Copy +
 }
 
 /// Runs a script, turn by turn: its report, which doesn't go by how many workers there are, at most
-/// 64. The tables of its chains are made by so many threads, the calling one among them; with 0 or 1
-/// workers by the calling thread alone, as all scans and plans are. The gate is called as each row,
-/// scan and plan begins and ends, and when a client's plan was taken. An error comes only where a
-/// growth is refused.
+/// 64. The tables of its chains are made by so many threads, the calling one among them; with 0 or
+/// 1 workers by the calling thread alone, as all scans and plans are. The gate is called as each
+/// row, scan and plan begins and ends, and when a client's plan was taken.
 pub fn run_script<R: Threads + Sync, G: Gate + Sync, A: Allocator + Copy + Send + Sync>(
     rt: &R,
     alloc: A,
@@ -94,9 +92,9 @@ fn keep(reports: &mut Vec<TurnReport>, report: TurnReport) -> Result<(), AllocEr
 /// Goes on where a report was kept, or ends the workers.
 fn or_stop<R: Threads + Wait, G: Gate + Send + Sync + Drop + 'static>(
     rt: &R,
-    workers: Workers<G>,
+    workers: ParallelSupervisor<G>,
     kept: Result<(), AllocError>,
-) -> Result<Workers<G>, AllocError>
+) -> Result<ParallelSupervisor<G>, AllocError>
     ensures same { IfOk result (λ w. w ≡ workers) }
     ensures kept { IfOk result (λ _. kept ≡ Ok tt) }
 {
@@ -113,7 +111,7 @@ fn or_stop<R: Threads + Wait, G: Gate + Send + Sync + Drop + 'static>(
 fn turns_by_workers<R: Threads + Sync + Wait, G: Gate + Send + Sync + Drop + 'static>(
     crew: &Crew<R, G>,
     reports: Vec<TurnReport>,
-    workers: Workers<G>,
+    workers: ParallelSupervisor<G>,
     turns: Vec<Turn>,
 ) -> Result<Vec<TurnReport>, AllocError>
     requires empty { reports.items ≡ [] }
@@ -155,7 +153,7 @@ pub fn run_by_workers<
     let Script { config, turns } = script;
     let paths = path_ids(alloc, config.paths.as_slice())?;
     let reports = Vec::with_capacity(alloc, turns.len())?;
-    let team = Workers::new(rt, alloc, config, workers, gate)?;
+    let team = ParallelSupervisor::new(rt, alloc, config, workers, gate)?;
     let turns = turns_by_workers(&crew, reports, team, turns)?;
     Ok(Report { paths, turns })
 }

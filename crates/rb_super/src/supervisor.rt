@@ -15,9 +15,8 @@ ghost use Rattle.rb_super_turn.specs.Phases.{standing_in, HasLogRoom, IsLater, t
 ghost use Rattle.rb_super_turn.specs.Views.{refused_view, turn_report_view};
 ghost use Rattle.rb_super.specs.AsEvents.{code_turn_as_events, IsTurnFor, most_events};
 
-use rb_base::Window;
+use rb_base::{Gate, Window};
 use rb_core::{Core, CoreError, Draft, Event, Reply};
-use rb_gang::Gate;
 use rb_script_types::{Asked, Config, Observation, Turn};
 use rb_super_turn::{
     Crew, Nothing, RefusedEvent, Relayer, TurnReport, drafts_of, hear_all, plan_all, scan_all,
@@ -79,7 +78,7 @@ impl<A: Allocator + Copy> Supervisor<A> {
         Ok(Supervisor { alloc, relayer })
     }
 
-    /// The relayer after all that it has taken in. Takes no memory.
+    /// The relayer after all that it has taken in.
     pub fn core(&self) -> &Core<A>
         ensures { result.now ≡ self.now }
     {
@@ -100,7 +99,7 @@ impl<A: Allocator + Copy> Supervisor<A> {
         self.relayer.take_in(event)
     }
 
-    /// Ends it: what it has taken in is given back. Takes no memory.
+    /// Ends it: what it has taken in is given back.
     pub fn stop(self) -> Core<A>
         ensures { result ≡ self }
     {
@@ -109,8 +108,7 @@ impl<A: Allocator + Copy> Supervisor<A> {
     }
 
     /// The relayer where the clients of a turn are planned: the window, the asked goals, what was
-    /// observed, and the scans of both parts of each path that has no valid one. An error comes only
-    /// where a growth is refused.
+    /// observed, and the scans of both parts of each path that has no valid one.
     pub(crate) fn plan_phase<R: Threads + Sync, G: Gate + Sync>(
         self,
         crew: &Crew<R, G>,
@@ -178,9 +176,9 @@ impl<A: Allocator + Copy + Send + Sync> Supervisor<A> {
         Ok((Supervisor { alloc, relayer }, report))
     }
 
-    /// What is planned for each client where the clients of a turn are planned, in their order,
-    /// for a client whose batch is open as well. None of it is taken in, and nothing of the turn is
-    /// seen later: the supervisor is given up. An error comes only where a growth is refused.
+    /// What is planned for each client where the clients of a turn are planned, in their order, for
+    /// a client whose batch is open as well. None of it is taken in, and nothing of the turn is
+    /// seen later: the supervisor is given up.
     pub fn drafts<R: Threads + Sync, G: Gate + Sync>(
         self,
         crew: &Crew<R, G>,

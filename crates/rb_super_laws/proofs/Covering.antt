@@ -3,8 +3,8 @@ use Rattle.std.proofs.Common.{◌≡◌, ◌⊎◌, ℕ, zero, suc, ◌+◌, ◌
 use Rattle.std.specs.List.{flat_map, range_with_len, AllByRecursion}
 use Rattle.std.proofs.lemmas.Bool.{cases_eq}
 use Rattle.std.proofs.lemmas.List.Elements.{recursion_from_All}
-use Rattle.rb_scan.specs.declared.scan.Part.{Part}
-use Rattle.rb_scan.specs.declared.scan.Part.TheVariants.{Packets, Channel}
+use Rattle.rb_base.specs.declared.gate.Part.{Part}
+use Rattle.rb_base.specs.declared.gate.Part.TheVariants.{Packets, Channel}
 use Rattle.rb_script_types.specs.Config.{Config}
 use Rattle.rb_core_model.specs.Event.{Event, IsEvent}
 use Rattle.rb_core_model.specs.Standing.{Standing}

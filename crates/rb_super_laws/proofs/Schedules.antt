@@ -8,8 +8,8 @@ use Rattle.std.proofs.lemmas.List.Sums.{sum_by-cons}
 use Rattle.std.proofs.lemmas.Option.{none-some, same_Some}
 use Rattle.rb_base.specs.Window.{Span}
 use Rattle.rb_scan.specs.Path.{Path}
-use Rattle.rb_scan.specs.declared.scan.Part.{Part}
-use Rattle.rb_scan.specs.declared.scan.Part.TheVariants.{Packets, Channel}
+use Rattle.rb_base.specs.declared.gate.Part.{Part}
+use Rattle.rb_base.specs.declared.gate.Part.TheVariants.{Packets, Channel}
 use Rattle.rb_plan_client.specs.Draft.{Draft, IsDraft}
 use Rattle.rb_core_model.specs.Event.{Event, IsEvent, Window, Asked, Scanned, Planned}
 use Rattle.rb_core_model.specs.Scan.{Scan}
@@ -17,7 +17,7 @@ use Rattle.rb_core_model.specs.Machine.{State, opening, is_scanned, job_of, clie
 use Rattle.rb_script_types.specs.declared.refusal.Refusal.{Refusal}
 use Rattle.rb_script_types.specs.declared.refusal.Refusal.TheVariants.{WindowBack}
 use Rattle.rb_core_model.specs.Refusal.{refused_if}
-use Rattle.rb_core_model.specs.Standing.{OpenBatch, KnownClient, Standing, opening_standing, view_of_path, path_view, task_in, with_client, after_answer, goes_back, judged, standing_after}
+use Rattle.rb_core_model.specs.Standing.{OpenBatch, ClientState, Standing, opening_standing, view_of_path, path_view, task_in, with_client, after_answer, goes_back, judged, standing_after}
 use Rattle.rb_core_model.proofs.Drafted.{drafted}
 use Rattle.rb_core_model.proofs.Marks.{all_at}
 use Rattle.rb_core_model.proofs.Options.{none_from, some_from}
@@ -323,10 +323,10 @@ module _ (script : Script) where
       let u = under_way w fine (plan client) items r due in
       let c = at_place w.core.standing.clients client (subst (λ n. client < n) (sym fine.is_core.sizes.clients) u.items.0) in
       let window = some_from w.core.standing.window u.windowed in
-      subst (λ o. IsFine (option_map_or (λ (c : KnownClient). plan_done w k own items r client c c.batch) o w)) (sym c.1)
+      subst (λ o. IsFine (option_map_or (λ (c : ClientState). plan_done w k own items r client c c.batch) o w)) (sym c.1)
       (go c.0 c.1 window.0 window.1 c.0.batch refl)
     where
-      by_draft : (c : KnownClient) → slice_get w.core.standing.clients client ≡ Some c → (window : Span) → w.core.standing.window ≡ Some window → c.batch ≡ None → (o : Option Draft) → draft_taken w k own client ≡ o
+      by_draft : (c : ClientState) → slice_get w.core.standing.clients client ≡ Some c → (window : Span) → w.core.standing.window ≡ Some window → c.batch ≡ None → (o : Option Draft) → draft_taken w k own client ≡ o
           → IsFine (option_map_or (λ d. next (appended w (Planned d)) items (with_client_report r c (outcome_of c d))) o w)
       by_draft c at window is_window e None taken = fine
       by_draft c at window is_window e (Some d) taken =
@@ -336,7 +336,7 @@ module _ (script : Script) where
           let known : x.known ≡ c = same_Some x.known c (sym x.is_known ∙ ap (slice_get w.core.standing.clients) t.is_client ∙ at) in
           let same_window : x.window ≡ window = same_Some x.window window (sym x.is_window ∙ is_window) in
           let task : d.job.task ≡ task_in w.core.standing window client c =
-          x.task ∙ ap (λ (p : Span × ℕ × KnownClient). task_in w.core.standing p.0 p.1 p.2) (λ i. (same_window i, t.is_client i, known i)) in
+          x.task ∙ ap (λ (p : Span × ℕ × ClientState). task_in w.core.standing p.0 p.1 p.2) (λ i. (same_window i, t.is_client i, known i)) in
           let next_core : after w.core (Planned d) ≡ accepted w.core (Planned d) = after_ok w.core (Planned d) t.ok in
           let stands : (after w.core (Planned d)).standing ≡ with_client w.core.standing client (after_outcome (outcome_of c d)) =
           ap (λ (s : State). s.standing) next_core
@@ -349,7 +349,7 @@ module _ (script : Script) where
           (λ p part is. ap (λ (s : State). is_scanned s p part) next_core ∙ plan_scanned w.core d p part ∙ is) items u.covers.1)
           u.items.1 (entered (with_client w.core.standing client (after_outcome (outcome_of c d))) items u.windowed)
 
-      go : (c : KnownClient) → slice_get w.core.standing.clients client ≡ Some c → (window : Span) → w.core.standing.window ≡ Some window → (o : Option OpenBatch) → c.batch ≡ o
+      go : (c : ClientState) → slice_get w.core.standing.clients client ≡ Some c → (window : Span) → w.core.standing.window ≡ Some window → (o : Option OpenBatch) → c.batch ≡ o
           → IsFine (plan_done w k own items r client c o)
       go c at window is_window (Some b) e =
           let u = under_way w fine (plan client) items r due in
@@ -457,7 +457,7 @@ module _ (script : Script) where
       last (Some p) u = led_reports (opening_standing script.config) script.turns _ u.start _ u.led
 
   pub own_serves : OrderGivesReport → IsScript script → FitsLog script → (xs : List Step) (client : ℕ) (items : List Item) (r : TurnReport)
-      → (world_after script xs).current ≡ Some (record { due = plan client ∷ items; report = r }) → (c : KnownClient) → slice_get (world_after script xs).core.standing.clients client ≡ Some c
+      → (world_after script xs).current ≡ Some (record { due = plan client ∷ items; report = r }) → (c : ClientState) → slice_get (world_after script xs).core.standing.clients client ≡ Some c
       → c.batch ≡ None → (d : Draft) → client_view (world_after script xs).core client ≡ Some d.job → refusal_of (world_after script xs).core (Planned d) ≡ None
   own_serves order is room xs client items r due c at not_held d view =
       let w = world_after script xs in

@@ -14,7 +14,7 @@ use Rattle.rb_plan_client.specs.Task.{Task}
 use Rattle.rb_core_model.specs.Config.{IsSetUp}
 use Rattle.rb_core_model.specs.Event.{Event, IsEvent, Window, Asked, SetSeen, HeaderSeen, StoredSeen, Sent, Received, AckWritten, Cleared, Closed, Scanned, Planned, Settled}
 use Rattle.rb_core_model.specs.Machine.{State, no_scans, opening, is_known, refusal_of}
-use Rattle.rb_core_model.specs.Standing.{KnownClient, Standing, opening_standing, task_in, with_batch, judged, changed, standing_after}
+use Rattle.rb_core_model.specs.Standing.{ClientState, Standing, opening_standing, task_in, with_batch, judged, changed, standing_after}
 use Rattle.rb_core_model.specs.Steps.{IsFromOutside, JudgedByStanding}
 use Rattle.rb_core_model.proofs.Lengths.{lengths_changed}
 use Rattle.rb_core_model.proofs.Marks.{all_at, all_take}
@@ -63,7 +63,7 @@ seen_outside config (Scanned path scan) is = absurd is
 seen_outside config (Planned d) is = absurd is
 seen_outside config (Settled client number done) is = absurd is
 
-length-reports : (cs : List KnownClient) (rs : List ClientReport) → length (after_reports cs rs) ≡ length cs
+length-reports : (cs : List ClientState) (rs : List ClientReport) → length (after_reports cs rs) ≡ length cs
 length-reports [] rs = refl
 length-reports (c ∷ cs) [] = refl
 length-reports (c ∷ cs) (r ∷ rs) = ap suc (length-reports cs rs)
@@ -104,7 +104,7 @@ module _ (finds : FindsWhatWasAdded) (stays : StaysABook) (orderly : ViewsAreOrd
       let asked = goals_fit config t.goals (recursion_from_All (λ (q : Question). q.client < length config.clients) t.goals is.goals) (after_window s t.window) entered in
       events_fit config t.events (recursion_from_All (IsSeen config) t.events is.events) (recursion_from_All IsEvent t.events is.right) (before_events s t) asked
 
-  row_sound : (s : Standing) (place : ℕ) (c : KnownClient) (r : ClientReport) → IsSound s → IsSoundClient s.books c → IsClientReport s (place, c) r → IsSoundClient s.books (after_outcome r.outcome c)
+  row_sound : (s : Standing) (place : ℕ) (c : ClientState) (r : ClientReport) → IsSound s → IsSoundClient s.books c → IsClientReport s (place, c) r → IsSoundClient s.books (after_outcome r.outcome c)
   row_sound s place c r sound sound_c is = go r.outcome is.outcome
     where
       go : (o : Outcome) → IsOutcome (task_in s is.window place c) c o → IsSoundClient s.books (after_outcome o c)
@@ -115,7 +115,7 @@ module _ (finds : FindsWhatWasAdded) (stays : StaysABook) (orderly : ViewsAreOrd
           (sym (ap opened right.1.is ∙ opened_back (task_in s is.window place c) (c.batches + 1) right.1.answer))
           (answer_sound finds stays orderly s is.window place c (Some right.1.answer) sound is.is_window sound_c right.1.right)
 
-  rows_sound : (s : Standing) → IsSound s → (place : ℕ) (cs : List KnownClient) (rs : List ClientReport) → AllByRecursion (IsSoundClient s.books) cs → AllZip (IsClientReport s) (enumerate_from place cs) rs
+  rows_sound : (s : Standing) → IsSound s → (place : ℕ) (cs : List ClientState) (rs : List ClientReport) → AllByRecursion (IsSoundClient s.books) cs → AllZip (IsClientReport s) (enumerate_from place cs) rs
       → AllByRecursion (IsSoundClient s.books) (after_reports cs rs)
   rows_sound s sound place [] rs all are = tt
   rows_sound s sound place (c ∷ cs) [] all are = absurd are

@@ -3,7 +3,7 @@ use Rattle.std.specs.Prelude.{◌≡◌, refl, ℕ, ◌<◌, false, List, [], �
 use Rattle.std.specs.Option.{option_map}
 use Rattle.std.proofs.Common.{arith, subst}
 use Rattle.rb_scan.specs.declared.path.Order.TheVariants.{Ordered}
-use Rattle.rb_scan.specs.declared.scan.Part.TheVariants.{Packets}
+use Rattle.rb_base.specs.declared.gate.Part.TheVariants.{Packets}
 use Rattle.rb_step.specs.LightClient.{Client}
 use Rattle.rb_step.specs.View.{client_of}
 use Rattle.rb_plan_client.specs.Draft.{Job, IsIdle}

@@ -2,7 +2,7 @@
 use Rattle.std.specs.Prelude.{◌≡◌, ℕ, List, Option}
 use Rattle.rb_cert.specs.declared.verdict.Judgement.{Judgement}
 use Rattle.rb_plan.specs.Labelling.{Labels}
-use Rattle.rb_core_model.specs.Standing.{KnownClient, Standing}
+use Rattle.rb_core_model.specs.Standing.{ClientState, Standing}
 use Rattle.rb_step.specs.LightClient.{Update}
 use Rattle.rb_step.specs.View.{IsView}
 use Rattle.rb_super.specs.Judging.{IsVerdictOn, IsPlanPhase, IsClientIn}
@@ -24,5 +24,5 @@ VerdictIsOne =
 -- what a script's client is planned by in a turn keeps what every view keeps: so the laws of views hold of it
 abbrev pub PlannedViewsAreViews : Type 0
 PlannedViewsAreViews =
-    (script : Script) → IsScript script → (turn client : ℕ) (s : Standing) (known : KnownClient) (task : Task)
+    (script : Script) → IsScript script → (turn client : ℕ) (s : Standing) (known : ClientState) (task : Task)
     → IsPlanPhase script turn s → IsClientIn s client known task → IsView task.view

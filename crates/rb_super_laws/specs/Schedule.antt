@@ -3,14 +3,14 @@ use Rattle.std.specs.Prelude.{◌≡◌, ℕ, ◌+◌, ◌≤◌, ◌==◌, Bool
 use Rattle.std.specs.List.{fold}
 use Rattle.std.specs.Option.{option_map, option_map_or, option_or, option_and_then, option_to_list}
 use Rattle.rb_scan.specs.Path.{Path}
-use Rattle.rb_scan.specs.declared.scan.Part.{Part}
-use Rattle.rb_scan.specs.declared.scan.Part.TheVariants.{Packets, Channel}
+use Rattle.rb_base.specs.declared.gate.Part.{Part}
+use Rattle.rb_base.specs.declared.gate.Part.TheVariants.{Packets, Channel}
 use Rattle.rb_script_types.specs.Config.{Config}
 use Rattle.rb_plan_client.specs.Draft.{Draft, IsDraft}
 use Rattle.rb_core_model.specs.Event.{Event, Window, Asked, Scanned, Planned}
 use Rattle.rb_core_model.specs.Scan.{Scan}
 use Rattle.rb_core_model.specs.Machine.{State, opening, is_scanned, is_job, client_view, max_events, refusal_of, after, state_of}
-use Rattle.rb_core_model.specs.Standing.{OpenBatch, KnownClient, opening_standing, path_view}
+use Rattle.rb_core_model.specs.Standing.{OpenBatch, ClientState, opening_standing, path_view}
 use Rattle.rb_super_turn.specs.Agenda.{Item, enter, ask, observe, scan, plan, settle, agenda, empty_report}
 use Rattle.rb_super_turn.specs.Report.{Outcome, held, TurnReport, Report}
 use Rattle.rb_super_turn.specs.Script.{Turn, Script, IsScript}
@@ -106,7 +106,7 @@ fits_scan s path part f = (f.0 == path) && same_part f.1.part part && is_accepte
 abbrev pub fits_draft : State → ℕ → Draft → Bool
 fits_draft s client d = (d.job.client == client) && is_accepted s (Planned d)
 
-abbrev pub with_client_report : TurnReport → KnownClient → Outcome → TurnReport
+abbrev pub with_client_report : TurnReport → ClientState → Outcome → TurnReport
 with_client_report r c o = record r { clients = r.clients ++ record { id = c.config.id; outcome = o } ∷ [] }
 
 abbrev pub draft_given : Option RightDraft → Option Draft
@@ -126,7 +126,7 @@ scanned w k path part =
     if is_scanned w.core path part then w else option_map_or (λ (f : ℕ × Scan). appended w (Scanned f.0 f.1)) (scan_taken w k path part) w
 
 -- a client with an open batch isn't planned for; for another one nothing is done until there is a draft
-abbrev pub plan_done : World → ℕ → Option RightDraft → List Item → TurnReport → ℕ → KnownClient → Option OpenBatch → World
+abbrev pub plan_done : World → ℕ → Option RightDraft → List Item → TurnReport → ℕ → ClientState → Option OpenBatch → World
 plan_done w k own items r client c (Some b) = next w items (with_client_report r c (held b.number))
 plan_done w k own items r client c None =
     option_map_or (λ d. next (appended w (Planned d)) items (with_client_report r c (outcome_of c d))) (draft_taken w k own client) w
@@ -137,7 +137,7 @@ item_done w k own items r (ask q) = next (appended w (Asked q.client q.goal)) it
 item_done w k own items r (observe number event) = next (appended w event) items (record r { refused = r.refused ++ refused_as number (refusal_of w.core event) })
 item_done w k own items r (scan path part) = next (scanned w k path part) items r
 item_done w k own items r (plan client) =
-    option_map_or (λ (c : KnownClient). plan_done w k own items r client c c.batch) (slice_get w.core.standing.clients client) w
+    option_map_or (λ (c : ClientState). plan_done w k own items r client c c.batch) (slice_get w.core.standing.clients client) w
 item_done w k own items r (settle x) =
     next (appended w (settlement_event x)) items
     (record r { settlements = r.settlements ++ record { id = id_of w.core.standing x.client; batch = x.batch; done = x.done; refusal = refusal_of w.core (settlement_event x) } ∷ [] })
@@ -209,5 +209,5 @@ abbrev pub OwnDraftsServe : Type 0
 OwnDraftsServe =
     (script : Script) (steps : List Step) → IsScript script → FitsLog script
     → (client : ℕ) (items : List Item) (r : TurnReport) → (world_after script steps).current ≡ Some (record { due = plan client ∷ items; report = r })
-    → (c : KnownClient) → slice_get (world_after script steps).core.standing.clients client ≡ Some c → c.batch ≡ None
+    → (c : ClientState) → slice_get (world_after script steps).core.standing.clients client ≡ Some c → c.batch ≡ None
     → (d : Draft) → client_view (world_after script steps).core client ≡ Some d.job → refusal_of (world_after script steps).core (Planned d) ≡ None

@@ -8,23 +8,23 @@ use Rattle.rb_script_types.specs.declared.config.ClientConfig.{ClientConfig}
 use Rattle.rb_core.specs.Core.{Core}
 use Rattle.rb_core_model.specs.Event.{Event, Window, Asked, SetSeen, HeaderSeen, StoredSeen, Sent, Received, AckWritten, Cleared, Closed, Scanned, Planned, Settled}
 use Rattle.rb_core_model.specs.Machine.{State, refusal_of, accepted, after, opening}
-use Rattle.rb_core_model.specs.Standing.{OpenBatch, KnownClient, Standing, new_client, changed_at, changed, with_batch, batch_opened, after_settled, after_batch, open_batch}
+use Rattle.rb_core_model.specs.Standing.{OpenBatch, ClientState, Standing, new_client, changed_at, changed, with_batch, batch_opened, after_settled, after_batch, open_batch}
 use Rattle.rb_core_state.proofs.Places.{found}
 use Rattle.rb_super_turn.proofs.Reported.{set_same}
 use Rattle.rb_super_turn.specs.Phases.{standing_in}
 
-abbrev pub config_of : KnownClient → ClientConfig
+abbrev pub config_of : ClientState → ClientConfig
 config_of c = c.config
 
-kept_at : (f : KnownClient → KnownClient) → ((c : KnownClient) → (f c).config ≡ c.config) → (cs : List KnownClient) (i : ℕ) → map config_of (changed_at f cs i) ≡ map config_of cs
+kept_at : (f : ClientState → ClientState) → ((c : ClientState) → (f c).config ≡ c.config) → (cs : List ClientState) (i : ℕ) → map config_of (changed_at f cs i) ≡ map config_of cs
 kept_at f same cs i = go (slice_get cs i) refl
   where
-    go : (o : Option KnownClient) → slice_get cs i ≡ o → map config_of (option_map_or (λ x. set cs i (f x)) o cs) ≡ map config_of cs
+    go : (o : Option ClientState) → slice_get cs i ≡ o → map config_of (option_map_or (λ x. set cs i (f x)) o cs) ≡ map config_of cs
     go None e = refl
     go (Some c) e =
         map-set config_of cs i (f c) ∙ ap (set (map config_of cs) i) (same c) ∙ sym (map-set config_of cs i c) ∙ ap (map config_of) (set_same cs i c e)
 
-kept_by_batch : (c : KnownClient) (o : Option OpenBatch) → (with_batch c o).config ≡ c.config
+kept_by_batch : (c : ClientState) (o : Option OpenBatch) → (with_batch c o).config ≡ c.config
 kept_by_batch c None = refl
 kept_by_batch c (Some b) = refl
 
@@ -76,7 +76,7 @@ configs_are core = kept_by_all core.log (opening core.config) ∙ of_new core.co
 
 -- a client that is known at a place has the configuration of that place
 pub known_config : (core : Core) (client : ℕ) (c : ClientConfig) → client < length core.config.clients → c ≡ get_or core.config.clients client c
-    → (known : KnownClient) → slice_get (standing_in core).clients client ≡ Some known → known.config ≡ c
+    → (known : ClientState) → slice_get (standing_in core).clients client ≡ Some known → known.config ≡ c
 known_config core client c lt at known e =
     same_Some known.config c
     (sym (get_map config_of (standing_in core).clients client known e) ∙ ap (λ cs. slice_get cs client) (configs_are core) ∙ found core.config.clients client c lt at)

@@ -7,12 +7,12 @@ use Rattle.std.proofs.lemmas.List.{length-append}
 use Rattle.std.proofs.lemmas.Option.{same_Some, slice_get_within}
 use Rattle.rb_script_types.specs.declared.config.ClientConfig.{ClientConfig}
 use Rattle.rb_scan.specs.declared.message.PacketMsg.{PacketMsg}
-use Rattle.rb_scan.specs.declared.scan.Part.{Part}
+use Rattle.rb_base.specs.declared.gate.Part.{Part}
 use Rattle.rb_core_model.specs.Config.{part_for}
 use Rattle.rb_core.specs.Core.{Core, state_in}
 use Rattle.rb_plan_client.specs.Draft.{Job, Draft, IsDraft}
 use Rattle.rb_core_model.specs.Machine.{State, is_scanned, seen_owed, job_of, client_view}
-use Rattle.rb_core_model.specs.Standing.{KnownClient, KnownPath, Standing, book_at, owed_at, path_task, path_tasks, task_of}
+use Rattle.rb_core_model.specs.Standing.{ClientState, PathState, Standing, book_at, owed_at, path_task, path_tasks, task_of}
 use Rattle.rb_plan_client.specs.Task.{PathTask}
 use Rattle.rb_core_model.proofs.Options.{mapped, chained}
 use Rattle.rb_super_turn.specs.Drafts.{IsDraftFor, AreDrafts}
@@ -32,16 +32,16 @@ book_seen core client c job lt at view =
 
 -- ---- what is seen to be owed
 
-owed_as : (owed : Part → List PacketMsg) → ℕ → KnownPath → Part → PathTask
+owed_as : (owed : Part → List PacketMsg) → ℕ → PathState → Part → PathTask
 owed_as owed n p part = record { path = n; order = p.config.order; gas = p.config.gas; owed = owed part }
 
-one_task : (seen owed : Part → List PacketMsg) (n : ℕ) (p : KnownPath) → ((part : Part) → seen part ≡ owed part) → (o : Option Part)
+one_task : (seen owed : Part → List PacketMsg) (n : ℕ) (p : PathState) → ((part : Part) → seen part ≡ owed part) → (o : Option Part)
     → option_map (owed_as seen n p) o ≡ option_map (owed_as owed n p) o
 unfolding owed_as
 one_task seen owed n p same None = refl
 one_task seen owed n p same (Some part) = ap (λ messages. Some (record { path = n; order = p.config.order; gas = p.config.gas; owed = messages })) (same part)
 
-all_tasks : (seen owed : ℕ → Part → List PacketMsg) (client n : ℕ) (paths : List KnownPath) → ((k : ℕ) (part : Part) → k < length paths → seen (n + k) part ≡ owed (n + k) part)
+all_tasks : (seen owed : ℕ → Part → List PacketMsg) (client n : ℕ) (paths : List PathState) → ((k : ℕ) (part : Part) → k < length paths → seen (n + k) part ≡ owed (n + k) part)
     → filter_map (path_task seen client) (enumerate_from n paths) ≡ filter_map (path_task owed client) (enumerate_from n paths)
 unfolding owed_as
 all_tasks seen owed client n [] same = refl
@@ -59,7 +59,7 @@ tasks_seen s client scanned =
 -- ---- a draft
 
 pub draft_is : (core : Core) (client : ℕ) (d : Draft) → IsPlannable core → client_view (state_in core) client ≡ Some d.job → IsDraft d
-    → (known : KnownClient) → slice_get (standing_in core).clients client ≡ Some known → IsDraftFor (standing_in core) client known d
+    → (known : ClientState) → slice_get (standing_in core).clients client ≡ Some known → IsDraftFor (standing_in core) client known d
 draft_is core client d ready view right known at =
     let s = state_in core in
     let w = chained (λ window. option_map (job_of s client window) (slice_get s.standing.clients client)) s.standing.window d.job view in
@@ -81,7 +81,7 @@ draft_is core client d ready view right known at =
 -- the drafts of the first clients
 pub record AreFirst (s : Standing) (n : ℕ) (drafts : List Draft) : Type 0 where
   pub count : length drafts ≡ n
-  pub each : (client : ℕ) (known : KnownClient) → client < n → slice_get s.clients client ≡ Some known → IsSomeAnd (slice_get drafts client) (IsDraftFor s client known)
+  pub each : (client : ℕ) (known : ClientState) → client < n → slice_get s.clients client ≡ Some known → IsSomeAnd (slice_get drafts client) (IsDraftFor s client known)
 
 get_first : {X : Type 0} (xs : List X) (x : X) (k : ℕ) → k < length xs → slice_get (xs ++ x ∷ []) k ≡ slice_get xs k
 get_first [] x k lt = absurd (omega arith)
@@ -98,7 +98,7 @@ pub first_none : (s : Standing) → AreFirst s 0 []
 first_none s = record { count = refl; each = λ client known lt at. absurd (omega arith) }
 
 pub first_more : (s : Standing) (n : ℕ) (drafts : List Draft) (d : Draft) → AreFirst s n drafts
-    → ((known : KnownClient) → slice_get s.clients n ≡ Some known → IsDraftFor s n known d) → AreFirst s (n + 1) (drafts ++ d ∷ [])
+    → ((known : ClientState) → slice_get s.clients n ≡ Some known → IsDraftFor s n known d) → AreFirst s (n + 1) (drafts ++ d ∷ [])
 first_more s n drafts d first next = record {
   count = let count = first.count in omega (arith, length-append drafts (d ∷ []));
   each = λ client known lt at.

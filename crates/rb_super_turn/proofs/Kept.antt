@@ -14,7 +14,7 @@ use Rattle.rb_core_model.specs.Config.{IsSetUp}
 use Rattle.rb_core.specs.Core.{Core, state_in, refusal_in}
 use Rattle.rb_core_model.specs.Event.{Event, Window, Asked, SetSeen, HeaderSeen, StoredSeen, Sent, Received, AckWritten, Cleared, Closed, Scanned, Planned, Settled}
 use Rattle.rb_core_model.specs.Machine.{State, accepted, is_known}
-use Rattle.rb_core_model.specs.Standing.{OpenBatch, KnownClient, Standing, after_settled, book_at, changed, empty_book, open_batch, tracked}
+use Rattle.rb_core_model.specs.Standing.{OpenBatch, ClientState, Standing, after_settled, book_at, changed, empty_book, open_batch, tracked}
 use Rattle.rb_core_model.proofs.Options.{passes, get_set_other}
 use Rattle.rb_super_turn.specs.Phases.{standing_in}
 use Rattle.rb_super_turn.specs.Tables.{chain_of, with_addition, IsTableOf, AreTables}
@@ -50,7 +50,7 @@ tracked_is core client known =
     sym (slice_get-map config_of (standing_in core).clients client) ∙ ap (λ cs. slice_get cs client) (configs_are core) ∙ c.1 in
     go (slice_get (standing_in core).clients client) c.0 found ∙ sym (ap (option_map (λ (k : ClientConfig). k.tracks)) c.1)
   where
-    go : (o : Option KnownClient) (c : ClientConfig) → option_map config_of o ≡ Some c → Some (option_map_or (λ (k : KnownClient). k.config.tracks) o 0) ≡ Some c.tracks
+    go : (o : Option ClientState) (c : ClientConfig) → option_map config_of o ≡ Some c → Some (option_map_or (λ (k : ClientState). k.config.tracks) o 0) ≡ Some c.tracks
     go None c e = absurd (none-some c e)
     go (Some k) c e = ap (λ (x : ClientConfig). Some x.tracks) (same_Some k.config c e)
 

@@ -5,7 +5,7 @@ use Rattle.std.specs.Option.{option_map_or}
 use Rattle.std.proofs.lemmas.List.{set_at, length-append}
 use Rattle.std.proofs.lemmas.Option.{same_Some}
 use Rattle.rb_core_model.specs.Event.{Event, Window, Asked}
-use Rattle.rb_core_model.specs.Standing.{KnownClient, Standing, changed_at, goes_back, standing_after}
+use Rattle.rb_core_model.specs.Standing.{ClientState, Standing, changed_at, goes_back, standing_after}
 use Rattle.rb_super_turn.specs.Agenda.{Item, ask, plan, settle, observations, both_parts, empty_report, Finishes, OrderGivesReport}
 use Rattle.rb_super_turn.specs.Report.{ClientReport, TurnReport}
 use Rattle.rb_script_types.specs.declared.script.Asked.{Asked as Question}
@@ -29,14 +29,14 @@ zip_push R m [] (z ∷ ys) x y n e all one = absurd all
 zip_push R m (w ∷ xs) [] x y n e all one = absurd all
 zip_push R m (w ∷ xs) (z ∷ ys) x y n e all one = (all.0, zip_push R (m + 1) xs ys x y n (omega arith) all.1 one)
 
-reports_push : (cs : List KnownClient) (rs : List ClientReport) (c : KnownClient) (r : ClientReport) → length rs ≡ length cs
+reports_push : (cs : List ClientState) (rs : List ClientReport) (c : ClientState) (r : ClientReport) → length rs ≡ length cs
     → after_reports (cs ++ c ∷ []) (rs ++ r ∷ []) ≡ after_reports cs rs ++ after_outcome r.outcome c ∷ []
 reports_push [] [] c r e = refl
 reports_push [] (q ∷ rs) c r e = absurd (omega arith)
 reports_push (d ∷ cs) [] c r e = absurd (omega arith)
 reports_push (d ∷ cs) (q ∷ rs) c r e = ap (λ xs. after_outcome q.outcome d ∷ xs) (reports_push cs rs c r (omega arith))
 
-length-reports : (cs : List KnownClient) (rs : List ClientReport) → length (after_reports cs rs) ≡ length cs
+length-reports : (cs : List ClientState) (rs : List ClientReport) → length (after_reports cs rs) ≡ length cs
 length-reports [] rs = refl
 length-reports (c ∷ cs) [] = refl
 length-reports (c ∷ cs) (r ∷ rs) = ap (λ n. suc n) (length-reports cs rs)
@@ -70,7 +70,7 @@ module _ (start : Standing) (turn : Turn) where
   -- ---- the clients, one after another
   planned_all : (p : Standing) (r : TurnReport) (items : List Item)
       → ((rs : List ClientReport) → AllZip (IsClientReport p) (enumerate_from 0 p.clients) rs → Finishes start turn (record p { clients = after_reports p.clients rs }) (record r { clients = rs }) items)
-      → (left past : List KnownClient) (rs : List ClientReport) (n : ℕ) → length past ≡ n → p.clients ≡ past ++ left → length rs ≡ length past → AllZip (IsClientReport p) (enumerate_from 0 past) rs
+      → (left past : List ClientState) (rs : List ClientReport) (n : ℕ) → length past ≡ n → p.clients ≡ past ++ left → length rs ≡ length past → AllZip (IsClientReport p) (enumerate_from 0 past) rs
       → Finishes start turn (record p { clients = after_reports past rs ++ left }) (record r { clients = rs }) (map plan (range_with_len n (length left)) ++ items)
   planned_all p r items last [] past rs n at all_of long all =
       let whole : p.clients ≡ past = all_of ∙ append-nil past in
@@ -82,7 +82,7 @@ module _ (start : Standing) (turn : Turn) where
       let here = at_end (after_reports past rs) left c n long_past in
       let same : k ≡ c = same_Some k c (sym found ∙ here) in
       let right : IsClientReport p (n, c) report = subst (λ x. IsClientReport p (n, x) report) same (record { id = is.id; window = is.window; is_window = is.is_window; outcome = is.outcome }) in
-      let f : KnownClient → KnownClient = after_outcome report.outcome in
+      let f : ClientState → ClientState = after_outcome report.outcome in
       let clients : after_reports (past ++ c ∷ []) (rs ++ report ∷ []) ++ left ≡ changed_at f (after_reports past rs ++ c ∷ left) n =
       ap (λ cs. cs ++ left) (reports_push past rs c report long)
       ∙ append_assoc (after_reports past rs) (f c ∷ []) left

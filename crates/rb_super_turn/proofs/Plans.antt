@@ -8,7 +8,7 @@ use Rattle.rb_core.specs.Core.{Core, state_in, refusal_in}
 use Rattle.rb_plan_client.specs.Draft.{Sending, nothing, too_big, batched, Plan, Planned as Answer, Job, Draft, IsDraft}
 use Rattle.rb_core_model.specs.Event.{Planned}
 use Rattle.rb_core_model.specs.Machine.{State, Reply, is_known, is_scanned, job_of, client_view, refusal_of, reply_for, reply_of, after}
-use Rattle.rb_core_model.specs.Standing.{OpenBatch, KnownClient, Standing, batch_of_sending, batch_of, batch_opened, with_client}
+use Rattle.rb_core_model.specs.Standing.{OpenBatch, ClientState, Standing, batch_of_sending, batch_of, batch_opened, with_client}
 use Rattle.rb_script_types.specs.Config.{Config}
 use Rattle.rb_script_types.specs.declared.config.ClientConfig.{ClientConfig}
 use Rattle.rb_script_types.specs.declared.refusal.Refusal.TheVariants.{UnknownObject}
@@ -29,7 +29,7 @@ use Rattle.rb_super_turn.proofs.Steps.{sizes_in}
 -- ---- the client and its draft
 
 -- a client that is there is known
-pub known_at : (core : Core) (client : ℕ) → client < length core.config.clients → (known : KnownClient) × (slice_get (standing_in core).clients client ≡ Some known)
+pub known_at : (core : Core) (client : ℕ) → client < length core.config.clients → (known : ClientState) × (slice_get (standing_in core).clients client ≡ Some known)
 known_at core client lt = at_place (standing_in core).clients client (subst (λ n. client < n) (sym (sizes_in core).clients) lt)
 
 pub client_of_view : (s : State) (client : ℕ) (d : Draft) → client_view s client ≡ Some d.job → d.job.client ≡ client
@@ -44,7 +44,7 @@ pub draft_accepted : (core : Core) (client : ℕ) (d : Draft) → client < lengt
 draft_accepted core client d lt room ready none_open view =
     let s = state_in core in
     let k = known_at core client lt in
-    let not_held : k.0.batch ≡ None = sym (ap (option_and_then (λ (c : KnownClient). c.batch)) k.1) ∙ none_open in
+    let not_held : k.0.batch ≡ None = sym (ap (option_and_then (λ (c : ClientState). c.batch)) k.1) ∙ none_open in
     present_drafts s client k.0 d (omega arith) view k.1 not_held
     (λ p part within. ready.scanned p part (subst (λ n. p < n) (sizes_in core).paths within))
 
@@ -64,10 +64,10 @@ numbered_as t number a = ap (λ plan. record { goal = a.goal; labels = a.labels;
         ap (λ x. Some (record { updates = map (priced t) p.updates; total = cost_of (client_of t.view) p.updates; messages = p.messages; sending = x }))
         (sent_as number p p.sending)
 
-pub outcome_is : (s : State) (c : KnownClient) (d : Draft) (reply : Reply) → slice_get s.standing.clients d.job.client ≡ Some c → reply ≡ reply_of s (Planned d)
+pub outcome_is : (s : State) (c : ClientState) (d : Draft) (reply : Reply) → slice_get s.standing.clients d.job.client ≡ Some c → reply ≡ reply_of s (Planned d)
     → outcome_numbered (number_of reply) d ≡ outcome_of c d
 outcome_is s c d reply at e =
-    let same : reply ≡ reply_for (batch_opened c d.answer) = e ∙ ap (λ o. reply_for (option_and_then (λ (k : KnownClient). batch_opened k d.answer) o)) at in
+    let same : reply ≡ reply_for (batch_opened c d.answer) = e ∙ ap (λ o. reply_for (option_and_then (λ (k : ClientState). batch_opened k d.answer) o)) at in
     ap (λ r. outcome_numbered (number_of r) d) same ∙ go d.answer
   where
     go : (o : Option Answer)
@@ -78,7 +78,7 @@ outcome_is s c d reply at e =
 -- ---- what is reported of it
 
 -- the client of a draft that is accepted is known
-drafted_for : (s : State) (d : Draft) → refusal_of s (Planned d) ≡ None → (known : KnownClient) × (slice_get s.standing.clients d.job.client ≡ Some known)
+drafted_for : (s : State) (d : Draft) → refusal_of s (Planned d) ≡ None → (known : ClientState) × (slice_get s.standing.clients d.job.client ≡ Some known)
 drafted_for s d ok =
     let there = not-false (is_known s (Planned d)) (passes (not (is_known s (Planned d))) UnknownObject _ ok).0 in
     at_place s.standing.clients d.job.client (ltb-true d.job.client (length s.standing.clients) there)
@@ -90,7 +90,7 @@ pub taken_reported : (old new : Core) (client : ℕ) (d : Draft) (reply : Reply)
 taken_reported old new client d reply place right ok reply_is state =
     let s = state_in old in
     let there = drafted_for s d ok in
-    let known : KnownClient = there.0 in
+    let known : ClientState = there.0 in
     let at : slice_get s.standing.clients client ≡ Some known = ap (slice_get s.standing.clients) (sym place) ∙ there.1 in
     let law = accepted_reported s d known right ok there.1 in
     let outcome = outcome_is s known d reply there.1 reply_is in
@@ -138,7 +138,7 @@ pub held_reported : (core : Core) (client : ℕ) (c : ClientConfig) (b : OpenBat
 held_reported core client c b lt at ready is_open =
     let k = known_at core client lt in
     let w = some_from (standing_in core).window ready.window in
-    let batch : k.0.batch ≡ Some b = sym (ap (option_and_then (λ (x : KnownClient). x.batch)) k.1) ∙ sym is_open in
+    let batch : k.0.batch ≡ Some b = sym (ap (option_and_then (λ (x : ClientState). x.batch)) k.1) ∙ sym is_open in
     record {
       known = k.0;
       is_known = k.1;
@@ -151,15 +151,15 @@ held_reported core client c b lt at ready is_open =
       after = sym (unchanged (standing_in core) client k.0 k.1);
     }
   where
-    unchanged : (s : Standing) (client : ℕ) (c : KnownClient) → slice_get s.clients client ≡ Some c → with_client s client (λ x. x) ≡ s
+    unchanged : (s : Standing) (client : ℕ) (c : ClientState) → slice_get s.clients client ≡ Some c → with_client s client (λ x. x) ≡ s
     unchanged s client c e =
-        ap (λ cs. record s { clients = cs }) (ap (λ o. option_map_or (λ (x : KnownClient). set s.clients client x) o s.clients) e ∙ set_same s.clients client c e)
+        ap (λ cs. record s { clients = cs }) (ap (λ o. option_map_or (λ (x : ClientState). set s.clients client x) o s.clients) e ∙ set_same s.clients client c e)
 
 -- the identifier of a client
 pub id_there : (core : Core) (client : ℕ) (c : ClientConfig) → client < length core.config.clients → c ≡ get_or core.config.clients client c → id_of (standing_in core) client ≡ c.id
 id_there core client c lt at =
     let k = known_at core client lt in
-    ap (λ o. option_map_or (λ (x : KnownClient). x.config.id) o []) k.1 ∙ ap (λ (x : ClientConfig). x.id) (known_config core client c lt at k.0 k.1)
+    ap (λ o. option_map_or (λ (x : ClientState). x.config.id) o []) k.1 ∙ ap (λ (x : ClientConfig). x.id) (known_config core client c lt at k.0 k.1)
 
 -- a report of a client by its identifier in the configuration
 pub reported_by_id : (core : Core) (t : Standing) (client : ℕ) (c : ClientConfig) (o : Outcome) → client < length core.config.clients → c ≡ get_or core.config.clients client c

@@ -7,7 +7,7 @@ use Rattle.rb_step.specs.LightClient.{Update}
 use Rattle.rb_plan_client.specs.Draft.{Sending, nothing, too_big, batched, Plan, Planned as Answer, Draft, IsDraft, IsIdle, IsPlanned, IsAnswer}
 use Rattle.rb_core_model.specs.Event.{Planned}
 use Rattle.rb_core_model.specs.Machine.{State, accepted, after}
-use Rattle.rb_core_model.specs.Standing.{KnownClient, task_in, with_batch, batch_of_sending, batch_of, after_answer, changed_at}
+use Rattle.rb_core_model.specs.Standing.{ClientState, task_in, with_batch, batch_of_sending, batch_of, after_answer, changed_at}
 use Rattle.rb_plan_client.specs.Task.{Task}
 use Rattle.rb_core_model.proofs.Drafted.{drafted}
 use Rattle.rb_super_turn.specs.Accepted.{AcceptedDraftsAreReported}
@@ -33,14 +33,14 @@ opened_back t number a = go a.plan
     go None = refl
     go (Some p) = batch_back t number p p.sending
 
-pub same_client : (c : KnownClient) (d : Draft) → after_outcome (outcome_of c d) c ≡ after_answer d.answer c
+pub same_client : (c : ClientState) (d : Draft) → after_outcome (outcome_of c d) c ≡ after_answer d.answer c
 same_client c d = go d.answer
   where
     go : (o : Option Answer) → after_outcome (option_map_or (λ a. planned (reported d.job.task (c.batches + 1) a)) o idle) c ≡ after_answer o c
     go None = refl
     go (Some a) = ap (with_batch c) (opened_back d.job.task (c.batches + 1) a)
 
-pub changed_by : (f g : KnownClient → KnownClient) (cs : List KnownClient) (i : ℕ) (c : KnownClient) → slice_get cs i ≡ Some c → f c ≡ g c → changed_at f cs i ≡ changed_at g cs i
+pub changed_by : (f g : ClientState → ClientState) (cs : List ClientState) (i : ℕ) (c : ClientState) → slice_get cs i ≡ Some c → f c ≡ g c → changed_at f cs i ≡ changed_at g cs i
 changed_by f g cs i c at e =
     ap (λ o. option_map_or (λ x. set cs i (f x)) o cs) at ∙ ap (set cs i) e ∙ sym (ap (λ o. option_map_or (λ x. set cs i (g x)) o cs) at)
 
@@ -49,7 +49,7 @@ set_same [] i x e = refl
 set_same (y ∷ xs) zero x e = ap (λ z. z ∷ xs) (sym (same_Some y x e))
 set_same (y ∷ xs) (suc i) x e = ap (λ ys. y ∷ ys) (set_same xs i x e)
 
-pub right_outcome : (t : Task) (c : KnownClient) (d : Draft) → c.batch ≡ None → d.job.task ≡ t → IsDraft d → IsOutcome t c (outcome_of c d)
+pub right_outcome : (t : Task) (c : ClientState) (d : Draft) → c.batch ≡ None → d.job.task ≡ t → IsDraft d → IsOutcome t c (outcome_of c d)
 right_outcome t c d not_held task is = go d.answer is
   where
     go : (o : Option Answer) → IsAnswer d.job.task o → IsOutcome t c (option_map_or (λ a. planned (reported d.job.task (c.batches + 1) a)) o idle)
@@ -75,7 +75,7 @@ accepted_reported s d c is ok at =
         id = refl;
         window = x.window;
         is_window = x.is_window;
-        outcome = right_outcome (task_in s.standing x.window d.job.client c) c d (ap (λ (k : KnownClient). k.batch) (sym known) ∙ x.none_open) task is;
+        outcome = right_outcome (task_in s.standing x.window d.job.client c) c d (ap (λ (k : ClientState). k.batch) (sym known) ∙ x.none_open) task is;
       },
       ap (λ (t : State). t.standing) next
           ∙ ap (λ cs. record s.standing { clients = cs }) (changed_by (after_answer d.answer) (after_outcome (outcome_of c d)) s.standing.clients d.job.client c at (sym (same_client c d))),

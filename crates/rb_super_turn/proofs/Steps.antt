@@ -15,8 +15,8 @@ use Rattle.rb_core_model.specs.Standing.{Standing, path_view, goes_back, judged,
 use Rattle.rb_core_model.specs.Scan.{Scan}
 use Rattle.rb_core_model.specs.Steps.{IsFromOutside, IsAfterScan}
 use Rattle.rb_scan.specs.Path.{Path}
-use Rattle.rb_scan.specs.declared.scan.Part.{Part}
-use Rattle.rb_scan.specs.declared.scan.Part.TheVariants.{Packets, Channel}
+use Rattle.rb_base.specs.declared.gate.Part.{Part}
+use Rattle.rb_base.specs.declared.gate.Part.TheVariants.{Packets, Channel}
 use Rattle.rb_core_model.proofs.Accepted.{skip, front_of}
 use Rattle.rb_core_model.proofs.Options.{some_from}
 use Rattle.rb_core_model.proofs.Steps.{judged_by_standing, present_scans, scans_last}

@@ -2,11 +2,11 @@
 use Rattle.std.specs.Prelude.{◌≡◌, ℕ, ◌+◌, false, List, [], ◌∷◌, ◌++◌, length, map, Some, slice_get}
 use Rattle.std.specs.List.{flat_map, range_with_len}
 use Rattle.rb_base.specs.Window.{Span}
-use Rattle.rb_scan.specs.declared.scan.Part.{Part}
-use Rattle.rb_scan.specs.declared.scan.Part.TheVariants.{Packets, Channel}
+use Rattle.rb_base.specs.declared.gate.Part.{Part}
+use Rattle.rb_base.specs.declared.gate.Part.TheVariants.{Packets, Channel}
 use Rattle.rb_script_types.specs.Config.{Config}
 use Rattle.rb_core_model.specs.Event.{Event}
-use Rattle.rb_core_model.specs.Standing.{KnownClient, Standing, goes_back, standing_after, with_client}
+use Rattle.rb_core_model.specs.Standing.{ClientState, Standing, goes_back, standing_after, with_client}
 use Rattle.rb_super_turn.specs.Report.{ClientReport, TurnReport}
 use Rattle.rb_script_types.specs.declared.script.Asked.{Asked as Question}
 use Rattle.rb_script_types.specs.declared.script.Settlement.{Settlement}
@@ -48,7 +48,7 @@ Finishes start turn s r (observe number event ∷ items) =
     Finishes start turn (standing_after s event) (record r { refused = r.refused ++ refusal_at number s event }) items
 Finishes start turn s r (scan path part ∷ items) = Finishes start turn s r items
 Finishes start turn s r (plan client ∷ items) =
-    (c : KnownClient) (report : ClientReport) → slice_get s.clients client ≡ Some c → IsClientReport s (client, c) report
+    (c : ClientState) (report : ClientReport) → slice_get s.clients client ≡ Some c → IsClientReport s (client, c) report
     → Finishes start turn (with_client s client (after_outcome report.outcome)) (record r { clients = r.clients ++ report ∷ [] }) items
 Finishes start turn s r (settle x ∷ items) =
     Finishes start turn (after_settlement s x) (record r { settlements = r.settlements ++ settlement_report s x ∷ [] }) items

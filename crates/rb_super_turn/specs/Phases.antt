@@ -1,13 +1,13 @@
 -- What the phases of a turn keep of a relayer.
 use Rattle.std.specs.Prelude.{◌≡◌, ℕ, ◌+◌, ◌<◌, ◌≤◌, true, length, Some, is_some, slice_get, List, [], ◌∷◌, map}
 use Rattle.rb_base.specs.Window.{Span}
-use Rattle.rb_scan.specs.declared.scan.Part.{Part}
+use Rattle.rb_base.specs.declared.gate.Part.{Part}
 use Rattle.rb_script_types.specs.declared.observation.Observation.{Observation}
 use Rattle.rb_script_types.specs.declared.script.Asked.{Asked as Question}
 use Rattle.rb_core.specs.Core.{Core, state_in}
 use Rattle.rb_core_model.specs.Machine.{is_scanned, max_events}
 use Rattle.rb_core_model.specs.Seen.{observed}
-use Rattle.rb_core_model.specs.Standing.{KnownClient, Standing, with_client}
+use Rattle.rb_core_model.specs.Standing.{ClientState, Standing, with_client}
 use Rattle.rb_super_turn.specs.Report.{Outcome, ClientReport}
 use Rattle.rb_super_turn.specs.Script.{Turn}
 use Rattle.rb_super_turn.specs.Turns.{IsClientReport, after_outcome}
@@ -43,14 +43,14 @@ pub record IsPlannable (core : Core) : Type 0 where
 
 -- a client's part of the report is right as things stand, and leads to how they stand then
 pub record IsReportedOf (s t : Standing) (client : ℕ) (report : ClientReport) : Type 0 where
-  pub known : KnownClient
+  pub known : ClientState
   pub is_known : slice_get s.clients client ≡ Some known
   pub right : IsClientReport s (client, known) report
   pub after : t ≡ with_client s client (after_outcome report.outcome)
 
 -- the same of an outcome, under the identifier of the client that is known there
 pub record IsOutcomeOf (s t : Standing) (client : ℕ) (outcome : Outcome) : Type 0 where
-  pub known : KnownClient
+  pub known : ClientState
   pub is_known : slice_get s.clients client ≡ Some known
   pub reported : IsReportedOf s t client (record { id = known.config.id; outcome = outcome })
 

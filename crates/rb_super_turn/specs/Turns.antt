@@ -8,7 +8,7 @@ use Rattle.rb_step.specs.LightClient.{Update}
 use Rattle.rb_step.specs.View.{client_of}
 use Rattle.rb_plan_client.specs.Draft.{Plan as SentPlan, Planned as Answer, Sending as SentAs, nothing as sent_nothing, too_big as sent_too_big, batched as sent_batched, Draft, IsIdle, IsPlanned}
 use Rattle.rb_core_model.specs.Event.{Event, Window, Asked, Settled}
-use Rattle.rb_core_model.specs.Standing.{OpenBatch, KnownClient, Standing, opening_standing, task_in, with_batch, goes_back, judged, standing_after}
+use Rattle.rb_core_model.specs.Standing.{OpenBatch, ClientState, Standing, opening_standing, task_in, with_batch, goes_back, judged, standing_after}
 use Rattle.rb_plan_client.specs.Task.{Task}
 use Rattle.rb_super_turn.specs.Report.{RefusedEvent, PricedUpdate, SendingReport, nothing, too_big, batched, PlanReport, PlannedReport, Outcome, held, idle, planned, ClientReport, SettlementReport, TurnReport, Report}
 use Rattle.rb_script_types.specs.declared.refusal.Refusal.{Refusal}
@@ -76,7 +76,7 @@ abbrev pub outcome_numbered : ℕ → Draft → Outcome
 outcome_numbered number d = option_map_or (λ a. planned (reported d.job.task number a)) d.answer idle
 
 -- what is reported of a client's draft; batches are numbered from 1
-abbrev pub outcome_of : KnownClient → Draft → Outcome
+abbrev pub outcome_of : ClientState → Draft → Outcome
 outcome_of c d = outcome_numbered (c.batches + 1) d
 
 -- a plan is right for a task, and its batch has this number if it opens one
@@ -86,13 +86,13 @@ pub record IsPlanFor (t : Task) (number : ℕ) (p : PlannedReport) : Type 0 wher
   pub is : p ≡ reported t number answer
 
 -- a client with an open batch is held, one without a goal is idle, and for the others there is a plan; batches are numbered from 1
-abbrev pub IsOutcome : Task → KnownClient → Outcome → Type 0
+abbrev pub IsOutcome : Task → ClientState → Outcome → Type 0
 IsOutcome t c (held number) = option_map (λ (b : OpenBatch). b.number) c.batch ≡ Some number
 IsOutcome t c idle = (c.batch ≡ None) × IsIdle t
 IsOutcome t c (planned p) = (c.batch ≡ None) × IsPlanFor t (c.batches + 1) p
 
 -- a client, with its place, as things stand
-pub record IsClientReport (s : Standing) (c : ℕ × KnownClient) (r : ClientReport) : Type 0 where
+pub record IsClientReport (s : Standing) (c : ℕ × ClientState) (r : ClientReport) : Type 0 where
   pub id : r.id ≡ c.1.config.id
   pub window : Span
   pub is_window : s.window ≡ Some window
@@ -119,12 +119,12 @@ abbrev pub opened : PlannedReport → Option OpenBatch
 opened a = option_and_then (λ (p : PlanReport). batch_sent p p.sending) a.plan
 
 -- the goal that a client was asked for is done with, unless the client is held
-abbrev pub after_outcome : Outcome → KnownClient → KnownClient
+abbrev pub after_outcome : Outcome → ClientState → ClientState
 after_outcome (held number) c = c
 after_outcome idle c = with_batch c None
 after_outcome (planned p) c = with_batch c (opened p)
 
-abbrev pub after_reports : List KnownClient → List ClientReport → List KnownClient
+abbrev pub after_reports : List ClientState → List ClientReport → List ClientState
 after_reports [] rs = []
 after_reports (c ∷ cs) [] = c ∷ cs
 after_reports (c ∷ cs) (r ∷ rs) = after_outcome r.outcome c ∷ after_reports cs rs
@@ -141,7 +141,7 @@ abbrev pub after_settlement : Standing → Settlement → Standing
 after_settlement s x = standing_after s (settlement_event x)
 
 abbrev pub id_of : Standing → ℕ → List ℕ
-id_of s client = option_map_or (λ (c : KnownClient). c.config.id) (slice_get s.clients client) []
+id_of s client = option_map_or (λ (c : ClientState). c.config.id) (slice_get s.clients client) []
 
 abbrev pub settlement_report : Standing → Settlement → SettlementReport
 settlement_report s x = record { id = id_of s x.client; batch = x.batch; done = x.done; refusal = judged s (settlement_event x) }

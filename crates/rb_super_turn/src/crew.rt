@@ -2,8 +2,9 @@
 ghost use Rattle.std.specs.Prelude.{◌≡◌, ◌≤◌, IfOk};
 ghost use denote.Param.Send.{Frees};
 
+use rb_base::{Gate, WorkItem};
 use rb_book::ChainBook;
-use rb_gang::{Gate, Place, build};
+use rb_gang::build;
 use rb_graph::Graph;
 use std::alloc::{AllocError, Allocator};
 use std::marker::Model;
@@ -44,13 +45,13 @@ impl<'a, R: Threads + Sync, G: Gate + Sync> Crew<'a, R, G> {
     }
 
     /// Tells the gate that a job begins.
-    pub(crate) fn before(&self, place: Place) {
-        self.gate.before(place);
+    pub(crate) fn before(&self, item: WorkItem) {
+        self.gate.before(item);
     }
 
     /// Tells the gate that a job ended.
-    pub(crate) fn after(&self, place: Place) {
-        self.gate.after(place);
+    pub(crate) fn after(&self, item: WorkItem) {
+        self.gate.after(item);
     }
 
     /// The table of a book.

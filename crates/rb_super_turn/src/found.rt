@@ -2,8 +2,8 @@
 ghost use Rattle.std.specs.Prelude.{◌≡◌, IfSome};
 ghost use Rattle.rb_plan_client.specs.Draft.{IsDraft};
 
+use rb_base::Part;
 use rb_core::{Draft, Scan};
-use rb_scan::Part;
 use std::alloc::Allocator;
 
 /// What was found of a relayer's jobs, by workers say. A scan and a plan are right for the view that

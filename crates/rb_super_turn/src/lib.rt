@@ -23,8 +23,8 @@ pub use observing::hear_all;
 pub use planning::{draft_of, drafts_of, plan_all, table_for, view_of};
 pub use relayer::Relayer;
 pub use report::{
-    Batch, ClientReport, Outcome, Plan, Planned, PricedUpdate, RefusedEvent, Report, Sending,
-    SettlementReport, TurnReport,
+    BatchReport, ClientReport, Outcome, PlanReport, PlannedReport, PricedUpdate, RefusedEvent,
+    Report, SendingReport, SettlementReport, TurnReport,
 };
 pub use scanning::scan_all;
 pub use settling::settle_all;

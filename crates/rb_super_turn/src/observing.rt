@@ -110,9 +110,8 @@ fn observe_all<A: Allocator + Copy, M: Machine<A>>(
     Ok(refused)
 }
 
-/// Leads a relayer through a turn up to where its paths are scanned; tells whether the window goes back,
-/// and which events are refused.
-/// What is refused changes nothing. An error comes only where a growth is refused.
+/// Leads a relayer through a turn up to where its paths are scanned; tells whether the window goes
+/// back, and which events are refused. What is refused changes nothing.
 pub fn hear_all<A: Allocator + Copy, M: Machine<A>>(
     alloc: A,
     relayer: &mut Relayer<A, M>,

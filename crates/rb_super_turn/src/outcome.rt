@@ -9,7 +9,7 @@ ghost use Rattle.rb_step.specs.View.{client_of};
 ghost use Rattle.rb_super_turn.specs.Turns.{priced, numbered, reported_plan, reported, outcome_numbered};
 ghost use Rattle.rb_super_turn.specs.Views.{priced_view, sending_view, plan_view, planned_view, outcome_view, number_of};
 
-use crate::report::{Batch, Outcome, Plan, Planned, PricedUpdate, Sending};
+use crate::report::{BatchReport, Outcome, PlanReport, PlannedReport, PricedUpdate, SendingReport};
 use rb_core::{Draft, JobView, Reply};
 use rb_plan::{Cost, Update};
 use std::alloc::{AllocError, Allocator};
@@ -51,13 +51,13 @@ fn sending<A: Allocator + Copy>(
     alloc: A,
     sending: &rb_core::Sending<A>,
     number: u64,
-) -> Result<Sending<A>, AllocError>
+) -> Result<SendingReport<A>, AllocError>
     ensures { IfOk result (λ s. sending_view s ≡ numbered number (sent_view sending.now)) }
 {
     Ok(match sending {
-        rb_core::Sending::Nothing => Sending::Nothing,
-        rb_core::Sending::TooBig(index) => Sending::TooBig(*index),
-        rb_core::Sending::Batched(batch) => Sending::Batch(Batch {
+        rb_core::Sending::Nothing => SendingReport::Nothing,
+        rb_core::Sending::TooBig(index) => SendingReport::TooBig(*index),
+        rb_core::Sending::Batched(batch) => SendingReport::Batch(BatchReport {
             number,
             proof: batch.proof(),
             transactions: Vec::from_slice(alloc, batch.transactions())?,
@@ -71,7 +71,7 @@ fn plan_of<A: Allocator + Copy>(
     job: &JobView<A>,
     plan: &rb_core::Plan<A>,
     number: u64,
-) -> Result<Plan<A>, AllocError>
+) -> Result<PlanReport<A>, AllocError>
     requires { total_fee (client_of job.now.task.view) plan.now.updates < 2 ^ 63 }
     ensures { IfOk result (λ p. plan_view p ≡ reported_plan job.now.task number plan.now) }
 {
@@ -80,7 +80,7 @@ fn plan_of<A: Allocator + Copy>(
     let total = total_of(priced.as_slice());
     let messages = Vec::from_slice(alloc, plan.messages())?;
     let sending = sending(alloc, plan.sending(), number)?;
-    Ok(Plan {
+    Ok(PlanReport {
         updates: priced,
         total,
         messages,
@@ -94,7 +94,7 @@ fn plan_if<A: Allocator + Copy>(
     job: &JobView<A>,
     plan: Option<&rb_core::Plan<A>>,
     number: u64,
-) -> Result<Option<Plan<A>>, AllocError>
+) -> Result<Option<PlanReport<A>>, AllocError>
     requires { IfSome (option_copied plan) (λ p. total_fee (client_of job.now.task.view) p.updates < 2 ^ 63) }
     ensures { IfOk result (λ p. option_map plan_view p ≡ option_map (reported_plan job.now.task number) (option_copied plan.entry)) }
 {
@@ -110,13 +110,13 @@ fn planned_of<A: Allocator + Copy>(
     job: &JobView<A>,
     planned: &rb_core::Planned<A>,
     number: u64,
-) -> Result<Planned<A>, AllocError>
+) -> Result<PlannedReport<A>, AllocError>
     requires { IsPlanned job.now.task planned.now }
     ensures { IfOk result (λ p. planned_view p ≡ reported job.now.task number planned.now) }
 {
     let labelling = planned.labelling().copy()?;
     let plan = plan_if(alloc, job, planned.plan(), number)?;
-    Ok(Planned {
+    Ok(PlannedReport {
         goal: planned.goal(),
         labelling,
         plan,

@@ -18,14 +18,13 @@ use crate::outcome::outcome_of;
 use crate::relayer::Relayer;
 use crate::report::{ClientReport, Outcome};
 use crate::taking::{note, offer};
+use rb_base::{Gate, WorkItem};
 use rb_core::{CoreError, Draft, Event, JobView, draft};
-use rb_gang::{Gate, Place};
 use rb_graph::SharedGraph;
 use std::alloc::{AllocError, Allocator};
 use std::thread::Threads;
 
 /// A client that is there, once a window was entered, as it is planned for.
-/// An error comes only where a growth is refused.
 #[tactic(auto, using(crate::proofs::Steps::client_is_shown))]
 pub fn view_of<A: Allocator + Copy, M: Machine<A>>(
     relayer: &Relayer<A, M>,
@@ -67,7 +66,6 @@ pub fn table_for<
 }
 
 /// What is planned for a client that is there as it is seen, by the table of its chain.
-/// An error comes only where a growth is refused.
 pub fn draft_of<
     R: Threads + Sync,
     G: Gate + Sync,
@@ -107,9 +105,9 @@ fn planned_for<R: Threads + Sync, G: Gate + Sync, A: Allocator + Copy + Send + S
     ensures same { relayer.new ≡ relayer.old }
 {
     let job = view_of(relayer, client)?;
-    crew.before(Place::Plan(client));
+    crew.before(WorkItem::Plan(client));
     let draft = draft_of(crew, alloc, relayer, client, job)?;
-    crew.after(Place::Plan(client));
+    crew.after(WorkItem::Plan(client));
     Ok(draft)
 }
 
@@ -157,7 +155,7 @@ fn plan_here<R: Threads + Sync, G: Gate + Sync, A: Allocator + Copy + Send + Syn
     let draft = planned_for(crew, alloc, relayer, client)?;
     let copy = draft.copy()?;
     let reply = note(relayer, Event::Planned(copy))?;
-    crew.after(Place::Taken(client));
+    crew.after(WorkItem::Taken(client));
     let outcome = outcome_of(alloc, &draft, reply)?;
     Ok(outcome)
 }
@@ -259,7 +257,6 @@ pub fn plan_all<
 }
 
 /// What is planned for each client as things stand, in their order. None of it is taken in.
-/// An error comes only where a growth is refused.
 pub fn drafts_of<
     R: Threads + Sync,
     G: Gate + Sync,

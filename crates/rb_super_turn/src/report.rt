@@ -45,25 +45,25 @@ pub enum Outcome<A: Allocator = Global> {
     /// There was no goal.
     Idle,
     /// There was a goal.
-    Planned(Planned<A>),
+    Planned(PlannedReport<A>),
 }
 
 /// A goal, the exact labelling, and the plan; none where the goal can't be reached.
 #[derive(Debug, Drop)]
-pub struct Planned<A: Allocator = Global> {
+pub struct PlannedReport<A: Allocator = Global> {
     pub goal: Goal,
     pub labelling: Labelling<A>,
-    pub plan: Option<Plan<A>>,
+    pub plan: Option<PlanReport<A>>,
 }
 
 /// The least list of updates that meets the goal, their fees and number in all, the packet messages
 /// that follow them, and how they are sent.
 #[derive(Debug, Drop)]
-pub struct Plan<A: Allocator = Global> {
+pub struct PlanReport<A: Allocator = Global> {
     pub updates: Vec<PricedUpdate, A>,
     pub total: Cost,
     pub messages: Vec<Message, A>,
-    pub sending: Sending<A>,
+    pub sending: SendingReport<A>,
 }
 
 /// An update and its fee.
@@ -75,19 +75,19 @@ pub struct PricedUpdate {
 
 /// How messages are sent. They are numbered from 0, the updates first.
 #[derive(Debug, Drop)]
-pub enum Sending<A: Allocator = Global> {
+pub enum SendingReport<A: Allocator = Global> {
     /// There is no message.
     Nothing,
     /// The message with this number is over the gas limit alone.
     TooBig(usize),
     /// They open a batch.
-    Batch(Batch<A>),
+    Batch(BatchReport<A>),
 }
 
 /// A batch by its number, from 1 for each client, the height that proofs are made for, and its
 /// transactions.
 #[derive(Debug, Drop)]
-pub struct Batch<A: Allocator = Global> {
+pub struct BatchReport<A: Allocator = Global> {
     pub number: u64,
     pub proof: Height,
     pub transactions: Vec<Transaction, A>,

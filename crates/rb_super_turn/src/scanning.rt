@@ -10,9 +10,9 @@ use crate::found::Found;
 use crate::machine::Machine;
 use crate::relayer::Relayer;
 use crate::taking::{note, offer};
+use rb_base::{Gate, Part, WorkItem};
 use rb_core::{CoreError, Event, Scan, scan};
-use rb_gang::{Gate, Place};
-use rb_scan::{Part, PathView, ScanError};
+use rb_scan::PathView;
 use std::alloc::{AllocError, Allocator};
 use std::thread::Threads;
 
@@ -36,10 +36,7 @@ fn view_of<A: Allocator + Copy, M: Machine<A>>(
 fn scan_of<A: Allocator + Copy>(view: PathView<A>, part: Part) -> Result<Scan<A>, AllocError>
     ensures { IfOk result (λ scan. scan ≡ record { view = view; part = part }) }
 {
-    match scan(view, part) {
-        Ok(scan) => Ok(scan),
-        Err(ScanError::NoMemory) => Err(AllocError),
-    }
+    scan(view, part)
 }
 
 /// Takes in the scan of a part of a path that was found, if one was, and it is of the path as it is;
@@ -82,9 +79,9 @@ fn scan_here<R: Threads + Sync, G: Gate + Sync, A: Allocator + Copy, M: Machine<
     ensures later { OnOk result (IsLater 1 relayer.old relayer.new) }
 {
     let view = view_of(relayer, path)?;
-    crew.before(Place::Scan(path, part));
+    crew.before(WorkItem::Scan(path, part));
     let scan = scan_of(view, part)?;
-    crew.after(Place::Scan(path, part));
+    crew.after(WorkItem::Scan(path, part));
     note(relayer, Event::Scanned { path, scan })?;
     Ok(())
 }

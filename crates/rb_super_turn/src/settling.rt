@@ -34,8 +34,8 @@ fn settle<A: Allocator + Copy, M: Machine<A>>(
     })
 }
 
-/// Takes in settlements, in their order, and tells what comes of each.
-/// What is refused changes nothing. An error comes only where a growth is refused.
+/// Takes in settlements, in their order, and tells what comes of each. What is refused changes
+/// nothing.
 pub fn settle_all<A: Allocator + Copy, M: Machine<A>>(
     alloc: A,
     relayer: &mut Relayer<A, M>,

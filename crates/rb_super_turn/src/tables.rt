@@ -17,16 +17,15 @@ ghost use Rattle.rb_super_turn.specs.Tables.{chain_of, with_addition, IsTableOf,
 
 use crate::crew::Crew;
 use crate::machine::Machine;
+use rb_base::Gate;
 use rb_book::{BookError, ChainBook};
 use rb_core::{CoreError, Event, Reply};
-use rb_gang::Gate;
 use rb_graph::SharedGraph;
 use rb_script_types::{Config, Observation};
 use std::alloc::{AllocError, Allocator};
 use std::thread::Threads;
 
 /// A place for a table of each chain.
-/// An error comes only where a growth is refused.
 pub fn no_tables<A: Allocator + Copy>(
     alloc: A,
     chains: usize,

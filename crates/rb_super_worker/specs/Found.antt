@@ -1,7 +1,7 @@
 -- What a worker finds for an order: it is of the job that was ordered, and right for what the worker's desk shows.
 use Rattle.std.specs.Prelude.{◌≡◌, ◌≤◌, ℕ, length, max, Option, Some, None}
-use Rattle.rb_gang.specs.declared.gate.Place.{Place}
-use Rattle.rb_gang.specs.declared.gate.Place.TheVariants as place
+use Rattle.rb_base.specs.declared.gate.WorkItem.{WorkItem}
+use Rattle.rb_base.specs.declared.gate.WorkItem.TheVariants as item
 use Rattle.rb_plan_client.specs.Draft.{Draft, IsDraft}
 use Rattle.rb_core_model.specs.Machine.{client_view, state_of}
 use Rattle.rb_core_model.specs.Scan.{Scan}
@@ -15,17 +15,17 @@ use Rattle.rb_super_worker.specs.declared.order.Order.TheVariants as order
 -- ---- the jobs by name
 
 -- the job of an order, none where the worker is to end
-abbrev pub ordered_place : {A : Type 0} → Order A → Option Place
-ordered_place (order.Scan path part note) = Some (place.Scan path part)
-ordered_place (order.Plan client note graph) = Some (place.Plan client)
-ordered_place order.Stop = None
+abbrev pub ordered_item : {A : Type 0} → Order A → Option WorkItem
+ordered_item (order.Scan path part note) = Some (item.Scan path part)
+ordered_item (order.Plan client note graph) = Some (item.Plan client)
+ordered_item order.Stop = None
 
 -- the job that a finding is of
-abbrev pub found_place : {A : Type 0} → Finding A → Place
-found_place (found.Scanned path scan) = place.Scan path scan.part
-found_place (found.Planned draft) = place.Plan draft.job.client
-found_place (found.Short place) = place
-found_place (found.Unseen place) = place
+abbrev pub found_item : {A : Type 0} → Finding A → WorkItem
+found_item (found.Scanned path scan) = item.Scan path scan.part
+found_item (found.Planned draft) = item.Plan draft.job.client
+found_item (found.Short work) = work
+found_item (found.Unseen work) = work
 
 -- how many events a desk was told of, with an order's note
 abbrev pub told_after : {A : Type 0} → Order A → ℕ → ℕ

@@ -1,7 +1,7 @@
 //! What workers find.
 use crossbeam_utils::sync::Unparker;
+use rb_base::WorkItem;
 use rb_core::{Draft, Scan};
-use rb_gang::Place;
 use rb_wire::{LaneFull, Tx};
 use std::alloc::{Allocator, Global};
 use std::sync::Wait;
@@ -16,9 +16,9 @@ pub enum Finding<A: Allocator = Global> {
     /// What is planned for a client.
     Planned(Draft<A>),
     /// The job was not done, since a growth was refused in it.
-    Short(Place),
+    Short(WorkItem),
     /// The job was not done, since the desk didn't show what it is of.
-    Unseen(Place),
+    Unseen(WorkItem),
 }
 
 /// The lane on which findings go, and what wakes the one that takes them.

@@ -4,7 +4,7 @@
 #![tactic(auto)]
 
 mod finding;
-mod held;
+mod inbox;
 mod order;
 mod seeing;
 mod slots;
@@ -13,7 +13,7 @@ mod worker;
 mod working;
 
 pub use finding::{Finding, Findings};
-pub use held::Held;
+pub use inbox::Inbox;
 pub use order::{Order, Orders};
 pub use team::Team;
 pub use working::{work, worker_loop};

@@ -1,8 +1,8 @@
 //! What workers are told to do.
 use crossbeam_utils::sync::Parker;
+use rb_base::Part;
 use rb_board::Note;
 use rb_graph::SharedGraph;
-use rb_scan::Part;
 use rb_wire::Rx;
 use std::alloc::{Allocator, Global};
 use std::sync::Wait;

@@ -6,10 +6,10 @@ ghost use Rattle.rb_core_model.specs.Machine.{client_view_refusal, path_view_ref
 ghost use Rattle.rb_board.specs.Unseen.{IsUnseen};
 ghost use Rattle.rb_super_worker.specs.Found.{IsDraftOf, IsScanOf};
 
+use rb_base::Part;
 use rb_board::{Desk, DeskError};
 use rb_core::{Draft, JobView, Scan, draft, scan};
 use rb_graph::Graph;
-use rb_scan::{Part, ScanError};
 use std::alloc::{AllocError, Allocator};
 
 /// Scans a part of a path as the desk shows it. `NoMemory` where a growth is refused, else as
@@ -29,12 +29,11 @@ pub(crate) fn scan_seen<A: Allocator + Copy>(
     let view = desk.view_path(path)?;
     match scan(view, part) {
         Ok(scan) => Ok(scan),
-        Err(ScanError::NoMemory) => Err(DeskError::NoMemory),
+        Err(AllocError) => Err(DeskError::NoMemory),
     }
 }
 
-/// Plans by the table, where that is of the client's book, else by a new one. An error comes only
-/// where a growth is refused.
+/// Plans by the table, where that is of the client's book, else by a new one.
 fn draft_by<A: Allocator + Copy>(
     alloc: A,
     job: JobView<A>,

@@ -1,12 +1,12 @@
 //! Workers, as their supervisor has them.
 ghost use Rattle.std.specs.Prelude.{◌≤◌, length, IfOk};
 
-use crate::held::Held;
+use crate::inbox::Inbox;
 use crate::order::Order;
 use crate::worker::Worker;
 use crossbeam_utils::sync::Parker;
+use rb_base::{Gate, WorkItem};
 use rb_board::Desk;
-use rb_gang::{Gate, Place};
 use rb_wire::LaneFull;
 use std::alloc::{AllocError, Global};
 use std::sync::{Arc, Wait};
@@ -51,19 +51,19 @@ where
 }
 
 impl<G: Gate> Team<G> {
-    /// Takes what was found into what is held, looking at each worker once; whether there was
+    /// Takes what was found into what is inbox, looking at each worker once; whether there was
     /// something.
-    fn collect(&mut self, held: &mut Held) -> bool {
+    fn collect(&mut self, inbox: &mut Inbox) -> bool {
         let mut is_found = false;
         for worker in self.workers.iter_mut() {
-            is_found = worker.collect(held, &*self.gate) || is_found;
+            is_found = worker.collect(inbox, &*self.gate) || is_found;
         }
         is_found
     }
 
-    /// Takes what was found into what is held; where nothing was, sleeps until something may be.
-    fn wait<R: Wait>(&mut self, rt: &R, held: &mut Held) {
-        if !self.collect(held) {
+    /// Takes what was found into what is inbox; where nothing was, sleeps until something may be.
+    fn wait<R: Wait>(&mut self, rt: &R, inbox: &mut Inbox) {
+        if !self.collect(inbox) {
             self.home.park(rt);
         }
     }
@@ -79,53 +79,53 @@ impl<G: Gate> Team<G> {
     }
 
     /// Sends an order, and takes in what was found while there is no room for it.
-    fn send<R: Wait>(&mut self, rt: &R, order: Order, held: &mut Held) {
+    fn send<R: Wait>(&mut self, rt: &R, order: Order, inbox: &mut Inbox) {
         let mut order = order;
         for _ in rt.forever() {
             match self.try_send(order) {
                 Ok(()) => return,
                 Err(LaneFull { item }) => order = item,
             }
-            self.wait(rt, held);
+            self.wait(rt, inbox);
         }
     }
 
     /// Gives out an order, but for one that ends a worker; what is found while there is no room for it is
-    /// held. Where there is no worker, nothing is ordered. An error comes only where a growth is refused;
+    /// inbox. Where there is no worker, nothing is ordered. An error comes only where a growth is refused;
     /// it is not ordered then.
     pub fn order<R: Wait>(
         &mut self,
         rt: &R,
-        held: &mut Held,
+        inbox: &mut Inbox,
         order: Order,
     ) -> Result<(), AllocError> {
         if !self.workers.is_empty() {
-            held.expect(&order)?;
-            self.send(rt, order, held);
+            inbox.expect(&order)?;
+            self.send(rt, order, inbox);
         }
         Ok(())
     }
 
     /// Waits until the job of this name has come to an end. One that was not ordered is not waited for.
-    pub fn wait_for<R: Wait>(&mut self, rt: &R, held: &mut Held, place: Place) {
+    pub fn wait_for<R: Wait>(&mut self, rt: &R, inbox: &mut Inbox, item: WorkItem) {
         for _ in rt.forever() {
-            if !held.is_missing(place) {
+            if !inbox.is_missing(item) {
                 return;
             }
-            self.wait(rt, held);
+            self.wait(rt, inbox);
         }
     }
 
     /// Waits until each job that was ordered has come to an end. An error comes only where a growth was
     /// refused to a worker in one of them.
-    pub fn finish<R: Wait>(&mut self, rt: &R, held: &mut Held) -> Result<(), AllocError> {
+    pub fn finish<R: Wait>(&mut self, rt: &R, inbox: &mut Inbox) -> Result<(), AllocError> {
         for _ in rt.forever() {
-            if held.is_whole() {
+            if inbox.is_whole() {
                 break;
             }
-            self.wait(rt, held);
+            self.wait(rt, inbox);
         }
-        if held.is_short() {
+        if inbox.is_short() {
             return Err(AllocError);
         }
         Ok(())

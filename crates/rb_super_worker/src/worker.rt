@@ -1,11 +1,11 @@
 //! A worker in a thread of its own, as its supervisor has it.
 use crate::finding::{Finding, Findings};
-use crate::held::Held;
+use crate::inbox::Inbox;
 use crate::order::{Order, Orders};
 use crate::working::worker_loop;
 use crossbeam_utils::sync::{Parker, Unparker};
+use rb_base::{Gate, WorkItem};
 use rb_board::Desk;
-use rb_gang::{Gate, Place};
 use rb_wire::{LaneFull, Rx, Tx, lane};
 use std::alloc::Global;
 use std::sync::{Arc, Wait};
@@ -83,9 +83,9 @@ impl Worker {
         Ok(())
     }
 
-    /// Takes what was found into what is held, and tells the gate of each client's; whether there was
+    /// Takes what was found into what is inbox, and tells the gate of each client's; whether there was
     /// something.
-    pub(crate) fn collect<G: Gate>(&mut self, held: &mut Held, gate: &G) -> bool {
+    pub(crate) fn collect<G: Gate>(&mut self, inbox: &mut Inbox, gate: &G) -> bool {
         let mut is_found = false;
         for _ in 0..FINDINGS {
             let Some(finding) = self.findings.pop() else {
@@ -93,9 +93,9 @@ impl Worker {
             };
             is_found = true;
             if let Finding::Planned(draft) = &finding {
-                gate.after(Place::Taken(draft.job().client()));
+                gate.after(WorkItem::Taken(draft.job().client()));
             }
-            held.put(finding);
+            inbox.put(finding);
         }
         is_found
     }

@@ -2,16 +2,15 @@
 ghost use Rattle.std.specs.Prelude.{◌≡◌, IfSome};
 ghost use Rattle.std.specs.Option.{option_map};
 ghost use mathlib.Core.List.{IsPrefix};
-ghost use Rattle.rb_super_worker.specs.Found.{IsFoundOn, found_place, ordered_place, told_after};
-ghost use Rattle.rb_gang.specs.declared.gate.Place.TheVariants as place;
+ghost use Rattle.rb_super_worker.specs.Found.{IsFoundOn, found_item, ordered_item, told_after};
+ghost use Rattle.rb_base.specs.declared.gate.WorkItem.TheVariants as item;
 
 use crate::finding::{Finding, Findings};
 use crate::order::{Order, Orders};
 use crate::seeing::{plan_seen, scan_seen};
+use rb_base::{Gate, Part, WorkItem};
 use rb_board::{Desk, DeskError};
-use rb_gang::{Gate, Place};
 use rb_graph::Graph;
-use rb_scan::Part;
 use std::alloc::Allocator;
 use std::sync::Wait;
 
@@ -25,17 +24,17 @@ fn find_scan<G: Gate, A: Allocator + Copy>(
     ensures config { desk.new.config ≡ desk.old.config }
     ensures told { desk.new.told ≡ desk.old.told }
     ensures begins { IsPrefix desk.old.seen desk.new.seen }
-    ensures place { found_place result ≡ place.Scan path part }
+    ensures item { found_item result ≡ item.Scan path part }
     ensures right { IsFoundOn desk.new result }
 {
-    let place = Place::Scan(path, part);
-    gate.before(place);
+    let item = WorkItem::Scan(path, part);
+    gate.before(item);
     let found = scan_seen(desk, path, part);
-    gate.after(place);
+    gate.after(item);
     match found {
         Ok(scan) => Finding::Scanned { path, scan },
-        Err(DeskError::NoMemory) => Finding::Short(place),
-        Err(_) => Finding::Unseen(place),
+        Err(DeskError::NoMemory) => Finding::Short(item),
+        Err(_) => Finding::Unseen(item),
     }
 }
 
@@ -50,17 +49,17 @@ fn find_plan<G: Gate, A: Allocator + Copy>(
     ensures config { desk.new.config ≡ desk.old.config }
     ensures told { desk.new.told ≡ desk.old.told }
     ensures begins { IsPrefix desk.old.seen desk.new.seen }
-    ensures place { found_place result ≡ place.Plan client }
+    ensures item { found_item result ≡ item.Plan client }
     ensures right { IsFoundOn desk.new result }
 {
-    let place = Place::Plan(client);
-    gate.before(place);
+    let item = WorkItem::Plan(client);
+    gate.before(item);
     let found = plan_seen(alloc, desk, client, graph);
-    gate.after(place);
+    gate.after(item);
     match found {
         Ok(draft) => Finding::Planned(draft),
-        Err(DeskError::NoMemory) => Finding::Short(place),
-        Err(_) => Finding::Unseen(place),
+        Err(DeskError::NoMemory) => Finding::Short(item),
+        Err(_) => Finding::Unseen(item),
     }
 }
 
@@ -76,7 +75,7 @@ pub fn work<G: Gate, A: Allocator + Copy>(
     ensures config { desk.new.config ≡ desk.old.config }
     ensures told { desk.new.told ≡ told_after order desk.old.told }
     ensures begins { IsPrefix desk.old.seen desk.new.seen }
-    ensures place { option_map found_place result ≡ ordered_place order }
+    ensures item { option_map found_item result ≡ ordered_item order }
     ensures right { IfSome result (IsFoundOn desk.new) }
 {
     match order {

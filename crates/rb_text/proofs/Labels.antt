@@ -6,7 +6,7 @@ use Rattle.std.proofs.lemmas.List.{drop_all, drop_more}
 use Rattle.rb_plan.specs.declared.labelling.Label.{Label}
 use Rattle.rb_script_toml.specs.Faults.{Fault, ◌>>=◌, fault, check}
 use Rattle.rb_script_toml.specs.declared.fault.FaultName.TheVariants.{LabelOrder}
-use Rattle.rb_script_toml.specs.Places.{element}
+use Rattle.rb_script_toml.specs.KeyPaths.{element}
 use Rattle.rb_text.specs.Certificates.{rising_after, rising}
 
 not_above : (below height : ℕ) → height ≤ below → nat_lt below height ≡ false

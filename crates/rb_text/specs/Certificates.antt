@@ -6,7 +6,7 @@ use Rattle.rb_plan.specs.LightClient.{Update}
 use Rattle.rb_plan.specs.declared.labelling.Label.{Label}
 use Rattle.rb_plan.specs.Answer.{claim_of, labelling_of}
 use Rattle.rb_script_toml.specs.Faults.{Fault, ◌>>=◌, fault, check}
-use Rattle.rb_script_toml.specs.Places.{child, element}
+use Rattle.rb_script_toml.specs.KeyPaths.{child, element}
 use Rattle.rb_script_toml.specs.Fields.{Field, Section, field_at, only, needs, optional, or_default, text, identifier, number, within, items, two_integers, three_integers, max_number}
 use Rattle.rb_script_toml.specs.declared.fault.FaultName.TheVariants.{BadVersion, OutOfRange, BadAnswer, LabelOrder}
 use Rattle.rb_text.specs.declared.certificate.AnswerKind.{AnswerKind}

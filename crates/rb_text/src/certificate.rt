@@ -3,14 +3,14 @@ ghost use Rattle.std.specs.Prelude.{◌<◌, ◌^◌, [], IfOk, OnOk, All, codes
 ghost use Rattle.std.specs.List.Sorted.{IsStrictlyIncreasing};
 ghost use Rattle.toml.specs.View.{view, items_view};
 ghost use Rattle.rb_script_toml.specs.Faults.{Gives};
-ghost use Rattle.rb_script_toml.specs.Places.{element};
+ghost use Rattle.rb_script_toml.specs.KeyPaths.{element};
 ghost use Rattle.rb_script_toml.specs.Fields.{field_view, section_view, field_at, only, needs, optional, or_default, identifier, two_integers, three_integers};
 ghost use Rattle.rb_text.specs.Certificates.{answer, update, updates, label, labels, each, typed_from, rising, certificate_keys, certificate, certificate_of, certificate_view};
 
 use rb_base::{ClientId, Height};
 use rb_plan::{Answer, Cost, Label, Labelling, Update};
 use rb_script_toml::{
-    FaultName, Field, MAX_NUMBER, Place, RunError, Section, element_path, read_table,
+    FaultName, Field, KeyPath, MAX_NUMBER, RunError, Section, element_path, read_table,
 };
 use std::alloc::Global;
 use toml::Value;
@@ -54,7 +54,7 @@ fn pair_at(alloc: Global, index: usize, value: &Value) -> Result<(i64, i64), Run
     ensures { Gives (λ n. n) result (two_integers (field_at (element (codes "updates") index) (view value.now))) }
 {
     let path = element_path(alloc, "updates", index)?;
-    let place = Place {
+    let place = KeyPath {
         table: "",
         key: path.as_str(),
     };
@@ -91,7 +91,7 @@ fn read_update_at(alloc: Global, index: usize, value: &Value) -> Result<Update, 
     ensures { Gives (λ u. u) result (update (field_at (element (codes "updates") index) (view value.now))) }
 {
     let path = element_path(alloc, "updates", index)?;
-    let place = Place {
+    let place = KeyPath {
         table: "",
         key: path.as_str(),
     };
@@ -138,7 +138,7 @@ fn triple_at(alloc: Global, index: usize, value: &Value) -> Result<(i64, i64, i6
     ensures { Gives (λ n. n) result (three_integers (field_at (element (codes "labels") index) (view value.now))) }
 {
     let path = element_path(alloc, "labels", index)?;
-    let place = Place {
+    let place = KeyPath {
         table: "",
         key: path.as_str(),
     };
@@ -181,7 +181,7 @@ fn read_label_at(alloc: Global, index: usize, value: &Value) -> Result<Label, Ru
     ensures small { IfOk result (λ l. (l.cost.fee < 2 ^ 63) × (l.cost.count < 2 ^ 63)) }
 {
     let path = element_path(alloc, "labels", index)?;
-    let place = Place {
+    let place = KeyPath {
         table: "",
         key: path.as_str(),
     };
@@ -214,7 +214,7 @@ fn judge_order(alloc: Global, labels: &[Label]) -> Result<(), RunError>
     for (index, label) in labels.iter().enumerate() {
         let height = label.height.get();
         if height <= below {
-            let place = Place {
+            let place = KeyPath {
                 table: "",
                 key: "labels",
             };

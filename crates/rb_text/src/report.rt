@@ -13,8 +13,8 @@ use rb_plan::{Cost, Goal, Label};
 use rb_scan::Kind;
 use rb_script_types::Refusal;
 use rb_super_turn::{
-    ClientReport, Outcome, Plan, Planned, PricedUpdate, RefusedEvent, Sending, SettlementReport,
-    TurnReport,
+    ClientReport, Outcome, PlanReport, PlannedReport, PricedUpdate, RefusedEvent, SendingReport,
+    SettlementReport, TurnReport,
 };
 use std::alloc::AllocError;
 
@@ -115,13 +115,13 @@ fn push_batch(text: &mut String, number: u64, proof: Height) -> Result<(), Alloc
     writeln!(text, "batch {number} proof {proof}")
 }
 
-fn push_sending(text: &mut String, sending: &Sending) -> Result<(), AllocError>
+fn push_sending(text: &mut String, sending: &SendingReport) -> Result<(), AllocError>
     ensures { OnOk result (string_bytes text.new ≡ string_bytes text.old ++ sending_text (sending_view sending.now)) }
 {
     match sending {
-        Sending::Nothing => Ok(()),
-        Sending::TooBig(index) => writeln!(text, "toobig {index}"),
-        Sending::Batch(batch) => {
+        SendingReport::Nothing => Ok(()),
+        SendingReport::TooBig(index) => writeln!(text, "toobig {index}"),
+        SendingReport::Batch(batch) => {
             push_batch(text, batch.number, batch.proof)?;
             push_transactions(text, batch.transactions.as_slice())
         }
@@ -172,7 +172,11 @@ fn push_messages(
     Ok(())
 }
 
-fn push_plan(text: &mut String, paths: &[PathId], plan: &Option<Plan>) -> Result<(), AllocError>
+fn push_plan(
+    text: &mut String,
+    paths: &[PathId],
+    plan: &Option<PlanReport>,
+) -> Result<(), AllocError>
     ensures { OnOk result (string_bytes text.new ≡ string_bytes text.old ++ plan_text paths.now (option_map plan_view plan.now)) }
 {
     match plan {
@@ -190,7 +194,7 @@ fn push_planned(
     text: &mut String,
     paths: &[PathId],
     id: &str,
-    planned: &Planned,
+    planned: &PlannedReport,
 ) -> Result<(), AllocError>
     ensures { OnOk result (string_bytes text.new
         ≡ string_bytes text.old ++ outcome_text paths.now id.now (outcome_planned (planned_view planned.now))) }

@@ -12,8 +12,7 @@ ghost use Rattle.rb_super_turn.specs.Views.{report_view};
 ghost use Rattle.rb_text.specs.Headline.{WritesReport, WritesThisReport, BeginsReport};
 
 use crate::write::write_report;
-use rb_base::Sink;
-use rb_gang::Gate;
+use rb_base::{Gate, Sink};
 use rb_script_read::read_script;
 use rb_script_toml::RunError;
 use rb_script_types::Script;

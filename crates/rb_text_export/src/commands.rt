@@ -3,7 +3,8 @@ use jiff::Timestamp;
 use rb_base::{Moment, Window};
 use rb_script_types::{ClientConfig, Config, Refusal, Script};
 use rb_super_turn::{
-    ClientReport, Outcome, Plan, PricedUpdate, RefusedEvent, Report, Sending, TurnReport,
+    ClientReport, Outcome, PlanReport, PricedUpdate, RefusedEvent, Report, SendingReport,
+    TurnReport,
 };
 use std::alloc::{AllocError, Global};
 
@@ -143,7 +144,7 @@ fn push_plan(
     turn: u64,
     host: &str,
     id: &str,
-    plan: &Plan,
+    plan: &PlanReport,
 ) -> Result<(), AllocError> {
     let fee = plan.total.fee;
     let count = plan.total.count;
@@ -152,7 +153,7 @@ fn push_plan(
         "# turn {turn} client {id}: total fee {fee}, updates {count}"
     )?;
     push_messages(text, plan.messages.len())?;
-    if let Sending::TooBig(message) = &plan.sending {
+    if let SendingReport::TooBig(message) = &plan.sending {
         return writeln!(text, ", message {message} over the gas limit: no batch");
     }
     text.push_str("\n")?;

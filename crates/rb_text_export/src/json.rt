@@ -6,8 +6,8 @@ use rb_plan::Label;
 use rb_scan::Kind;
 use rb_script_types::{Goal, Refusal};
 use rb_super_turn::{
-    ClientReport, Outcome, Plan, Planned, PricedUpdate, RefusedEvent, Report, Sending,
-    SettlementReport, TurnReport,
+    ClientReport, Outcome, PlanReport, PlannedReport, PricedUpdate, RefusedEvent, Report,
+    SendingReport, SettlementReport, TurnReport,
 };
 use std::alloc::{AllocError, Global};
 
@@ -94,7 +94,11 @@ fn push_client(
     }
 }
 
-fn push_planned(text: &mut String, paths: &[PathId], planned: &Planned) -> Result<(), AllocError> {
+fn push_planned(
+    text: &mut String,
+    paths: &[PathId],
+    planned: &PlannedReport,
+) -> Result<(), AllocError> {
     let outcome = match planned.plan {
         Some(_) => "plan",
         None => "unreachable",
@@ -130,7 +134,7 @@ fn push_label(text: &mut String, label: &Label) -> Result<(), AllocError> {
     )
 }
 
-fn push_plan(text: &mut String, paths: &[PathId], plan: &Plan) -> Result<(), AllocError> {
+fn push_plan(text: &mut String, paths: &[PathId], plan: &PlanReport) -> Result<(), AllocError> {
     text.push_str(", \"updates\": [")?;
     for (place, update) in plan.updates.iter().enumerate() {
         push_comma(text, place)?;
@@ -189,11 +193,11 @@ fn id_of(paths: &[PathId], path: usize) -> &str {
     }
 }
 
-fn push_sending(text: &mut String, sending: &Sending) -> Result<(), AllocError> {
+fn push_sending(text: &mut String, sending: &SendingReport) -> Result<(), AllocError> {
     match sending {
-        Sending::Nothing => text.push_str("}"),
-        Sending::TooBig(index) => write!(text, ", \"too_big\": {index}}}"),
-        Sending::Batch(batch) => {
+        SendingReport::Nothing => text.push_str("}"),
+        SendingReport::TooBig(index) => write!(text, ", \"too_big\": {index}}}"),
+        SendingReport::Batch(batch) => {
             let number = batch.number;
             let proof = batch.proof;
             write!(

@@ -1,10 +1,9 @@
 ghost use Rattle.std.specs.Prelude.{◌+◌, ◌<◌, ◌^◌, IfOk};
 
 use crate::same::assert_same;
-use rb_base::{Height, Moment};
+use rb_base::{Height, Moment, Part};
 use rb_scan::{
-    Kind, Order, Packet, PacketMsg, Part, PathView, Sequence, is_path, owed, owed_part, ready,
-    wanted,
+    Kind, Order, Packet, PacketMsg, PathView, Sequence, is_path, owed, owed_part, ready, wanted,
 };
 use std::alloc::Global;
 use std::process::Abort;

@@ -1,6 +1,6 @@
 use crate::same::assert_same;
 use rb_base::Height;
-use rb_book::{BookError, ChainBook, Header, Known, Record, Vote};
+use rb_book::{BookError, ChainBook, Header, Record, RecordAt, Vote};
 use rb_valset::{Validator, ValidatorSet};
 use std::alloc::Global;
 use std::fmt::Display;
@@ -113,7 +113,7 @@ fn check_times(rt: &impl Abort, book: &ChainBook) -> Result<(), Fail> {
 }
 
 fn check_records(rt: &impl Abort, book: &ChainBook, hash: [u8; 32]) -> Result<(), Fail> {
-    let first = Known::new(height(2)?, entry(20, hash)?);
+    let first = RecordAt::new(height(2)?, entry(20, hash)?);
     assert_same(rt, &"first", &book.records().first(), &Some(&first));
     let counts = (
         book.sets().len(),

@@ -1,7 +1,7 @@
 use crate::make::assert_same;
 use crate::run::{Deed, Row, Run, start};
+use rb_base::Part;
 use rb_book::Vote;
-use rb_scan::Part;
 use std::test::Fail;
 
 const THREE: &[Vote] = &[Vote::Commit, Vote::Commit, Vote::Commit, Vote::Absent];

@@ -5,11 +5,11 @@ use crate::make::{
     assert_same, make_config, make_header, make_lone_set, make_record, make_set, second,
 };
 use crate::tell::{answer_text, reply_text, scan_text};
-use rb_base::{Height, Window};
+use rb_base::{Height, Part, Window};
 use rb_book::{ChainBook, Vote};
 use rb_core::{Core, CoreError, Draft, Event, JobView, Reply, draft, scan};
 use rb_graph::Graph;
-use rb_scan::{Part, Sequence};
+use rb_scan::Sequence;
 use rb_script_types::{Asked, BlockHeight, Goal, Observation, Refusal, Settlement, is_config};
 use std::alloc::{AllocError, Global};
 use std::mem;

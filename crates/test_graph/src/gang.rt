@@ -3,10 +3,11 @@ ghost use Rattle.std.specs.Prelude.{◌<◌, ◌≤◌, All, IfOk};
 ghost use Rattle.rb_graph.specs.Frame.{IsRowOf};
 
 use crate::same::assert_same;
+use rb_base::{Gate, OpenGate, WorkItem};
 use rb_book::{ChainBook, Header, Record, Vote};
 use rb_gang::laws::count;
-use rb_gang::{Gate, OpenGate, Place, build, make_rows, open};
-use rb_graph::{Cause, Frame, FrameRow, Graph};
+use rb_gang::{build, make_rows, open};
+use rb_graph::{Frame, FrameRow, Graph, TableError};
 use std::alloc::{AllocError, Global};
 use std::process::Abort;
 use std::sync::atomic::{AtomicU64, Ordering};
@@ -158,7 +159,7 @@ impl<'a, R: Clock> HoldFirst<'a, R> {
 }
 
 impl<'a, R: Clock> Gate for HoldFirst<'a, R> {
-    fn before(&self, _place: Place) {
+    fn before(&self, _item: WorkItem) {
         if self.begun.fetch_add(1, Ordering::SeqCst) > 0 {
             return;
         }
@@ -171,7 +172,7 @@ impl<'a, R: Clock> Gate for HoldFirst<'a, R> {
         self.is_given_up.store(1, Ordering::SeqCst);
     }
 
-    fn after(&self, _place: Place) {
+    fn after(&self, _item: WorkItem) {
         self.ended.fetch_add(1, Ordering::SeqCst);
     }
 }
@@ -199,11 +200,11 @@ fn a_serial_build_is_found_out(rt: HostRuntime) -> Result<(), Fail> {
 /// Makes the rows from one number to another.
 fn make_share<G: Gate>(frame: &Frame, from: usize, to: usize, gate: &G) -> Result<(), AllocError> {
     for n in from..to {
-        gate.before(Place::Row(n));
+        gate.before(WorkItem::Row(n));
         if n < frame.rows() {
             let _row = frame.row(n)?;
         }
-        gate.after(Place::Row(n));
+        gate.after(WorkItem::Row(n));
     }
     Ok(())
 }
@@ -238,11 +239,11 @@ const FLAWS: &[(&[usize], Option<(u16, usize)>)] = &[
 ];
 
 /// The refusal's number, and the row that it names.
-fn refusal(cause: Cause) -> Option<(u16, usize)> {
+fn refusal(cause: TableError) -> Option<(u16, usize)> {
     match cause {
-        Cause::RowMissing(n) => Some((cause.number()?, n)),
-        Cause::RowTwice(n) => Some((cause.number()?, n)),
-        Cause::NoMemory => None,
+        TableError::RowMissing(n) => Some((cause.number()?, n)),
+        TableError::RowTwice(n) => Some((cause.number()?, n)),
+        TableError::NoMemory => None,
     }
 }
 

@@ -2,8 +2,7 @@
 //! after the other fails it.
 ghost use Rattle.std.specs.Prelude.{◌≤◌};
 
-use rb_base::Counted;
-use rb_gang::{Gate, Place};
+use rb_base::{Counted, Gate, WorkItem};
 use rb_text::run_over;
 use std::alloc::Global;
 use std::sync::atomic::{AtomicU64, Ordering};
@@ -107,8 +106,8 @@ impl<R: Clock> HoldFirst<R> {
 }
 
 impl<R: Clock> Gate for HoldFirst<R> {
-    fn before(&self, place: Place) {
-        let Place::Plan(_) = place else {
+    fn before(&self, item: WorkItem) {
+        let WorkItem::Plan(_) = item else {
             return;
         };
         if self.begun.fetch_add(1, Ordering::SeqCst) != self.earlier {
@@ -123,8 +122,8 @@ impl<R: Clock> Gate for HoldFirst<R> {
         self.given_up.store(1, Ordering::SeqCst);
     }
 
-    fn after(&self, place: Place) {
-        if let Place::Taken(_) = place {
+    fn after(&self, item: WorkItem) {
+        if let WorkItem::Taken(_) = item {
             self.taken.fetch_add(1, Ordering::SeqCst);
         }
     }

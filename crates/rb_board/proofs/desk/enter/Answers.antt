@@ -1,6 +1,6 @@
 use Rattle.std.proofs.Common.{rules, subst, ◌≡◌}
 use Rattle.std.specs.Prelude.{Some}
-use Rattle.rb_board.specs.Kept.{Sees, known_by, known_of}
+use Rattle.rb_board.specs.Rule.{Sees, known_by, known_of}
 use Rattle.rb_board.proofs.Boarding.{looks}
 use Rattle.rb_board.proofs.desk.enter.Goals as goal
 

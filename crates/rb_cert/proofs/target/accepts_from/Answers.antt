@@ -3,7 +3,7 @@ use Rattle.std.specs.Option.{option_copied}
 use Rattle.rb_book.specs.Book.{set_of}
 use Rattle.rb_step.specs.KnownStep.{step_at}
 use Rattle.rb_step.specs.StepRule.{Step, step_of}
-use Rattle.rb_step.proofs.Known.{accepts_known}
+use Rattle.rb_step.proofs.RecordAt.{accepts_known}
 use Rattle.rb_cert.proofs.Targets.{step_to}
 use Rattle.rb_cert.proofs.target.accepts_from.Goals as goal
 

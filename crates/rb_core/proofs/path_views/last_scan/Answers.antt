@@ -9,7 +9,7 @@ use Rattle.rb_core.proofs.path_views.last_scan.Goals as goal
 
 pub returns-in-Some : goal.returns-in-Some
 returns-in-Some g c =
-    let xs = c.args.known.now.scans.items in
+    let xs = c.args.state.now.scans.items in
     let part = c.args.part in
     let at : slice_get xs c.args.path ≡ Some c.in-Some.scans.now =
     ap (λ (l : List Scans). slice_get l c.args.path) (sym c.as_slice.ensures.value) ∙ looked_up c.as_slice.result.now c.args.path (Some c.in-Some.scans) c.in-Some.ensures.lookup in
@@ -18,7 +18,7 @@ returns-in-Some g c =
 
 pub returns-in-None : goal.returns-in-None
 returns-in-None g c =
-    let xs = c.args.known.now.scans.items in
+    let xs = c.args.state.now.scans.items in
     let at : slice_get xs c.args.path ≡ None =
     ap (λ (l : List Scans). slice_get l c.args.path) (sym c.as_slice.ensures.value) ∙ looked_up c.as_slice.result.now c.args.path None c.in-None.ensures.lookup in
     ap (λ (s : Scans). scan_of s c.args.part) (index_or-none xs c.args.path no_scans at) ∙ no_scan c.args.part

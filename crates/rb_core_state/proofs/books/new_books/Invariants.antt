@@ -1,5 +1,5 @@
 use Rattle.std.proofs.Common.{◌≡◌, replicate}
-use Rattle.rb_core_state.specs.Held.{books_of}
+use Rattle.rb_core_state.specs.Room.{books_of}
 use Rattle.rb_core_model.specs.Standing.{empty_book}
 use Rattle.rb_core_state.proofs.books.new_books.Given as goal
 

@@ -1,7 +1,7 @@
 use Rattle.std.proofs.Common.{◌≡◌, ℕ, length, take, ap, ◌∙◌, arith}
 use Rattle.std.proofs.Math.Seq.{take-length}
 use Rattle.rb_book.specs.Shared.{Shared}
-use Rattle.rb_core_state.specs.Held.{books_of}
+use Rattle.rb_core_state.specs.Room.{books_of}
 use Rattle.rb_core_state.proofs.Copied.{one_more}
 use Rattle.rb_core_state.proofs.books.share_books.Goals as goal
 

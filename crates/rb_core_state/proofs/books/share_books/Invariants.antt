@@ -1,5 +1,5 @@
 use Rattle.std.proofs.Common.{◌≡◌, take}
-use Rattle.rb_core_state.specs.Held.{books_of}
+use Rattle.rb_core_state.specs.Room.{books_of}
 use Rattle.rb_core_state.proofs.books.share_books.Given as goal
 
 abbrev pub invariant-loop-book : goal.invariant-loop-book

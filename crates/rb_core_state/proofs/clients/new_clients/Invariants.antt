@@ -1,5 +1,5 @@
 use Rattle.std.proofs.Common.{◌≡◌, map, take}
-use Rattle.rb_core_state.specs.Held.{clients_of}
+use Rattle.rb_core_state.specs.Room.{clients_of}
 use Rattle.rb_core_model.specs.Standing.{new_client}
 use Rattle.rb_core_state.proofs.clients.new_clients.Given as goal
 

@@ -1,5 +1,5 @@
 use Rattle.std.proofs.Common.{◌+◌, ◌-◌, ◌≤◌, length}
-use Rattle.rb_core_state.specs.Held.{next_among}
+use Rattle.rb_core_state.specs.Room.{next_among}
 use Rattle.rb_core_state.proofs.path.count_run.Given as goal
 
 abbrev pub invariant-loop-run : goal.invariant-loop-run

@@ -1,5 +1,5 @@
 use Rattle.std.proofs.Common.{◌≡◌, map, take}
-use Rattle.rb_core_state.specs.Held.{paths_of}
+use Rattle.rb_core_state.specs.Room.{paths_of}
 use Rattle.rb_core_model.specs.Standing.{new_path}
 use Rattle.rb_core_state.proofs.paths.new_paths.Given as goal
 

@@ -2,7 +2,7 @@ use Rattle.std.proofs.Common.{◌≡◌, false, map, is_some, rules, ap, ◌∙�
 use Rattle.std.specs.List.{position}
 use Rattle.rb_book.specs.Book.{Book, record_at, has_hash}
 use Rattle.rb_book.specs.Header.{Record}
-use Rattle.rb_graph_rows.specs.Kept.{next_places, first_naming, kept_of}
+use Rattle.rb_graph_rows.specs.StoredRow.{next_places, first_naming, stored_row_of}
 use Rattle.rb_graph_rows.proofs.Entered.{record_makes_a_book, record_comes, places_with_record, rows_unnamed, rows_as_before, lowest_unnamed}
 use Rattle.rb_graph_rows.proofs.reached.enter_record.Goals as goal
 
@@ -36,7 +36,7 @@ returns-else-name_set-clause-rows g c =
     let after = record_makes_a_book b c.args.height r c.record.ensures.book c.requires.accepted new in
     let same = sym c.requires.lowest ∙ sym (c.name_set.ensures.same c.if-name_set.false) ∙ c.name_set.ensures.lowest in
     rows_as_before b c.args.height r c.record.ensures.book after c.args.rows.now same c.requires.rows
-    ∙ ap (λ (x : Book). map (kept_of x) b.headers) (record_comes b c.args.height r new)
+    ∙ ap (λ (x : Book). map (stored_row_of x) b.headers) (record_comes b c.args.height r new)
 
 pub returns-in_default-clause-lowest : goal.returns-in_default-clause-lowest
 returns-in_default-clause-lowest g c =
@@ -76,4 +76,4 @@ returns-in_default-clause-rows g c =
     let named = c.set_place-next.ensures.value ∙ ap (λ hash. position (has_hash hash) b.sets) c.next.ensures in
     let after = record_makes_a_book b c.args.height r c.record.ensures.book c.requires.accepted new in
     rows_unnamed b c.args.height r c.args.rows.now c.record.ensures.book after (sym named ∙ c.in_default.is) c.requires.rows
-    ∙ ap (λ (x : Book). map (kept_of x) b.headers) (record_comes b c.args.height r new)
+    ∙ ap (λ (x : Book). map (stored_row_of x) b.headers) (record_comes b c.args.height r new)

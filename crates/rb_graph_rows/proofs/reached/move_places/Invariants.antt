@@ -1,6 +1,6 @@
 use Rattle.std.proofs.Common.{◌≡◌}
 use Rattle.rb_book.specs.Intake.{with_set}
-use Rattle.rb_graph_rows.specs.Kept.{next_place}
+use Rattle.rb_graph_rows.specs.StoredRow.{next_place}
 use Rattle.rb_graph_rows.proofs.Inserted.{written}
 use Rattle.rb_graph_rows.proofs.reached.move_places.Given as goal
 

@@ -3,8 +3,8 @@ use Rattle.rb_valset.specs.Validator.{Member}
 use Rattle.rb_graph_rows.specs.Numbering.{AreLanesOf}
 use Rattle.rb_graph_rows.proofs.reached.new_row.Goals as goal
 
-pub kept_by_lanes-requires-2-clause-numbered : goal.kept_by_lanes-requires-2-clause-numbered
-kept_by_lanes-requires-2-clause-numbered g c =
+pub stored_row_by_columns-requires-2-clause-numbered : goal.stored_row_by_columns-requires-2-clause-numbered
+stored_row_by_columns-requires-2-clause-numbered g c =
     let made = c.in_ok-made.made in
     (subst (λ (sets : List (List Member)). AreLanesOf sets made.columns made.tallies.items) c.sets.ensures.value c.in_ok-made.ensures).0
 

@@ -1,10 +1,10 @@
 use Rattle.std.proofs.Common.{◌≡◌, [], drop}
 use Rattle.serde_json.specs.View.{items_view}
-use Rattle.rb_import_json.specs.declared.place.Part.{Part}
+use Rattle.rb_import_json.specs.declared.field_path.Segment.{Segment}
 use Rattle.rb_import_json.specs.Fields.{each}
 use Rattle.rb_import_answers.specs.Validators.{validator}
 use Rattle.rb_import_answers.proofs.validators.read_validators.Given as goal
 
 -- what is left is read beside what was read
 abbrev pub invariant-loop-value : goal.invariant-loop-value
-invariant-loop-value l = each validator Part.Validators l.validators.items (items_view (drop l.value-index l.items)) ≡ each validator Part.Validators [] (items_view l.items)
+invariant-loop-value l = each validator Segment.Validators l.validators.items (items_view (drop l.value-index l.items)) ≡ each validator Segment.Validators [] (items_view l.items)

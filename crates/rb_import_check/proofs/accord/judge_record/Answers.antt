@@ -3,9 +3,9 @@ use Rattle.std.specs.List.Sorted.{IsBinarySearchResult}
 use Rattle.std.specs.Ordering.{nat_cmp}
 use Rattle.std.proofs.lemmas.Bool.{true≢false}
 use Rattle.std.proofs.lemmas.List.{length-map}
-use Rattle.rb_import_check.specs.declared.error.ProblemName.{ProblemName}
+use Rattle.rb_import_check.specs.declared.error.CheckErrorName.{CheckErrorName}
 use Rattle.rb_import_check.specs.Accord.{AgreesWith}
-use Rattle.rb_import_check.specs.Problems.{IsTold}
+use Rattle.rb_import_check.specs.Errors.{IsTold}
 use Rattle.rb_import_check.proofs.Accords.{agrees_where_absent, agrees_where_found, disagrees, found_height, height_of}
 use Rattle.rb_import_check.proofs.accord.judge_record.Goals as goal
 
@@ -40,4 +40,4 @@ returns-clause-other c =
     let is : c.index-commit.result.now ≡ get_or c.args.chain.now.commits.items c.in-Ok.place c.index-commit.result.now = c.index-commit.ensures in
     let at = found_height c.args.chain.now.commits.items c.args.stored.now c.in-Ok.place c.index-commit.result.now c.args.chain.now.rising found small is in
     let other = disagrees c.args.chain.now.commits.items c.args.stored.now c.in-Ok.place c.index-commit.result.now small is at (λ w. true≢false (sym (c.is_as_header.ensures.1 w) ∙ c.if-is_as_header.false)) in
-    subst (IsTold ProblemName.OtherRecord (AgreesWith c.args.chain.now.commits.items c.args.stored.now → ⊥)) (sym c.between.ensures) (refl, other)
+    subst (IsTold CheckErrorName.OtherRecord (AgreesWith c.args.chain.now.commits.items c.args.stored.now → ⊥)) (sym c.between.ensures) (refl, other)

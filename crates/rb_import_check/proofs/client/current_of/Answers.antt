@@ -1,10 +1,10 @@
 use Rattle.std.proofs.Common.{◌≡◌, ◌<◌, length, false, get_or, arith, rules, refl, subst, sym}
 use Rattle.std.specs.Prelude.{Any}
 use Rattle.std.proofs.lemmas.Grind.{common_steps}
-use Rattle.rb_import_check.specs.declared.error.ProblemName.{ProblemName}
+use Rattle.rb_import_check.specs.declared.error.CheckErrorName.{CheckErrorName}
 use Rattle.rb_import_check.specs.declared.saved.Saved.{Saved}
 use Rattle.rb_import_check.specs.Clients.{is_of_client}
-use Rattle.rb_import_check.specs.Problems.{IsTold, IsToldOf}
+use Rattle.rb_import_check.specs.Errors.{IsTold, IsToldOf}
 use Rattle.rb_import_check.proofs.ReasonsLemmas.{is_foreign}
 use Rattle.rb_import_check.proofs.client.current_of.Goals as goal
 
@@ -15,6 +15,6 @@ returns-in_default c =
     let other : is_of_client c.saved-item.result.answer ≡ false = is_foreign c.saved-item.result.answer (λ state e. grind (arith, common_steps)) (λ page e. grind (arith, common_steps)) in
     record {
       states = tt;
-      foreign = subst (IsTold ProblemName.WrongFolder (Any (λ (s : Saved). is_of_client s.answer ≡ false) c.args.answers.now)) (sym c.at.ensures) (refl, (c.loop-saved.saved-index, c.saved-item.result, small, sym is, other));
+      foreign = subst (IsTold CheckErrorName.WrongFolder (Any (λ (s : Saved). is_of_client s.answer ≡ false) c.args.answers.now)) (sym c.at.ensures) (refl, (c.loop-saved.saved-index, c.saved-item.result, small, sym is, other));
       told = subst (IsToldOf c.args.id.now) (sym c.at.ensures) refl;
     }

@@ -4,7 +4,7 @@ use Rattle.toml.specs.Data.{as_array}
 use Rattle.toml.specs.View.{view, array_view}
 use Rattle.rb_script_toml.specs.declared.fault.FaultName.TheVariants.{WrongType}
 use Rattle.rb_script_toml.specs.Fields.{field_view}
-use Rattle.rb_script_toml.specs.Places.{element}
+use Rattle.rb_script_toml.specs.KeyPaths.{element}
 use Rattle.rb_script_read.specs.Sets.{validator}
 use Rattle.rb_script_toml.proofs.Steps.{fails-at}
 use Rattle.rb_script_read.proofs.SetsLemmas.{pair-other}

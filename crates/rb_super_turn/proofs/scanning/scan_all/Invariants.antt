@@ -1,5 +1,5 @@
 use Rattle.std.proofs.Common.{◌≡◌, ℕ, ◌<◌, ◌*◌, true}
-use Rattle.rb_scan.specs.declared.scan.Part.{Part}
+use Rattle.rb_base.specs.declared.gate.Part.{Part}
 use Rattle.rb_core.specs.Core.{state_in}
 use Rattle.rb_core_model.specs.Machine.{is_scanned}
 use Rattle.rb_super_turn.specs.Phases.{standing_in, IsLater}

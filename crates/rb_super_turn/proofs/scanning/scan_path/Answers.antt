@@ -3,7 +3,7 @@ use Rattle.rb_core.specs.Core.{state_in}
 use Rattle.rb_core_model.specs.Machine.{is_scanned}
 use Rattle.std.proofs.Common.{◌≡◌, true}
 use Rattle.rb_script_types.specs.Config.{Config}
-use Rattle.rb_scan.specs.declared.scan.Part.TheVariants.{Packets}
+use Rattle.rb_base.specs.declared.gate.Part.TheVariants.{Packets}
 use Rattle.rb_super_turn.proofs.Steps.{for_both}
 use Rattle.rb_super_turn.proofs.scanning.scan_path.Goals as goal
 

@@ -1,7 +1,7 @@
 use Rattle.std.proofs.Common.{◌≡◌, true, sym, ◌∙◌, subst, rules}
 use Rattle.rb_core.specs.Core.{state_in}
 use Rattle.rb_core_model.specs.Machine.{is_scanned}
-use Rattle.rb_scan.specs.declared.scan.Part.{Part}
+use Rattle.rb_base.specs.declared.gate.Part.{Part}
 use Rattle.rb_super_turn.proofs.Steps.{from_ok, keeps_offered, scanned_offered}
 use Rattle.rb_super_turn.proofs.scanning.take_found.Goals as goal
 

@@ -3,7 +3,7 @@ use Rattle.std.specs.List.{slice_get}
 use Rattle.std.specs.Option.{option_map, option_and_then}
 use Rattle.rb_base.specs.Window.{Span}
 use Rattle.rb_core_model.specs.Machine.{State, client_view, job_of, state_of}
-use Rattle.rb_core_model.specs.Standing.{KnownClient}
+use Rattle.rb_core_model.specs.Standing.{ClientState}
 use Rattle.rb_plan_client.specs.Draft.{Job}
 use Rattle.rb_super_worker.proofs.seeing.plan_seen.Goals as goal
 
@@ -11,7 +11,7 @@ use Rattle.rb_super_worker.proofs.seeing.plan_seen.Goals as goal
 of_client : (s : State) (client : ℕ) → IfSome (client_view s client) (λ (j : Job). j.client ≡ client)
 of_client s client = windowed s.standing.window
   where
-    held : (window : Span) (k : Option KnownClient) → IfSome (option_map (job_of s client window) k) (λ (j : Job). j.client ≡ client)
+    held : (window : Span) (k : Option ClientState) → IfSome (option_map (job_of s client window) k) (λ (j : Job). j.client ≡ client)
     held window None = tt
     held window (Some k) = refl
 

@@ -1,7 +1,7 @@
 use Rattle.std.proofs.Common.{◌≤◌, get_or, ap, arith, codes}
 use Rattle.rb_script_toml.specs.declared.fault.FaultName.TheVariants.{LabelOrder}
 use Rattle.rb_plan.specs.declared.labelling.Label.{Label}
-use Rattle.rb_script_toml.specs.Places.{element}
+use Rattle.rb_script_toml.specs.KeyPaths.{element}
 use Rattle.rb_script_toml.proofs.Steps.{fails-at}
 use Rattle.rb_text.proofs.Labels.{rising-refused, rising-judged, increasing}
 use Rattle.rb_text.proofs.certificate.judge_order.Goals as goal

@@ -2,8 +2,8 @@ use Rattle.std.proofs.Common.{◌≡◌, ◌∙◌, sym, subst}
 use Rattle.std.specs.Prelude.{length, IfOk}
 use Rattle.left_right.specs.Sides.{view}
 use Rattle.rb_core.specs.Follower.{Past, IsOfLog, events_in}
-use Rattle.rb_board.specs.Kept.{known_of}
-use Rattle.rb_board.specs.declared.held.Held.{Held}
+use Rattle.rb_board.specs.Rule.{known_of}
+use Rattle.rb_board.specs.declared.replica.Replica.{Replica}
 use Rattle.rb_board.proofs.Boarding.{looked, known_then, unlooked}
 use Rattle.rb_board.proofs.desk.Desk.front.Goals as goal
 
@@ -27,4 +27,4 @@ returns-clause-front g c =
     (view c.leave.result.place) c.in-Some.reading.part.value c.get.result.now (c.leave.ensures.1 ∙ c.in-Some.ensures.seen.1) c.get.ensures c.front_of-front.ensures.front
 
 pub front_of-front-requires : goal.front_of-front-requires
-front_of-front-requires g c = subst (λ (h : Held _). IsOfLog h.follower) (sym c.get.ensures) c.in-Some.ensures.seen.2
+front_of-front-requires g c = subst (λ (h : Replica _). IsOfLog h.follower) (sym c.get.ensures) c.in-Some.ensures.seen.2

@@ -3,8 +3,8 @@ use Rattle.std.specs.Prelude.{Some, IfOk, IfErr}
 use Rattle.rb_core_model.specs.Machine.{client_view, client_view_refusal}
 use Rattle.left_right.specs.Sides.{view}
 use Rattle.rb_core.specs.Follower.{Past, IsOfLog, events_in, state_after}
-use Rattle.rb_board.specs.Kept.{known_of}
-use Rattle.rb_board.specs.declared.held.Held.{Held}
+use Rattle.rb_board.specs.Rule.{known_of}
+use Rattle.rb_board.specs.declared.replica.Replica.{Replica}
 use Rattle.rb_board.specs.Unseen.{IsUnseen}
 use Rattle.rb_board.proofs.Boarding.{looked, known_then, unlooked}
 use Rattle.rb_board.proofs.desk.Desk.view_client.Goals as goal
@@ -34,4 +34,4 @@ returns-clause-refused g c =
     (view c.leave.result.place) c.in-Some.reading.part.value c.get.result.now (c.leave.ensures.1 ∙ c.in-Some.ensures.seen.1) c.get.ensures c.client_of-view.ensures.refused
 
 pub client_of-view-requires : goal.client_of-view-requires
-client_of-view-requires g c = subst (λ (h : Held _). IsOfLog h.follower) (sym c.get.ensures) c.in-Some.ensures.seen.2
+client_of-view-requires g c = subst (λ (h : Replica _). IsOfLog h.follower) (sym c.get.ensures) c.in-Some.ensures.seen.2

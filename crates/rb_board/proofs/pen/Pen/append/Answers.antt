@@ -2,7 +2,7 @@ use Rattle.std.proofs.Common.{◌≡◌, rules, sym, ◌∙◌, subst}
 use Rattle.left_right.specs.Sides.{view}
 use Rattle.rb_core.specs.Follower.{IsOfLog, events_in}
 use Rattle.rb_core_model.specs.Machine.{refusal_of, state_of}
-use Rattle.rb_board.specs.Kept.{followed_on, knowledge_of, pending}
+use Rattle.rb_board.specs.Rule.{followed_on, knowledge_of, pending}
 use Rattle.rb_core_model.proofs.Steps.{replies}
 use Rattle.rb_board.proofs.Boarding.{appends}
 use Rattle.rb_board.proofs.pen.Pen.append.Goals as goal

@@ -3,7 +3,7 @@ use Rattle.std.specs.Prelude.{List}
 use mathlib.Core.List.{IsPrefix}
 use Rattle.rb_core_model.specs.Event.{Event}
 use Rattle.rb_board.specs.Ends.{Pen}
-use Rattle.rb_board.specs.Kept.{pending}
+use Rattle.rb_board.specs.Rule.{pending}
 use Rattle.rb_core.specs.Follower.{events_in}
 use Rattle.rb_board.proofs.Boarding.{published_begins}
 use Rattle.rb_board.proofs.pen.Pen.head.Goals as goal

@@ -3,7 +3,7 @@ use Rattle.std.specs.Prelude.{List}
 use Rattle.left_right.specs.Sides.{view}
 use Rattle.rb_core_model.specs.Event.{Event}
 use Rattle.rb_core.specs.Follower.{IsOfLog}
-use Rattle.rb_board.specs.Kept.{followed_on, pending}
+use Rattle.rb_board.specs.Rule.{followed_on, pending}
 use Rattle.rb_board.proofs.Boarding.{opens, shows, opened}
 use Rattle.rb_board.proofs.pen.Pen.new.Goals as goal
 

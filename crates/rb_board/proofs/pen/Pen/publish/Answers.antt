@@ -3,7 +3,7 @@ use Rattle.std.specs.Prelude.{IfErr, OnOk}
 use Rattle.left_right.specs.Sides.{view}
 use Rattle.rb_core.specs.Follower.{Follower, IsOfLog, events_in}
 use Rattle.rb_board.specs.Ends.{Pen}
-use Rattle.rb_board.specs.Kept.{pending}
+use Rattle.rb_board.specs.Rule.{pending}
 use Rattle.rb_board.proofs.Boarding.{of_log, same_config, shows, publishes}
 use Rattle.rb_board.proofs.pen.Pen.publish.Goals as goal
 

@@ -3,9 +3,9 @@ use Rattle.rb_core_model.specs.Kept.{IsKept}
 use Rattle.rb_core.proofs.follower.Follower.copy.Goals as goal
 
 pub invariant_of-result : goal.invariant_of-result
-invariant_of-result g c = subst IsKept (sym c.in_ok-copy_known.ensures) c.self.invariant
+invariant_of-result g c = subst IsKept (sym c.in_ok-copy_state.ensures) c.self.invariant
 
 pub returns : goal.returns
 returns g c =
     let entries = c.in_ok-share_entries.ensures ∙ c.as_slice.ensures.value in
-    (λ i. record { past = record { config = c.in_ok-copy.ensures i; entries = entries i }; state = c.in_ok-copy_known.ensures i }) ∙ c.self.view_is
+    (λ i. record { past = record { config = c.in_ok-copy.ensures i; entries = entries i }; state = c.in_ok-copy_state.ensures i }) ∙ c.self.view_is

@@ -1,7 +1,7 @@
 use Rattle.std.proofs.Common.{rules, ◌≡◌, ◌++◌, ◌∷◌, [], IfErr, sym, ap, ◌∙◌, subst}
 use Rattle.rb_script_types.specs.Config.{config_view}
 use Rattle.rb_core.specs.Follower.{Follower, entry_refusal, follows}
-use Rattle.rb_core.specs.Known.{state_view}
+use Rattle.rb_core.specs.State.{state_view}
 use Rattle.rb_core_model.specs.Kept.{IsKept}
 use Rattle.rb_core_model.specs.Machine.{State}
 use Rattle.rb_core_model.specs.Refused.{IsRefusal}
@@ -9,7 +9,7 @@ use Rattle.rb_core.proofs.Unjudged.{followed_kept, only_memory}
 use Rattle.rb_core.proofs.follower.Follower.follow.Goals as goal
 
 pub invariant_of-self-2 : goal.invariant_of-self-2
-invariant_of-self-2 g c = subst IsKept (sym c.in_ok-follow_told.ensures.followed) (followed_kept (state_view c.self.inside.known) c.args.told.now c.self.invariant)
+invariant_of-self-2 g c = subst IsKept (sym c.in_ok-follow_told.ensures.followed) (followed_kept (state_view c.self.inside.state) c.args.told.now c.self.invariant)
 
 pub returns-clause-followed : goal.returns-clause-followed
 returns-clause-followed g c =
@@ -19,7 +19,7 @@ returns-clause-followed g c =
 
 pub returns-in_err-follow_told-clause-refused : goal.returns-in_err-follow_told-clause-refused
 returns-in_err-follow_told-clause-refused g c =
-    let here : IfErr c.from_residual-in_err-follow_told.result (λ e. IsRefusal e (entry_refusal (state_view c.self.inside.known) c.args.told.now.entry)) = search rules in
+    let here : IfErr c.from_residual-in_err-follow_told.result (λ e. IsRefusal e (entry_refusal (state_view c.self.inside.state) c.args.told.now.entry)) = search rules in
     subst (λ (s : State). IfErr c.from_residual-in_err-follow_told.result (λ e. IsRefusal e (entry_refusal s c.args.told.now.entry)))
     (ap (λ (f : Follower). f.state) c.self.view_is) here
 

@@ -7,6 +7,6 @@ use Rattle.rb_core.proofs.machine.Core.client_view.Goals as goal
 pub client_view-requires : goal.client_view-requires
 client_view-requires g c = λ job is.
     let config = config_view c.self.inside.config in
-    let known = c.self.invariant in
-    c.client_views_are_views.ensures config (log_from config c.self.inside.log.items) known.set_up known.events c.args.client job
-    (subst (λ (s : State). client_view s c.args.client ≡ Some job) known.state is)
+    let state = c.self.invariant in
+    c.client_views_are_views.ensures config (log_from config c.self.inside.log.items) state.set_up state.events c.args.client job
+    (subst (λ (s : State). client_view s c.args.client ≡ Some job) state.state is)

@@ -8,7 +8,7 @@ use Rattle.rb_core.proofs.machine.Core.copy.Goals as goal
 pub invariant_of-result : goal.invariant_of-result
 invariant_of-result g c =
     subst (λ (p : Config × List Logged × State). IsFold p.0 (events_of (opening p.0) p.1) p.2)
-    (λ i. (sym c.in_ok-copy.ensures i, sym (c.in_ok-share_entries.ensures ∙ c.as_slice.ensures.value) i, sym c.in_ok-copy_known.ensures i))
+    (λ i. (sym c.in_ok-copy.ensures i, sym (c.in_ok-share_entries.ensures ∙ c.as_slice.ensures.value) i, sym c.in_ok-copy_state.ensures i))
     c.self.invariant
 
 pub returns-clause-config : goal.returns-clause-config

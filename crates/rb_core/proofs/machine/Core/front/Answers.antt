@@ -3,7 +3,7 @@ use Rattle.rb_script_types.specs.Config.{config_view}
 use Rattle.rb_core.specs.Core.{Core, state_in}
 use Rattle.rb_core_model.specs.Entry.{log_from}
 use Rattle.rb_core_model.specs.Event.{IsEvent}
-use Rattle.rb_core.specs.Known.{state_view}
+use Rattle.rb_core.specs.State.{state_view}
 use Rattle.rb_core_model.specs.Log.{IsLog}
 use Rattle.rb_core_model.specs.Machine.{State}
 use Rattle.rb_core.proofs.Rooms.{long}
@@ -15,7 +15,7 @@ returns g c =
     let config = config_view inside.config in
     let log = log_from config inside.log.items in
     record {
-      count = long config log (state_view inside.known) c.self.invariant ∙ ap (λ (x : Core). length x.log) c.self.view_is;
+      count = long config log (state_view inside.state) c.self.invariant ∙ ap (λ (x : Core). length x.log) c.self.view_is;
       state = ap (λ (s : State). s.front) (c.self.invariant.state ∙ ap state_in c.self.view_is);
       events = subst (λ (x : Core). All IsEvent x.log) c.self.view_is c.self.invariant.events;
       accepted = subst (λ (x : Core). IsLog x.config x.log) c.self.view_is c.self.invariant.accepted;

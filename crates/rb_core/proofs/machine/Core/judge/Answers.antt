@@ -5,7 +5,7 @@ use Rattle.rb_core.specs.Core.{Core, state_in, refusal_in, IsFold}
 use Rattle.rb_core_model.specs.Entry.{log_from}
 use Rattle.rb_core_model.specs.Event.{Event}
 use Rattle.rb_core_model.specs.Kept.{IsKept}
-use Rattle.rb_core.specs.Known.{state_view}
+use Rattle.rb_core.specs.State.{state_view}
 use Rattle.rb_core_model.specs.Machine.{State, refusal_of}
 use Rattle.rb_core_model.specs.Refused.{IsRefusal}
 use Rattle.rb_core_model.specs.Seen.{event_view}
@@ -32,13 +32,13 @@ returns-clause-ready g c =
     let inside = c.self.inside in
     let config = config_view inside.config in
     let made = c.make_ready.ensures in
-    is_ready config inside.known c.make_ready.new.known (log_from config c.make_ready.new.log.items) (log_from config inside.log.items) _ _ (event_view c.args.event) c.make_ready.result
+    is_ready config inside.state c.make_ready.new.state (log_from config c.make_ready.new.log.items) (log_from config inside.log.items) _ _ (event_view c.args.event) c.make_ready.result
     c.self.invariant made.same (ap (log_from config) made.log) made.ready made.accepted made.room made.log_room
 
 pub returns-clause-refused : goal.returns-clause-refused
 returns-clause-refused g c =
-    let state : state_view c.self.inside.known ≡ state_in c.args.self.now = c.self.invariant.state ∙ ap state_in c.self.view_is in
-    let due : refusal_of (state_view c.self.inside.known) (event_view c.args.event) ≡ refusal_in c.args.self.now (event_view c.args.event) =
+    let state : state_view c.self.inside.state ≡ state_in c.args.self.now = c.self.invariant.state ∙ ap state_in c.self.view_is in
+    let due : refusal_of (state_view c.self.inside.state) (event_view c.args.event) ≡ refusal_in c.args.self.now (event_view c.args.event) =
     ap (λ (s : State). refusal_of s (event_view c.args.event)) state in
     subst (λ (o : Option Refusal). IfErr c.make_ready.result (λ e. IsRefusal e o)) due c.make_ready.ensures.refused
 
@@ -47,5 +47,5 @@ returns-clause-kept g c =
     let inside = c.self.inside in
     let config = config_view inside.config in
     let made = c.make_ready.ensures in
-    ready_kept c.args.self.now _ _ inside.known c.make_ready.new.known _ _ (ap (λ (x : Core). x.room) (sym c.self.view_is)) (c.self.invariant.state ∙ ap state_in c.self.view_is)
+    ready_kept c.args.self.now _ _ inside.state c.make_ready.new.state _ _ (ap (λ (x : Core). x.room) (sym c.self.view_is)) (c.self.invariant.state ∙ ap state_in c.self.view_is)
     (ap (λ (x : Core). x.config) c.self.view_is) (ap (log_from config) made.log ∙ ap (λ (x : Core). x.log) c.self.view_is) refl made.same (λ some. made.log_others (omega (arith, some))) made.others

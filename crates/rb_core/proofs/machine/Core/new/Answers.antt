@@ -9,4 +9,4 @@ pub invariant_of-result : goal.invariant_of-result
 invariant_of-result g c =
     new_fold (config_view c.args.config) _ _ c.requires
     (subst (λ (xs : List ClientConfig). All (λ (client : ClientConfig). IsFeeTable client.fees) xs) c.as_slice.ensures.value c.fee_tables.ensures)
-    c.in_ok-known.ensures c.new.ensures.items
+    c.in_ok-state.ensures c.new.ensures.items

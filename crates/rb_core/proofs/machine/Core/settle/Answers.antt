@@ -3,7 +3,7 @@ use Rattle.rb_script_types.specs.Config.{config_view}
 use Rattle.rb_core.specs.Core.{Core, Room, state_in}
 use Rattle.rb_core_model.specs.Entry.{log_from}
 use Rattle.rb_core_model.specs.Kept.{IsKept}
-use Rattle.rb_core.specs.Known.{state_view}
+use Rattle.rb_core.specs.State.{state_view}
 use Rattle.rb_core_model.specs.Machine.{State, refusal_of, reply_of}
 use Rattle.rb_core.proofs.Entries.{settled}
 use Rattle.rb_core_model.proofs.Keeping.{kept_of_events}
@@ -21,7 +21,7 @@ take_in-requires-clause-accepted g c =
 
 pub take_in-requires-clause-room : goal.take_in-requires-clause-room
 take_in-requires-clause-room g c =
-    has_room c.args.self.now _ c.self.inside.known c.args.ready.event (ap (λ (x : Core). x.room) (sym c.self.view_is))
+    has_room c.args.self.now _ c.self.inside.state c.args.ready.event (ap (λ (x : Core). x.room) (sym c.self.view_is))
     (c.self.invariant.state ∙ ap state_in c.self.view_is) c.requires.own_room
 
 pub take_in-requires-clause-log_room : goal.take_in-requires-clause-log_room
@@ -33,18 +33,18 @@ pub invariant_of-self : goal.invariant_of-self
 invariant_of-self g c =
     let inside = c.self.inside in
     let taken = c.take_in.ensures in
-    let accepted : refusal_of (state_view inside.known) c.args.ready.event ≡ None =
+    let accepted : refusal_of (state_view inside.state) c.args.ready.event ≡ None =
     ap (λ (s : State). refusal_of s c.args.ready.event) (c.self.invariant.state ∙ ap state_in c.self.view_is) ∙ c.requires.accepted in
-    (settled (config_view inside.config) (state_view inside.known) (state_view c.take_in.new.known) inside.log.items c.take_in.new.log.items c.args.ready.event
+    (settled (config_view inside.config) (state_view inside.state) (state_view c.take_in.new.state) inside.log.items c.take_in.new.log.items c.args.ready.event
     c.self.invariant accepted taken.rules taken.state taken.log).1
 
 pub returns-clause-log : goal.returns-clause-log
 returns-clause-log g c =
     let inside = c.self.inside in
     let taken = c.take_in.ensures in
-    let accepted : refusal_of (state_view inside.known) c.args.ready.event ≡ None =
+    let accepted : refusal_of (state_view inside.state) c.args.ready.event ≡ None =
     ap (λ (s : State). refusal_of s c.args.ready.event) (c.self.invariant.state ∙ ap state_in c.self.view_is) ∙ c.requires.accepted in
-    (settled (config_view inside.config) (state_view inside.known) (state_view c.take_in.new.known) inside.log.items c.take_in.new.log.items c.args.ready.event
+    (settled (config_view inside.config) (state_view inside.state) (state_view c.take_in.new.state) inside.log.items c.take_in.new.log.items c.args.ready.event
     c.self.invariant accepted taken.rules taken.state taken.log).0
     ∙ ap (λ (x : Core). x.log ++ c.args.ready.event ∷ []) c.self.view_is
 

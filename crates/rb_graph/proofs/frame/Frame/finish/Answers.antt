@@ -2,7 +2,7 @@ use Rattle.std.proofs.Common.{ℕ, List, length, subst, sym, ap, ◌∙◌}
 use Rattle.std.proofs.lemmas.List.Sorted.{All-permutation}
 use Rattle.rb_book.specs.Book.{Book}
 use Rattle.rb_graph.specs.Frame.{FrameRow, IsRowOf, IsWhole, kept_rows}
-use Rattle.rb_graph.specs.Cause.{Explains}
+use Rattle.rb_graph.specs.TableError.{Explains}
 use Rattle.rb_graph.specs.Ordered.{AreOrdered, AreBelow, AreInPlace}
 use Rattle.rb_graph.proofs.Finishing.{rows_below, explains_before, whole_before, all_kept}
 use Rattle.rb_graph.proofs.frame.Frame.finish.Goals as goal

@@ -7,14 +7,14 @@ use Rattle.rb_valset.specs.ValidatorSet.{set_hash}
 use Rattle.rb_book.specs.Header.{Header}
 use Rattle.rb_book.specs.Book.{Book, set_of, is_before}
 use Rattle.rb_book.specs.Intake.{with_set, after_set}
-use Rattle.rb_graph_rows.specs.Kept.{Kept, next_places, first_naming, kept_power, kept_of}
+use Rattle.rb_graph_rows.specs.StoredRow.{StoredRow, next_places, first_naming, stored_power, stored_row_of}
 use Rattle.rb_graph_rows.specs.Numbering.{AreLanesOf}
 use Rattle.rb_graph_rows.proofs.Inserted.{written_over}
 use Rattle.rb_graph_rows.proofs.Entered.{none_from, set_comes, lowest_with_set}
 use Rattle.rb_graph.proofs.graph.Graph.add_set.Goals as goal
 
-length_of : {xs ys : List Kept} → xs ≡ ys → length xs ≡ length ys
-length_of e = ap (λ (l : List Kept). length l) e
+length_of : {xs ys : List StoredRow} → xs ≡ ys → length xs ≡ length ys
+length_of e = ap (λ (l : List StoredRow). length l) e
 
 pub invariant_of-self-2 : goal.invariant_of-self-2
 invariant_of-self-2 g c =
@@ -29,10 +29,10 @@ invariant_of-self-2 g c =
     let whole = written_over rows c.self.inside.rows.items c.self.inside.rows.len (omega (
       arith,
       length_of c.in_ok-enter_powers.ensures.entered,
-      length-map m.headers (kept_of (with_set m set)),
+      length-map m.headers (stored_row_of (with_set m set)),
       c.self.inside.rows.ok.0,
       length_of c.self.invariant.1,
-      length-map b.headers (kept_of b),
+      length-map b.headers (stored_row_of b),
       ap (λ (x : Book). length x.headers) same,
     )) in
     let place = c.lower_sets-place.result in
@@ -42,10 +42,10 @@ invariant_of-self-2 g c =
     let inserted : c.insert.new.self.items ≡ insert c.self.inside.lowest.items place lowest =
     rw c.unwrap.ensures at c.insert.ensures.items ∙ ap (λ (l : List (Option ℕ)). insert l place lowest) c.reserve.ensures.items in
     subst
-    (λ (x : Book). (c.move_places.new.places.items ≡ next_places x) × (take c.self.inside.rows.len (rows ++ drop (length rows) c.self.inside.rows.items) ≡ map (kept_of x) x.headers) × (c.insert.new.self.items ≡ map (first_naming x) x.sets) × IfSome c.enter_set.new.lanes (λ l. AreLanesOf x.sets l.columns l.tallies.items))
+    (λ (x : Book). (c.move_places.new.places.items ≡ next_places x) × (take c.self.inside.rows.len (rows ++ drop (length rows) c.self.inside.rows.items) ≡ map (stored_row_of x) x.headers) × (c.insert.new.self.items ≡ map (first_naming x) x.sets) × IfSome c.enter_set.new.lanes (λ l. AreLanesOf x.sets l.columns l.tallies.items))
     (sym c.put_set.ensures) (
       c.move_places.ensures ∙ ap next_places comes,
-      whole ∙ c.in_ok-enter_powers.ensures.entered ∙ ap (λ (x : Book). map (kept_of x) x.headers) comes,
+      whole ∙ c.in_ok-enter_powers.ensures.entered ∙ ap (λ (x : Book). map (stored_row_of x) x.headers) comes,
       inserted ∙ lowest_with_set m set c.self.inside.lowest.items lowest place before c.first_naming-lowest.ensures there ∙ ap (λ (x : Book). map (first_naming x) x.sets) comes,
       subst (λ (x : Book). IfSome c.enter_set.new.lanes (λ l. AreLanesOf x.sets l.columns l.tallies.items)) comes c.enter_set.ensures,
     )
@@ -53,7 +53,7 @@ invariant_of-self-2 g c =
 pub invariant_of-self-in_err-make_room : goal.invariant_of-self-in_err-make_room
 invariant_of-self-in_err-make_room g c =
     subst
-    (λ (x : Book). (c.self.inside.next_places.items ≡ next_places x) × (c.self.inside.rows.items ≡ map (kept_of x) x.headers) × (c.reserve.new.self.items ≡ map (first_naming x) x.sets) × IfSome c.self.inside.lanes (λ l. AreLanesOf x.sets l.columns l.tallies.items))
+    (λ (x : Book). (c.self.inside.next_places.items ≡ next_places x) × (c.self.inside.rows.items ≡ map (stored_row_of x) x.headers) × (c.reserve.new.self.items ≡ map (first_naming x) x.sets) × IfSome c.self.inside.lanes (λ l. AreLanesOf x.sets l.columns l.tallies.items))
     (sym c.make_room.ensures) (
       c.self.invariant.0,
       c.self.invariant.1,
@@ -71,7 +71,7 @@ enter_powers-requires-clause-unknown g c =
 pub enter_powers-requires-clause-powers : goal.enter_powers-requires-clause-powers
 enter_powers-requires-clause-powers g c =
     let set : List Member = c.args.set in
-    c.as_slice.ensures.value ∙ c.in_ok-powers.ensures ∙ ap (λ (x : Book). map (λ (h : Header). kept_power x h set) x.headers) (sym c.make_room.ensures)
+    c.as_slice.ensures.value ∙ c.in_ok-powers.ensures ∙ ap (λ (x : Book). map (λ (h : Header). stored_power x h set) x.headers) (sym c.make_room.ensures)
 
 pub invariant_of-self-in_err-enter_powers : goal.invariant_of-self-in_err-enter_powers
 invariant_of-self-in_err-enter_powers g c =
@@ -79,7 +79,7 @@ invariant_of-self-in_err-enter_powers g c =
     let back : rows ≡ c.self.inside.rows.items = search rules in
     let whole = written_over rows c.self.inside.rows.items c.self.inside.rows.len (omega (arith, length_of back, c.self.inside.rows.ok.0)) in
     subst
-    (λ (x : Book). (c.self.inside.next_places.items ≡ next_places x) × (take c.self.inside.rows.len (rows ++ drop (length rows) c.self.inside.rows.items) ≡ map (kept_of x) x.headers) × (c.reserve.new.self.items ≡ map (first_naming x) x.sets) × IfSome c.self.inside.lanes (λ l. AreLanesOf x.sets l.columns l.tallies.items))
+    (λ (x : Book). (c.self.inside.next_places.items ≡ next_places x) × (take c.self.inside.rows.len (rows ++ drop (length rows) c.self.inside.rows.items) ≡ map (stored_row_of x) x.headers) × (c.reserve.new.self.items ≡ map (first_naming x) x.sets) × IfSome c.self.inside.lanes (λ l. AreLanesOf x.sets l.columns l.tallies.items))
     (sym c.make_room.ensures) (
       c.self.invariant.0,
       whole ∙ back ∙ c.self.invariant.1,

@@ -1,6 +1,6 @@
 use Rattle.std.proofs.Common.{sym, ◌∙◌, ap}
 use Rattle.rb_step.specs.View.{View}
-use Rattle.rb_step.proofs.Known.{accepts_known}
+use Rattle.rb_step.proofs.RecordAt.{accepts_known}
 use Rattle.rb_step.proofs.view.ClientView.accepts.Goals as goal
 
 pub returns-in-Some : goal.returns-in-Some

@@ -1,0 +1,135 @@
+//! Why the program gave no result: the line that says so, and what to do about it.
+ghost use Rattle.std.specs.Prelude.{◌≡◌, true, None};
+ghost use Rattle.rb_script_toml.specs.Faults.{status_of};
+ghost use Rattle.ibcplan.specs.Failures.{failure_status, IsFailureStatus, told_fault, is_unwritten, error_fault, is_device};
+
+use crate::input::Input;
+use crate::input_error::{InputError, input_error_of};
+use crate::shown::{Shown, shown_text};
+use crate::status;
+use rb_script_toml::{Fault, RunError};
+use std::alloc::Global;
+use std::{fmt, io};
+use thiserror::Error;
+
+/// How many turns the script of a file has, told as which is the last.
+#[derive(Clone, Copy, Debug)]
+pub struct Turns<'a> {
+    pub file: Shown<'a>,
+    pub count: usize,
+}
+
+impl fmt::Display for Turns<'_> {
+    fn fmt<W: fmt::Write>(&self, f: &mut fmt::Formatter<W>) -> fmt::Result {
+        let Turns { file, count } = *self;
+        if count == 0 {
+            write!(f, "{file} has no turns")
+        } else {
+            write!(f, "the last turn of {file} is {count}")
+        }
+    }
+}
+
+/// Why there is no result, or not the whole one.
+#[derive(Debug, Drop, Error)]
+pub enum ProgramError<'a> {
+    /// A file can't be read.
+    #[error("device\n{file}: {error}\n{advice}")]
+    Unreadable {
+        file: Shown<'a>,
+        error: io::Error,
+        advice: &'static str,
+    },
+    /// A file or a folder of answers can't be read.
+    #[error("device\n{file}: {error}\nThe folder of answers has a folder for each client, each path and each chain that is tracked, and each of these holds the answers in files *.json.")]
+    UnreadableAnswers {
+        file: String,
+        error: io::Error,
+    },
+    /// Answers are refused.
+    #[error("{0}")]
+    RefusedAnswers(String),
+    /// The content of a file is refused.
+    #[error("{fault}\n{flaw}")]
+    Refused {
+        fault: Fault,
+        flaw: InputError<'a>,
+    },
+    /// The script doesn't have the turn that was asked for.
+    #[error("error: invalid value '{turn}' for '--turn <N>': {turns}\n\nFor more information, try '--help'.")]
+    NoSuchTurn {
+        turn: u64,
+        turns: Turns<'a>,
+    },
+    /// Standard output fails.
+    #[error("device\nstandard output: {error}\nIt can't be written; what it took may be only a beginning.")]
+    Unwritten {
+        error: io::Error,
+    },
+    /// Memory is wanting.
+    #[error("no memory\nThe system gives no more (as `ulimit -v` bounds it); what standard output took may be only a beginning.")]
+    NoMemory,
+}
+
+impl<'a> ProgramError<'a> {
+    /// Why a run over an input gave no result.
+    pub fn of_run(error: RunError, input: &Input<'a>) -> ProgramError<'a>
+        ensures status { failure_status result ≡ status_of error }
+        ensures fault { told_fault result ≡ error_fault error }
+        ensures device { is_unwritten result ≡ is_device error }
+    {
+        match error {
+            RunError::Fault(mut fault) => {
+                let flaw = input_error_of(&mut fault, input);
+                ProgramError::Refused { fault, flaw }
+            }
+            RunError::Device => ProgramError::untaken(),
+            RunError::NoMemory => ProgramError::NoMemory,
+        }
+    }
+
+    /// Standard output takes nothing, and gives no reason.
+    pub fn untaken() -> ProgramError<'a>
+        ensures status { failure_status result ≡ 4 }
+        ensures fault { told_fault result ≡ None }
+        ensures device { is_unwritten result ≡ true }
+    {
+        let error = io::Error::from(io::ErrorKind::WriteZero);
+        ProgramError::Unwritten { error }
+    }
+
+    /// The failure, with the reason that standard output gave where it fails.
+    pub fn because_of(self, reason: Option<io::Error>) -> ProgramError<'a>
+        ensures { failure_status result ≡ failure_status self.entry }
+    {
+        match (self, reason) {
+            (ProgramError::Unwritten { .. }, Some(error)) => ProgramError::Unwritten { error },
+            (failure, _) => failure,
+        }
+    }
+
+    /// Why a file or a folder of answers isn't read.
+    pub fn of_file(alloc: Global, file: &str, error: io::Error) -> ProgramError<'a> {
+        match shown_text(alloc, file) {
+            Ok(file) if error.kind() != io::ErrorKind::OutOfMemory => {
+                ProgramError::UnreadableAnswers { file, error }
+            }
+            _ => ProgramError::NoMemory,
+        }
+    }
+
+    /// The status that the program ends with.
+    pub fn status(&self) -> u8
+        ensures status { result ≡ failure_status self.now }
+        ensures known { IsFailureStatus result }
+    {
+        match self {
+            ProgramError::Refused { .. } | ProgramError::RefusedAnswers(_) => status::REFUSED,
+            ProgramError::NoSuchTurn { .. } => status::COMMAND_LINE,
+            ProgramError::Unreadable { .. }
+            | ProgramError::UnreadableAnswers { .. }
+            | ProgramError::Unwritten { .. }
+            | ProgramError::NoMemory => status::FAILED,
+        }
+    }
+}

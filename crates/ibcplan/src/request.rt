@@ -1,0 +1,334 @@
+//! The command line: what the program is asked to do.
+use crate::input::STANDARD_INPUT;
+use crate::worker_count::WorkerCount;
+use clap::error::ErrorKind;
+use clap::{Arg, ArgAction, ArgMatches, Command, Error, value_parser};
+use rb_script_types::MAX_TURNS;
+use std::alloc::{AllocError, Global};
+
+/// What the program is asked to do, with the paths of its files.
+#[derive(Clone, Copy, Debug)]
+pub enum Request<'a> {
+    /// Write a script's report, by so many workers.
+    Plan {
+        script: &'a str,
+        workers: WorkerCount,
+        is_strict: bool,
+    },
+    /// Write a script's report as JSON, by so many workers.
+    PlanJson {
+        script: &'a str,
+        workers: WorkerCount,
+        is_strict: bool,
+    },
+    /// Write the commands for a script's plans.
+    Commands {
+        script: &'a str,
+        turns: WantedTurns,
+    },
+    /// Write the script that a setup and the answers in a folder make.
+    Import {
+        setup: &'a str,
+        folder: &'a str,
+    },
+    /// Judge a certificate.
+    Certify {
+        script: &'a str,
+        certificate: &'a str,
+    },
+}
+
+/// The turns of a script that are wanted.
+#[derive(Clone, Copy, Debug)]
+pub enum WantedTurns {
+    /// All of them.
+    Every,
+    /// The last one.
+    Last,
+    /// The one with a number, from 1.
+    Numbered(u64),
+}
+
+const PLAN: &str = "plan";
+
+const RUN: &str = "run";
+
+const COMMANDS: &str = "commands";
+
+const JSON: &str = "json";
+
+const WORKERS: &str = "workers";
+
+const STRICT: &str = "strict";
+
+const TURN: &str = "turn";
+
+const LAST: &str = "last";
+
+const IMPORT: &str = "import";
+
+const CERTIFY: &str = "certify";
+
+const SCRIPT: &str = "SCRIPT";
+
+const SETUP: &str = "SETUP";
+
+const FOLDER: &str = "FOLDER";
+
+const CERT: &str = "CERT";
+
+const AFTER_HELP: &str = "Examples (in the folder of the repository):
+  ./ibcplan plan examples/smallest.toml
+  ./ibcplan run --workers 4 examples/hundred_headers.toml
+  ./ibcplan certify examples/smallest.toml examples/smallest.certificate
+
+Results go to standard output; what went wrong goes to standard error.
+
+./ibcplan --unproved COMMAND .. does the same by a program of which nothing was
+proved, which it builds each time, in some minutes.
+
+Exit status:
+  0  done; of certify: the plan is the cheapest
+  1  the content of a file is refused
+  2  the command line is wrong
+  3  of certify: it isn't the plan (the cheapest, and the first among equals), or
+     its labels don't show it; standard output says why
+  4  no memory, or a file or an output that fails
+  5  of ./ibcplan: the program isn't built, and can't be
+  6  of plan and run with --strict: the report is written, and a window, an event
+     or a settlement in it is refused; unless it is JSON, its lines that begin
+     with 'refused' say which";
+
+const AFTER_PLAN: &str = "Examples (in the folder of the repository):
+  ./ibcplan plan examples/smallest.toml
+  ./ibcplan plan - < examples/smallest.toml > report.txt
+  ./ibcplan plan --json examples/two_clients.toml | jq .
+  ./ibcplan plan --strict examples/lost_client.toml || echo \"exit status $?\"";
+
+const AFTER_RUN: &str = "Examples (in the folder of the repository):
+  ./ibcplan run examples/packets.toml
+  ./ibcplan run --workers 4 examples/hundred_headers.toml
+  ./ibcplan run --strict --workers 4 examples/hundred_headers.toml
+  ./ibcplan run --json --workers 4 examples/hundred_headers.toml | jq .
+
+It writes what plan writes, whatever the number of threads. Measure before you
+use it: where a plan takes less than a second or two, plan is faster.";
+
+const AFTER_COMMANDS: &str = "Examples (in the folder of the repository):
+  ./ibcplan commands examples/smallest.toml
+  ./ibcplan commands --last examples/hundred_headers.toml > updates.sh
+  ./ibcplan commands --turn 1 examples/two_clients.toml
+
+Without --last or --turn it writes those of every turn, of which only the last
+turn's are to be run. Each turn's begin with a comment that says until when they
+are valid.";
+
+const AFTER_IMPORT: &str = "Examples (in the folder of the repository):
+  ./ibcplan import examples/import/setup.toml examples/import/answers > script.toml
+  ./ibcplan import setup.toml answers | ./ibcplan plan -
+
+FOLDER has a folder for each client, each path and each chain that is tracked, by
+its identifier, with saved answers in files *.json. Signatures aren't verified.";
+
+const AFTER_CERTIFY: &str = "Examples (in the folder of the repository):
+  ./ibcplan certify examples/smallest.toml examples/smallest.certificate
+  ./ibcplan certify examples/smallest.toml - < examples/smallest.certificate
+
+It writes yes (exit status 0), or no and the reason (exit status 3).";
+
+fn file<'a>(alloc: Global, name: &'a str, help: &'a str) -> Arg<'a> {
+    Arg::new(alloc, name)
+        .required(true)
+        .action(ArgAction::Set)
+        .help(help)
+}
+
+fn script_file<'a>(alloc: Global) -> Arg<'a> {
+    file(alloc, SCRIPT, "The script's file; - for standard input")
+}
+
+fn strict<'a>(alloc: Global) -> Arg<'a> {
+    Arg::new(alloc, STRICT)
+        .long("strict")
+        .action(ArgAction::SetTrue)
+        .help("Ends with status 6 where an event, a window or a settlement is refused")
+}
+
+fn json<'a>(alloc: Global) -> Arg<'a> {
+    Arg::new(alloc, JSON)
+        .long("json")
+        .action(ArgAction::SetTrue)
+        .help("Writes the report as JSON")
+}
+
+fn plan_command<'a>(alloc: Global) -> Result<Command<'a>, AllocError> {
+    Command::new(alloc, PLAN)
+        .about(
+            "Writes the report of a script: for each turn and client the cheapest list of updates",
+        )
+        .after_help(AFTER_PLAN)
+        .arg(script_file(alloc))?
+        .arg(json(alloc))?
+        .arg(strict(alloc))
+}
+
+fn run_command<'a>(alloc: Global) -> Result<Command<'a>, AllocError> {
+    let workers = Arg::new(alloc, WORKERS)
+        .long("workers")
+        .value_name("K")
+        .value_parser(value_parser!(usize).range(1..=64))
+        .default_value("1")
+        .help(
+            "How many threads make step tables, scan the paths and plan for the clients, 1 to 64",
+        );
+    Command::new(alloc, RUN)
+        .about("Writes the report of a script as plan does, by several threads")
+        .after_help(AFTER_RUN)
+        .arg(script_file(alloc))?
+        .arg(workers)?
+        .arg(json(alloc))?
+        .arg(strict(alloc))
+}
+
+fn commands_command<'a>(alloc: Global) -> Result<Command<'a>, AllocError> {
+    let turn = Arg::new(alloc, TURN)
+        .long("turn")
+        .value_name("N")
+        .value_parser(value_parser!(u64).range(1..=MAX_TURNS as i64))
+        .help("Writes those of this turn alone, from 1");
+    let last = Arg::new(alloc, LAST)
+        .long("last")
+        .action(ArgAction::SetTrue)
+        .conflicts_with(TURN)?
+        .help("Writes those of the last turn alone");
+    Command::new(alloc, COMMANDS)
+        .about("Writes the commands (of Hermes) that submit the updates of a script's plans")
+        .after_help(AFTER_COMMANDS)
+        .arg(script_file(alloc))?
+        .arg(turn)?
+        .arg(last)
+}
+
+fn certify_command<'a>(alloc: Global) -> Result<Command<'a>, AllocError> {
+    let certificate = file(
+        alloc,
+        CERT,
+        "The certificate's file: a plan that anybody made; - for standard input",
+    );
+    Command::new(alloc, CERTIFY)
+        .about("Judges whether a plan is the cheapest for a script, or whether there is none")
+        .after_help(AFTER_CERTIFY)
+        .arg(script_file(alloc))?
+        .arg(certificate)
+}
+
+fn import_command<'a>(alloc: Global) -> Result<Command<'a>, AllocError> {
+    let setup = file(
+        alloc,
+        SETUP,
+        "A script without events; - for standard input",
+    );
+    let folder = file(alloc, FOLDER, "The folder of the answers of nodes");
+    Command::new(alloc, IMPORT)
+        .about("Writes the script that the saved answers of nodes make")
+        .after_help(AFTER_IMPORT)
+        .arg(setup)?
+        .arg(folder)
+}
+
+fn command_line<'a>(alloc: Global) -> Result<Command<'a>, AllocError> {
+    Command::new(alloc, "ibcplan")
+        .version("0.1.0")
+        .about("Plans the cheapest light-client updates of an IBC relayer")
+        .after_help(AFTER_HELP)
+        .subcommand_required(true)
+        .arg_required_else_help(true)
+        .subcommand(plan_command(alloc)?)?
+        .subcommand(run_command(alloc)?)?
+        .subcommand(commands_command(alloc)?)?
+        .subcommand(import_command(alloc)?)?
+        .subcommand(certify_command(alloc)?)
+}
+
+/// What is wrong where both files are standard input, which can be read once only.
+fn twice_standard_input(alloc: Global) -> Result<Error, AllocError> {
+    certify_command(alloc)?.bin_name("ibcplan certify")?.error(
+        ErrorKind::ArgumentConflict,
+        "only one of <SCRIPT> and <CERT> can be standard input",
+    )
+}
+
+/// The task of `plan` or `run`, or none where a word is missing.
+fn plan_of<'a>(name: &str, script: &'a str, given: &ArgMatches<'a>) -> Option<Request<'a>> {
+    let is_strict = given.get_flag(STRICT);
+    let workers = if name == RUN {
+        WorkerCount::new(given.get_one(WORKERS)?)?
+    } else {
+        WorkerCount::none()
+    };
+    if given.get_flag(JSON) {
+        return Some(Request::PlanJson {
+            script,
+            workers,
+            is_strict,
+        });
+    }
+    Some(Request::Plan {
+        script,
+        workers,
+        is_strict,
+    })
+}
+
+/// The turns whose commands are wanted.
+fn turns_of(given: &ArgMatches<'_>) -> WantedTurns {
+    if given.get_flag(LAST) {
+        return WantedTurns::Last;
+    }
+    match given.get_one(TURN) {
+        Some(turn) => WantedTurns::Numbered(turn),
+        None => WantedTurns::Every,
+    }
+}
+
+/// The task of words that were parsed, or none where one is missing.
+fn task_of<'a>(matches: &ArgMatches<'a>) -> Option<Request<'a>> {
+    let (name, given) = matches.subcommand()?;
+    if name == IMPORT {
+        let setup = given.get_str(SETUP)?;
+        let folder = given.get_str(FOLDER)?;
+        return Some(Request::Import { setup, folder });
+    }
+    let script = given.get_str(SCRIPT)?;
+    if name == CERTIFY {
+        let certificate = given.get_str(CERT)?;
+        Some(Request::Certify {
+            script,
+            certificate,
+        })
+    } else if name == COMMANDS {
+        let turns = turns_of(given);
+        Some(Request::Commands { script, turns })
+    } else {
+        plan_of(name, script, given)
+    }
+}
+
+/// Reads the command line. An error is the text to show: what is wrong, or the help that was asked
+/// for.
+pub fn read_task<'a>(alloc: Global, words: &'a [String]) -> Result<Request<'a>, Error> {
+    let mut command = command_line(alloc)?.bin_name("ibcplan")?;
+    let matches = command.try_get_matches_from_mut(words)?;
+    match task_of(&matches) {
+        Some(
+            Request::Certify {
+                script,
+                certificate,
+            },
+        ) if script == STANDARD_INPUT && certificate == STANDARD_INPUT => {
+            Err(twice_standard_input(alloc)?)
+        }
+        Some(task) => Ok(task),
+        None => Err(command.error(ErrorKind::MissingSubcommand, "a command is missing")?),
+    }
+}

@@ -1,4 +1,0 @@
-use Rattle.rb_core_state.proofs.client.KnownClient.store.Goals as goal
-
-pub invariant_of-self : goal.invariant_of-self
-invariant_of-self g c = c.put_height.ensures.rising

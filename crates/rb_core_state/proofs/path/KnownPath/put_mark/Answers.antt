@@ -1,8 +1,0 @@
-use Rattle.rb_core_model.specs.Standing.{KnownPath}
-use Rattle.rb_core_state.proofs.Counted.{held_marked}
-use Rattle.rb_core_state.proofs.path.KnownPath.put_mark.Goals as goal
-
-pub invariant_of-self : goal.invariant_of-self
-invariant_of-self g c =
-    let old : KnownPath = record { config = c.self.inside.config; packets = c.self.inside.packets.items; closed = c.self.inside.closed } in
-    rw c.put_mark.ensures.items (held_marked c.args.mark c.get.result c.self.inside.run old c.self.invariant)

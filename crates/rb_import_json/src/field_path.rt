@@ -1,0 +1,196 @@
+//! Where a value stands in an answer.
+ghost use Rattle.std.specs.Prelude.{◌≡◌};
+
+use std::fmt;
+
+/// An object or an array of an answer.
+#[derive(Clone, Copy, Debug)]
+pub enum Segment {
+    Result,
+    SignedHeader,
+    Header,
+    Commit,
+    Signatures,
+    Validators,
+    ClientState,
+    LatestHeight,
+    FrozenHeight,
+    TrustLevel,
+    ConsensusStates,
+    Pagination,
+    Transactions,
+    Answer,
+}
+
+impl Segment {
+    ghost use Rattle.rb_import_json.specs.Names.{part_path};
+
+    /// The keys that lead to it, joined by points; none for the answer itself.
+    pub fn path(self) -> &'static str
+        ensures { result.now ≡ part_path self }
+    {
+        match self {
+            Segment::Result => "result",
+            Segment::SignedHeader => "result.signed_header",
+            Segment::Header => "result.signed_header.header",
+            Segment::Commit => "result.signed_header.commit",
+            Segment::Signatures => "result.signed_header.commit.signatures",
+            Segment::Validators => "result.validators",
+            Segment::ClientState => "client_state",
+            Segment::LatestHeight => "client_state.latest_height",
+            Segment::FrozenHeight => "client_state.frozen_height",
+            Segment::TrustLevel => "client_state.trust_level",
+            Segment::ConsensusStates => "consensus_states",
+            Segment::Pagination => "pagination",
+            Segment::Transactions => "result.txs",
+            Segment::Answer => "",
+        }
+    }
+}
+
+/// A field of an object, an attribute of an event, or the whole answer.
+#[derive(Clone, Copy, Debug)]
+pub enum Key {
+    AppHash,
+    Attributes,
+    BlockHeight,
+    BlockIdFlag,
+    ChainId,
+    ClientState,
+    Code,
+    Commit,
+    ConsensusState,
+    ConsensusStates,
+    Denominator,
+    Events,
+    FrozenHeight,
+    Hash,
+    Header,
+    Height,
+    LatestHeight,
+    MaxClockDrift,
+    NextKey,
+    NextValidatorsHash,
+    Numerator,
+    PacketDstChannel,
+    PacketDstPort,
+    PacketSequence,
+    PacketSourceClient,
+    PacketSrcChannel,
+    PacketSrcPort,
+    PacketTimeoutHeight,
+    PacketTimeoutTimestamp,
+    Pagination,
+    PubKey,
+    RevisionHeight,
+    RevisionNumber,
+    Root,
+    Signatures,
+    SignedHeader,
+    Time,
+    Timestamp,
+    Total,
+    TotalCount,
+    TrustLevel,
+    TrustingPeriod,
+    TxResult,
+    Txs,
+    Type,
+    TypeUrl,
+    ValidatorAddress,
+    Validators,
+    ValidatorsHash,
+    Value,
+    VotingPower,
+    Whole,
+}
+
+impl Key {
+    ghost use Rattle.rb_import_json.specs.Names.{key_name};
+
+    /// The name.
+    pub fn name(self) -> &'static str
+        ensures { result.now ≡ key_name self }
+    {
+        match self {
+            Key::AppHash => "app_hash",
+            Key::Attributes => "attributes",
+            Key::BlockHeight => "block_height",
+            Key::BlockIdFlag => "block_id_flag",
+            Key::ChainId => "chain_id",
+            Key::ClientState => "client_state",
+            Key::Code => "code",
+            Key::Commit => "commit",
+            Key::ConsensusState => "consensus_state",
+            Key::ConsensusStates => "consensus_states",
+            Key::Denominator => "denominator",
+            Key::Events => "events",
+            Key::FrozenHeight => "frozen_height",
+            Key::Hash => "hash",
+            Key::Header => "header",
+            Key::Height => "height",
+            Key::LatestHeight => "latest_height",
+            Key::MaxClockDrift => "max_clock_drift",
+            Key::NextKey => "next_key",
+            Key::NextValidatorsHash => "next_validators_hash",
+            Key::Numerator => "numerator",
+            Key::PacketDstChannel => "packet_dst_channel",
+            Key::PacketDstPort => "packet_dst_port",
+            Key::PacketSequence => "packet_sequence",
+            Key::PacketSourceClient => "packet_source_client",
+            Key::PacketSrcChannel => "packet_src_channel",
+            Key::PacketSrcPort => "packet_src_port",
+            Key::PacketTimeoutHeight => "packet_timeout_height",
+            Key::PacketTimeoutTimestamp => "packet_timeout_timestamp",
+            Key::Pagination => "pagination",
+            Key::PubKey => "pub_key",
+            Key::RevisionHeight => "revision_height",
+            Key::RevisionNumber => "revision_number",
+            Key::Root => "root",
+            Key::Signatures => "signatures",
+            Key::SignedHeader => "signed_header",
+            Key::Time => "time",
+            Key::Timestamp => "timestamp",
+            Key::Total => "total",
+            Key::TotalCount => "total_count",
+            Key::TrustLevel => "trust_level",
+            Key::TrustingPeriod => "trusting_period",
+            Key::TxResult => "tx_result",
+            Key::Txs => "txs",
+            Key::Type => "type",
+            Key::TypeUrl => "@type",
+            Key::ValidatorAddress => "validator_address",
+            Key::Validators => "validators",
+            Key::ValidatorsHash => "validators_hash",
+            Key::Value => "value",
+            Key::VotingPower => "voting_power",
+            Key::Whole => "-",
+        }
+    }
+}
+
+/// Where a value stands in an answer: a part of it, the index from 0 where that is an array of
+/// objects, and the field there.
+#[derive(Clone, Copy, Debug)]
+pub struct FieldPath {
+    pub part: Segment,
+    pub index: Option<usize>,
+    pub key: Key,
+}
+
+impl fmt::Display for FieldPath {
+    ghost use Rattle.std.specs.Prelude.{Some};
+    ghost use Rattle.rb_import_json.specs.Names.{place_text};
+
+    ghost output = { λ place. Some (place_text place) };
+
+    fn fmt<W: fmt::Write>(&self, f: &mut fmt::Formatter<W>) -> fmt::Result {
+        let path = self.part.path();
+        let key = self.key.name();
+        match self.index {
+            Some(index) => write!(f, "{path}[{index}].{key}"),
+            None if path.is_empty() => write!(f, "{key}"),
+            None => write!(f, "{path}.{key}"),
+        }
+    }
+}

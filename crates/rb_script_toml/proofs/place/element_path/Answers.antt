@@ -1,5 +1,0 @@
-use Rattle.std.proofs.Common.{rules, append_assoc}
-use Rattle.rb_script_toml.proofs.place.element_path.Goals as goal
-
-pub returns : goal.returns
-returns c = search (rules, append_assoc)

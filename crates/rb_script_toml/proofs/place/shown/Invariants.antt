@@ -1,7 +1,0 @@
-use Rattle.std.proofs.Common.{◌≡◌, string_bytes, flat_map}
-use Rattle.rb_script_toml.specs.Places.{shown}
-use Rattle.rb_script_toml.proofs.place.shown.Given as goal
-
--- what is written is what the characters so far show
-abbrev pub invariant-loop-character : goal.invariant-loop-character
-invariant-loop-character l = string_bytes l.text ≡ flat_map shown l.yielded

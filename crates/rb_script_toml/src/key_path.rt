@@ -1,0 +1,110 @@
+//! Where a value stands in a text.
+ghost use Rattle.std.specs.Prelude.{◌≡◌, ◌++◌, IfOk, OnOk, flat_map, string_bytes};
+ghost use Rattle.std.specs.Str.{chars};
+ghost use Rattle.rb_script_toml.specs.Faults.{IsFault};
+ghost use Rattle.rb_script_toml.specs.KeyPaths.{child, element, below, place_path, shown, shown_key};
+
+use crate::fault::{Fault, FaultName, RunError};
+use std::alloc::{AllocError, Global};
+
+/// The most bytes of a key that a path shows.
+const MAX_SHOWN: usize = 64;
+
+/// A key of a table, by the table's path, which is empty for the whole text.
+#[derive(Clone, Copy)]
+pub struct KeyPath<'a> {
+    pub table: &'a str,
+    pub key: &'a str,
+}
+
+impl KeyPath<'_> {
+    /// The fault of this name at this key.
+    pub fn fault(&self, alloc: Global, name: FaultName) -> RunError
+        ensures { IsFault result name (place_path self.now) }
+    {
+        self.fault_at(alloc, &[], name)
+    }
+
+    /// The fault of this name at an element below this key, by its indices.
+    pub fn fault_at(&self, alloc: Global, indices: &[usize], name: FaultName) -> RunError
+        ensures { IsFault result name (below (place_path self.now) indices.now) }
+    {
+        match self.path(alloc, indices) {
+            Ok(path) => RunError::Fault(Fault::new(name, path)),
+            Err(_) => RunError::NoMemory,
+        }
+    }
+
+    /// The fault that a value of this type stands at an element below this key, by its indices, where
+    /// one of another type belongs.
+    pub fn wrong_type(&self, alloc: Global, indices: &[usize], found: &'static str) -> RunError
+        ensures { IsFault result FaultName.WrongType (below (place_path self.now) indices.now) }
+    {
+        match self.path(alloc, indices) {
+            Ok(path) => RunError::Fault(Fault::wrong_type(path, found)),
+            Err(_) => RunError::NoMemory,
+        }
+    }
+
+    fn path(&self, alloc: Global, indices: &[usize]) -> Result<String, AllocError>
+        ensures { IfOk result (λ text. string_bytes text ≡ below (place_path self.now) indices.now) }
+    {
+        let mut text = child_path(alloc, self.table, self.key)?;
+        for index in indices {
+            write!(text, "[{index}]")?;
+        }
+        Ok(text)
+    }
+}
+
+/// The path of a key below a table's path.
+pub fn child_path(alloc: Global, table: &str, key: &str) -> Result<String, AllocError>
+    ensures { IfOk result (λ text. string_bytes text ≡ child table.now key.now) }
+{
+    if table.is_empty() {
+        String::from_str(alloc, key)
+    } else {
+        format!(in alloc; "{table}.{key}")
+    }
+}
+
+/// The path of an element of an array.
+pub fn element_path(alloc: Global, array: &str, index: usize) -> Result<String, AllocError>
+    ensures { IfOk result (λ text. string_bytes text ≡ element array.now index) }
+{
+    format!(in alloc; "{array}[{index}]")
+}
+
+/// A key as a path shows it, so that a path is one line of no great length: control characters are
+/// written `\u{..}`, and of a key of more than 64 bytes its length stands there, as `<70 bytes>`.
+pub fn shown_key(alloc: Global, key: &str) -> Result<String, AllocError>
+    ensures { IfOk result (λ text. string_bytes text ≡ shown_key key.now) }
+{
+    let length = key.len();
+    if length > MAX_SHOWN {
+        return format!(in alloc; "<{length} bytes>");
+    }
+    shown(alloc, key)
+}
+
+/// A text whose control characters are written `\u{..}`.
+fn shown(alloc: Global, key: &str) -> Result<String, AllocError>
+    ensures { IfOk result (λ text. string_bytes text ≡ flat_map shown (chars key.now)) }
+{
+    let mut text = String::new(alloc);
+    for character in key.chars() {
+        push_shown(&mut text, character)?;
+    }
+    Ok(text)
+}
+
+fn push_shown(text: &mut String, character: char) -> Result<(), AllocError>
+    ensures { OnOk result (string_bytes text.new ≡ string_bytes text.old ++ shown character) }
+{
+    if character.is_control() {
+        let code = u32::from(character);
+        write!(text, "\\u{{{code:x}}}")
+    } else {
+        text.push(character)
+    }
+}
