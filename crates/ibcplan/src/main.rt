@@ -34,8 +34,8 @@ For more information, try '--help'.";
 /// what goes to standard error, it says there how far a long run is, and how many events were refused.
 fn run<R: Host>(rt: &R, is_watched: bool) -> io::Result<u8> {
     let words: Vec<String> = env::args(rt)?.collect(rt.alloc())?;
-    Ok(match task::read_task(rt.alloc(), words.as_slice()) {
-        Ok(task) => perform::perform(rt, task, is_watched),
+    Ok(match request::read_request(rt.alloc(), words.as_slice()) {
+        Ok(request) => perform::perform(rt, request, is_watched),
         Err(message) => perform::show(rt, &message),
     })
 }

@@ -14,7 +14,7 @@ use crate::importing::{ImportedText, imported};
 use crate::input::Input;
 use crate::progress::Progress;
 use crate::reporting::{plan_status, refused_events};
-use crate::request::Task;
+use crate::request::Request;
 use crate::status;
 use crate::worker_count::WorkerCount;
 use clap::error::ErrorKind;
@@ -26,10 +26,10 @@ use std::io::{Printer, Write};
 use std::sync::{Arc, Wait};
 use std::thread::Threads;
 
-/// Does a task, and answers the status to end with. Where standard error is watched it says there how
+/// Does a request, and answers the status to end with. Where standard error is watched it says there how
 /// far a long run is, and how many events were refused.
-pub fn perform<R: Host>(rt: &R, task: Request<'_>, is_watched: bool) -> u8 {
-    match outcome_of(rt, task, is_watched) {
+pub fn perform<R: Host>(rt: &R, request: Request<'_>, is_watched: bool) -> u8 {
+    match outcome_of(rt, request, is_watched) {
         Ok(status) => status,
         Err(failure) => {
             let _ = eprintln!(rt; "{failure}");
@@ -59,15 +59,15 @@ pub fn no_memory<R: Eprint>(rt: &R) -> u8 {
     status::FAILED
 }
 
-/// Does a task, and sends on what the writer may still hold; then what is to be told of the results stands
+/// Does a request, and sends on what the writer may still hold; then what is to be told of the results stands
 /// on standard error.
 fn outcome_of<'a, R: Host>(
     rt: &R,
-    task: Request<'a>,
+    request: Request<'a>,
     is_watched: bool,
 ) -> Result<u8, ProgramError<'a>> {
     let mut output = Explained::new(Counted::new(io::writer(rt)));
-    let done = match done_of(rt, task, is_watched, &mut output) {
+    let done = match done_of(rt, request, is_watched, &mut output) {
         Ok(done) => done,
         Err(failure) => return Err(failure.because_of(output.error())),
     };
@@ -105,16 +105,16 @@ impl Done {
     }
 }
 
-/// Reads the files of a task and does it.
+/// Reads the files of a request and does it.
 fn done_of<'a, R: Host, W: Sink>(
     rt: &R,
-    task: Request<'a>,
+    request: Request<'a>,
     is_watched: bool,
     output: &mut W,
 ) -> Result<Done, ProgramError<'a>>
     requires { W.is_broken output.old ≡ false }
 {
-    match task {
+    match request {
         Request::Plan {
             script,
             workers,

@@ -258,7 +258,7 @@ fn twice_standard_input(alloc: Global) -> Result<Error, AllocError> {
     )
 }
 
-/// The task of `plan` or `run`, or none where a word is missing.
+/// The request of `plan` or `run`, or none where a word is missing.
 fn plan_of<'a>(name: &str, script: &'a str, given: &ArgMatches<'a>) -> Option<Request<'a>> {
     let is_strict = given.get_flag(STRICT);
     let workers = if name == RUN {
@@ -291,7 +291,7 @@ fn turns_of(given: &ArgMatches<'_>) -> WantedTurns {
     }
 }
 
-/// The task of words that were parsed, or none where one is missing.
+/// The request of words that were parsed, or none where one is missing.
 fn task_of<'a>(matches: &ArgMatches<'a>) -> Option<Request<'a>> {
     let (name, given) = matches.subcommand()?;
     if name == IMPORT {
@@ -316,7 +316,7 @@ fn task_of<'a>(matches: &ArgMatches<'a>) -> Option<Request<'a>> {
 
 /// Reads the command line. An error is the text to show: what is wrong, or the help that was asked
 /// for.
-pub fn read_task<'a>(alloc: Global, words: &'a [String]) -> Result<Request<'a>, Error> {
+pub fn read_request<'a>(alloc: Global, words: &'a [String]) -> Result<Request<'a>, Error> {
     let mut command = command_line(alloc)?.bin_name("ibcplan")?;
     let matches = command.try_get_matches_from_mut(words)?;
     match task_of(&matches) {
@@ -328,7 +328,7 @@ pub fn read_task<'a>(alloc: Global, words: &'a [String]) -> Result<Request<'a>, 
         ) if script == STANDARD_INPUT && certificate == STANDARD_INPUT => {
             Err(twice_standard_input(alloc)?)
         }
-        Some(task) => Ok(task),
+        Some(request) => Ok(request),
         None => Err(command.error(ErrorKind::MissingSubcommand, "a command is missing")?),
     }
 }

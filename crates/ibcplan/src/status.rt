@@ -1,6 +1,6 @@
 //! The status that the program ends with; 5 is that of the script `./ibcplan` where it can't build it.
 
-/// The task is done; a certificate holds; of a strict plan: nothing is refused.
+/// The request is done; a certificate holds; of a strict plan: nothing is refused.
 pub const DONE: u8 = 0;
 
 /// The content of a file is refused.
