@@ -157,7 +157,7 @@ fn read_file<'a, R: Host>(rt: &R, folder: &str, name: &str) -> Result<Saved, Pro
     };
     match read_saved(alloc, name, bytes.as_slice()) {
         Ok(saved) => Ok(saved),
-        Err(SavedError::InputError { file, flaw, said }) => {
+        Err(SavedError::Invalid { file, flaw, said }) => {
             let advice = flaw.name.advice();
             Err(refused(if said.is_empty() {
                 format!(in alloc; "refused {flaw}\n{file}: {advice}")

@@ -107,7 +107,7 @@ fn read_state(alloc: Global, answer: &Object<'_>) -> Result<NodeAnswer, AnswerEr
 fn whole(name: FieldErrorName) -> AnswerError
     ensures { result ≡ AnswerError.FieldError (whole name) }
 {
-    AnswerError::Field(FieldError {
+    AnswerError::Invalid(FieldError {
         name,
         place: FieldPath {
             part: Segment::Answer,

@@ -150,7 +150,7 @@ impl Attributes<'_> {
     fn flaw(&self, name: Key, flaw: FieldErrorName) -> AnswerError
         ensures { result ≡ AnswerError.FieldError (flaw_at (object_view self.now.event) name flaw) }
     {
-        AnswerError::Field(self.event.flaw(name, flaw))
+        AnswerError::Invalid(self.event.flaw(name, flaw))
     }
 }
 

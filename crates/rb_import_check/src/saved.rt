@@ -28,7 +28,7 @@ pub struct SavedAnswers {
 #[derive(Drop)]
 pub enum SavedError {
     /// The file's content has a flaw; where that is an error that the node answered, what the node said of it.
-    FieldError {
+    Invalid {
         file: String,
         flaw: FieldError,
         said: String,
@@ -45,7 +45,7 @@ pub fn read_saved(alloc: Global, file: String, bytes: &[u8]) -> Result<Saved, Sa
 {
     match read_answer(alloc, bytes) {
         Ok(answer) => Ok(Saved { file, answer }),
-        Err(AnswerError::Field(flaw)) => Err(flawed(alloc, file, bytes, flaw)),
+        Err(AnswerError::Invalid(flaw)) => Err(flawed(alloc, file, bytes, flaw)),
         Err(AnswerError::NoMemory) => Err(SavedError::NoMemory),
     }
 }
@@ -56,7 +56,7 @@ fn flawed(alloc: Global, file: String, bytes: &[u8], flaw: FieldError) -> SavedE
     ensures { IsFlawOf file bytes.now result }
 {
     match said_of(alloc, bytes, flaw) {
-        Ok(said) => SavedError::FieldError { file, flaw, said },
+        Ok(said) => SavedError::Invalid { file, flaw, said },
         Err(_) => SavedError::NoMemory,
     }
 }

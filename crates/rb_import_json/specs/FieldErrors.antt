@@ -28,7 +28,7 @@ Reads view (Err flaw) read = read ≡ Err flaw
 
 -- the error is the flaw that reading gives, unless memory ran out
 abbrev pub Fails : {Y : Type 0} → AnswerError → Result Y FieldError → Type 0
-Fails (errors.FieldError flaw) read = read ≡ Err flaw
+Fails (errors.Invalid flaw) read = read ≡ Err flaw
 Fails errors.NoMemory read = ⊤
 
 -- the result, seen by view, is what reading gives, unless memory ran out

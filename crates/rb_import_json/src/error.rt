@@ -139,7 +139,7 @@ impl fmt::Display for FieldError {
 pub enum AnswerError {
     /// It has a flaw.
     #[error("{0}")]
-    Field(FieldError),
+    Invalid(FieldError),
     /// A growth was refused.
     #[error("no memory")]
     NoMemory,
@@ -147,12 +147,12 @@ pub enum AnswerError {
 
 impl From<FieldError> for AnswerError {
     ghost use Rattle.std.specs.Prelude.{◌≡◌};
-    ghost use Rattle.rb_import_json.specs.declared.error.AnswerError.TheVariants.{FieldError};
+    ghost use Rattle.rb_import_json.specs.declared.error.AnswerError.TheVariants.{Invalid};
 
-    ghost from_gives = { λ flaw e. e ≡ FieldError flaw };
+    ghost from_gives = { λ flaw e. e ≡ Invalid flaw };
 
     fn from(flaw: FieldError) -> AnswerError {
-        AnswerError::Field(flaw)
+        AnswerError::Invalid(flaw)
     }
 }
 
