@@ -2,10 +2,9 @@
 ghost use Rattle.std.specs.Prelude.{◌↔◌, IsTrue, All, AllPairs};
 
 use crate::config::{ClientConfig, PathConfig};
-use crate::script::Asked;
 use rb_base::ChainId;
 
-/// What is told apart: by an identifier, or by whom it is for.
+/// What is told apart by an identifier.
 pub(crate) trait Differ {
     ghost Differs: { Self → Self → Type 0 };
 
@@ -44,16 +43,6 @@ impl Differ for PathConfig {
     #[tactic(auto, using(crate::proofs::Texts::differ_by_bytes))]
     fn differs(&self, other: &PathConfig) -> bool {
         self.id.as_str() != other.id.as_str()
-    }
-}
-
-impl Differ for Asked {
-    ghost use Rattle.std.specs.Prelude.{◌≢◌};
-
-    ghost Differs = { λ a b. a.client ≢ b.client };
-
-    fn differs(&self, other: &Asked) -> bool {
-        self.client != other.client
     }
 }
 
