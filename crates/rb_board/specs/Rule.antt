@@ -1,4 +1,4 @@
--- The board's rule, and what the pen and the desks hold by it.
+-- (internal) The board's rule, and what the pen and the desks hold by it.
 use Rattle.std.specs.Prelude.{◌≡◌, ℕ, List, [], drop, fold, Option, Some, None}
 use mathlib.Core.Option.{some}
 use lib.ListN.{get_elem?}

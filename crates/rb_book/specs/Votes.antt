@@ -1,4 +1,4 @@
--- The votes of a header as it keeps them: private to this crate.
+-- (internal) The votes of a header as it keeps them.
 use Rattle.std.specs.Prelude.{List}
 use Rattle.std.specs.Arc.{arc_value}
 use Rattle.rb_book.specs.declared.vote.Vote.{Vote}

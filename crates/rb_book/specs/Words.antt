@@ -1,4 +1,4 @@
--- How hashes, records and headers are compared: private to this crate.
+-- (internal) How hashes, records and headers are compared.
 use Rattle.std.specs.Prelude.{ℕ, ◌+◌, ◌==◌, ◌&&◌, Bool, List, [], ◌∷◌, get_or}
 use Rattle.std.specs.Cmp.Lexicographic.{pointwise}
 use Rattle.std.specs.Int.{w64, from_le_bytes}

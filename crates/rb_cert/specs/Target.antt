@@ -1,4 +1,4 @@
--- a header that a book knows, with its own set
+-- (internal) A header that a book knows, with its own set.
 use Rattle.std.specs.Prelude.{◌≡◌, List, Some}
 use Rattle.rb_valset.specs.Validator.{Member}
 use Rattle.rb_book.specs.Book.{Book, set_of, header_at}

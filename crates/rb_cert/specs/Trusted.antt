@@ -1,4 +1,4 @@
--- what is looked up of each known record
+-- (internal) What is looked up of each known record.
 use Rattle.std.specs.Prelude.{◌≡◌, ℕ, ◌<◌, ◌^◌, ◌↔◌, List, Option, Some, IfSome, IsSomeAnd, position, slice_get}
 use Rattle.rb_book.specs.Book.{RecordAt, has_hash}
 use Rattle.rb_step.specs.View.{View, client_of}

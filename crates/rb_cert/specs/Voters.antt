@@ -1,4 +1,4 @@
--- marks of a header's commit voters, a bit each
+-- (internal) Marks of a header's commit voters, a bit each.
 use Rattle.std.specs.Prelude.{◌≡◌, ℕ, ◌+◌, ◌*◌, true, List, slice_index}
 use Rattle.rb_base.specs.Fraction.{Ratio, Exceeds}
 use Rattle.rb_valset.specs.Validator.{Member, address_of}

@@ -12,7 +12,7 @@ use Rattle.rb_core_model.specs.Entry as entries
 use Rattle.rb_core_model.specs.Entry.{Logged, event_of, logged_of}
 use Rattle.rb_core_model.specs.Scan.{Scan}
 use Rattle.rb_core_model.specs.Event.{Event, Window, Asked, SetSeen, HeaderSeen, StoredSeen, Sent, Received, AckWritten, Cleared, Closed, Scanned, Planned, Settled}
-use Rattle.rb_core_model.specs.Kept.{IsKept}
+use Rattle.rb_core_model.specs.Invariant.{HasInvariant}
 use Rattle.rb_core_model.specs.Machine.{State, max_events, is_known, knows_client, knows_path, refusal_of, refusal_beside, accepted}
 use Rattle.rb_core_model.specs.Refusal.{refused_if}
 use Rattle.rb_core_model.specs.Refused.{IsRefusal}
@@ -25,17 +25,17 @@ use Rattle.rb_core.proofs.Rooms.{long}
 
 -- ---- whatever is followed
 
-entry_kept : (s : State) (x : Logged) → IsKept s → IsKept (after_entry s x)
+entry_kept : (s : State) (x : Logged) → HasInvariant s → HasInvariant (after_entry s x)
 entry_kept s x is = go (event_of s x)
   where
-    go : (o : Option Event) → IsKept (option_map_or (accepted s) o s)
+    go : (o : Option Event) → HasInvariant (option_map_or (accepted s) o s)
     go None = is
     go (Some e) = accepted_kept s e is
 
-pub followed_kept : (s : State) (x : Told) → IsKept s → IsKept (followed s x)
+pub followed_kept : (s : State) (x : Told) → HasInvariant s → HasInvariant (followed s x)
 followed_kept s x is = go x.entry x.scan
   where
-    go : (entry : Logged) (o : Option Scan) → IsKept (followed_as s entry o)
+    go : (entry : Logged) (o : Option Scan) → HasInvariant (followed_as s entry o)
     go (entries.whole event) o = entry_kept s (entries.whole event) is
     go (entries.scan path part) None = entry_kept s (entries.scan path part) is
     go (entries.scan path part) (Some scan) = accepted_kept s (Scanned path scan) is

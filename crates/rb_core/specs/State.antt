@@ -1,4 +1,4 @@
--- What the code knows, as a state, and where it has room for an event.
+-- (internal) What the code knows, as a state, and where it has room for an event.
 use Rattle.rb_core.specs.declared.state.CoreState.{CoreState}
 use Rattle.rb_core_model.specs.Event.{Event, SetSeen, HeaderSeen, StoredSeen, Sent, Settled}
 use Rattle.rb_core_state.specs.Room.{books_of, clients_of, paths_of, IsApart, HasStoredRoom, HasSettleRoom, HasPacketRoom}

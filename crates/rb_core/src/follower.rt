@@ -4,7 +4,7 @@ ghost use Rattle.rb_script_types.specs.Config.{config_view};
 ghost use Rattle.rb_core.specs.Follower.{IsOfLog, entry_refusal, events_in, follows, state_after, told_of};
 ghost use Rattle.rb_core.specs.State.{state_view};
 ghost use Rattle.rb_core_model.specs.Event.{Event};
-ghost use Rattle.rb_core_model.specs.Kept.{IsKept};
+ghost use Rattle.rb_core_model.specs.Invariant.{HasInvariant};
 ghost use Rattle.rb_core_model.specs.Machine.{client_view, client_view_refusal, path_view_refusal, refusal_of};
 ghost use Rattle.rb_core_model.specs.Refused.{IsRefusal};
 ghost use Rattle.rb_core_model.specs.Standing.{path_view};
@@ -40,13 +40,13 @@ impl<A: Allocator> Model for Follower<A> {
     ghost use Rattle.rb_script_types.specs.Config.{config_view};
     ghost use Rattle.rb_core.specs.Follower as followers;
     ghost use Rattle.rb_core.specs.State.{state_view};
-    ghost use Rattle.rb_core_model.specs.Kept.{IsKept};
+    ghost use Rattle.rb_core_model.specs.Invariant.{HasInvariant};
 
     ghost Value = { followers.Follower };
 
     ghost view = { λ f. record { past = record { config = config_view f.config; entries = f.log.items }; state = state_view f.state } };
 
-    ghost invariant = { λ f. IsKept (state_view f.state) };
+    ghost invariant = { λ f. HasInvariant (state_view f.state) };
 }
 
 impl<A: Allocator + Copy> Follower<A> {
@@ -57,7 +57,7 @@ impl<A: Allocator + Copy> Follower<A> {
         state: CoreState<A>,
         log: Vec<SharedEntry<A>, A>,
     ) -> Follower<A>
-        requires { IsKept (state_view state) }
+        requires { HasInvariant (state_view state) }
         ensures { result ≡ record { past = record { config = config_view config; entries = log.items }; state = state_view state } }
     {
         Follower {

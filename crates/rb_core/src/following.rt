@@ -6,7 +6,7 @@ ghost use Rattle.rb_core.specs.Follower.{IsTold, after_entry, entry_refusal, fol
 ghost use Rattle.rb_core.specs.State.{standing_view, state_view};
 ghost use Rattle.rb_core_state.specs.Marked.{mark_by};
 ghost use Rattle.rb_core_model.specs.Entry.{entry_view, plan, whole};
-ghost use Rattle.rb_core_model.specs.Kept.{IsKept};
+ghost use Rattle.rb_core_model.specs.Invariant.{HasInvariant};
 ghost use Rattle.rb_core_model.specs.Machine.{accepted, is_known, knows_path};
 ghost use Rattle.rb_core_model.specs.Refused.{IsRefusal};
 ghost use Rattle.rb_core_model.specs.Seen.{event_view, observed};
@@ -28,7 +28,7 @@ fn follow_event<A: Allocator + Copy>(
     state: &mut CoreState<A>,
     event: Event<A>,
 ) -> Result<(), CoreError>
-    requires { IsKept (state_view state.old) }
+    requires { HasInvariant (state_view state.old) }
     ensures followed { OnOk result (state_view state.new ≡ accepted (state_view state.old) (event_view event)) }
     ensures unchanged { OnErr result (state_view state.new ≡ state_view state.old) }
     ensures refused { IfErr result (λ e. IsRefusal e (refused_first (state_view state.old) (is_known (state_view state.old) (event_view event)) (judged (standing_view state.old) (event_view event)))) }
@@ -68,7 +68,7 @@ fn follow_observed<A: Allocator + Copy>(
     state: &mut CoreState<A>,
     observation: &Observation<A>,
 ) -> Result<(), CoreError>
-    requires { IsKept (state_view state.old) }
+    requires { HasInvariant (state_view state.old) }
     ensures followed { OnOk result (state_view state.new ≡ accepted (state_view state.old) (observed observation.now)) }
     ensures unchanged { OnErr result (state_view state.new ≡ state_view state.old) }
     ensures refused { IfErr result (λ e. IsRefusal e (entry_refusal (state_view state.old) (whole (observed observation.now)))) }
@@ -97,7 +97,7 @@ fn follow_plan<A: Allocator + Copy>(
     client: usize,
     answer: Option<Planned<A>>,
 ) -> Result<(), CoreError>
-    requires { IsKept (state_view state.old) }
+    requires { HasInvariant (state_view state.old) }
     ensures followed { OnOk result (state_view state.new ≡ after_entry (state_view state.old) (plan client answer)) }
     ensures unchanged { OnErr result (state_view state.new ≡ state_view state.old) }
     ensures refused { IfErr result (λ e. IsRefusal e (entry_refusal (state_view state.old) (plan client answer))) }
@@ -116,7 +116,7 @@ fn follow_entry<A: Allocator + Copy>(
     entry: &Entry<A>,
     scan: Option<&Scan<A>>,
 ) -> Result<(), CoreError>
-    requires kept { IsKept (state_view state.old) }
+    requires kept { HasInvariant (state_view state.old) }
     requires belongs { IsTold (entry_view entry.now) (option_copied scan) }
     ensures followed { OnOk result (state_view state.new ≡ followed_as (state_view state.old) (entry_view entry.now) (option_copied scan.entry)) }
     ensures unchanged { OnErr result (state_view state.new ≡ state_view state.old) }
@@ -143,7 +143,7 @@ pub(crate) fn follow_told<A: Allocator + Copy>(
     state: &mut CoreState<A>,
     told: &Told<A>,
 ) -> Result<(), CoreError>
-    requires { IsKept (state_view state.old) }
+    requires { HasInvariant (state_view state.old) }
     ensures followed { OnOk result (state_view state.new ≡ followed (state_view state.old) told.now) }
     ensures unchanged { OnErr result (state_view state.new ≡ state_view state.old) }
     ensures refused { IfErr result (λ e. IsRefusal e (entry_refusal (state_view state.old) told.now.entry)) }

@@ -3,7 +3,7 @@ ghost use Rattle.std.specs.Prelude.{◌≡◌, ◌<◌, ◌++◌, ◌∷◌, [],
 ghost use Rattle.rb_core_model.specs.Entry.{logged_of};
 ghost use Rattle.rb_core_model.specs.Event as events;
 ghost use Rattle.rb_core_model.specs.Event.{IsEvent};
-ghost use Rattle.rb_core_model.specs.Kept.{IsKept};
+ghost use Rattle.rb_core_model.specs.Invariant.{HasInvariant};
 ghost use Rattle.rb_core.specs.State.{state_view, HasRoom};
 ghost use Rattle.rb_core_model.specs.Machine.{refusal_of, accepted, reply_of};
 ghost use Rattle.rb_core_model.specs.Refused.{IsRefusal};
@@ -23,7 +23,7 @@ pub(crate) fn make_ready<A: Allocator + Copy>(
     log: &mut Vec<SharedEntry<A>, A>,
     event: Event<A>,
 ) -> Result<Ready<A>, CoreError>
-    requires kept { IsKept (state_view state.old) }
+    requires kept { HasInvariant (state_view state.old) }
     ensures same { state_view state.new ≡ state_view state.old }
     ensures log { log.new.items ≡ log.old.items }
     ensures ready { IfOk result (λ ready. ready ≡ record { front = state.old.front; event = event_view event }) }
@@ -48,7 +48,7 @@ pub(crate) fn take_in<A: Allocator + Copy>(
     log: &mut Vec<SharedEntry<A>, A>,
     ready: Ready<A>,
 ) -> Reply
-    requires kept { IsKept (state_view state.old) }
+    requires kept { HasInvariant (state_view state.old) }
     requires accepted { refusal_of (state_view state.old) ready.event ≡ None }
     requires room { HasRoom state.old ready.event }
     requires log_room { vec_len log.old < vec_capacity log.old }

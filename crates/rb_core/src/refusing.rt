@@ -1,7 +1,7 @@
 //! Why an event is refused.
 ghost use Rattle.std.specs.Prelude.{◌≡◌, ◌<◌, true, length, None, Some, is_none, IfNone, IfSome, IsSome};
 ghost use Rattle.rb_script_types.specs.declared.refusal.Refusal.TheVariants as refusals;
-ghost use Rattle.rb_core_model.specs.Kept.{IsKept};
+ghost use Rattle.rb_core_model.specs.Invariant.{HasInvariant};
 ghost use Rattle.rb_core.specs.Follower.{refused_first};
 ghost use Rattle.rb_core.specs.State.{standing_view, state_view};
 ghost use Rattle.rb_core_model.specs.Machine.{is_known, knows_client, knows_path, is_held, max_events, scan_refusal, draft_refusal, refusal_beside, refusal_of};
@@ -88,7 +88,7 @@ fn refuse_planned<A: Allocator + Copy>(state: &CoreState<A>, draft: &Draft<A>) -
 /// Why an event whose chain, client or path is there would be refused by how things stand.
 fn refuse_standing<A: Allocator + Copy>(state: &CoreState<A>, event: &Event<A>) -> Option<Refusal>
     requires object { is_known (state_view state.now) (event_view event.now) ≡ true }
-    requires kept { IsKept (state_view state.now) }
+    requires kept { HasInvariant (state_view state.now) }
     ensures { result ≡ judged (standing_view state.now) (event_view event.now) }
 {
     match event {
@@ -102,7 +102,7 @@ fn refuse_standing<A: Allocator + Copy>(state: &CoreState<A>, event: &Event<A>) 
 /// Why an event whose chain, client or path is there would be refused by what is known.
 fn refuse_known<A: Allocator + Copy>(state: &CoreState<A>, event: &Event<A>) -> Option<Refusal>
     requires object { is_known (state_view state.now) (event_view event.now) ≡ true }
-    requires kept { IsKept (state_view state.now) }
+    requires kept { HasInvariant (state_view state.now) }
     ensures { result ≡ refusal_beside (state_view state.now) (event_view event.now) }
 {
     match event {
@@ -114,7 +114,7 @@ fn refuse_known<A: Allocator + Copy>(state: &CoreState<A>, event: &Event<A>) -> 
 
 /// Why an event would be refused.
 pub(crate) fn refuse<A: Allocator + Copy>(state: &CoreState<A>, event: &Event<A>) -> Option<Refusal>
-    requires kept { IsKept (state_view state.now) }
+    requires kept { HasInvariant (state_view state.now) }
     ensures { result ≡ refusal_of (state_view state.now) (event_view event.now) }
 {
     if !is_known(state, event) {
@@ -131,7 +131,7 @@ pub(crate) fn refuse_unseen<A: Allocator + Copy>(
     state: &CoreState<A>,
     event: &Event<A>,
 ) -> Option<Refusal>
-    requires { IsKept (state_view state.now) }
+    requires { HasInvariant (state_view state.now) }
     ensures object { IfNone result (is_known (state_view state.now) (event_view event.now) ≡ true) }
     ensures few { IfNone result (state.now.front < max_events) }
     ensures accepted { IfNone result (judged (standing_view state.now) (event_view event.now) ≡ None) }

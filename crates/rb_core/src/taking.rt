@@ -1,7 +1,7 @@
 //! Events are taken in.
 ghost use Rattle.std.specs.Prelude.{◌≡◌, ◌<◌, true, None, IfSome, IsSome, IsSomeAnd, OnOk, length, slice_get};
 ghost use Rattle.rb_core_model.specs.Event as events;
-ghost use Rattle.rb_core_model.specs.Kept.{IsKept};
+ghost use Rattle.rb_core_model.specs.Invariant.{HasInvariant};
 ghost use Rattle.rb_core.specs.State.{standing_view, state_view, HasRoom};
 ghost use Rattle.rb_core_model.specs.Machine.{is_known, max_events, accepted, reply_of};
 ghost use Rattle.rb_core_model.specs.Replied.{reply_view};
@@ -18,7 +18,7 @@ pub(crate) fn make_room<A: Allocator + Copy>(
     event: &Event<A>,
 ) -> Result<(), AllocError>
     requires object { is_known (state_view state.old) (event_view event.now) ≡ true }
-    requires kept { IsKept (state_view state.old) }
+    requires kept { HasInvariant (state_view state.old) }
     requires accepted { judged (standing_view state.old) (event_view event.now) ≡ None }
     ensures same { state_view state.new ≡ state_view state.old }
     ensures room { OnOk result (HasRoom state.new (event_view event.now)) }
@@ -34,7 +34,7 @@ pub(crate) fn make_room<A: Allocator + Copy>(
 /// Takes in an event that is not refused, but doesn't count it.
 fn take<A: Allocator + Copy>(state: &mut CoreState<A>, event: Event<A>) -> Reply
     requires object { is_known (state_view state.old) (event_view event) ≡ true }
-    requires kept { IsKept (state_view state.old) }
+    requires kept { HasInvariant (state_view state.old) }
     requires few { state.old.front < max_events }
     requires accepted { judged (standing_view state.old) (event_view event) ≡ None }
     requires room { HasRoom state.old (event_view event) }
@@ -72,7 +72,7 @@ fn take<A: Allocator + Copy>(state: &mut CoreState<A>, event: Event<A>) -> Reply
 /// Takes in an event that is not refused.
 pub(crate) fn put<A: Allocator + Copy>(state: &mut CoreState<A>, event: Event<A>) -> Reply
     requires object { is_known (state_view state.old) (event_view event) ≡ true }
-    requires kept { IsKept (state_view state.old) }
+    requires kept { HasInvariant (state_view state.old) }
     requires few { state.old.front < max_events }
     requires accepted { judged (standing_view state.old) (event_view event) ≡ None }
     requires room { HasRoom state.old (event_view event) }

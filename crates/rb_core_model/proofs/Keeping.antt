@@ -11,7 +11,7 @@ use Rattle.rb_script_types.specs.declared.config.ClientConfig.{ClientConfig}
 use Rattle.rb_core_model.specs.Config.{IsSetUp}
 use Rattle.rb_plan_client.specs.Draft.{Planned as Answer}
 use Rattle.rb_core_model.specs.Event.{Event, Window, Asked, SetSeen, HeaderSeen, StoredSeen, Sent, Received, AckWritten, Cleared, Closed, Scanned, Planned, Settled}
-use Rattle.rb_core_model.specs.Kept.{IsKept}
+use Rattle.rb_core_model.specs.Invariant.{HasInvariant}
 use Rattle.rb_core_model.specs.Machine.{State, opening, no_scans, plan_number, plans_after, scans_after, refusal_of, accepted, after, state_of}
 use Rattle.rb_core_model.specs.Standing.{OpenBatch, ClientState, Standing, empty_book, new_client, new_path, tracked, changed_at, changed, batch_opened, with_batch, after_answer, after_batch, open_batch, after_settled}
 use Rattle.rb_core_model.proofs.Lengths.{lengths_changed}
@@ -225,7 +225,7 @@ tracked_there [] most all client lt = absurd (omega (arith, lt))
 tracked_there (c ∷ cs) most all zero lt = all 0 c refl
 tracked_there (c ∷ cs) most all (suc client) lt = tracked_there cs most (λ place d at. all (suc place) d at) client (omega (arith, lt))
 
-pub kept : (s : State) → IsTended s → IsKept s
+pub kept : (s : State) → IsTended s → HasInvariant s
 kept s is = record {
   tracked = tracked_there s.standing.clients (length s.standing.books) is.tracks;
   plans = is.plans;
@@ -234,7 +234,7 @@ kept s is = record {
   numbers = is.numbers;
 }
 
-pub kept_of_events : (config : Config) (events : List Event) → IsSetUp config → IsKept (state_of config events)
+pub kept_of_events : (config : Config) (events : List Event) → IsSetUp config → HasInvariant (state_of config events)
 kept_of_events config events is = kept (state_of config events) (events_tended (opening config) events (opening_tended config is))
 
 -- ---- one event more
@@ -244,7 +244,7 @@ some_within [] i x e = absurd (none-some x e)
 some_within (y ∷ xs) zero x e = omega arith
 some_within (y ∷ xs) (suc i) x e = omega (arith, some_within xs i x e)
 
-tended : (s : State) → IsKept s → IsTended s
+tended : (s : State) → HasInvariant s → IsTended s
 tended s is = record {
   tracks = λ place c at.
       let there : tracked s.standing.clients place ≡ c.config.tracks = ap (λ (o : Option ClientState). option_map_or (λ (d : ClientState). d.config.tracks) o 0) at in
@@ -256,5 +256,5 @@ tended s is = record {
 }
 
 -- what is kept is kept by whatever is taken in, judged or not
-pub accepted_kept : (s : State) (e : Event) → IsKept s → IsKept (accepted s e)
+pub accepted_kept : (s : State) (e : Event) → HasInvariant s → HasInvariant (accepted s e)
 accepted_kept s e is = kept (accepted s e) (accepted_tended s e (tended s is))

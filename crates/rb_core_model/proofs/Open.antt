@@ -69,7 +69,7 @@ IsUnsettled paths m = mark_at paths m.path (part_of m.packet.kind) m.packet.sequ
 abbrev pub IsSent : Config → List PathState → ℕ → Message → Type 0
 IsSent config paths client m = IsFor config client m × IsUnsettled paths m
 
-pub record IsKept (config : Config) (s : Standing) : Type 0 where
+pub record HasInvariant (config : Config) (s : Standing) : Type 0 where
   pub configs : map (λ (p : PathState). p.config) s.paths ≡ config.paths
   pub found : AllByRecursion AllFound s.paths
   pub sent : (client : ℕ) (b : OpenBatch) → batch_open s client ≡ Some b → AllByRecursion (IsSent config s.paths client) b.messages
@@ -79,7 +79,7 @@ abbrev pub Grows : Standing → Standing → Type 0
 Grows s t = (path : ℕ) (part : Part) (sequence : ℕ) → mark_at s.paths path part sequence ≡ Some true → mark_at t.paths path part sequence ≡ Some true
 
 pub record Steps (config : Config) (s t : Standing) : Type 0 where
-  pub kept : IsKept config t
+  pub kept : HasInvariant config t
   pub grows : Grows s t
 
 -- ---- events that leave the batches as they are
@@ -88,7 +88,7 @@ pub record Steps (config : Config) (s t : Standing) : Type 0 where
 abbrev SameBatches : Standing → Standing → Type 0
 SameBatches s t = (client : ℕ) (b : OpenBatch) → batch_open t client ≡ Some b → batch_open s client ≡ Some b
 
-by_paths : (config : Config) (s t : Standing) → IsKept config s → KeepsPaths s.paths t.paths → SameBatches s t → Steps config s t
+by_paths : (config : Config) (s t : Standing) → HasInvariant config s → KeepsPaths s.paths t.paths → SameBatches s t → Steps config s t
 by_paths config s t kept keeps same = record {
   kept = record {
     configs = keeps.configs ∙ kept.configs;
@@ -107,7 +107,7 @@ batches_changed s t place f same e client b stands =
     let is : found.0.batch ≡ before.0.batch = elim before.2 [ inl here ↦ ap (λ (c : ClientState). c.batch) here.1 ∙ same before.0 | inr other ↦ ap (λ (c : ClientState). c.batch) other.1 ] in
     ap (option_and_then (λ (c : ClientState). c.batch)) before.1 ∙ sym is ∙ found.2
 
-one_path : (config : Config) (s : Standing) (path : ℕ) (f : PathState → PathState) → IsKept config s → ((p : PathState) → (f p).config ≡ p.config)
+one_path : (config : Config) (s : Standing) (path : ℕ) (f : PathState → PathState) → HasInvariant config s → ((p : PathState) → (f p).config ≡ p.config)
     → ((p : PathState) → slice_get s.paths path ≡ Some p → KeepsPath p (f p)) → Steps config s (with_path s path f)
 one_path config s path f kept same one = by_paths config s (with_path s path f) kept (keeps_changed f s.paths path same one) (λ client b e. e)
 
@@ -151,7 +151,7 @@ module _ (law : SettledIsNotOwed) (v : Path) (all : AllByRecursion (IsFound v.pa
   open_part Packets = open_kind Receive
   open_part Channel = append_all (IsOpen v.packets Channel) (messages v Acknowledge) (messages v Timeout) (open_kind Acknowledge) (open_kind Timeout)
 
-module _ (law : SettledIsNotOwed) (config : Config) (s : Standing) (kept : IsKept config s) (client : ℕ) (reach : Option ℕ) where
+module _ (law : SettledIsNotOwed) (config : Config) (s : Standing) (kept : HasInvariant config s) (client : ℕ) (reach : Option ℕ) where
   -- the messages of one path
   sent_on : (n : ℕ) (p : PathState) (order : Order) (part : Part) (t : PathTask) → slice_get s.paths n ≡ Some p → part_for p.config client ≡ Some part → t.path ≡ n → t.owed ≡ owed_at s n part
       → (ms : List PacketMsg) → AllByRecursion (IsOpen p.packets part) ms → AllByRecursion (IsSent config s.paths client) (map (message_on t) ms)
@@ -196,7 +196,7 @@ module _ (law : SettledIsNotOwed) (config : Config) (s : Standing) (kept : IsKep
   messages_sent (Some g) = tt
   messages_sent None = ready_sent
 
-plan_sent : SettledIsNotOwed → (config : Config) (s : State) (d : Draft) (x : IsDrafted s d) (b : OpenBatch) → IsKept config s.standing → IsDraft d → batch_opened x.known d.answer ≡ Some b
+plan_sent : SettledIsNotOwed → (config : Config) (s : State) (d : Draft) (x : IsDrafted s d) (b : OpenBatch) → HasInvariant config s.standing → IsDraft d → batch_opened x.known d.answer ≡ Some b
     → AllByRecursion (IsSent config s.standing.paths d.job.client) b.messages
 plan_sent law config s d x b kept is e =
     let t = task_in s.standing x.window d.job.client x.known in
@@ -210,7 +210,7 @@ opened_batch : (c : ClientState) (o : Option OpenBatch) → (with_batch c o).bat
 opened_batch c None = refl
 opened_batch c (Some b) = refl
 
-plan_steps : SettledIsNotOwed → (config : Config) (s : State) (d : Draft) → IsKept config s.standing → IsDraft d → refusal_of s (Planned d) ≡ None
+plan_steps : SettledIsNotOwed → (config : Config) (s : State) (d : Draft) → HasInvariant config s.standing → IsDraft d → refusal_of s (Planned d) ≡ None
     → Steps config s.standing (changed s.standing (Planned d))
 plan_steps law config s d kept is e =
     let x = drafted s d e in
@@ -289,7 +289,7 @@ apart config client other m ne mine (n ∷ ms) theirs = (
   apart config client other m ne mine ms theirs.1,
 )
 
-settle_steps : (config : Config) (s : State) (client number done : ℕ) → IsKept config s.standing → refusal_of s (Settled client number done) ≡ None
+settle_steps : (config : Config) (s : State) (client number done : ℕ) → HasInvariant config s.standing → refusal_of s (Settled client number done) ≡ None
     → Steps config s.standing (changed s.standing (Settled client number done))
 settle_steps config s client number done kept e =
     let x = settling s client number done e in
@@ -323,7 +323,7 @@ same_settled : (f : Packet → Packet) → ((q : Packet) → ((f q).receive_sett
 same_settled f same Packets q = (same q).0
 same_settled f same Channel q = (same q).1
 
-steps : SettledIsNotOwed → (config : Config) (s : State) (e : Event) → IsKept config s.standing → IsEvent e → refusal_of s e ≡ None → Steps config s.standing (changed s.standing e)
+steps : SettledIsNotOwed → (config : Config) (s : State) (e : Event) → HasInvariant config s.standing → IsEvent e → refusal_of s e ≡ None → Steps config s.standing (changed s.standing e)
 steps law config s (Window window) kept is ok = by_paths config s.standing _ kept (keeps_all s.standing.paths) (λ client b e. e)
 steps law config s (Asked client goal) kept is ok = by_paths config s.standing _ kept (keeps_all s.standing.paths)
     (batches_changed s.standing (changed s.standing (Asked client goal)) client (λ c. record c { asked = Some goal }) (λ c. refl) refl)
@@ -347,14 +347,14 @@ steps law config s (Scanned path scan) kept is ok = by_paths config s.standing _
 steps law config s (Planned d) kept is ok = plan_steps law config s d kept is ok
 steps law config s (Settled client number done) kept is ok = settle_steps config s client number done kept ok
 
-one_event : SettledIsNotOwed → (config : Config) (s : State) (e : Event) → IsKept config s.standing → IsEvent e → Steps config s.standing (after s e).standing
+one_event : SettledIsNotOwed → (config : Config) (s : State) (e : Event) → HasInvariant config s.standing → IsEvent e → Steps config s.standing (after s e).standing
 one_event law config s e kept is = go (refusal_of s e) refl
   where
     go : (o : Option Refusal) → refusal_of s e ≡ o → Steps config s.standing (if is_some o then s else accepted s e).standing
     go None ok = steps law config s e kept is ok
     go (Some r) refused = record { kept = kept; grows = λ path part sequence f. f }
 
-all_events : SettledIsNotOwed → (config : Config) (s : State) (es : List Event) → IsKept config s.standing → AllByRecursion IsEvent es → Steps config s.standing (fold after s es).standing
+all_events : SettledIsNotOwed → (config : Config) (s : State) (es : List Event) → HasInvariant config s.standing → AllByRecursion IsEvent es → Steps config s.standing (fold after s es).standing
 all_events law config s [] kept are = record { kept = kept; grows = λ path part sequence f. f }
 all_events law config s (e ∷ es) kept are =
     let one = one_event law config s e kept are.0 in
@@ -378,19 +378,19 @@ none_yet config client = ap (option_and_then (λ (c : ClientState). c.batch)) (s
     go None = refl
     go (Some c) = refl
 
-kept_opening : (config : Config) → IsKept config (opening config).standing
+kept_opening : (config : Config) → HasInvariant config (opening config).standing
 kept_opening config = record {
   configs = new_configs config.paths;
   found = new_found config.paths;
   sent = λ client b e. absurd (none-some b (sym (none_yet config client) ∙ e));
 }
 
-kept_after : SettledIsNotOwed → (config : Config) (es : List Event) → AllByRecursion IsEvent es → IsKept config (state_of config es).standing
+kept_after : SettledIsNotOwed → (config : Config) (es : List Event) → AllByRecursion IsEvent es → HasInvariant config (state_of config es).standing
 kept_after law config es are = (all_events law config (opening config) es (kept_opening config) are).kept
 
 -- ---- the laws
 
-carried : (config : Config) (s : Standing) (client path : ℕ) (kind : Kind) (sequence : ℕ) → IsKept config s → (x : Carries s client path kind sequence) → IsSent config s.paths client x.message
+carried : (config : Config) (s : Standing) (client path : ℕ) (kind : Kind) (sequence : ℕ) → HasInvariant config s → (x : Carries s client path kind sequence) → IsSent config s.paths client x.message
 carried config s client path kind sequence kept x =
     All-contains (IsSent config s.paths client) x.batch.messages x.message (All-from_recursion (IsSent config s.paths client) x.batch.messages (kept.sent client x.batch x.is_open)) x.has
 

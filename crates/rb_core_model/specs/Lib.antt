@@ -12,6 +12,6 @@ pub mod Log
 pub mod Seen
 pub mod Refused
 pub mod Replied
-pub mod Kept
+pub mod Invariant
 pub mod Entry
 pub mod Judged

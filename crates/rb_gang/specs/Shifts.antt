@@ -1,4 +1,4 @@
--- What a worker gives back.
+-- (internal) What a worker gives back.
 use Rattle.std.specs.Prelude.{◌≡◌, ℕ, ◌<◌, List, [], length, All}
 use Rattle.atomic_table.specs.Seated.{TableId}
 use Rattle.rb_book.specs.Book.{Book}

@@ -1,4 +1,4 @@
--- Rows by rising number: private to this crate.
+-- (internal) Rows by rising number.
 use Rattle.std.specs.Prelude.{◌≡◌, ℕ, ◌<◌, List, length, All, slice_index_or}
 use Rattle.std.specs.List.Sorted.{IsNonDecreasingBy}
 use Rattle.rb_graph.specs.Frame.{FrameRow}

@@ -1,4 +1,4 @@
--- A header in its book, and what is read of it: cells, accepted steps and what they cost; private to this crate.
+-- (internal) A header in its book, and what is read of it: cells, accepted steps and what they cost.
 use Rattle.std.specs.Prelude.{ℕ, ◌+◌, Bool, true, false, List, length, map, filter, count_by, drop, Option, Some, None, if◌then◌else◌}
 use Rattle.std.specs.List.{filter_map}
 use Rattle.rb_base.specs.Fee.{Fees, charge_of}

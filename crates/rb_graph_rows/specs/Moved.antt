@@ -1,4 +1,4 @@
--- Places in a list with one more element: private to this crate.
+-- (internal) Places in a list with one more element.
 use Rattle.std.specs.Prelude.{ℕ, ◌+◌, nat_lt, if◌then◌else◌}
 
 -- the place that an element has once another was put in at a place

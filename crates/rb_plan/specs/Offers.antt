@@ -1,4 +1,4 @@
--- the labelled records from which steps are tried
+-- (internal) The labelled records from which steps are tried.
 use Rattle.std.specs.Prelude.{◌≡◌, ℕ, ◌+◌, ◌<◌, ◌^◌, ◌⊎◌, List, Some, All, Contains, IsSomeAnd, length, position, slice_get, unwrap_or}
 use Rattle.rb_book.specs.Book.{Book, RecordAt, has_hash}
 use Rattle.rb_graph.specs.StepTable.{Target}

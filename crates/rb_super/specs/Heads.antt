@@ -1,4 +1,4 @@
--- A board's pen, as what it has taken in.
+-- (internal) A board's pen, as what it has taken in.
 use Rattle.std.specs.Prelude.{[]}
 use Rattle.rb_board.specs.Ends.{Pen}
 use Rattle.rb_core.specs.Core.{Core}

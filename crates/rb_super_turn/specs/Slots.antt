@@ -1,4 +1,4 @@
--- The event of a slot.
+-- (internal) The event of a slot.
 use Rattle.std.specs.Prelude.{Option, Some, None}
 use Rattle.rb_core_model.specs.Event.{Event, Closed}
 use Rattle.rb_core_model.specs.Seen.{event_view}

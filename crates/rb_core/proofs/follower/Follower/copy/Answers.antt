@@ -1,9 +1,9 @@
 use Rattle.std.proofs.Common.{sym, ◌∙◌, subst}
-use Rattle.rb_core_model.specs.Kept.{IsKept}
+use Rattle.rb_core_model.specs.Invariant.{HasInvariant}
 use Rattle.rb_core.proofs.follower.Follower.copy.Goals as goal
 
 pub invariant_of-result : goal.invariant_of-result
-invariant_of-result g c = subst IsKept (sym c.in_ok-copy_state.ensures) c.self.invariant
+invariant_of-result g c = subst HasInvariant (sym c.in_ok-copy_state.ensures) c.self.invariant
 
 pub returns : goal.returns
 returns g c =

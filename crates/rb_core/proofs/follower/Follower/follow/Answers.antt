@@ -2,14 +2,14 @@ use Rattle.std.proofs.Common.{rules, ◌≡◌, ◌++◌, ◌∷◌, [], IfErr, 
 use Rattle.rb_script_types.specs.Config.{config_view}
 use Rattle.rb_core.specs.Follower.{Follower, entry_refusal, follows}
 use Rattle.rb_core.specs.State.{state_view}
-use Rattle.rb_core_model.specs.Kept.{IsKept}
+use Rattle.rb_core_model.specs.Invariant.{HasInvariant}
 use Rattle.rb_core_model.specs.Machine.{State}
 use Rattle.rb_core_model.specs.Refused.{IsRefusal}
 use Rattle.rb_core.proofs.Unjudged.{followed_kept, only_memory}
 use Rattle.rb_core.proofs.follower.Follower.follow.Goals as goal
 
 pub invariant_of-self-2 : goal.invariant_of-self-2
-invariant_of-self-2 g c = subst IsKept (sym c.in_ok-follow_told.ensures.followed) (followed_kept (state_view c.self.inside.state) c.args.told.now c.self.invariant)
+invariant_of-self-2 g c = subst HasInvariant (sym c.in_ok-follow_told.ensures.followed) (followed_kept (state_view c.self.inside.state) c.args.told.now c.self.invariant)
 
 pub returns-clause-followed : goal.returns-clause-followed
 returns-clause-followed g c =

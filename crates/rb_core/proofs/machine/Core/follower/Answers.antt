@@ -4,7 +4,7 @@ use Rattle.rb_core.specs.Core.{Core}
 use Rattle.rb_core.specs.Follower.{Follower, IsOfLog, events_in}
 use Rattle.rb_core.specs.State.{state_view}
 use Rattle.rb_core_model.specs.Entry.{log_from, events_of}
-use Rattle.rb_core_model.specs.Kept.{IsKept}
+use Rattle.rb_core_model.specs.Invariant.{HasInvariant}
 use Rattle.rb_core_model.specs.Machine.{opening}
 use Rattle.rb_core_model.proofs.Keeping.{kept_of_events}
 use Rattle.rb_core.proofs.machine.Core.follower.Goals as goal
@@ -13,7 +13,7 @@ pub new-requires : goal.new-requires
 new-requires g c =
     let inside = c.self.inside in
     let config = config_view inside.config in
-    subst IsKept (sym (c.in_ok-copy_state.ensures ∙ c.self.invariant.state)) (kept_of_events config (log_from config inside.log.items) c.self.invariant.set_up)
+    subst HasInvariant (sym (c.in_ok-copy_state.ensures ∙ c.self.invariant.state)) (kept_of_events config (log_from config inside.log.items) c.self.invariant.set_up)
 
 pub returns-clause-config : goal.returns-clause-config
 returns-clause-config g c = ap (λ (f : Follower). f.past.config) c.new.ensures ∙ c.in_ok-copy.ensures ∙ ap (λ (x : Core). x.config) c.self.view_is

@@ -4,7 +4,7 @@ use Rattle.rb_script_types.specs.declared.refusal.Refusal.{Refusal}
 use Rattle.rb_core.specs.Core.{Core, state_in, refusal_in, IsFold}
 use Rattle.rb_core_model.specs.Entry.{log_from}
 use Rattle.rb_core_model.specs.Event.{Event}
-use Rattle.rb_core_model.specs.Kept.{IsKept}
+use Rattle.rb_core_model.specs.Invariant.{HasInvariant}
 use Rattle.rb_core.specs.State.{state_view}
 use Rattle.rb_core_model.specs.Machine.{State, refusal_of}
 use Rattle.rb_core_model.specs.Refused.{IsRefusal}
@@ -16,7 +16,7 @@ use Rattle.rb_core.proofs.machine.Core.judge.Goals as goal
 pub make_ready-requires : goal.make_ready-requires
 make_ready-requires g c =
     let config = config_view c.self.inside.config in
-    record { kept = subst (λ (s : State). IsKept s) (sym c.self.invariant.state) (kept_of_events config (log_from config c.self.inside.log.items) c.self.invariant.set_up) }
+    record { kept = subst (λ (s : State). HasInvariant s) (sym c.self.invariant.state) (kept_of_events config (log_from config c.self.inside.log.items) c.self.invariant.set_up) }
 
 pub invariant_of-self : goal.invariant_of-self
 invariant_of-self g c =

@@ -2,7 +2,7 @@ use Rattle.std.proofs.Common.{◌≡◌, ◌++◌, ◌∷◌, ◌<◌, [], None,
 use Rattle.rb_script_types.specs.Config.{config_view}
 use Rattle.rb_core.specs.Core.{Core, Room, state_in}
 use Rattle.rb_core_model.specs.Entry.{log_from}
-use Rattle.rb_core_model.specs.Kept.{IsKept}
+use Rattle.rb_core_model.specs.Invariant.{HasInvariant}
 use Rattle.rb_core.specs.State.{state_view}
 use Rattle.rb_core_model.specs.Machine.{State, refusal_of, reply_of}
 use Rattle.rb_core.proofs.Entries.{settled}
@@ -13,7 +13,7 @@ use Rattle.rb_core.proofs.machine.Core.settle.Goals as goal
 pub take_in-requires-clause-kept : goal.take_in-requires-clause-kept
 take_in-requires-clause-kept g c =
     let config = config_view c.self.inside.config in
-    subst (λ (s : State). IsKept s) (sym c.self.invariant.state) (kept_of_events config (log_from config c.self.inside.log.items) c.self.invariant.set_up)
+    subst (λ (s : State). HasInvariant s) (sym c.self.invariant.state) (kept_of_events config (log_from config c.self.inside.log.items) c.self.invariant.set_up)
 
 pub take_in-requires-clause-accepted : goal.take_in-requires-clause-accepted
 take_in-requires-clause-accepted g c =

@@ -5,7 +5,7 @@ use Rattle.rb_core_model.specs.Standing.{AreTracked, ClientState}
 
 -- the chains that clients track are there, each client has a plan number and each path its scans, and there are no more batches
 -- and plans of a client than events
-pub record IsKept (s : State) : Type 0 where
+pub record HasInvariant (s : State) : Type 0 where
   pub tracked : AreTracked s.standing
   pub plans : length s.plans ≡ length s.standing.clients
   pub scans : length s.scans ≡ length s.standing.paths
