@@ -56,24 +56,20 @@ pub(crate) fn run_turns<R: Threads + Sync, G: Gate + Sync, A: Allocator + Copy +
     Ok((reports, supervisor))
 }
 
-/// Runs a script, turn by turn: its report, which doesn't go by how many workers there are, at most
-/// 64. The tables of its chains are made by so many threads, the calling one among them; with 0 or
-/// 1 workers by the calling thread alone, as all scans and plans are. The gate is called as each
-/// row, scan and plan begins and ends, and when a client's plan was taken.
+/// Runs a script, turn by turn, by the calling thread alone: its report. The gate is called as each
+/// scan and plan begins and ends, and when a client's plan was taken.
 pub fn run_script<R: Threads + Sync, G: Gate + Sync, A: Allocator + Copy + Send + Sync>(
     rt: &R,
     alloc: A,
     script: Script<A>,
-    workers: usize,
     gate: &G,
 ) -> Result<Report<A>, AllocError>
     requires script { IsReadScript (script_view script) }
-    requires workers { workers ≤ 64 }
     requires alloc { Frees A.Allocator A.dealloc_token }
     ensures paths { IfOk result (λ report. report.paths.items ≡ map (λ (p : PathConfig). p.id) script.config.paths.items) }
     ensures turns { IfOk result (λ report. IsReportOf (as_events (script_view script)) (report_view report)) }
 {
-    let crew = Crew::new(rt, workers, gate);
+    let crew = Crew::new(rt, 0, gate);
     let Script { config, turns } = script;
     let paths = path_ids(alloc, config.paths.as_slice())?;
     let supervisor = Supervisor::new(alloc, config)?;
@@ -130,10 +126,11 @@ fn turns_by_workers<R: Threads + Sync + Wait, G: Gate + Send + Sync + Drop + 'st
     Ok(reports)
 }
 
-/// Runs a script as `run_script` does, its scans and plans by so many workers in threads of their own;
-/// by fewer where no thread can be made, and by the calling thread alone where none can. The gate is
-/// called as each row, scan and plan begins and ends, and when a client's plan was handed over or taken
-/// in. An error comes only where a growth is refused, to whichever thread; all threads have then ended.
+/// Runs a script, turn by turn, its scans and plans by so many workers in threads of their own, at most
+/// 64, by fewer where no thread can be made, and by the calling thread alone where none can; with 2 or
+/// more the rows of tables, too, are made by so many threads. The report doesn't go by how many there
+/// are. The gate is called as each scan and plan begins and ends, as each row does that several threads
+/// make, and when a client's plan was handed over or taken in. An error comes only where a growth is refused, to whichever thread; all threads have then ended.
 pub fn run_by_workers<
     R: Threads + Wait + Copy + Send + Sync + 'static,
     G: Gate + Send + Sync + Drop + 'static,

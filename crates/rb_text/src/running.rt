@@ -43,7 +43,7 @@ pub fn report_of<
 {
     read_scripts_are_scripts(&script);
     if workers == 0 {
-        run_script(rt, alloc, script, 0, &**gate)
+        run_script(rt, alloc, script, &**gate)
     } else {
         run_by_workers(rt, alloc, script, workers, gate)
     }
