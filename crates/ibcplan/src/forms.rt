@@ -1,11 +1,8 @@
 //! The report of a script in other forms than its own: JSON, and the commands that submit its updates.
 ghost use Rattle.rb_script_types.specs.Script.{script_view, IsReadScript};
 
-use crate::error::{ProgramError, Turns};
-use crate::input::Input;
 use crate::reporting::plan_status;
-use crate::request::WantedTurns;
-use crate::worker_count::WorkerCount;
+use ibcplan_cli::{Input, ProgramError, Turns, WantedTurns, WorkerCount};
 use rb_base::Gate;
 use rb_script_toml::RunError;
 use rb_script_types::Script;

@@ -1,26 +1,16 @@
 //! ibcplan plans the client updates of an IBC relayer's script, and judges plans that others made.
-//! What it does stands in `rb_text`, `rb_import` and `rb_text_export`; here are the command line, the files,
-//! the statuses (of a plan with `--strict` by whether its report tells of something refused) and the words
-//! for the operator.
+//! What it does stands in `rb_text`, `rb_import` and `rb_text_export`, and its command line, files, statuses
+//! and words for the operator in `ibcplan_cli`; here each request is done, and the status of a plan with
+//! `--strict` goes by whether its report tells of something refused.
 #![tactic(auto)]
 
-mod advice;
-mod error;
 mod explained;
 mod forms;
-mod host;
-mod importing;
-mod input;
-mod input_error;
 mod perform;
 mod progress;
 mod reporting;
-mod request;
-mod shown;
-mod status;
-mod worker_count;
 
-use crate::host::Host;
+use ibcplan_cli::{Host, read_request, status};
 use std::io::IsTerminal;
 use std::process::ExitCode;
 use std::{env, io};
@@ -34,7 +24,7 @@ For more information, try '--help'.";
 /// what goes to standard error, it says there how far a long run is, and how many events were refused.
 fn run<R: Host>(rt: &R, is_watched: bool) -> io::Result<u8> {
     let words: Vec<String> = env::args(rt)?.collect(rt.alloc())?;
-    Ok(match request::read_request(rt.alloc(), words.as_slice()) {
+    Ok(match read_request(rt.alloc(), words.as_slice()) {
         Ok(request) => perform::perform(rt, request, is_watched),
         Err(message) => perform::show(rt, &message),
     })

@@ -3,21 +3,17 @@ ghost use Rattle.std.specs.Prelude.{◌≡◌, ◌⊎◌, false, Err, IfOk, IfEr
 ghost use Rattle.rb_text.specs.Scripts.{script_of};
 ghost use Rattle.rb_text.specs.Headline.{BeginsReport};
 ghost use Rattle.rb_text.specs.Verdicts.{IsFaultFor, BeginsVerdict};
-ghost use Rattle.ibcplan.specs.Failures.{failure_status, told_fault, is_unwritten};
+ghost use Rattle.ibcplan_cli.specs.Failures.{failure_status, told_fault, is_unwritten};
 ghost use Rattle.ibcplan.specs.Status.{IsPlanWritten, IsConfirmed, IsDenied};
 
-use crate::error::ProgramError;
 use crate::explained::Explained;
 use crate::forms::{commands_of_script, json_of_script};
-use crate::host::Host;
-use crate::importing::{ImportedText, imported};
-use crate::input::Input;
 use crate::progress::Progress;
 use crate::reporting::{plan_status, refused_events};
-use crate::request::Request;
-use crate::status;
-use crate::worker_count::WorkerCount;
 use clap::error::ErrorKind;
+use ibcplan_cli::{
+    Host, ImportedText, Input, ProgramError, Request, WorkerCount, imported, status,
+};
 use rb_base::{Counted, Gate, Sink, write_whole};
 use rb_text::{Source, certify_texts, report_over};
 use std::alloc::Global;

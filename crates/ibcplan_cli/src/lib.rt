@@ -1,0 +1,23 @@
+//! The program's command line, the files that it reads, the statuses that it ends with, and its words for
+//! the operator: what is wrong with a file or a word, and what to do about it.
+#![tactic(auto)]
+
+mod advice;
+mod error;
+mod host;
+mod importing;
+mod input;
+mod input_error;
+mod request;
+mod shown;
+pub mod status;
+mod worker_count;
+
+pub use error::{ProgramError, Turns};
+pub use host::Host;
+pub use importing::{ImportedText, imported};
+pub use input::Input;
+pub use input_error::InputError;
+pub use request::{Request, WantedTurns, read_request};
+pub use shown::Shown;
+pub use worker_count::WorkerCount;
