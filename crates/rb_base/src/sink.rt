@@ -1,5 +1,5 @@
 //! The writer that a report goes to, and how a text is written to it whole.
-ghost use Rattle.std.specs.Prelude.{◌≡◌, ℕ, List, Option, Bool, true, false, ◌||◌, OnOk, OnErr};
+ghost use Rattle.std.specs.Prelude.{◌≡◌, ℕ, List, Option, Bool, true, false, OnOk, OnErr};
 ghost use Rattle.std.specs.Io.{WritesAtMost};
 ghost use Rattle.std.specs.Io.KnownBytes.{Appends, WriteAppends};
 ghost use Rattle.rb_base.specs.Sink.{is_failure, AppendsBeginning};
@@ -16,11 +16,13 @@ pub trait Sink {
     // Whether a write has failed.
     ghost is_broken: { Self → Bool };
 
-    /// Writes a beginning of `piece`, and answers its length in bytes.
+    /// Writes a beginning of `piece`, and answers its length in bytes. A writer of which a write has
+    /// failed must not be called again.
     fn write(&mut self, piece: &[u8]) -> io::Result<usize>
+        requires works { is_broken self.old ≡ false }
         ensures bound { WritesAtMost result piece.now }
         ensures bytes { WriteAppends (taken self.old) (taken self.new) result piece.now }
-        ensures failure { is_broken self.new ≡ (is_broken self.old || is_failure result piece.now) };
+        ensures failure { is_broken self.new ≡ is_failure result piece.now };
 
     /// Whether a write has failed.
     fn failed(&self) -> bool
@@ -73,7 +75,7 @@ impl<W: Write> Counted<W> {
 }
 
 impl<W: Write> Sink for Counted<W> {
-    ghost use Rattle.std.specs.Prelude.{◌≡◌, ◌||◌};
+    ghost use Rattle.std.specs.Prelude.{◌≡◌, false};
     ghost use Rattle.std.specs.Io.{WritesAtMost};
     ghost use Rattle.std.specs.Io.KnownBytes.{WriteAppends};
     ghost use Rattle.rb_base.specs.Sink.{is_failure};
@@ -84,9 +86,10 @@ impl<W: Write> Sink for Counted<W> {
     ghost is_broken = { counted_failed };
 
     fn write(&mut self, piece: &[u8]) -> io::Result<usize>
+        requires works { counted_failed self.old ≡ false }
         ensures bound { WritesAtMost result piece.now }
         ensures bytes { WriteAppends (counted_bytes W.contents self.old) (counted_bytes W.contents self.new) result piece.now }
-        ensures failure { counted_failed self.new ≡ (counted_failed self.old || is_failure result piece.now) }
+        ensures failure { counted_failed self.new ≡ is_failure result piece.now }
         ensures count { counted_number self.new ≡ number_after (counted_number self.old) result }
     {
         let result = self.inner.write(piece);
@@ -111,8 +114,9 @@ impl<W: Write> Sink for Counted<W> {
 #[derive(Clone, Copy, Debug, PartialEq, Eq)]
 pub struct Device;
 
-/// Writes all of the bytes, in as many writes as the sink takes them in, and tries no failed
-/// write again. After `Device` a beginning of the bytes was taken.
+/// Writes all of the bytes, in as many writes as the sink takes them in. After a write that failed the
+/// sink is not called again, as `Sink::write` demands. After `Device` a beginning of the bytes was
+/// taken.
 pub fn write_whole<W: Sink>(writer: &mut W, bytes: &[u8]) -> Result<(), Device>
     requires works { W.is_broken writer.old ≡ false }
     ensures written { OnOk result (Appends (W.taken writer.old) (W.taken writer.new) bytes.now) }

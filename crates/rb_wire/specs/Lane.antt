@@ -1,7 +1,7 @@
 -- What a clause sees of the two ends of a lane, and of the token of an end that has finished
 -- (own choice; the ring is rtrb's).
 use Rattle.std.specs.Prelude.{ℕ, List}
-use Rattle.rtrb.specs.Ring.{sent, producer_capacity, received, known_items, all_sent, IsPair, IsFinishedOf, Finishes, SameProducer, SameConsumer}
+use Rattle.rtrb.specs.Ring.{sent, producer_capacity, known_free, received, known_items, all_sent, IsPair, IsFinishedOf, Finishes, SameProducer, SameConsumer}
 use Rattle.rb_wire.specs.declared.ends.Tx.{Tx}
 use Rattle.rb_wire.specs.declared.ends.Rx.{Rx}
 use Rattle.rb_wire.specs.declared.ends.Finished.{Finished}
@@ -18,6 +18,10 @@ module _ {T A : Type 0} where
   -- how many items the lane has room for
   abbrev pub capacity_of : Tx T A → ℕ
   capacity_of tx = producer_capacity tx.producer
+
+  -- how many slots the end knows to be free
+  abbrev pub free_on : Tx T A → ℕ
+  free_on tx = known_free tx.producer
 
   -- all that was taken, oldest first
   abbrev pub taken_on : Rx T A → List T

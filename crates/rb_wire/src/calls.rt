@@ -1,7 +1,7 @@
 //! What the ends of a lane do.
-ghost use Rattle.std.specs.Prelude.{◌≡◌, ◌≤◌, ◌<◌, [], ◌∷◌, ◌++◌, length, IfOk, IfErr, IfSome, IfNone, IsSome, OnOk, MatchOption};
+ghost use Rattle.std.specs.Prelude.{◌≡◌, ◌≤◌, ◌<◌, ◌+◌, [], ◌∷◌, ◌++◌, length, IfOk, IfErr, IfSome, IfNone, IsSome, IsOk, OnOk, OnErr, MatchOption};
 ghost use mathlib.Core.List.{IsPrefix};
-ghost use Rattle.rb_wire.specs.Lane.{sent_on, capacity_of, taken_on, seen_on, sent_in_all, max_capacity, IsLane, SameTx, SameRx, IsTokenOf, IsTokenFrom};
+ghost use Rattle.rb_wire.specs.Lane.{sent_on, capacity_of, free_on, taken_on, seen_on, sent_in_all, max_capacity, IsLane, SameTx, SameRx, IsTokenOf, IsTokenFrom};
 
 use crate::ends::{Finished, Rx, Tx};
 use crate::refusal::{LaneFull, NoMemory};
@@ -19,21 +19,24 @@ pub fn lane<T: Drop, A: Allocator + Copy>(
     ensures lane { IfOk result (λ ends. IsLane ends.0 ends.1) }
     ensures sent { IfOk result (λ ends. sent_on ends.0 ≡ []) }
     ensures taken { IfOk result (λ ends. (taken_on ends.1 ≡ []) × (seen_on ends.1 ≡ [])) }
-    ensures capacity { IfOk result (λ ends. capacity_of ends.0 ≡ capacity) }
+    ensures capacity { IfOk result (λ ends. (capacity_of ends.0 ≡ capacity) × (free_on ends.0 ≡ capacity)) }
 {
     let (producer, consumer) = RingBuffer::new(alloc, capacity)?;
     Ok((Tx { producer }, Rx { consumer, alloc }))
 }
 
 impl<T: Drop, A: Allocator> Tx<T, A> {
-    /// Sends the item. 901 LaneFull, only where no slot is known to be free, and so never while
-    /// fewer items than the capacity were sent, hands the item back; the lane is then as it was.
+    /// Sends the item. 901 LaneFull hands the item back, and the lane is then as it was: only where
+    /// this end knows of no free slot, and so never while fewer items than the capacity were sent.
     /// Takes no memory, and doesn't wait.
     pub fn push(&mut self, item: T) -> Result<(), LaneFull<T>>
         ensures lane { SameTx self.old self.new }
         ensures sent { OnOk result (sent_on self.new ≡ sent_on self.old ++ item ∷ []) }
+        ensures room { 0 < free_on self.old → IsOk result }
+        ensures used { OnOk result (free_on self.old ≤ free_on self.new + 1) }
         ensures back { IfErr result (λ refusal. refusal.item ≡ item) }
         ensures unchanged { IfErr result (λ _. sent_on self.new ≡ sent_on self.old) }
+        ensures none_free { OnErr result (free_on self.new ≡ 0) }
         ensures full { IfErr result (λ _. capacity_of self.old ≤ length (sent_on self.old)) }
     {
         match self.producer.push(item) {

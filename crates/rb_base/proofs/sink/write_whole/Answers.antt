@@ -1,5 +1,4 @@
 use Rattle.std.proofs.Common.{◌≡◌, ◌<◌, ℕ, List, ◌++◌, length, Bool, false, ap, ◌∙◌, arith, append_assoc, Option, Some, None, Ok}
-use Rattle.std.specs.Prelude.{◌||◌}
 use Rattle.std.proofs.lemmas.Bool.Decides.{nat_tests}
 use Rattle.std.specs.Io.KnownBytes.{Appends}
 use Rattle.std.proofs.lemmas.List.{length-drop, take_rest}
@@ -13,8 +12,8 @@ appended (Some p) None c xs ys h k = absurd h
 appended (Some p) (Some q) None xs ys h k = absurd k
 appended (Some p) (Some q) (Some r) xs ys h k = k ∙ rw h (append_assoc p xs ys)
 
-still_works : (before after : Bool) (n : ℕ) (piece : List ℕ) → before ≡ false → after ≡ (before || is_failure {E = ℕ} (Ok n) piece) → 0 < n → after ≡ false
-still_works before after n piece e f h = rw (f, e) (grind (arith, nat_tests))
+still_works : (after : Bool) (n : ℕ) (piece : List ℕ) → after ≡ is_failure {E = ℕ} (Ok n) piece → 0 < n → after ≡ false
+still_works after n piece f h = rw f (grind (arith, nat_tests))
 
 pub loop-written-preserved : goal.loop-written-preserved
 loop-written-preserved g c =
@@ -22,5 +21,8 @@ loop-written-preserved g c =
     let n = c.in-Ok.count in (
       omega (arith, c.in-Ok.ensures.bound, length-drop w c.args.bytes.now, ap length (take_rest c.args.bytes.now w)),
       rw (take-add w n c.args.bytes.now) (appended _ _ _ _ _ c.loop-written.invariant.1 (rw take_rest at c.in-Ok.ensures.bytes)),
-      still_works _ _ _ _ c.loop-written.invariant.2 c.in-Ok.ensures.failure c.if-count-gt0.true,
+      still_works _ _ _ c.in-Ok.ensures.failure c.if-count-gt0.true,
     )
+
+pub write-requires : goal.write-requires
+write-requires g c = record { works = c.loop-written.invariant.2 }
