@@ -1,5 +1,5 @@
-//! Messages cut into transactions: the fewest that keep within the limits of gas and count, each as
-//! full as it can be from the first one on.
+//! Transaction packing: messages cut into the fewest consecutive transactions that keep within the limits
+//! of gas and count, each as full as it can be from the first one on.
 #![tactic(auto)]
 
 mod cutting;

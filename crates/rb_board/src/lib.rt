@@ -1,5 +1,5 @@
-//! A board: one pen appends events to a core's log and publishes it, and desks see beginnings of
-//! that log. Desks take no lock and never wait.
+//! A replicated log: one writer (`Pen`) appends events to a core's log and publishes it, and readers
+//! (`Desk`) look at beginnings of that log. Readers take no lock and never wait.
 #![tactic(auto)]
 
 mod desk;

@@ -1,6 +1,6 @@
-//! The certifier: whether a planner's answer is right, judged by its labels alone. It trusts
-//! nothing in the answer, goes by the step rule and plain sums, and takes no memory. Where threads may be
-//! started, `certify_par` checks the steps by several of them.
+//! The certifier: whether a planner's answer is right, judged by its labels alone. It trusts nothing in the
+//! answer, and goes by the step rule and plain sums. Where threads may be started, `certify_par` checks the
+//! steps by several of them.
 #![tactic(auto)]
 
 mod accepted;

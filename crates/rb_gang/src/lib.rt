@@ -1,4 +1,4 @@
-//! A step table that is made by several threads: each row by the thread that drew its number.
+//! A step table made by several threads: each row is made by the thread that drew its number.
 #![tactic(auto)]
 
 pub mod laws;

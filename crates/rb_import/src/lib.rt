@@ -1,5 +1,5 @@
-//! From a setup and the answers of nodes to a script: what they tell (`rb_import_check`, `rb_import_merge`) is written, beside the
-//! notices of what isn't (`rb_import_notices`).
+//! The script that a setup and the answers of nodes make (`rb_import_check`, `rb_import_merge`), with its
+//! notices (`rb_import_notices`).
 #![tactic(auto)]
 
 mod composing;

@@ -1,5 +1,5 @@
-//! What the answers of nodes tell of one chain or of one client: each is checked against the others and put in
-//! order, or the first that doesn't hold is told.
+//! Answers of nodes on one chain or one client, checked against one another and put in order; or the first
+//! contradiction.
 #![tactic(auto)]
 
 mod accord;

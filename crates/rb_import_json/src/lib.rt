@@ -1,5 +1,5 @@
-//! Reading of JSON as nodes answer it: an object's fields by their types, and where in an answer a
-//! value stands, or what is wrong there.
+//! Typed access to the JSON of nodes' answers: an object's fields by their types, or what is wrong and
+//! where.
 #![tactic(auto)]
 
 mod error;

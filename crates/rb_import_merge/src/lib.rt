@@ -1,5 +1,5 @@
-//! What the answers of nodes tell of a whole setup: the packets of its paths, and its chains and clients, as much of
-//! them as books have room for.
+//! Answers of nodes on a whole setup, merged: the packets of its paths, and as much of its chains and
+//! clients as light stores have room for.
 #![tactic(auto)]
 
 mod counterparties;

@@ -1,5 +1,5 @@
-//! Notices of what isn't among the answers that a script is made of, of what isn't written of them, and of what can't
-//! be used or isn't sure.
+//! The notices of an import: what is missing among the answers, left out of the script, of no use, or not
+//! sure.
 #![tactic(auto)]
 
 mod channels;

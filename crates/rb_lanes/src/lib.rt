@@ -1,4 +1,4 @@
-//! Addresses as columns, the powers of a set by column, the voters of a header as bits, and the
+//! Addresses as columns, the powers of a validator set by column, the voters of a header as bits, and the
 //! sum of the powers whose bit is set, eight columns a step.
 #![tactic(auto)]
 

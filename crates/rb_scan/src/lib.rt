@@ -1,5 +1,5 @@
-//! Which packet messages a path owes, from which height on each can be proved, and which of them
-//! are ready (ICS 4).
+//! Pending packet messages (ICS 4): which messages a path owes, from which height on each can be proved,
+//! and which of them are ready.
 #![tactic(auto)]
 
 pub mod laws;

@@ -1,5 +1,5 @@
-//! Reading of scripts: what a text of TOML is set up with (`rb_script_config`), and the turns that it holds
-//! with their goals, events and settlements, or its first fault.
+//! A script from its bytes: its configuration (`rb_script_config`) and its turns with their goals, events
+//! and settlements, or its first fault.
 #![tactic(auto)]
 
 mod event;

@@ -1,5 +1,5 @@
-//! Reading tables of TOML: what a key holds, by its type and its range, and the fault and the
-//! place where it doesn't; and the table that a text holds.
+//! Typed access to tables of TOML: what a key holds, by its type and its range, or the fault and the path
+//! where it doesn't; and the table that a text holds.
 #![tactic(auto)]
 
 mod document;

@@ -1,5 +1,4 @@
-//! What scripts are made of: the chains, clients and paths that a relayer is set up with, what is
-//! observed of them and asked, and why it is refused.
+//! What a script is made of: configuration, observations, goals, turns, and why an observation is refused.
 #![tactic(auto)]
 
 mod block;

@@ -1,6 +1,6 @@
-//! The step rule of the light client: whether a client accepts a header on the word of a record
-//! that it trusts, at a moment or throughout a window (ICS 7; CometBFT light client); and a
-//! client's view of the chain that it tracks.
+//! The light-client verifier (ICS 7; CometBFT light client): whether a client accepts a header on the word
+//! of a consensus state that it trusts, at a moment or throughout a window; and a client's view of the
+//! chain that it tracks.
 #![tactic(auto)]
 
 mod checks;

@@ -1,5 +1,5 @@
-//! Turns of a script: supervisors that lead a relayer through them, alone or with workers, runs of whole
-//! scripts, and what is said of answers that others made (`judge`).
+//! The driver: supervisors lead a relayer through the turns of a script, alone or with workers. Runs of
+//! whole scripts, and the judgement of answers that others made (`judge`).
 #![tactic(auto)]
 
 mod found;

@@ -1,6 +1,6 @@
-//! Laws of reports, of verdicts and of schedules, over the definitions alone: what a script's report, and what is said of
-//! answers that others made, is one; whoever goes through a turn by the supervisor's rule, alone or with workers, gives the report. Scripts that were read are ones that these
-//! laws speak of (`scripts`).
+//! Laws over definitions alone: a script has one report and an answer one verdict; whoever goes through a
+//! turn by the supervisor's rule, alone or with workers in any schedule, gives that report. Scripts that
+//! were read are ones that these laws speak of (`scripts`).
 #![tactic(auto)]
 
 pub mod laws;

@@ -1,5 +1,6 @@
-//! The phases of a turn, for a relayer over any machine that takes events in: what is heard, scanned,
-//! planned and settled, by the calling thread or by what was found before, and what is reported of it.
+//! The phases of a turn, for a relayer over any state machine that takes events in: events are taken in,
+//! paths scanned, clients planned and batches settled, by the calling thread or by results that workers
+//! found; and the report of the turn.
 #![tactic(auto)]
 
 mod clients;

@@ -1,6 +1,6 @@
-//! Workers: what they are told to do, what they find, and the loop in which they work. A worker reads
-//! what a desk shows, does its jobs on that, and hands over what it found; it writes nothing. A team
-//! is the side of the one that tells them so.
+//! Worker threads: their orders, their results, and the loop in which they work. A worker reads the
+//! replicated log by a desk, does its jobs on that, and hands its results over; it writes nothing. A `Team`
+//! is the supervisor's side of them.
 #![tactic(auto)]
 
 mod finding;

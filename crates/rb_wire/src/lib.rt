@@ -1,5 +1,6 @@
-//! A lane that carries items from one thread to one other, in their order, with no lock and no
-//! waiting. Contracts name what was sent and what was taken.
+//! A single-producer, single-consumer queue: a lane that carries items from one thread to one other, in
+//! their order, with no lock and no waiting. Contracts name the items that were sent and those that were
+//! taken.
 #![tactic(auto)]
 
 mod calls;
