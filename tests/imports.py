@@ -16,7 +16,7 @@ from datetime import timedelta
 import answers
 from program import TOP, Case
 
-sys.path.insert(0, str(TOP / "bench"))
+sys.path.insert(0, str(TOP / "tests" / "reference"))
 import reference
 
 EXAMPLE = TOP / "examples" / "import"

@@ -1,4 +1,4 @@
--- (internal) What the code holds of clients and paths: what is known of each, and for how much more it has room.
+-- What the code holds of clients and paths: what is known of each, and for how much more it has room.
 use Rattle.std.specs.Prelude.{◌≡◌, ℕ, ◌+◌, ◌<◌, ◌≤◌, true, false, List, [], length, map, slice_get, IsSomeAnd}
 use Rattle.std.specs.List.Sorted.{IsStrictlyIncreasing}
 use Rattle.rb_book.specs.Book.{Book}

@@ -1,4 +1,4 @@
--- (internal) The event of a slot.
+-- The event of a slot.
 use Rattle.std.specs.Prelude.{Option, Some, None}
 use Rattle.rb_core_model.specs.Event.{Event, Closed}
 use Rattle.rb_core_model.specs.Seen.{event_view}

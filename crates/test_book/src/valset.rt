@@ -61,7 +61,7 @@ fn writes_leaves(rt: HostRuntime) -> Result<(), Fail> {
 /// A set with its total, the keys in set order and the hash.
 type Ordered = (&'static [(u8, u64)], u64, &'static [u8], &'static str);
 
-/// The hashes are those of the planner in Python, `bench/reference.py`: its `tree_hash` and `varint` over
+/// The hashes are those of the planner in Python, `tests/reference/reference.py`: its `tree_hash` and `varint` over
 /// SHA-256 of Python's hashlib. No part of them was made by this code.
 const SETS: &[Ordered] = &[
     (

@@ -16,6 +16,7 @@ is made, the second is made too, and a difference ends the program with an error
 import heapq
 import sys
 
+sys.dont_write_bytecode = True
 from scripts import FAULTS, Fault, need, read_certificate, read_script
 
 EXHAUSTIVE = 11

@@ -12,6 +12,8 @@ accepted again to the goal. Of a middle the highest height below it, or at it, t
 import pathlib
 import sys
 
+sys.dont_write_bytecode = True
+sys.path.insert(0, str(pathlib.Path(__file__).resolve().parent.parent / "tests" / "reference"))
 import reference
 
 
