@@ -1,4 +1,4 @@
--- What is known at a place of the board.
+-- (internal) What is known at a place of the board.
 use Rattle.std.specs.Prelude.{◌≡◌, ◌⊎◌, List, [], Option, None}
 use mathlib.Core.List.{IsPrefix}
 use Rattle.rb_script_types.specs.Config.{Config}

@@ -1,4 +1,4 @@
--- (internal) What a worker gives back.
+-- What a worker gives back.
 use Rattle.std.specs.Prelude.{◌≡◌, ℕ, ◌<◌, List, [], length, All}
 use Rattle.atomic_table.specs.Seated.{TableId}
 use Rattle.rb_book.specs.Book.{Book}
