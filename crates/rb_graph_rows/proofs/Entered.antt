@@ -19,7 +19,7 @@ use Rattle.rb_book.specs.Book.{Book, RecordAt, height_of, is_below, has_hash, se
 use Rattle.rb_book.specs.Invariant.{IsBook, IsBacked}
 use Rattle.rb_book.specs.Intake.{unless, unless_none, breaker, IsRefusal, header_refusal, record_refusal, record_refusal_beside, with_record, with_set, with_header, after_record, after_header, after_set}
 use Rattle.rb_book.proofs.Additions.{stays_a_book}
-use Rattle.rb_book.proofs.StoredRow.{fine, header_record_accepted, set_elsewhere}
+use Rattle.rb_book.proofs.Kept.{fine, header_record_accepted, set_elsewhere}
 use Rattle.rb_book.proofs.Lists.{none_at}
 use Rattle.rb_book.proofs.Positions.{before_strict, position_none}
 use Rattle.rb_step.specs.SignedPower.{signed_power}
