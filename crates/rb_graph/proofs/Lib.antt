@@ -4,7 +4,6 @@ pub mod Lower
 pub mod CellOf
 pub mod Sources
 pub mod Accepted
-pub mod Walk
 pub mod Headers
 pub mod RecordAt
 pub mod Into

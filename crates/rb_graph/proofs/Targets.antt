@@ -11,8 +11,8 @@ use Rattle.rb_book.specs.Invariant.{IsBook}
 use Rattle.rb_step.specs.StepRule.{AcceptsWithin}
 use Rattle.rb_step.specs.KnownStep.{step_at}
 use Rattle.rb_step.specs.Laws.{SuccessIsAcceptance}
-use Rattle.rb_graph.specs.StepTable.{Target, IsStepFee, lower_records}
-use Rattle.rb_graph.specs.Source.{Source, source_of, step_from, is_accepted_from, charge_from, fee_from}
+use Rattle.rb_graph.specs.StepTable.{Target, IsStepFee}
+use Rattle.rb_graph.specs.Source.{lower_records, Source, source_of, step_from, is_accepted_from, charge_from, fee_from}
 use Rattle.rb_graph.proofs.Charges.{charge_by_source}
 use Rattle.rb_graph.proofs.Filtered.{low-within}
 use Rattle.rb_graph.proofs.Headers.{backed_at}
@@ -34,10 +34,10 @@ module _ (law : SuccessIsAcceptance) (x : Target) (book : IsBook x.book) (ordere
     known = find-In height_of k x.book.records (heights_up x.book book) (in_at x.book.records p k at)
 
     step_known : step_at x.book k.height x.height ≡ Some (step_from s k)
-    step_known = step_is law x.book book x.options x.window ordered x.height h found (backed_at x.book x.height h book found) k.height k known refl
+    step_known = step_is law x.book x.options x.window ordered x.height h found (backed_at x.book x.height h book found) k.height k known refl
 
     accepted : (is_accepted_from x.options x.window s k ≡ true) ↔ AcceptsWithin x.options x.window (step_from s k)
-    accepted = accepted_is law x.book book x.options x.window ordered x.height h found (backed_at x.book x.height h book found) k
+    accepted = accepted_is law x.book x.options x.window ordered x.height h found (backed_at x.book x.height h book found) k
 
     by_accepted : (b : Bool) (r : Option ℕ) → is_accepted_from x.options x.window s k ≡ b → r ≡ (if b then Some (charge_from x.fees s k.record_of) else None) → IsStepFee x k.height r
     by_accepted true None e is = absurd (none-some _ is)

@@ -1,17 +1,19 @@
--- (internal) A header in its book, and what is read of it: cells, accepted steps and what they cost.
-use Rattle.std.specs.Prelude.{ℕ, ◌+◌, Bool, true, false, List, length, map, filter, count_by, drop, Option, Some, None, if◌then◌else◌}
-use Rattle.std.specs.List.{filter_map}
+-- (internal) A header in its book, and what is read of it: a cell for each lower record (own choice of form; the numbers
+-- are those of CometBFT's light client), and whether the step from that record is accepted, and for what fee.
+use Rattle.std.specs.Prelude.{ℕ, ◌+◌, Bool, true, false, List, length, filter, count_by, Option, Some, None, if◌then◌else◌}
+use Rattle.std.specs.Option.{option_map}
 use Rattle.rb_base.specs.Fee.{Fees, charge_of}
 use Rattle.rb_base.specs.Options.{ClientOptions}
 use Rattle.rb_base.specs.Window.{Span}
+use Rattle.rb_valset.specs.ValidatorSet.{total_of}
 use Rattle.rb_book.specs.Header.{Record, Header, is_commit}
-use Rattle.rb_book.specs.Book.{Book, RecordAt, height_of, set_of}
+use Rattle.rb_book.specs.Book.{Book, RecordAt, is_below, set_of}
+use Rattle.rb_step.specs.SignedPower.{signed_power}
 use Rattle.rb_step.specs.StepRule.{Step, step_of}
 use Rattle.rb_step.specs.Fee.{size_of}
 use Rattle.rb_step.specs.Answer.{answer_within}
 use Rattle.rb_step.specs.declared.verdict.Verdict.{Verdict}
 use Rattle.rb_step.specs.declared.verdict.Verdict.TheVariants.{Success, NotEnoughTrust, Invalid}
-use Rattle.rb_graph.specs.StepTable.{Cell, Row, cell_of, lower_records, row_of}
 use Rattle.rb_graph_rows.specs.StoredRow.{own_set}
 
 -- a header in its book
@@ -21,6 +23,23 @@ pub record Source : Type 0 where
 
 abbrev pub source_of : Book → Header → Source
 source_of b h = record { book = b; header = h }
+
+-- what a lower record's next set says of a header: the power in that set of the header's commit voters, the set's total
+-- power, its number of members
+pub record Cell : Type 0 where
+  pub signed : ℕ
+  pub total : ℕ
+  pub size : ℕ
+
+-- the cell of a header and a known record, where the record's next set is known
+unfoldable pub cell_of : Book → Header → RecordAt → Option Cell
+cell_of b h k = option_map
+    (λ next. record { signed = signed_power next (own_set b h) h; total = total_of next; size = length next })
+    (set_of b k.record_of.next)
+
+-- the known records below a height
+abbrev pub lower_records : Book → ℕ → List RecordAt
+lower_records b height = filter (is_below height) b.records
 
 abbrev pub is_success : Verdict → Bool
 is_success Success = true
@@ -34,17 +53,6 @@ step_from s k = step_of k.height k.record_of (set_of s.book k.record_of.next) s.
 -- whether the client accepts it at every moment of the window
 unfoldable pub is_accepted_from : ClientOptions → Span → Source → RecordAt → Bool
 is_accepted_from o w s k = is_success (answer_within o w (step_from s k))
-
--- the cells, and the accepted trusted heights, from a place among the lower records on
-abbrev pub cells_from : Source → ℕ → List Cell
-cells_from s place = filter_map (cell_of s.book s.header) (drop place (lower_records s.book s.header.height))
-
--- the rows from a place among the headers on
-abbrev pub rows_from : Book → ℕ → List Row
-rows_from b place = map (row_of b) (drop place b.headers)
-
-abbrev pub steps_from : ClientOptions → Span → Source → ℕ → List ℕ
-steps_from o w s place = map height_of (filter (is_accepted_from o w s) (drop place (lower_records s.book s.header.height)))
 
 -- the charge for a step to the header, where the next set has so many members, and for the step from a record
 abbrev pub charge_with : Fees → Source → ℕ → ℕ

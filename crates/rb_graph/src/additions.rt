@@ -12,11 +12,14 @@ use rb_graph_rows::{
 use rb_valset::ValidatorSet;
 use std::alloc::Allocator;
 
-/// Additions to the book, with its refusals. Only the rows that an addition reaches are changed, and
-/// an error changes nothing.
+/// Additions to the light store. The book's own refusals come first (`ChainBook::judge_set`,
+/// `judge_record`, `judge_header`), then `NoMemory`; an error changes nothing, and neither does what
+/// the book has already. Only rows that an addition reaches are changed: the table stays that of its
+/// book, for much less than making it anew.
 impl<A: Allocator + Copy> Graph<A> {
-    /// Adds a set, unless the book refuses it: each row above a record that names the set as its next
-    /// gets a cell.
+    /// Adds a validator set: `HashClash` where the book has another set of this hash, `Full` where it
+    /// has as many sets or addresses as it may. Each row above a record that names the set as its next
+    /// gets the power of its header's commit voters in the set, one sum for each such row.
     pub fn add_set(&mut self, set: ValidatorSet<A>) -> Result<(), BookError>
         ensures accepted { OnOk result (set_refusal self.old set ≡ None) }
         ensures added { OnOk result (self.new ≡ after_set self.old set) }
@@ -42,8 +45,10 @@ impl<A: Allocator + Copy> Graph<A> {
         Ok(())
     }
 
-    /// Adds a record, unless the book refuses it: each row above it gets a cell, where its next set is
-    /// known.
+    /// Adds a record at a height: `Conflict` where the height has another record, `TimeOrder` where its
+    /// time doesn't stand between those of its neighbours, `Full` where the book has as many records as
+    /// it may. Where its next set is known and no lower record names that, each row above the record
+    /// gets its power in the set.
     pub fn add_record(&mut self, height: Height, entry: Record) -> Result<(), BookError>
         ensures accepted { OnOk result (record_refusal self.old height entry ≡ None) }
         ensures added { OnOk result (self.new ≡ after_record self.old height entry) }
@@ -64,8 +69,10 @@ impl<A: Allocator + Copy> Graph<A> {
         Ok(())
     }
 
-    /// Adds a header and its record, unless the book refuses it: the header gets its row, and each row
-    /// above it gets a cell, where the record is new and its next set is known.
+    /// Adds a header and its record: `UnknownSet` where the book hasn't the header's own set,
+    /// `WrongVerdictCount` where it hasn't one vote for each member of that set, `BadVote` where one is
+    /// bad, `Conflict` where the height has another header, and what `add_record` answers for its
+    /// record. The header gets its row, and the rows above it what the record brings them.
     pub fn add_header(&mut self, header: Header<A>) -> Result<(), BookError>
         ensures accepted { OnOk result (header_refusal self.old header ≡ None) }
         ensures added { OnOk result (self.new ≡ after_header self.old header) }

@@ -13,10 +13,11 @@ use rb_graph_rows::{Lanes, StoredRow};
 use std::alloc::{Allocator, Global};
 
 impl<A: Allocator + Copy> Frame<A> {
-    /// The table of these rows, where each row of the frame is among them once. Else frame and rows
-    /// are handed back, these by rising number, with the cause: 552 `RowTwice` with the least number
-    /// that two rows have, or 551 `RowMissing` with the least number that no row has; or want of
-    /// memory.
+    /// The table of these rows, in whatever order they are given, where each row of the frame is among
+    /// them once. Else the frame and the rows, now by rising number, are handed back with the first
+    /// cause that applies: `RowTwice` with the least number that two rows have, `RowMissing` with the
+    /// least number that no row has, `NoMemory` where there is no room for the table's list of rows.
+    /// Rows are moved, and none is summed anew.
     pub fn finish(
         self,
         mut rows: Vec<FrameRow<A>, A>,
@@ -114,7 +115,7 @@ fn first_missing<A: Allocator>(rows: &[FrameRow<A>], total: usize) -> Option<usi
     None
 }
 
-/// What the rows keep, in room that was made for it.
+/// The stored rows of these, in room that was made for them.
 fn kept_in_order<A: Allocator>(
     rows: Vec<FrameRow<A>, A>,
     room: Vec<StoredRow<A>, A>,

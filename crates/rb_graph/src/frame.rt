@@ -12,8 +12,9 @@ use rb_lanes::{Columns, Tally};
 use std::alloc::{AllocError, Allocator, Global};
 use std::marker::Model;
 
-/// A book, with what its rows are made from. Each row is made by itself, so that many threads that
-/// are lent the frame can make rows side by side.
+/// A book whose rows are to be made, with what they are made from: the places of the records' next
+/// sets, and the members of all sets by column. Each row is made by itself, so that many threads that
+/// are lent the frame can make rows side by side; `finish` puts these together to the table.
 #[derive(Drop)]
 pub struct Frame<A: Allocator = Global> {
     pub(crate) book: ChainBook<A>,
@@ -40,7 +41,8 @@ impl<A: Allocator> Model for Frame<A> {
 }
 
 impl<A: Allocator + Copy> Frame<A> {
-    /// The frame of a book. The book is given up where memory is wanting.
+    /// The frame of this book: numbers the members of all sets, and makes no row. `AllocError` where
+    /// memory is wanting; the book is lost then.
     pub fn from_book(alloc: A, book: ChainBook<A>) -> Result<Frame<A>, AllocError>
         ensures { IfOk result (λ frame. frame ≡ book) }
     {
@@ -57,14 +59,14 @@ impl<A: Allocator + Copy> Frame<A> {
         })
     }
 
-    /// The number of rows: one for each header.
+    /// The number of rows that make the table: one for each header, numbered from 0 by rising height.
     pub fn rows(&self) -> usize
         ensures { result ≡ length self.now.headers }
     {
         self.book.headers().len()
     }
 
-    /// The book.
+    /// The book whose rows are to be made.
     pub fn book(&self) -> &ChainBook<A>
         ensures { result.now ≡ self.now }
     {
@@ -87,7 +89,9 @@ impl<A: Allocator + Copy> Frame<A> {
         self.lowest.as_slice()
     }
 
-    /// Makes the row of the header at a place.
+    /// Makes the row with this number, that of the header at this place among the book's headers: it
+    /// sums the header's power in each set that a lower record names. `AllocError` where memory is
+    /// wanting. A row may be made any number of times; `finish` takes one of each.
     pub fn row(&self, n: usize) -> Result<FrameRow<A>, AllocError>
         requires { n < length self.now.headers }
         ensures number { IfOk result (λ row. row.number ≡ n) }

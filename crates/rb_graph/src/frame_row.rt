@@ -7,7 +7,8 @@ use rb_graph_rows::{StoredRow, is_stored_row_of};
 use std::alloc::{Allocator, Global};
 use std::marker::Model;
 
-/// A row that was made of a frame, with its number.
+/// A row of a step table by itself, with its number among the rows of the frame that made it: so
+/// rows that several threads make in any order can be put together.
 #[derive(Debug, Drop)]
 pub struct FrameRow<A: Allocator = Global> {
     number: usize,
@@ -29,7 +30,8 @@ impl<A: Allocator> FrameRow<A> {
         FrameRow { number, kept }
     }
 
-    /// The row's number: the place of its header among the book's headers.
+    /// The row's number, from 0: the place of its header among the book's headers, which stand by
+    /// rising height.
     pub fn number(&self) -> usize
         ensures { result ≡ self.now.number }
     {
@@ -44,8 +46,9 @@ impl<A: Allocator> FrameRow<A> {
 }
 
 impl<A: Allocator + Copy> FrameRow<A> {
-    /// Whether this is the frame's row of its number, by their contents. Takes no memory: the frame's
-    /// own row is summed anew, one look-up for each member of each set that a lower record names.
+    /// Whether this is the frame's row of its number, by its contents; false where the frame has no
+    /// row of this number. For rows of which it isn't known what made them: the frame's own row is
+    /// summed anew, by a look-up for each member of each set that a lower record names.
     pub fn is_of(&self, frame: &Frame<A>) -> bool
         ensures { IsTrue result ↔ IsRowOf frame.now self.now }
     {

@@ -1,5 +1,5 @@
 -- Lists whose keys rise: each stands below all later ones.
-use Rattle.std.proofs.Common.{ℕ, zero, suc, ◌≡◌, ◌+◌, ◌<◌, List, [], ◌∷◌, length, map, get_or, arith}
+use Rattle.std.proofs.Common.{ℕ, suc, ◌<◌, List, [], ◌∷◌, length, map, get_or, arith}
 use Rattle.std.specs.List.{AllByRecursion, AllPairs}
 use Rattle.std.specs.List.Sorted.{IsStrictlyIncreasing}
 use Rattle.std.proofs.lemmas.List.Kept.{AllPairs-from_increasing}
@@ -23,14 +23,6 @@ up_from_pairs f (x ∷ xs) h = (
 
 pub up_from_increasing : {X : Type 0} (f : X → ℕ) (xs : List X) → IsStrictlyIncreasing (map f xs) → Up f xs
 up_from_increasing f xs h = up_from_pairs f xs (AllPairs-from_increasing (map f xs) h)
-
-pub increasing_from_up : {X : Type 0} (f : X → ℕ) (xs : List X) → Up f xs → IsStrictlyIncreasing (map f xs)
-increasing_from_up f [] h k lt = absurd (omega arith)
-increasing_from_up f (x ∷ []) h k lt = absurd (omega arith)
-increasing_from_up f (x ∷ y ∷ xs) h zero lt = h.0.0
-increasing_from_up f (x ∷ y ∷ xs) h (suc k) lt =
-    let n : suc k + 1 ≡ suc (k + 1) = omega arith in
-    rw n (increasing_from_up f (y ∷ xs) h.1 k (omega arith))
 
 -- a book's records stand by rising height
 pub heights_up : (b : Book) → IsBook b → Up height_of b.records

@@ -1,4 +1,4 @@
-//! What a step table keeps, made from its book.
+//! The stored rows of a step table, made from its book.
 ghost use Rattle.std.specs.Prelude.{◌≡◌, ◌<◌, map, length, slice_get, IfOk, Some, All, Contains, IsTrue, ◌↔◌};
 ghost use Rattle.std.specs.Option.{option_copied, option_map};
 ghost use Rattle.rb_book.specs.Invariant.{IsBook, IsBacked};
@@ -15,7 +15,9 @@ use rb_step::{is_signed_by_two_thirds, signed_power};
 use rb_valset::ValidatorSet;
 use std::alloc::{AllocError, Allocator};
 
-/// For each known record, by its place, the place of its next set, where that is known.
+/// One entry for each record of the book, by its place: the place among the book's sets of the set that
+/// the record names as its next, `None` where the book hasn't that set. One binary search for each
+/// record, so that nobody who reads the table searches again. `AllocError` where memory is wanting.
 pub fn next_places<A: Allocator + Copy>(
     alloc: A,
     book: &ChainBook<A>,
@@ -32,7 +34,9 @@ pub fn next_places<A: Allocator + Copy>(
         .collect(alloc)
 }
 
-/// The height of the lowest known record that names the set as its next.
+/// The height of the lowest record that names the set as its next, `None` where no record does: headers
+/// above it have a signed power in the set. The records are looked through from the lowest on. The set
+/// needn't be one of the book's.
 pub fn first_naming<A: Allocator + Copy>(
     book: &ChainBook<A>,
     set: &ValidatorSet<A>,
@@ -45,8 +49,8 @@ pub fn first_naming<A: Allocator + Copy>(
         .map(|known| known.height())
 }
 
-/// For each set of the book, by its place, the height of the lowest known record that names it as its
-/// next.
+/// One entry for each set of the book, by its place: the height of the lowest record that names the set
+/// as its next, `None` where no record does. `AllocError` where memory is wanting.
 pub fn first_namings<A: Allocator + Copy>(
     alloc: A,
     book: &ChainBook<A>,
@@ -124,8 +128,9 @@ fn stored_power<A: Allocator + Copy>(
     }
 }
 
-/// What is kept of a header whose own set stands at a place: all its sums are read from one plane of
-/// its commit voters.
+/// The row of a header whose own set stands at a place: all its sums are read from one plane of its
+/// commit voters. `lowest`, `columns` and `tallies` are as for `stored_row_of`; `AllocError` where memory
+/// is wanting.
 #[tactic(auto, unfolding(crate::specs::StoredRow::stored_row_of))]
 pub fn stored_row_by_columns<A: Allocator + Copy>(
     alloc: A,
@@ -141,7 +146,7 @@ pub fn stored_row_by_columns<A: Allocator + Copy>(
     requires lowest { lowest.now ≡ map (first_naming book.now) book.now.sets }
     requires numbered { All (AreNumbered columns.now) book.now.sets }
     requires tallies { tallies.now ≡ map (entries_of columns.now) book.now.sets }
-    ensures { IfOk result (λ kept. kept ≡ stored_row_of book.now header.now) }
+    ensures { IfOk result (λ row. row ≡ stored_row_of book.now header.now) }
 {
     let own = own_at(book, header, own_place);
     let own_tally = &tallies[own_place];
@@ -164,8 +169,11 @@ pub fn stored_row_by_columns<A: Allocator + Copy>(
     Ok(StoredRow::new(own.size(), is_signed, signed))
 }
 
-/// What is kept of a header of the book, made by columns: `lowest` has for each set the height of the
-/// lowest record that names it, `columns` and `tallies` have the sets' members and powers.
+/// The row of a header of the book. `lowest` has the height at which each set is first named
+/// (`first_namings`), `columns` a column for the address of each member of each set (`number_sets`), and
+/// `tallies` each set's powers by column (`tallies_of`), all by the sets' places. The header's commit
+/// voters are written once into a plane of bits, one for each column, and its power in each set is a sum
+/// over that plane. `AllocError` where memory is wanting.
 pub fn stored_row_of<A: Allocator + Copy>(
     alloc: A,
     book: &ChainBook<A>,
@@ -178,7 +186,7 @@ pub fn stored_row_of<A: Allocator + Copy>(
     requires lowest { lowest.now ≡ map (first_naming book.now) book.now.sets }
     requires numbered { All (AreNumbered columns.now) book.now.sets }
     requires tallies { tallies.now ≡ map (entries_of columns.now) book.now.sets }
-    ensures { IfOk result (λ kept. kept ≡ stored_row_of book.now header.now) }
+    ensures { IfOk result (λ row. row ≡ stored_row_of book.now header.now) }
 {
     let place = own_place(book, header);
     stored_row_by_columns(alloc, book, header, place, lowest, columns, tallies)
@@ -229,20 +237,22 @@ fn are_powers<A: Allocator + Copy>(
     true
 }
 
-/// Whether this is what is kept of a header.
+/// Whether this is the row of a header of the book, by its contents: its sums are made anew, by a
+/// look-up for each member of each set that a lower record names, without columns. `lowest` has the
+/// height at which each set is first named (`first_namings`).
 #[tactic(auto, unfolding(crate::specs::StoredRow::stored_row_of))]
 pub fn is_stored_row_of<A: Allocator + Copy>(
     book: &ChainBook<A>,
     header: &Header<A>,
     lowest: &[Option<Height>],
-    kept: &StoredRow<A>,
+    row: &StoredRow<A>,
 ) -> bool
     requires backed { IsBacked book.now header.now }
     requires lowest { lowest.now ≡ map (first_naming book.now) book.now.sets }
-    ensures { IsTrue result ↔ (kept.now ≡ stored_row_of book.now header.now) }
+    ensures { IsTrue result ↔ (row.now ≡ stored_row_of book.now header.now) }
 {
     let own = own_set(book, header);
-    kept.size() == own.size()
-        && kept.is_signed() == is_signed_by_two_thirds(header, own)
-        && are_powers(book, header, own, lowest, kept.signed())
+    row.size() == own.size()
+        && row.is_signed() == is_signed_by_two_thirds(header, own)
+        && are_powers(book, header, own, lowest, row.signed())
 }

@@ -1,6 +1,6 @@
-//! The members of a book's sets by column, which are kept while sets and headers come. They only make
-//! sums quick: where memory or columns are wanting they are given up, and the next header that comes
-//! has them numbered anew.
+//! The members of a book's sets by column, which stay beside a table while sets and headers come. They
+//! only make sums quick: where memory or columns are wanting they are given up, and the next header that
+//! comes has them numbered anew.
 ghost use Rattle.std.specs.Prelude.{◌≡◌, ◌≤◌, IfOk, IfSome, OnOk, None, count_by, length, map};
 ghost use Rattle.rb_lanes.specs.Lanes.{max_columns};
 ghost use Rattle.rb_valset.specs.ValidatorSet.{set_hash};
@@ -14,7 +14,9 @@ use rb_lanes::{Columns, LanesError, Tally};
 use rb_valset::ValidatorSet;
 use std::alloc::{AllocError, Allocator};
 
-/// The columns of the members of a book's sets, and the powers of each set by column, by its place.
+/// The members of all sets of a book by column: a column for each address, and one tally for each set,
+/// by its place, with the powers of its members beside their columns. A table that grows has them, so
+/// that a new header is summed without numbering any member again.
 #[derive(Debug, Drop)]
 pub struct Lanes<A: Allocator> {
     pub columns: Columns<A>,
@@ -66,8 +68,9 @@ fn enter<A: Allocator + Copy>(
     Ok(())
 }
 
-/// Takes in a set that stands at a place from now on, where there are lanes, or gives them up where
-/// memory or columns are wanting.
+/// Makes the lanes those of the book with a new set, which stands at this place: numbers its members and
+/// makes its tally. Lanes only make sums quick, so there is no error: where memory or columns are wanting
+/// they are given up, and `None` stays `None`.
 pub fn enter_set<A: Allocator + Copy>(
     alloc: A,
     book: &ChainBook<A>,
@@ -79,11 +82,11 @@ pub fn enter_set<A: Allocator + Copy>(
     requires place { place ≡ count_by (is_before (set_hash set.now)) book.now.sets }
     ensures { IfSome lanes.new (λ l. AreLanesOf (with_set book.now set.now).sets l.columns l.tallies.items) }
 {
-    let is_kept = match lanes {
+    let is_entered = match lanes {
         Some(known) => enter(alloc, book, known, set, place).is_ok(),
         None => true,
     };
-    if !is_kept {
+    if !is_entered {
         *lanes = None;
     }
 }

@@ -1,6 +1,6 @@
-//! What a step table keeps of its book, so that no row sums powers twice: for each header its signed
-//! power in each set that a lower record names; how it is made, by columns, and what an addition to
-//! the book changes of it.
+//! The stored rows of a step table: for each header its signed power in each validator set that a lower
+//! record names. They are made by columns, so that no power is summed twice, and kept up to date as the
+//! light store grows.
 #![tactic(auto)]
 
 mod build;

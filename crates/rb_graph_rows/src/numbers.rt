@@ -28,7 +28,9 @@ fn number<A: Allocator>(columns: &mut Columns<A>, address: &[u8; 20]) -> Result<
     }
 }
 
-/// Numbers the addresses of all members of all sets, by columns. The only error is want of memory.
+/// A column for the address of each member of these sets, the same one for an address that several sets
+/// have. A book's sets have at most 65,536 different addresses, so there is a column for each:
+/// `AllocError` comes only where memory is wanting.
 pub fn number_sets<A: Allocator + Copy>(
     alloc: A,
     sets: &[ValidatorSet<A>],
@@ -62,7 +64,8 @@ pub fn tally_of<A: Allocator + Copy>(
     Tally::new(alloc, entries)
 }
 
-/// The powers of each set by column, by the set's place.
+/// One tally for each set, by its place: the set's powers, each beside its member's column. `AllocError`
+/// where memory is wanting.
 pub fn tallies_of<A: Allocator + Copy>(
     alloc: A,
     columns: &Columns<A>,

@@ -1,4 +1,4 @@
-//! What an addition to the book changes of a step table.
+//! What an addition to the book changes of the stored rows.
 ghost use Rattle.std.specs.Prelude.{◌≡◌, ◌<◌, ◌≤◌, ◌++◌, take, drop, length, map, slice_get, count_by, position, IfOk, IfSome, IsFalse, OnOk, OnErr, None, Some};
 ghost use Rattle.std.specs.List.Sorted.{IsStrictlyIncreasing};
 ghost use Rattle.rb_valset.specs.ValidatorSet.{set_hash};
@@ -30,8 +30,10 @@ fn own_place_of_new<A: Allocator + Copy>(book: &ChainBook<A>, header: &Header<A>
     book.set_place(header.set_hash()).unwrap()
 }
 
-/// What is to be kept of a header that the book doesn't refuse. The lanes are made anew where there
-/// are none.
+/// The row of a header that the book doesn't refuse and doesn't have yet. `lowest` has the height at
+/// which each set is first named, by the set's place. Where there are no `lanes` the sets' members are
+/// numbered, and the lanes stay for the next header. `AllocError` where memory is wanting; lanes that
+/// were there stay.
 pub fn new_row<A: Allocator + Copy>(
     alloc: A,
     book: &ChainBook<A>,
@@ -42,7 +44,7 @@ pub fn new_row<A: Allocator + Copy>(
     requires accepted { header_refusal book.now header.now ≡ None }
     requires lowest { lowest.now ≡ map (first_naming book.now) book.now.sets }
     requires lanes { IfSome lanes.old (λ l. AreLanesOf book.now.sets l.columns l.tallies.items) }
-    ensures row { IfOk result (λ kept. kept ≡ stored_row_of book.now header.now) }
+    ensures row { IfOk result (λ row. row ≡ stored_row_of book.now header.now) }
     ensures lanes { IfSome lanes.new (λ l. AreLanesOf book.now.sets l.columns l.tallies.items) }
 {
     let place = own_place_of_new(book, header);
@@ -57,7 +59,8 @@ pub fn new_row<A: Allocator + Copy>(
     Ok(row)
 }
 
-/// How many headers are lower.
+/// How many of a book's headers are below a height: the place at which a header of that height stands, or
+/// is put in. A binary search.
 pub fn lower_headers<A: Allocator + Copy>(headers: &[Header<A>], height: Height) -> usize
     requires { IsStrictlyIncreasing (map header_height headers.now) }
     ensures { result ≡ count_by (header_is_below height) headers.now }
@@ -103,7 +106,7 @@ fn add_cell<A: Allocator + Copy>(
     }
     let own = own_set(book, header);
     let power = signed_power(&book.sets()[set_place], own, header);
-    row.keep(set_place, power);
+    row.set_signed(set_place, power);
 }
 
 /// The same for each row.
@@ -150,9 +153,11 @@ fn name_set<A: Allocator + Copy>(
     true
 }
 
-/// Makes the places of next sets, the heights at which sets are first named and the rows those of the
-/// book with this record, which it doesn't refuse. The rows above it get their cells where no lower
-/// record names its next set, and else have them; an error changes nothing.
+/// Enters a record that the book doesn't refuse, before the book takes it in: the places of next sets, the
+/// heights at which sets are first named and the rows are then those of the book with this record. Where
+/// no lower record names its next set, each row above it gets its power in that set, one sum a row; else
+/// they have it already. `AllocError` where there is no room for one more place; nothing changes then,
+/// nor where the book has the record.
 pub fn enter_record<A: Allocator + Copy>(
     book: &ChainBook<A>,
     places: &mut Vec<Option<usize>, A>,
@@ -187,7 +192,8 @@ pub fn enter_record<A: Allocator + Copy>(
 
 // ---- a set
 
-/// How many sets stand before a set, by their hashes.
+/// How many of a book's sets have a lower hash than this set: the place at which it is put in, since a
+/// book's sets stand by rising hash. Each set is looked at.
 pub fn lower_sets<A: Allocator + Copy>(sets: &[ValidatorSet<A>], set: &ValidatorSet<A>) -> usize
     ensures { result ≡ count_by (is_before (set_hash set.now)) sets.now }
 {
@@ -228,7 +234,8 @@ fn next_with<A: Allocator + Copy>(
     }
 }
 
-/// The places of the records' next sets, once a new set stands at this place.
+/// Makes the places of the records' next sets those of the book with a new set, which stands at this
+/// place (`lower_sets`): later places move up by one, and records that name the set get its place.
 pub fn move_places<A: Allocator + Copy>(
     book: &ChainBook<A>,
     places: &mut Vec<Option<usize>, A>,
@@ -266,7 +273,9 @@ fn late_power<A: Allocator + Copy>(
     }
 }
 
-/// The signed power of each header in a set that comes, where a lower record names it.
+/// One entry for each header of the book, by its place: its signed power in a set that is to be added,
+/// `None` where no record below the header names the set. `enter_powers` puts them into the rows.
+/// `AllocError` where memory is wanting.
 pub fn late_powers<A: Allocator + Copy>(
     alloc: A,
     book: &ChainBook<A>,
@@ -341,7 +350,9 @@ fn leave_powers<A: Allocator + Copy>(
     }
 }
 
-/// Puts the headers' signed powers in a new set into their rows; an error changes none.
+/// Makes the rows those of the book with a new set, which stands at this place (`lower_sets`): each row
+/// gets the header's signed power in the set (`late_powers`) at that place. `AllocError` where memory is
+/// wanting; rows that had theirs lose it again, so that nothing changes.
 pub fn enter_powers<A: Allocator + Copy>(
     book: &ChainBook<A>,
     rows: &mut [StoredRow<A>],

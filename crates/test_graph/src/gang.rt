@@ -3,6 +3,7 @@ ghost use Rattle.std.specs.Prelude.{◌<◌, ◌≤◌, All, IfOk};
 ghost use Rattle.rb_graph.specs.Frame.{IsRowOf};
 
 use crate::same::assert_same;
+use crate::steps::steps_of;
 use rb_base::{Gate, OpenGate, WorkItem};
 use rb_book::{ChainBook, Header, Record, Vote};
 use rb_gang::laws::count;
@@ -53,31 +54,29 @@ fn make_frame(alloc: Global, headers: u64) -> Result<Frame, Fail> {
     Ok(Frame::from_book(alloc, book)?)
 }
 
-/// The sum of a table's signed powers and totals over all cells, and the number of its rows and cells.
-fn summary(graph: &Graph) -> (u64, u64, usize) {
-    let mut power: u64 = 0;
-    let mut rows: u64 = 0;
-    let mut cells: usize = 0;
-    for row in graph.rows() {
-        rows = rows.saturating_add(1);
-        for cell in row.cells() {
-            cells = cells.saturating_add(1);
-            power = power.saturating_add(cell.signed().saturating_add(cell.total()));
-        }
+/// The number of steps that a table tells, and the sum of their fees.
+type Summary = (usize, u64);
+
+/// The summary for a trust level of 99 hundredths.
+fn summary(alloc: Global, graph: &Graph) -> Result<Summary, Fail> {
+    let steps = steps_of(alloc, graph, 99)?;
+    let mut fees: u64 = 0;
+    for (_, _, fee) in steps.iter() {
+        fees = fees.saturating_add(*fee);
     }
-    (power, rows, cells)
+    Ok((steps.len(), fees))
 }
 
-/// Headers, workers, and the table's sum, rows and cells: each header has a cell of power 100 signed of
-/// 100 for each lower one.
-const TABLES: &[(u64, usize, (u64, u64, usize))] = &[
-    (0, 1, (0, 0, 0)),
-    (0, 8, (0, 0, 0)),
-    (1, 2, (0, 1, 0)),
-    (10, 1, (9_000, 10, 45)),
-    (10, 2, (9_000, 10, 45)),
-    (10, 8, (9_000, 10, 45)),
-    (10, 64, (9_000, 10, 45)),
+/// Headers, workers, and the summary of the table: each header is signed by all, so that there is a step
+/// into it from each lower one, for 1,204.
+const TABLES: &[(u64, usize, Summary)] = &[
+    (0, 1, (0, 0)),
+    (0, 8, (0, 0)),
+    (1, 2, (0, 0)),
+    (10, 1, (45, 54_180)),
+    (10, 2, (45, 54_180)),
+    (10, 8, (45, 54_180)),
+    (10, 64, (45, 54_180)),
 ];
 
 /// The summary of a table by so many workers, where it is the table of its book.
@@ -86,13 +85,13 @@ fn built<R: Threads + Sync>(
     alloc: Global,
     headers: u64,
     workers: usize,
-) -> Result<(u64, u64, usize), Fail>
+) -> Result<Summary, Fail>
     requires { (0 < workers) × (workers ≤ 64) }
 {
     let book = make_book(alloc, headers)?;
     let graph = build(rt, alloc, book, workers, &OpenGate)?;
     if graph.is_of(&make_book(alloc, headers)?) {
-        Ok(summary(&graph))
+        summary(alloc, &graph)
     } else {
         Err(Fail::from("another book"))
     }

@@ -1,7 +1,9 @@
+//! Tables as they are made of a book: the steps that they tell, by hand and by the client's own judgement.
 use crate::same::assert_same;
-use rb_base::{FeeTable, Height, Window};
+use crate::steps::{Step, fees, options_with, push_steps, steps_of, wide_window};
+use rb_base::{Height, Options, Window};
 use rb_book::{ChainBook, Header, Record, Vote};
-use rb_graph::{Graph, Row};
+use rb_graph::Graph;
 use rb_step::{ClientView, are_known};
 use rb_valset::ValidatorSet;
 use std::alloc::Global;
@@ -74,144 +76,106 @@ fn make_graph(alloc: Global) -> Result<Graph, Fail> {
     Ok(Graph::from_book(alloc, make_book(alloc)?)?)
 }
 
-/// The power in a set of the header's commit voters, each looked for among all.
-fn plain_power(set: &ValidatorSet, own: &ValidatorSet, header: &Header) -> u64 {
-    let mut power: u64 = 0;
-    for member in set.members() {
-        for (voter, vote) in own.members().iter().zip(header.votes()) {
-            if voter.address() == member.address() && vote.is_commit() {
-                power = power.saturating_add(member.power());
-            }
-        }
-    }
-    power
-}
-
-/// A cell: trusted height, signed power, total and size.
-type Numbers = (u64, u64, u64, usize);
-
-/// The cells of a header, computed plainly, one record after the other.
-fn plain_cells(alloc: Global, book: &ChainBook, header: &Header) -> Result<Vec<Numbers>, Fail> {
-    let own = book.set(header.set_hash()).ok_or("set")?;
-    let mut cells = Vec::new(alloc);
-    for known in book.records() {
-        if known.height() < header.height() {
-            if let Some(next) = book.set(known.record().next()) {
-                let signed = plain_power(next, own, header);
-                cells.push((known.height().get(), signed, next.total(), next.size()))?;
-            }
-        }
-    }
-    Ok(cells)
-}
-
-/// The cells of a row.
-fn shown_cells(alloc: Global, row: &Row) -> Result<Vec<Numbers>, Fail> {
-    let mut cells = Vec::new(alloc);
-    for cell in row.cells() {
-        cells.push((
-            cell.trusted().get(),
-            cell.signed(),
-            cell.total(),
-            cell.size(),
-        ))?;
-    }
-    Ok(cells)
-}
-
-/// A row: its height, whether more than two thirds of the own set signed, the commit votes, and the
-/// cells.
-type Shown = (u64, bool, usize, &'static [Numbers]);
-
-/// The rows of the book by hand.
-const ROWS: &[Shown] = &[
-    (1, true, 3, &[]),
-    (3, true, 2, &[(1, 70, 100, 4)]),
-    (6, true, 3, &[(1, 40, 100, 4), (3, 70, 100, 4)]),
-    (
-        7,
-        true,
-        2,
-        &[(1, 70, 100, 4), (3, 70, 100, 4), (6, 70, 100, 4)],
-    ),
-    (
-        9,
-        false,
-        1,
-        &[
-            (1, 0, 100, 4),
-            (3, 20, 100, 4),
-            (6, 20, 100, 4),
-            (7, 50, 100, 3),
-        ],
-    ),
-    (
-        10,
-        true,
-        2,
-        &[
-            (1, 0, 100, 4),
-            (3, 20, 100, 4),
-            (6, 20, 100, 4),
-            (7, 80, 100, 3),
-            (9, 80, 100, 3),
-        ],
-    ),
-];
-
-/// What a row says beside its cells.
-fn check_header(rt: &impl Abort, header: &Header, row: &Row, wanted: &Shown) -> Result<(), Fail> {
-    let (number, is_signed, commits, _) = *wanted;
-    let (at, time) = (height(number)?, second(number.saturating_mul(10))?);
-    let shown = (row.height(), row.time(), row.size());
-    assert_same(rt, &number, &shown, &(at, time, header.votes().len()));
-    let shown = (row.commits(), row.is_signed());
-    assert_same(rt, &number, &shown, &(commits, is_signed));
-    Ok(())
-}
-
-/// The cells of a row, and those by the plain program.
-fn check_cells(
+/// The fee of the step by the client's own judgement, where it accepts it.
+fn judged_fee(
     rt: &impl Abort,
-    alloc: Global,
-    (book, header): (&ChainBook, &Header),
-    row: &Row,
-    wanted: &[Numbers],
+    book: &ChainBook,
+    (into, trusted): (Height, Height),
+    options: Options,
+    window: Window,
+) -> Result<Option<u64>, Fail> {
+    assert!(rt; are_known(&[], book));
+    let view = ClientView::new(options, fees()?, &[], window, book);
+    if view.accepts(trusted, into) {
+        Ok(Some(view.fee(trusted, into)))
+    } else {
+        Ok(None)
+    }
+}
+
+/// Pushes the steps into a height by the client's own judgement of each record.
+fn push_judged(
+    rt: &impl Abort,
+    book: &ChainBook,
+    into: Height,
+    options: Options,
+    window: Window,
+    steps: &mut Vec<Step>,
 ) -> Result<(), Fail> {
-    let shown = shown_cells(alloc, row)?;
-    assert_same(rt, &row.height(), &shown.as_slice(), &wanted);
-    let plain = plain_cells(alloc, book, header)?;
-    assert_same(rt, &row.height(), &plain.as_slice(), &wanted);
+    for record in book.records() {
+        let trusted = record.height();
+        if let Some(fee) = judged_fee(rt, book, (into, trusted), options, window)? {
+            steps.push((into.get(), trusted.get(), fee))?;
+        }
+    }
     Ok(())
 }
 
-fn check_row(
+/// The steps into each header by the client's own judgement.
+fn judged_steps(
     rt: &impl Abort,
     alloc: Global,
     book: &ChainBook,
-    row: &Row,
-    wanted: &Shown,
-) -> Result<(), Fail> {
-    let header = book.header(height(wanted.0)?).ok_or("header")?;
-    check_header(rt, header, row, wanted)?;
-    check_cells(rt, alloc, (book, header), row, wanted.3)
+    level: u64,
+) -> Result<Vec<Step>, Fail> {
+    let (options, window) = (options_with(level)?, wide_window()?);
+    let mut steps = Vec::new(alloc);
+    for header in book.headers() {
+        push_judged(rt, book, header.height(), options, window, &mut steps)?;
+    }
+    Ok(steps)
 }
 
-/// All rows of a table.
-fn check_rows(rt: &impl Abort, alloc: Global, graph: &Graph) -> Result<(), Fail> {
-    let mut rows = graph.rows();
-    for wanted in ROWS {
-        let row = rows.next().ok_or("row")?;
-        check_row(rt, alloc, graph.book(), &row, wanted)?;
-    }
-    assert!(rt; rows.next().is_none() && graph.row(height(4)?).is_none());
-    Ok(())
-}
+/// All steps of the book.
+const ALL: &[Step] = &[
+    (3, 1, 1_208),
+    (6, 1, 1_308),
+    (6, 3, 1_308),
+    (7, 1, 1_208),
+    (7, 3, 1_208),
+    (7, 6, 1_208),
+    (10, 7, 1_206),
+    (10, 9, 1_206),
+];
+
+/// Without the one whose trusted set signed 40 of 100.
+const OVER_40: &[Step] = &[
+    (3, 1, 1_208),
+    (6, 3, 1_308),
+    (7, 1, 1_208),
+    (7, 3, 1_208),
+    (7, 6, 1_208),
+    (10, 7, 1_206),
+    (10, 9, 1_206),
+];
+
+/// Without those whose trusted set signed 70.
+const OVER_70: &[Step] = &[(7, 6, 1_208), (10, 7, 1_206), (10, 9, 1_206)];
+
+/// Without the one whose trusted set signed 80: the adjacent steps.
+const ADJACENT: &[Step] = &[(7, 6, 1_208), (10, 9, 1_206)];
+
+/// Trust levels in hundredths, and the steps.
+const LEVELS: &[(u64, &[Step])] = &[
+    (39, ALL),
+    (40, OVER_40),
+    (69, OVER_40),
+    (70, OVER_70),
+    (79, OVER_70),
+    (80, ADJACENT),
+    (100, ADJACENT),
+];
 
 #[test]
-fn shows_rows(rt: HostRuntime) -> Result<(), Fail> {
+fn tells_steps(rt: HostRuntime) -> Result<(), Fail> {
     let graph = make_graph(rt.alloc())?;
-    check_rows(&rt, rt.alloc(), &graph)
+    for (level, wanted) in LEVELS {
+        let told = steps_of(rt.alloc(), &graph, *level)?;
+        assert_same(&rt, level, &told.as_slice(), wanted);
+        let judged = judged_steps(&rt, rt.alloc(), graph.book(), *level)?;
+        assert_same(&rt, level, &judged.as_slice(), wanted);
+    }
+    Ok(())
 }
 
 /// A height, the first and last second of a window, and the heights from which the step is accepted.
@@ -230,38 +194,13 @@ const STEPS: &[Accepted] = &[
     (10, 200, 1_009, &[7, 9]),
 ];
 
-/// The heights of the steps that the table shows.
-fn shown_steps(
-    alloc: Global,
-    graph: &Graph,
-    into: Height,
-    window: &Window,
-) -> Result<Vec<u64>, Fail> {
-    let options = options()?;
-    let mut shown = Vec::new(alloc);
-    for step in graph.steps_into(into, &options, window) {
-        shown.push(step.get())?;
+/// The trusted heights of the steps.
+fn heights_of(alloc: Global, steps: &[Step]) -> Result<Vec<u64>, Fail> {
+    let mut heights = Vec::new(alloc);
+    for (_, trusted, _) in steps {
+        heights.push(*trusted)?;
     }
-    Ok(shown)
-}
-
-/// The heights of the steps by the client's own judgement of each record.
-fn judged_steps(
-    rt: &impl Abort,
-    alloc: Global,
-    book: &ChainBook,
-    into: Height,
-    window: Window,
-) -> Result<Vec<u64>, Fail> {
-    assert!(rt; are_known(&[], book));
-    let view = ClientView::new(options()?, FeeTable::new(1000, 100, 1)?, &[], window, book);
-    let mut judged = Vec::new(alloc);
-    for known in book.records() {
-        if view.accepts(known.height(), into) {
-            judged.push(known.height().get())?;
-        }
-    }
-    Ok(judged)
+    Ok(heights)
 }
 
 fn check_steps(
@@ -272,36 +211,25 @@ fn check_steps(
 ) -> Result<(), Fail> {
     let into = height(*number)?;
     let window = Window::new(second(*from)?, second(*until)?)?;
-    let shown = shown_steps(alloc, graph, into, &window)?;
-    assert_same(rt, &into, &shown.as_slice(), trusted);
-    let judged = judged_steps(rt, alloc, graph.book(), into, window)?;
-    assert_same(rt, &into, &judged.as_slice(), trusted);
+    let mut told = Vec::new(alloc);
+    push_steps(graph, into, options()?, window, &mut told)?;
+    assert_same(
+        rt,
+        &into,
+        &heights_of(alloc, told.as_slice())?.as_slice(),
+        trusted,
+    );
+    let mut judged = Vec::new(alloc);
+    push_judged(rt, graph.book(), into, options()?, window, &mut judged)?;
+    assert_same(rt, &into, &judged, &told);
     Ok(())
 }
 
 #[test]
-fn shows_steps(rt: HostRuntime) -> Result<(), Fail> {
+fn tells_steps_by_window(rt: HostRuntime) -> Result<(), Fail> {
     let graph = make_graph(rt.alloc())?;
     for accepted in STEPS {
         check_steps(&rt, rt.alloc(), &graph, accepted)?;
     }
     Ok(())
-}
-
-/// The fees of a step from one height into another; a step that no row has costs nothing.
-const FEES: &[(u64, u64, u64)] = &[(1, 10, 1_207), (4, 10, 1_203), (2, 10, 0), (1, 4, 0)];
-
-fn check_fees(rt: &impl Abort, graph: &Graph) -> Result<(), Fail> {
-    let fees = FeeTable::new(1000, 100, 1)?;
-    for (low, number, wanted) in FEES {
-        let fee = graph.charge(&fees, height(*low)?, height(*number)?);
-        assert_same(rt, low, &fee, wanted);
-    }
-    Ok(())
-}
-
-#[test]
-fn charges_steps(rt: HostRuntime) -> Result<(), Fail> {
-    let graph = make_graph(rt.alloc())?;
-    check_fees(&rt, &graph)
 }

@@ -1,5 +1,6 @@
-//! Tables that are kept: additions give what a table made anew of the same book has.
+//! Tables that grow: after additions they tell the steps that a table made anew of the same book tells.
 use crate::same::assert_same;
+use crate::steps::{Step, steps_of};
 use rb_book::{ChainBook, Header, Record, Vote};
 use rb_graph::{Graph, SharedGraph};
 use std::alloc::Global;
@@ -7,42 +8,14 @@ use std::process::Abort;
 use std::test::Fail;
 use test_values::{Members, height, make_set, second};
 
-/// Four members of power 10 each.
+/// Four members of power 10 each, some of whom are members of another set.
 const A: Members = &[(0xa1, 10), (0xa2, 10), (0xa3, 10), (0xa4, 10)];
 
-const B: Members = &[(0xb1, 10), (0xb2, 10), (0xb3, 10), (0xb4, 10)];
+const B: Members = &[(0xa1, 10), (0xa2, 10), (0xa3, 10), (0xb4, 10)];
 
-const D: Members = &[(0xa1, 10), (0xb2, 10), (0xd3, 10), (0xd4, 10)];
+const D: Members = &[(0xa1, 10), (0xb4, 10), (0xd3, 10), (0xd4, 10)];
 
 const VOTES: &[Vote] = &[Vote::Commit, Vote::Commit, Vote::Commit, Vote::Nil];
-
-/// A cell and the height of its row: that height, the trusted one, signed power, total and size.
-type Numbers = (u64, u64, u64, u64, usize);
-
-/// All cells of a table, row by row; a row begins with its height, size and number of commit votes.
-fn cells_of(alloc: Global, graph: &Graph) -> Result<Vec<Numbers>, Fail> {
-    let mut cells = Vec::new(alloc);
-    for row in graph.rows() {
-        let at = row.height().get();
-        cells.push((
-            at,
-            0,
-            u64::from(row.is_signed()),
-            row.commits() as u64,
-            row.size(),
-        ))?;
-        for cell in row.cells() {
-            let trusted = cell.trusted().get();
-            cells.push((at, trusted, cell.signed(), cell.total(), cell.size()))?;
-        }
-    }
-    Ok(cells)
-}
-
-/// The same of a table that is made of its book.
-fn cells_anew(alloc: Global, graph: &Graph) -> Result<Vec<Numbers>, Fail> {
-    cells_of(alloc, &Graph::from_book(alloc, graph.book().copy()?)?)
-}
 
 /// The record at a height, of 10 h seconds at height h.
 fn record_at(number: u64, next: [u8; 32]) -> Result<Record, Fail> {
@@ -83,59 +56,54 @@ fn make_table(alloc: Global) -> Result<Graph, Fail> {
     Ok(graph)
 }
 
-/// The cells of that table: those of the record at 3 come with its next set.
-const EARLY: &[Numbers] = &[
-    (1, 0, 1, 3, 4),
-    (2, 0, 1, 3, 4),
-    (2, 1, 30, 40, 4),
-    (3, 0, 1, 3, 4),
-    (3, 1, 30, 40, 4),
-    (3, 2, 30, 40, 4),
-    (4, 0, 1, 3, 4),
-    (4, 1, 30, 40, 4),
-    (4, 2, 30, 40, 4),
-    (5, 0, 1, 3, 4),
-    (5, 1, 30, 40, 4),
-    (5, 2, 30, 40, 4),
-    (5, 4, 30, 40, 4),
+/// The steps of that table, for a trust level of 40 hundredths.
+const EARLY: &[Step] = &[
+    (2, 1, 1_308),
+    (3, 1, 1_308),
+    (3, 2, 1_308),
+    (4, 1, 1_308),
+    (4, 2, 1_308),
+    (5, 1, 1_308),
+    (5, 2, 1_308),
+    (5, 4, 1_308),
 ];
 
-const LATE: &[Numbers] = &[
-    (1, 0, 1, 3, 4),
-    (2, 0, 1, 3, 4),
-    (2, 1, 30, 40, 4),
-    (3, 0, 1, 3, 4),
-    (3, 1, 30, 40, 4),
-    (3, 2, 30, 40, 4),
-    (4, 0, 1, 3, 4),
-    (4, 1, 30, 40, 4),
-    (4, 2, 30, 40, 4),
-    (4, 3, 0, 40, 4),
-    (5, 0, 1, 3, 4),
-    (5, 1, 30, 40, 4),
-    (5, 2, 30, 40, 4),
-    (5, 3, 0, 40, 4),
-    (5, 4, 30, 40, 4),
+/// With the next set of the record at 3, of whose power the voters of the header at 5 hold half, there is
+/// a step from the one to the other.
+const LATE: &[Step] = &[
+    (2, 1, 1_308),
+    (3, 1, 1_308),
+    (3, 2, 1_308),
+    (4, 1, 1_308),
+    (4, 2, 1_308),
+    (5, 1, 1_308),
+    (5, 2, 1_308),
+    (5, 3, 1_308),
+    (5, 4, 1_308),
 ];
 
-/// A table has these cells, as the one that is made of its book has.
-fn check_cells(
-    rt: &impl Abort,
-    alloc: Global,
-    graph: &Graph,
-    wanted: &[Numbers],
-) -> Result<(), Fail> {
-    let shown = cells_of(alloc, graph)?;
-    assert_same(rt, &wanted.len(), &shown.as_slice(), &wanted);
-    let anew = cells_anew(alloc, graph)?;
+/// The steps of a table that is made of this one's book.
+fn steps_anew(alloc: Global, graph: &Graph, level: u64) -> Result<Vec<Step>, Fail> {
+    steps_of(
+        alloc,
+        &Graph::from_book(alloc, graph.book().copy()?)?,
+        level,
+    )
+}
+
+/// A table has these steps, as the one that is made of its book has.
+fn check_steps(rt: &impl Abort, alloc: Global, graph: &Graph, wanted: &[Step]) -> Result<(), Fail> {
+    let told = steps_of(alloc, graph, 40)?;
+    assert_same(rt, &wanted.len(), &told.as_slice(), &wanted);
+    let anew = steps_anew(alloc, graph, 40)?;
     assert_same(rt, &wanted.len(), &anew.as_slice(), &wanted);
     Ok(())
 }
 
-/// Adds the second set, which brings cells, or is there already.
+/// Adds the second set, which brings a step, or is there already.
 fn add_late(rt: &impl Abort, alloc: Global, graph: &mut Graph) -> Result<(), Fail> {
     graph.add_set(make_set(alloc, B)?)?;
-    check_cells(rt, alloc, graph, LATE)
+    check_steps(rt, alloc, graph, LATE)
 }
 
 /// The record at height 6, which names the second set.
@@ -143,17 +111,17 @@ fn sixth_record(alloc: Global) -> Result<Record, Fail> {
     record_at(6, hash_of(alloc, B)?)
 }
 
-/// Adds a record above all headers, which brings no cell.
+/// Adds a record above all headers, which brings no step.
 fn add_record(rt: &impl Abort, alloc: Global, graph: &mut Graph) -> Result<(), Fail> {
     graph.add_record(height(6)?, sixth_record(alloc)?)?;
-    check_cells(rt, alloc, graph, LATE)
+    check_steps(rt, alloc, graph, LATE)
 }
 
 #[test]
-fn a_set_that_comes_late_brings_cells(rt: HostRuntime) -> Result<(), Fail> {
+fn a_set_that_comes_late_brings_steps(rt: HostRuntime) -> Result<(), Fail> {
     let alloc = rt.alloc();
     let mut graph = make_table(alloc)?;
-    check_cells(&rt, alloc, &graph, EARLY)?;
+    check_steps(&rt, alloc, &graph, EARLY)?;
     add_late(&rt, alloc, &mut graph)?;
     add_late(&rt, alloc, &mut graph)?;
     add_record(&rt, alloc, &mut graph)
@@ -166,10 +134,10 @@ fn other_owners_keep_their_table(rt: HostRuntime) -> Result<(), Fail> {
     let mut shared = SharedGraph::new(alloc, make_table(alloc)?)?;
     let other = shared.share()?;
     shared.add_set(make_set(alloc, B)?)?;
-    check_cells(&rt, alloc, other.graph(), EARLY)?;
-    check_cells(&rt, alloc, shared.graph(), LATE)?;
+    check_steps(&rt, alloc, other.graph(), EARLY)?;
+    check_steps(&rt, alloc, shared.graph(), LATE)?;
     shared.add_record(height(6)?, sixth_record(alloc)?)?;
-    check_cells(&rt, alloc, shared.graph(), LATE)
+    check_steps(&rt, alloc, shared.graph(), LATE)
 }
 
 /// Numbers that look random.
@@ -217,7 +185,7 @@ fn add_both(
     Ok(())
 }
 
-/// A table is of this book, and has the cells of one that is made anew.
+/// A table is of this book, and tells the steps of one that is made anew.
 fn check_table(
     rt: &impl Abort,
     alloc: Global,
@@ -226,8 +194,8 @@ fn check_table(
     step: usize,
 ) -> Result<(), Fail> {
     assert_same(rt, &step, &graph.is_of(book), &true);
-    let (kept, anew) = (cells_of(alloc, graph)?, cells_anew(alloc, graph)?);
-    assert_same(rt, &step, &kept, &anew);
+    let (told, anew) = (steps_of(alloc, graph, 60)?, steps_anew(alloc, graph, 60)?);
+    assert_same(rt, &step, &told, &anew);
     Ok(())
 }
 

@@ -10,3 +10,5 @@ mod graph;
 mod kept;
 #[cfg(test)]
 mod same;
+#[cfg(test)]
+mod steps;

@@ -17,8 +17,8 @@ returns-then-is_some g c =
     let stays = stays_known c.args.book.now c.args.height c.args.entry.now c.requires.known c.requires.book c.args.set_place c.requires.place c.args.header.now c.args.row.now c.requires.row in
     search (rules, stays)
 
-pub keep-requires : goal.keep-requires
-keep-requires g c = place_in_row c.args.book.now c.args.height c.args.entry.now c.requires.known c.requires.book c.args.set_place c.requires.place c.args.header.now c.args.row.now c.requires.row
+pub set_signed-requires : goal.set_signed-requires
+set_signed-requires g c = place_in_row c.args.book.now c.args.height c.args.entry.now c.requires.known c.requires.book c.args.set_place c.requires.place c.args.header.now c.args.row.now c.requires.row
 
 pub returns : goal.returns
 returns g c =
