@@ -83,7 +83,7 @@ fn make_at_once<R: Clock + AllocGlobal>(rt: &R, whole: &ChainBook) -> Result<(us
     let start = Instant::now(rt)?;
     let graph = Graph::from_book(rt.alloc(), book)?;
     let at_once = start.elapsed(rt)?.as_micros();
-    Ok((graph.rows().count(), in_book, at_once))
+    Ok((graph.book().headers().len(), in_book, at_once))
 }
 
 /// Tells how long the additions of so many headers, one at a time, over so many sets took, where the

@@ -32,9 +32,10 @@ pub fn push_steps(
     steps: &mut Vec<Step>,
 ) -> Result<(), Fail> {
     let target = graph.target(into, options, window, fees()?);
-    for (place, record) in graph.book().records().iter().enumerate() {
+    let records = graph.book().records();
+    for place in 0..records.len() {
         if let Some(fee) = target.fee_from(place) {
-            steps.push((into.get(), record.height().get(), fee))?;
+            steps.push((into.get(), records[place].height().get(), fee))?;
         }
     }
     Ok(())
