@@ -2,7 +2,8 @@
 use crate::view::{height, view_of};
 use anyhow::{Context, Result, bail};
 use rb_graph::Graph;
-use rb_plan::{Answer, Goal, plan};
+use rb_plan::{Answer, plan};
+use rb_script_types::Goal;
 use std::alloc::Global;
 
 /// Plans from the first height to the last over the table of so many headers; answers the number of

@@ -1,5 +1,5 @@
 //! Why a desk has no answer.
-use rb_core::CoreError;
+use rb_core_model::CoreError;
 use rb_script_types::Refusal;
 use thiserror::Error;
 

@@ -5,7 +5,7 @@ ghost use Rattle.rb_board.specs.Rule.{HasBeginnings, Sees};
 use crate::replica::Replica;
 use atomic_table::{Join, Split};
 use crossbeam_utils::rule::{Outcome, Protocol};
-use rb_core::SharedEntry;
+use rb_core_model::SharedEntry;
 use rb_script_types::Config;
 use std::alloc::Allocator;
 use std::collections::LinkedList;

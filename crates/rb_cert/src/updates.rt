@@ -14,7 +14,8 @@ use crate::accepted::{AcceptedSteps, accepts_again};
 use crate::labels::is_labelled;
 use crate::places::{Places, place_of};
 use crate::verdict::Reason;
-use rb_plan::{Cost, Goal, Labelling, Update};
+use rb_plan::{Cost, Labelling, Update};
+use rb_script_types::Goal;
 use rb_step::ClientView;
 use std::alloc::Allocator;
 

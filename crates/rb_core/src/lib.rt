@@ -21,9 +21,4 @@ mod told;
 
 pub use follower::Follower;
 pub use machine::Core;
-pub use rb_core_model::{CoreError, Entry, Event, Ready, Reply, Scan, SharedEntry, scan};
-pub use rb_core_state::OpenBatch;
-pub use rb_plan_client::{
-    Batch, Draft, JobView, Message, PathTask, Plan, Planned, Sending, Task, answer, draft,
-};
 pub use told::Told;

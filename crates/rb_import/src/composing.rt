@@ -10,7 +10,8 @@ use crate::text::push_script;
 use rb_import_check::{CheckErrorName, ImportError, SavedAnswers};
 use rb_import_merge::seen_in;
 use rb_import_notices::{Notices, notices_of};
-use rb_import_setup::{MAX_BYTES, Setup};
+use rb_import_setup::Setup;
+use rb_script_toml::MAX_BYTES;
 use std::alloc::{AllocError, Global};
 
 /// The line that a script of answers begins with.

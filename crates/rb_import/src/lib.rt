@@ -7,11 +7,3 @@ mod event_text;
 mod text;
 
 pub use composing::{Composed, compose};
-pub use rb_import_check::{
-    CheckError, CheckErrorName, ImportError, Saved, SavedAnswers, SavedError, read_saved,
-};
-pub use rb_import_notices::{
-    FutureHeaders, MissingHeaders, MissingNextSet, MissingSearches, NothingFresh, NothingTrusted,
-    Notices, OtherChannel, SeveralCounterparties, TooManyHeaders, TooManyPackets, TooManyRecords,
-    TooManySets, UnseenGoal,
-};

@@ -4,7 +4,8 @@ use jiff::Timestamp;
 use rb_base::Moment;
 use rb_import_check::{SeenChain, SeenClient, Stored};
 use rb_import_merge::Seen;
-use rb_import_setup::{Asked, ClientSetup, Goal, PathSetup, Settlement, Setup, TurnSetup};
+use rb_import_setup::{ClientSetup, PathSetup, Setup, TurnSetup};
+use rb_script_types::{Asked, Goal, Settlement};
 use std::alloc::AllocError;
 
 const HEAD: &str = "# Written by ibcplan import.

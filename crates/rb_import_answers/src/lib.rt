@@ -18,7 +18,6 @@ pub use answer::{MAX_ANSWER_BYTES, NodeAnswer, read_answer};
 pub use client::{ClientState, ConsensusPage, ConsensusState, TrustLevel};
 pub use commit::{BlockIdFlag, Signature, SignedHeader};
 pub use packets::{PacketEvent, PacketKind, PacketPage, RevisionHeight};
-pub use rb_import_json::{AnswerError, FieldError, FieldErrorName, FieldPath, Key, Segment};
 pub use revision::revision_of;
 pub use said::said_in;
 pub use validators::ValidatorsPage;

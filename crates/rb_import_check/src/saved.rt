@@ -4,9 +4,8 @@ ghost use Rattle.rb_import_answers.specs.Answers.{answer_view, told};
 ghost use Rattle.rb_import_answers.specs.Said.{IsPlain};
 ghost use Rattle.rb_import_check.specs.Saved.{IsFlawOf};
 
-use rb_import_answers::{
-    AnswerError, FieldError, FieldErrorName, NodeAnswer, read_answer, said_in,
-};
+use rb_import_answers::{NodeAnswer, read_answer, said_in};
+use rb_import_json::{AnswerError, FieldError, FieldErrorName};
 use std::alloc::{AllocError, Global};
 
 /// An answer, and the name of the file that it was saved in.

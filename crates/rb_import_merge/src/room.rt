@@ -3,8 +3,9 @@ ghost use Rattle.std.specs.Prelude.{◌≡◌, ◌≤◌, ◌-◌, ◌⊎◌, �
 ghost use Rattle.std.specs.List.Sorted.{IsStrictlyIncreasing};
 ghost use Rattle.rb_import_merge.specs.Room.{AreBooks, AreKept, AreKeptOf, AreThose, FitBooks, FitsHeaders, HasHeader, HasNoRoom, IsBookOf, IsKept, IsStored};
 
+use rb_book::MAX_RECORDS;
 use rb_import_check::{SeenChain, SeenClient, Stored};
-use rb_import_setup::{ClientSetup, MAX_RECORDS, Setup};
+use rb_import_setup::{ClientSetup, Setup};
 use std::alloc::{AllocError, Global};
 
 /// How many headers of a chain its book has no room for.

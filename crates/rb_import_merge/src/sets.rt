@@ -6,8 +6,9 @@ ghost use Rattle.rb_import_merge.specs.Room.{AtEachPlace};
 ghost use Rattle.rb_import_merge.specs.Sets.{AreKeptSets, Gains, IsNamed, IsNextOfRecord, KeepsHighestOf, NamesNext, NamesSet};
 
 use crate::kept::KeptSets;
+use rb_book::MAX_SETS;
 use rb_import_check::{SeenChain, SeenSets, Stored};
-use rb_import_setup::{MAX_SETS, Setup};
+use rb_import_setup::Setup;
 use std::alloc::{AllocError, Global};
 
 /// Of each chain the sets that its headers and the records of its clients name, and that its book has room for.

@@ -6,7 +6,8 @@ ghost use Rattle.rb_import_notices.specs.Unusable.{HasFuture, HaveExpired, IsExp
 use rb_base::{Period, Window};
 use rb_import_check::{Commit, SeenChain, SeenClient, Stored};
 use rb_import_merge::Seen;
-use rb_import_setup::{Asked, ClientSetup, Goal, Setup};
+use rb_import_setup::{ClientSetup, Setup};
+use rb_script_types::{Asked, Goal};
 use std::alloc::{AllocError, Global};
 use std::fmt;
 

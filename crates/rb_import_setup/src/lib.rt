@@ -9,7 +9,5 @@ mod reading;
 mod setup;
 mod turn;
 
-pub use rb_script_toml::MAX_BYTES;
-pub use rb_script_types::{Asked, Goal, MAX_RECORDS, MAX_SETS, Settlement};
 pub use reading::read_setup;
 pub use setup::{ClientSetup, PathSetup, Setup, TurnSetup};

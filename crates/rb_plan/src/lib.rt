@@ -18,5 +18,4 @@ pub use cost::Cost;
 pub use labelling::{Label, Labelling, are_labels, top_reachable};
 pub use labels::label;
 pub use planning::{plan, plan_by};
-pub use rb_script_types::Goal;
 pub use update::Update;

@@ -8,7 +8,7 @@ use crate::message::Message;
 use crate::task::Task;
 use rb_base::Height;
 use rb_book::{Record, RecordAt};
-use rb_plan::Goal;
+use rb_script_types::Goal;
 use rb_step::ClientView;
 use std::alloc::Allocator;
 

@@ -5,7 +5,8 @@ ghost use Rattle.rb_plan_client.specs.Sent.{sending_view};
 
 use crate::batch::{Batch, Sending};
 use crate::message::Message;
-use rb_plan::{Goal, Labelling, Update};
+use rb_plan::{Labelling, Update};
+use rb_script_types::Goal;
 use std::alloc::{AllocError, Allocator, Global};
 use std::marker::Model;
 

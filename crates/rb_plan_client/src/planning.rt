@@ -17,9 +17,8 @@ use crate::task::{Task, ready_messages};
 use rb_base::Height;
 use rb_batch::{BatchError, Msg, cut};
 use rb_graph::Graph;
-use rb_plan::{
-    Answer, Goal, Labelling, Update, gas_of, label, plan_by, proof_height, top_reachable,
-};
+use rb_plan::{Answer, Labelling, Update, gas_of, label, plan_by, proof_height, top_reachable};
+use rb_script_types::Goal;
 use std::alloc::{AllocError, Allocator};
 
 /// Puts the gas of each update to the end of a list.

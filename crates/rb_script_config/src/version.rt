@@ -4,8 +4,8 @@ ghost use Rattle.rb_script_toml.specs.Faults.{Gives};
 ghost use Rattle.rb_script_toml.specs.Fields.{field_view, section_view, needs};
 ghost use Rattle.rb_script_config.specs.Versions.{version, max_records};
 
+use rb_book::MAX_RECORDS;
 use rb_script_toml::{FaultName, Field, RunError, Section};
-use rb_script_types::MAX_RECORDS;
 
 /// A version of the format: from the second on the chains' clients share defaults, and books are
 /// larger.

@@ -9,5 +9,4 @@ mod script;
 mod set;
 mod turn;
 
-pub use rb_script_config::{Named, place_of};
 pub use script::read_script;

@@ -17,6 +17,5 @@ pub use gas::PathGas;
 pub use goal::Goal;
 pub use limits::{MAX_CHAINS, MAX_CLIENTS, MAX_ENTRIES, MAX_PATHS, MAX_TURNS};
 pub use observation::Observation;
-pub use rb_book::{MAX_RECORDS, MAX_SETS};
 pub use refusal::Refusal;
 pub use script::{Asked, Script, Settlement, Turn};

@@ -8,7 +8,8 @@ ghost use Rattle.rb_super_turn.specs.Slots.{event_in};
 ghost use Rattle.rb_super.specs.Heads.{head_of};
 
 use rb_board::Pen;
-use rb_core::{Core, CoreError, Event, Reply};
+use rb_core::Core;
+use rb_core_model::{CoreError, Event, Reply};
 use rb_graph::SharedGraph;
 use rb_super_turn::{Machine, Relayer};
 use std::alloc::{AllocError, Global};

@@ -16,7 +16,9 @@ ghost use Rattle.rb_super_turn.specs.Views.{refused_view, turn_report_view};
 ghost use Rattle.rb_super.specs.AsEvents.{code_turn_as_events, IsTurnFor, most_events};
 
 use rb_base::{Gate, Window};
-use rb_core::{Core, CoreError, Draft, Event, Reply};
+use rb_core::Core;
+use rb_core_model::{CoreError, Event, Reply};
+use rb_plan_client::Draft;
 use rb_script_types::{Asked, Config, Observation, Turn};
 use rb_super_turn::{
     Crew, Nothing, RefusedEvent, Relayer, TurnReport, drafts_of, hear_all, plan_all, scan_all,

@@ -3,7 +3,8 @@ ghost use Rattle.std.specs.Prelude.{◌≡◌, IfSome};
 ghost use Rattle.rb_plan_client.specs.Draft.{IsDraft};
 
 use rb_base::Part;
-use rb_core::{Draft, Scan};
+use rb_core_model::Scan;
+use rb_plan_client::Draft;
 use std::alloc::Allocator;
 
 /// What was found of a relayer's jobs, by workers say. A scan and a plan are right for the view that

@@ -8,7 +8,8 @@ ghost use Rattle.rb_core_model.specs.Replied.{reply_view};
 ghost use Rattle.rb_core_model.specs.Seen.{event_view};
 ghost use Rattle.rb_super_turn.specs.Slots.{event_in};
 
-use rb_core::{Core, CoreError, Event, Reply};
+use rb_core::Core;
+use rb_core_model::{CoreError, Event, Reply};
 use std::alloc::Allocator;
 
 /// What takes events in, and shows the core after all of them.

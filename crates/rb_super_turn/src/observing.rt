@@ -12,7 +12,7 @@ use crate::relayer::Relayer;
 use crate::report::RefusedEvent;
 use crate::taking::hear;
 use rb_base::Window;
-use rb_core::Event;
+use rb_core_model::Event;
 use rb_script_types::{Asked, Observation, Refusal};
 use std::alloc::{AllocError, Allocator};
 

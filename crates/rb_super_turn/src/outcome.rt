@@ -10,8 +10,9 @@ ghost use Rattle.rb_super_turn.specs.Turns.{priced, numbered, reported_plan, rep
 ghost use Rattle.rb_super_turn.specs.Views.{priced_view, sending_view, plan_view, planned_view, outcome_view, number_of};
 
 use crate::report::{BatchReport, Outcome, PlanReport, PlannedReport, PricedUpdate, SendingReport};
-use rb_core::{Draft, JobView, Reply};
+use rb_core_model::Reply;
 use rb_plan::{Cost, Update};
+use rb_plan_client::{Draft, JobView};
 use std::alloc::{AllocError, Allocator};
 
 /// Each update with its fee.
@@ -49,15 +50,15 @@ fn total_of(updates: &[PricedUpdate]) -> Cost
 /// How messages are sent, the batch under its number.
 fn sending<A: Allocator + Copy>(
     alloc: A,
-    sending: &rb_core::Sending<A>,
+    sending: &rb_plan_client::Sending<A>,
     number: u64,
 ) -> Result<SendingReport<A>, AllocError>
     ensures { IfOk result (λ s. sending_view s ≡ numbered number (sent_view sending.now)) }
 {
     Ok(match sending {
-        rb_core::Sending::Nothing => SendingReport::Nothing,
-        rb_core::Sending::TooBig(index) => SendingReport::TooBig(*index),
-        rb_core::Sending::Batched(batch) => SendingReport::Batch(BatchReport {
+        rb_plan_client::Sending::Nothing => SendingReport::Nothing,
+        rb_plan_client::Sending::TooBig(index) => SendingReport::TooBig(*index),
+        rb_plan_client::Sending::Batched(batch) => SendingReport::Batch(BatchReport {
             number,
             proof: batch.proof(),
             transactions: Vec::from_slice(alloc, batch.transactions())?,
@@ -69,7 +70,7 @@ fn sending<A: Allocator + Copy>(
 fn plan_of<A: Allocator + Copy>(
     alloc: A,
     job: &JobView<A>,
-    plan: &rb_core::Plan<A>,
+    plan: &rb_plan_client::Plan<A>,
     number: u64,
 ) -> Result<PlanReport<A>, AllocError>
     requires { total_fee (client_of job.now.task.view) plan.now.updates < 2 ^ 63 }
@@ -92,7 +93,7 @@ fn plan_of<A: Allocator + Copy>(
 fn plan_if<A: Allocator + Copy>(
     alloc: A,
     job: &JobView<A>,
-    plan: Option<&rb_core::Plan<A>>,
+    plan: Option<&rb_plan_client::Plan<A>>,
     number: u64,
 ) -> Result<Option<PlanReport<A>>, AllocError>
     requires { IfSome (option_copied plan) (λ p. total_fee (client_of job.now.task.view) p.updates < 2 ^ 63) }
@@ -108,7 +109,7 @@ fn plan_if<A: Allocator + Copy>(
 fn planned_of<A: Allocator + Copy>(
     alloc: A,
     job: &JobView<A>,
-    planned: &rb_core::Planned<A>,
+    planned: &rb_plan_client::Planned<A>,
     number: u64,
 ) -> Result<PlannedReport<A>, AllocError>
     requires { IsPlanned job.now.task planned.now }

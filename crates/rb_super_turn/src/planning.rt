@@ -19,8 +19,9 @@ use crate::relayer::Relayer;
 use crate::report::{ClientReport, Outcome};
 use crate::taking::{note, offer};
 use rb_base::{Gate, WorkItem};
-use rb_core::{CoreError, Draft, Event, JobView, draft};
+use rb_core_model::{CoreError, Event};
 use rb_graph::SharedGraph;
+use rb_plan_client::{Draft, JobView, draft};
 use std::alloc::{AllocError, Allocator};
 use std::thread::Threads;
 

@@ -1,8 +1,8 @@
 //! What a run reports.
 use rb_base::{ClientId, Height, PathId};
 use rb_batch::Transaction;
-use rb_core::Message;
 use rb_plan::{Cost, Labelling, Update};
+use rb_plan_client::Message;
 use rb_script_types::{Goal, Refusal};
 use std::alloc::{Allocator, Global};
 

@@ -11,7 +11,7 @@ use crate::machine::Machine;
 use crate::relayer::Relayer;
 use crate::taking::{note, offer};
 use rb_base::{Gate, Part, WorkItem};
-use rb_core::{CoreError, Event, Scan, scan};
+use rb_core_model::{CoreError, Event, Scan, scan};
 use rb_scan::PathView;
 use std::alloc::{AllocError, Allocator};
 use std::thread::Threads;

@@ -9,7 +9,7 @@ use crate::machine::Machine;
 use crate::relayer::Relayer;
 use crate::report::SettlementReport;
 use crate::taking::hear;
-use rb_core::Event;
+use rb_core_model::Event;
 use rb_script_types::Settlement;
 use std::alloc::{AllocError, Allocator};
 

@@ -19,7 +19,7 @@ use crate::crew::Crew;
 use crate::machine::Machine;
 use rb_base::Gate;
 use rb_book::{BookError, ChainBook};
-use rb_core::{CoreError, Event, Reply};
+use rb_core_model::{CoreError, Event, Reply};
 use rb_graph::SharedGraph;
 use rb_script_types::{Config, Observation};
 use std::alloc::{AllocError, Allocator};

@@ -10,7 +10,7 @@ ghost use Rattle.rb_super_turn.specs.Phases.{standing_in, HasLogRoom, IsLater};
 
 use crate::machine::Machine;
 use crate::relayer::Relayer;
-use rb_core::{CoreError, Event, Reply};
+use rb_core_model::{CoreError, Event, Reply};
 use rb_script_types::Refusal;
 use std::alloc::{AllocError, Allocator};
 

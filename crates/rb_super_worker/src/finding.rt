@@ -1,7 +1,8 @@
 //! What workers find.
 use crossbeam_utils::sync::Unparker;
 use rb_base::WorkItem;
-use rb_core::{Draft, Scan};
+use rb_core_model::Scan;
+use rb_plan_client::Draft;
 use rb_wire::{LaneFull, Tx};
 use std::alloc::{Allocator, Global};
 use std::sync::Wait;

@@ -6,7 +6,8 @@ use crate::finding::Finding;
 use crate::order::Order;
 use crate::slots::Slots;
 use rb_base::{Part, WorkItem};
-use rb_core::{Draft, Scan};
+use rb_core_model::Scan;
+use rb_plan_client::Draft;
 use std::alloc::{AllocError, Allocator, Global};
 
 /// What was found of the jobs that were ordered. A second finding for a job, and one for a job that

@@ -12,7 +12,8 @@ ghost use Rattle.rb_text.specs.Verdicts.{case_view, case_in, case_of, plain, IsV
 use crate::certificate::{Certificate, read_certificate};
 use crate::refusal::{CertifyError, Source};
 use rb_cert::Judgement;
-use rb_script_read::{place_of, read_script};
+use rb_script_config::place_of;
+use rb_script_read::read_script;
 use rb_script_toml::{FaultName, RunError, fault_at};
 use rb_script_types::Script;
 use rb_super::judge;

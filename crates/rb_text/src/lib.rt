@@ -14,8 +14,6 @@ mod write;
 
 pub use certificate::{Certificate, read_certificate};
 pub use certifying::certify_texts;
-pub use rb_script_read::read_script;
-pub use rb_script_toml::{Fault, FaultName, RunError};
 pub use refusal::{CertifyError, Source};
 pub use running::{report_of, report_over, run_over};
 pub use write::write_report;

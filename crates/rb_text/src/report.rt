@@ -8,10 +8,10 @@ ghost use Rattle.rb_text.specs.Report.{refused_line, goal_line, label_line, upda
 
 use rb_base::{Height, PathId};
 use rb_batch::Transaction;
-use rb_core::Message;
-use rb_plan::{Cost, Goal, Label};
+use rb_plan::{Cost, Label};
+use rb_plan_client::Message;
 use rb_scan::Kind;
-use rb_script_types::Refusal;
+use rb_script_types::{Goal, Refusal};
 use rb_super_turn::{
     ClientReport, Outcome, PlanReport, PlannedReport, PricedUpdate, RefusedEvent, SendingReport,
     SettlementReport, TurnReport,

@@ -1,8 +1,8 @@
 //! A report as JSON. Identifiers have no character that JSON escapes.
 use rb_base::PathId;
 use rb_batch::Transaction;
-use rb_core::Message;
 use rb_plan::Label;
+use rb_plan_client::Message;
 use rb_scan::Kind;
 use rb_script_types::{Goal, Refusal};
 use rb_super_turn::{

@@ -7,8 +7,10 @@ use crate::make::{
 use crate::tell::{answer_text, reply_text, scan_text};
 use rb_base::{Height, Part, Window};
 use rb_book::{ChainBook, Vote};
-use rb_core::{Core, CoreError, Draft, Event, JobView, Reply, draft, scan};
+use rb_core::Core;
+use rb_core_model::{CoreError, Event, Reply, scan};
 use rb_graph::Graph;
+use rb_plan_client::{Draft, JobView, draft};
 use rb_scan::Sequence;
 use rb_script_types::{Asked, BlockHeight, Goal, Observation, Refusal, Settlement, is_config};
 use std::alloc::{AllocError, Global};

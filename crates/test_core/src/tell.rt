@@ -1,8 +1,8 @@
 //! What the machine answers, as text.
-use rb_core::{Message, Planned, Reply, Scan, Sending};
-use rb_plan::Goal;
+use rb_core_model::{Reply, Scan};
+use rb_plan_client::{Message, Planned, Sending};
 use rb_scan::PacketMsg;
-use rb_script_types::Refusal;
+use rb_script_types::{Goal, Refusal};
 use std::alloc::{AllocError, Global};
 
 fn goal_text(alloc: Global, goal: Goal) -> Result<String, AllocError> {

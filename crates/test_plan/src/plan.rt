@@ -3,9 +3,8 @@ ghost use Rattle.std.specs.Prelude.{◌≡◌, IfOk};
 use rb_base::{FeeTable, Height, Window};
 use rb_book::{ChainBook, Header, Record, Vote};
 use rb_graph::Graph;
-use rb_plan::{
-    Answer, Cost, Goal, Labelling, Update, gas_of, label, plan, proof_height, top_reachable,
-};
+use rb_plan::{Answer, Cost, Labelling, Update, gas_of, label, plan, proof_height, top_reachable};
+use rb_script_types::Goal;
 use rb_step::{ClientView, are_known};
 use rb_valset::ValidatorSet;
 use std::alloc::{AllocError, Global};
