@@ -123,7 +123,7 @@ def print_workers(folder):
 
 def print_tables():
     """Builds the program where it isn't, by ./ibcplan, and prints its tables."""
-    subprocess.run([TOP / "ibcplan", "--version"], check=True, stdout=subprocess.DEVNULL)
+    subprocess.run([TOP / "ibcplan", "--build"], check=True, stdout=subprocess.DEVNULL)
     with tempfile.TemporaryDirectory() as path:
         folder = Folder(path)
         print_plans(folder)

@@ -84,9 +84,6 @@ const AFTER_HELP: &str = "Examples (in the folder of the repository):
 
 Results go to standard output; what went wrong goes to standard error.
 
-./ibcplan --unproved COMMAND .. does the same by a program of which nothing was
-proved, which it builds each time, in some minutes.
-
 Exit status:
   0  done; of certify: the plan is the cheapest
   1  the content of a file is refused
