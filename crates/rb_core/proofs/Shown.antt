@@ -10,14 +10,12 @@ use Rattle.rb_base.specs.Window.{Span}
 use Rattle.rb_book.specs.Book.{Book, same_book}
 use Rattle.rb_scan.specs.Path.{Path}
 use Rattle.rb_scan.specs.Same.{same_path, same_path-Decides}
-use Rattle.rb_step.specs.View.{View}
 use Rattle.rb_core_model.proofs.Options.{tested}
 use Rattle.rb_base.specs.declared.gate.Part.{Part}
 use Rattle.rb_base.specs.declared.gate.Part.TheVariants.{Packets, Channel}
 use Rattle.rb_core_model.specs.Machine.{State, is_view, no_scans, scan_of, client_view, job_of}
-use Rattle.rb_plan_client.specs.Same.{same_fees, same_options, same_span, same_view}
 use Rattle.rb_core_model.specs.Scan.{Scan}
-use Rattle.rb_core_model.specs.Standing.{ClientState, path_view, view_of}
+use Rattle.rb_core_model.specs.Standing.{ClientState, path_view}
 
 -- the last scan of a part, by those of a path
 pub no_scan : (part : Part) → scan_of no_scans part ≡ None
@@ -70,9 +68,3 @@ pub client_seen : (s : State) (client : ℕ) (window : Span) (k : ClientState) �
     → client_view s client ≡ Some (job_of s client window k)
 client_seen s client window k e f =
     ap (option_and_then (λ w. option_map (job_of s client w) (slice_get s.standing.clients client))) e ∙ ap (option_map (job_of s client window)) f
-
--- a view of these parts
-pub view_made : (v : View) (window : Span) (book : Book) (k : ClientState) (a b : Bool)
-    → a ≡ (same_options v.options k.config.options && same_fees v.fees k.config.fees && pointwise nat_eq v.stored k.stored && same_span v.window window)
-    → b ≡ same_book v.book book → (a && b) ≡ same_view v (view_of window book k)
-view_made v window book k a b e f = λ i. e i && f i

@@ -1,4 +1,4 @@
-//! What is seen of clients.
+//! Clients as workers get them: jobs.
 ghost use Rattle.std.specs.Prelude.{◌≡◌, ◌&&◌, ◌++◌, slice_get, IfOk, IfErr, OnOk, MatchOption, Some, None};
 ghost use Rattle.std.specs.Cmp.Lexicographic.{pointwise};
 ghost use Rattle.std.specs.Option.{option_to_list};
@@ -10,8 +10,9 @@ ghost use Rattle.rb_core_state.specs.Room.{books_of};
 ghost use Rattle.rb_core.specs.State.{standing_view, state_view};
 ghost use Rattle.rb_core_model.specs.Machine.{job_of, client_view, client_view_refusal, is_job, plan_number, seen_owed};
 ghost use Rattle.rb_core_model.specs.Refused.{IsRefusal};
-ghost use Rattle.rb_plan_client.specs.Same.{same_fees, same_job, same_options, same_path_task, same_span, same_task, same_view};
-ghost use Rattle.rb_core_model.specs.Standing.{book_at, empty_book, path_task, path_tasks, view_of};
+ghost use Rattle.rb_plan_client.specs.Same.{same_config, same_job, same_path_task, same_span, same_task};
+ghost use Rattle.rb_plan_client.specs.Task.{view_of};
+ghost use Rattle.rb_core_model.specs.Standing.{book_at, empty_book, path_task, path_tasks};
 
 use crate::path_views::{part_for, seen_owed};
 use crate::state::CoreState;
@@ -20,9 +21,8 @@ use rb_book::{ChainBook, SharedBook};
 use rb_core_model::CoreError;
 use rb_core_state::views::find_book;
 use rb_core_state::{ClientState, PathState};
-use rb_plan_client::{JobView, NextPlan, PathTask, Task, same_heights, same_messages};
+use rb_plan_client::{JobView, NextPlan, PathTask, same_config, same_heights, same_messages};
 use rb_script_types::{PathConfig, Refusal};
-use rb_step::ClientView;
 use std::alloc::{AllocError, Allocator};
 
 /// A client, if there is one at this place.
@@ -120,7 +120,7 @@ pub(crate) fn plan_number<A: Allocator>(state: &CoreState<A>, client: usize) -> 
     state.plans.get(client).copied().unwrap_or(0)
 }
 
-/// A client as a worker gets it, in a window.
+/// The job of a client in a window.
 fn job_of<A: Allocator + Copy>(
     alloc: A,
     state: &CoreState<A>,
@@ -128,7 +128,7 @@ fn job_of<A: Allocator + Copy>(
     window: Window,
     client_state: &ClientState<A>,
 ) -> Result<JobView<A>, AllocError>
-    requires { IsView (job_of (state_view state.now) client window client_state.now.client).task.view }
+    requires { IsView (view_of (job_of (state_view state.now) client window client_state.now.client).task) }
     ensures { IfOk result (λ job. job ≡ job_of (state_view state.now) client window client_state.now.client) }
 {
     let config = client_state.config();
@@ -137,7 +137,7 @@ fn job_of<A: Allocator + Copy>(
     let next = NextPlan {
         client,
         number: plan_number(state, client),
-        held: client_state.is_held(),
+        is_held: client_state.is_held(),
     };
     let job = JobView::new(
         next,
@@ -151,14 +151,14 @@ fn job_of<A: Allocator + Copy>(
     Ok(job)
 }
 
-/// A client as a worker gets it. `UnknownObject` where there is none at this place, `OutOfOrder`
-/// before the first window, `NoMemory` where a growth is refused. The book is shared.
+/// The job of a client, with one more owner of its book. `UnknownObject` where there is none at this
+/// place, `OutOfOrder` before the first window, `NoMemory` where memory is refused.
 pub(crate) fn client_view<A: Allocator + Copy>(
     alloc: A,
     state: &CoreState<A>,
     client: usize,
 ) -> Result<JobView<A>, CoreError>
-    requires { (job : Job) → client_view (state_view state.now) client ≡ Some job → IsView job.task.view }
+    requires { (job : Job) → client_view (state_view state.now) client ≡ Some job → IsView (view_of job.task) }
     ensures view { IfOk result (λ view. client_view (state_view state.now) client ≡ Some view) }
     ensures refused { IfErr result (λ e. IsRefusal e (client_view_refusal (state_view state.now) client)) }
 {
@@ -191,34 +191,29 @@ fn is_book<A: Allocator + Copy>(books: &[SharedBook<A>], chain: usize, book: &Ch
     }
 }
 
-/// Whether a view is of a client in a window, but for its book.
+/// Whether this is the book of the chain that a client tracks.
+fn is_book_of<A: Allocator + Copy>(
+    state: &CoreState<A>,
+    client_state: &ClientState<A>,
+    book: &ChainBook<A>,
+) -> bool
+    ensures { result ≡ same_book book.now (book_at (standing_view state.now).books client_state.now.client.config.tracks) }
+{
+    is_book(state.books.as_slice(), client_state.config().tracks, book)
+}
+
+/// Whether a job is for a client as it is configured and has stored heights, and for a window.
 fn is_client_in<A: Allocator + Copy>(
     window: Window,
     client_state: &ClientState<A>,
-    view: &ClientView<A>,
+    job: &JobView<A>,
 ) -> bool
-    ensures { let c = client_state.now.client in let v = view.now
-        in result ≡ (same_options v.options c.config.options && same_fees v.fees c.config.fees && pointwise nat_eq v.stored c.stored && same_span v.window window) }
+    ensures { let c = client_state.now.client in let t = job.now.task
+        in result ≡ (same_config t.config c.config && pointwise nat_eq t.stored c.stored && same_span t.window window) }
 {
-    let config = client_state.config();
-    view.options() == config.options
-        && view.fees() == config.fees
-        && same_heights(view.stored(), client_state.stored())
-        && view.window() == window
-}
-
-/// Whether this is what is seen of a client in a window.
-fn is_view_of<A: Allocator + Copy>(
-    state: &CoreState<A>,
-    window: Window,
-    client_state: &ClientState<A>,
-    view: &ClientView<A>,
-) -> bool
-    ensures { let book = book_at (standing_view state.now).books client_state.now.client.config.tracks
-        in result ≡ same_view view.now (view_of window book client_state.now.client) }
-{
-    let chain = client_state.config().tracks;
-    is_client_in(window, client_state, view) && is_book(state.books.as_slice(), chain, view.book())
+    same_config(job.config(), client_state.config())
+        && same_heights(job.stored(), client_state.stored())
+        && job.window() == window
 }
 
 /// Whether this is what is seen of a path, whose part is for the client.
@@ -261,26 +256,22 @@ fn are_tasks_of<A: Allocator + Copy>(
     rest.is_empty()
 }
 
-/// Whether this is what a plan for a client goes by in a window.
+/// Whether this is what a plan for a client is made from in a window.
 fn is_task<A: Allocator + Copy>(
     state: &CoreState<A>,
-    client: usize,
     window: Window,
     client_state: &ClientState<A>,
-    task: &Task<A>,
+    job: &JobView<A>,
 ) -> bool
-    ensures { result ≡ same_task task.now (job_of (state_view state.now) client window client_state.now.client).task }
+    ensures { result ≡ same_task job.now.task (job_of (state_view state.now) job.now.client window client_state.now.client).task }
 {
-    let config = client_state.config();
-    is_view_of(state, window, client_state, task.view())
-        && task.gas() == config.gas
-        && task.limits() == config.limits
-        && task.refresh() == config.refresh
-        && are_tasks_of(state, client, task.paths())
-        && task.asked() == client_state.asked()
+    is_client_in(window, client_state, job)
+        && is_book_of(state, client_state, job.book())
+        && are_tasks_of(state, job.client(), job.paths())
+        && job.asked() == client_state.asked()
 }
 
-/// Whether this is what a worker gets of a client in a window.
+/// Whether this is the job of a client in a window.
 fn is_job_of<A: Allocator + Copy>(
     state: &CoreState<A>,
     window: Window,
@@ -289,7 +280,7 @@ fn is_job_of<A: Allocator + Copy>(
 ) -> bool
     ensures { result ≡ same_job job.now (job_of (state_view state.now) job.now.client window client_state.now.client) }
 {
-    is_task(state, job.client(), window, client_state, &job.task())
+    is_task(state, window, client_state, job)
         && job.plan() == plan_number(state, job.client())
         && job.is_held() == client_state.is_held()
 }

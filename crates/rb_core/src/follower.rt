@@ -24,10 +24,10 @@ use rb_script_types::Config;
 use std::alloc::{AllocError, Allocator, Global};
 use std::marker::Model;
 
-/// What a core knows, by what is told of its log: what a scan or a plan was made for isn't compared again,
-/// and what was received, written or cleared isn't judged again; the rest is, since taking it in asks for
-/// it. A contract sees how it is configured, the entries of the log, and what is known. It is what is known
-/// after these entries where what was told is of the log (`IsOfLog`).
+/// A core's state, by a replay of its log: what a scan or a plan was made for isn't compared again, and what
+/// was received, written or cleared isn't judged again; the rest is, since taking it in asks for it. A
+/// contract sees the configuration, the entries of the log, and the state. It is the state after these
+/// entries where what was replayed is of the log (`IsOfLog`).
 #[derive(Drop)]
 pub struct Follower<A: Allocator = Global> {
     alloc: A,
@@ -50,7 +50,7 @@ impl<A: Allocator> Model for Follower<A> {
 }
 
 impl<A: Allocator + Copy> Follower<A> {
-    /// One that has followed these entries, and knows this.
+    /// The follower with this state, which has replayed these entries.
     pub(crate) fn new(
         alloc: A,
         config: Config<A>,
@@ -80,11 +80,11 @@ impl<A: Allocator + Copy> Follower<A> {
         })
     }
 
-    /// Follows what is told of the next event of the log. Where it isn't followed, nothing has changed: a
-    /// growth is refused (`NoMemory`), what it speaks of isn't there (`UnknownObject`), the log is full
-    /// (`LogFull`), a plan comes before the first window (`OutOfOrder`), or how things stand refuses it. What
-    /// a scan or a plan was made for isn't compared again, and what was received, written or cleared isn't
-    /// judged again: what the core accepts after the same events is followed, or a growth is refused.
+    /// Replays the next event of the log. Where it isn't replayed, nothing has changed: memory is refused
+    /// (`NoMemory`), its chain, client or path isn't there (`UnknownObject`), the log is full (`LogFull`), a
+    /// plan comes before the first window (`OutOfOrder`), or how things stand refuses it. What a scan or a
+    /// plan was made for isn't compared again, and what was received, written or cleared isn't judged again:
+    /// what the core accepts after the same events is replayed, or memory is refused.
     pub fn follow(&mut self, told: &Told<A>) -> Result<(), CoreError>
         ensures followed { OnOk result (self.new ≡ follows self.old told.now) }
         ensures unchanged { OnErr result (self.new ≡ self.old) }
@@ -98,7 +98,7 @@ impl<A: Allocator + Copy> Follower<A> {
         Ok(())
     }
 
-    /// How many events there are.
+    /// How many events were replayed.
     pub fn front(&self) -> usize
         requires { IsOfLog self.now }
         ensures { result ≡ length (events_in self.now.past) }

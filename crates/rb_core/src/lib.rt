@@ -1,7 +1,7 @@
-//! The relayer machine: `Core`, which judges events and takes them in, and shows clients and paths;
-//! and `Follower`, which takes in what it is told of them (`Told`). What a scan or a plan was made for isn't
-//! compared again there, and what was received, written or cleared isn't judged again; the rest is, since
-//! taking it in asks for it.
+//! The relayer state machine: `Core`, which judges events, takes them in, and shows clients and paths; and
+//! `Follower`, which replays the events that a core has judged (`Told`). A follower doesn't compare again
+//! what a scan or a plan was made for, and doesn't judge again what was received, written or cleared; it
+//! judges the rest, since taking it in asks for it.
 //!
 //! A core is the fold of its log: its state is what the definitions of `rb_core_model` make of the events
 //! that it has taken in, from which its views, replies and refusals follow.

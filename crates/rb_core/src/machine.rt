@@ -1,4 +1,4 @@
-//! The relayer machine.
+//! The relayer state machine.
 ghost use Rattle.std.specs.Prelude.{◌≡◌, ◌++◌, ◌∷◌, [], All, length, Some, IfOk, IfErr};
 ghost use Rattle.std.specs.Option.{option_copied};
 ghost use Rattle.rb_script_types.specs.Config.{config_view, IsConfig};
@@ -35,8 +35,8 @@ use rb_script_types::Config;
 use std::alloc::{AllocError, Allocator, Global};
 use std::marker::Model;
 
-/// What is known of chains, clients and paths, as the fold of the events that were taken in. A
-/// contract sees how it is configured, its log, and the room that it has for more.
+/// The relayer state machine: the state of all chains, clients and paths, as the fold of the events that
+/// were taken in. A contract sees its configuration, its log, and the room that it has for more.
 #[derive(Drop)]
 pub struct Core<A: Allocator = Global> {
     alloc: A,
@@ -61,7 +61,8 @@ impl<A: Allocator> Model for Core<A> {
 }
 
 impl<A: Allocator + Copy> Core<A> {
-    /// A core that has taken in nothing. The configuration is given up where a growth is refused.
+    /// A core before its first event. `AllocError` where memory is refused; the configuration is given
+    /// up then.
     pub fn new(alloc: A, config: Config<A>) -> Result<Core<A>, AllocError>
         requires { IsConfig (config_view config) }
         ensures config { IfOk result (λ core. core.config ≡ config_view config) }
@@ -78,7 +79,8 @@ impl<A: Allocator + Copy> Core<A> {
     }
 
     /// An equal core: with the same configuration and the same log. Its books are shared with this
-    /// one until one of the two changes them.
+    /// one until one of the two changes them. `AllocError` where memory is refused, or something has as
+    /// many owners as can be counted.
     pub fn copy(&self) -> Result<Core<A>, AllocError>
         ensures config { IfOk result (λ core. core.config ≡ self.now.config) }
         ensures log { IfOk result (λ core. core.log ≡ self.now.log) }
@@ -91,7 +93,7 @@ impl<A: Allocator + Copy> Core<A> {
         })
     }
 
-    /// A follower that has followed this core's log.
+    /// A follower of this core that has replayed its log. `AllocError` as for `copy`.
     pub fn follower(&self) -> Result<Follower<A>, AllocError>
         ensures config { IfOk result (λ follower. follower.past.config ≡ self.now.config) }
         ensures events { IfOk result (λ follower. events_in follower.past ≡ self.now.log) }
@@ -105,9 +107,8 @@ impl<A: Allocator + Copy> Core<A> {
         ))
     }
 
-    /// Judges an event, and makes what taking it in takes. Nothing that can be seen changes, whatever
-    /// is answered. An error is the first refusal that applies; or `NoMemory`, where a growth is
-    /// refused.
+    /// Judges an event, and makes room for it. The state stays as it is, whatever is answered. An error
+    /// is the first refusal that applies; or `NoMemory`, where memory is refused.
     pub fn judge(&mut self, event: Event<A>) -> Result<Ready<A>, CoreError>
         ensures config { self.new.config ≡ self.old.config }
         ensures log { self.new.log ≡ self.old.log }
@@ -119,8 +120,7 @@ impl<A: Allocator + Copy> Core<A> {
         make_ready(self.alloc, &mut self.state, &mut self.log, event)
     }
 
-    /// Takes in an event that this core judged after the events that it has taken in. Takes no
-    /// memory, and cannot fail.
+    /// Takes in an event that this core judged after the events that it has taken in. It cannot fail.
     pub fn settle(&mut self, ready: Ready<A>) -> Reply
         requires { IsReady self.old ready }
         ensures config { self.new.config ≡ self.old.config }
@@ -130,7 +130,7 @@ impl<A: Allocator + Copy> Core<A> {
         take_in(&mut self.state, &mut self.log, ready)
     }
 
-    /// What it was set up with.
+    /// The configuration.
     pub fn config(&self) -> &Config<A>
         ensures value { config_view result.now ≡ self.now.config }
         ensures set_up { IsSetUp self.now.config }
@@ -148,7 +148,7 @@ impl<A: Allocator + Copy> Core<A> {
         self.state.front
     }
 
-    /// What is kept of the events that were taken in, from which they come back.
+    /// The log: an entry for each event that was taken in, from which the events come back.
     pub fn log(&self) -> &[SharedEntry<A>]
         ensures { log_from self.now.config result.now ≡ self.now.log }
     {
@@ -157,7 +157,7 @@ impl<A: Allocator + Copy> Core<A> {
 
     /// A client as a worker gets it: what a plan for it goes by, the number of its next plan, and
     /// whether a batch of it is open. Its book is shared. `UnknownObject` where there is no such client,
-    /// `OutOfOrder` before the first window, `NoMemory` where a growth is refused.
+    /// `OutOfOrder` before the first window, `NoMemory` where memory is refused.
     pub fn client_view(&self, client: usize) -> Result<JobView<A>, CoreError>
         ensures view { IfOk result (λ view. client_view (state_in self.now) client ≡ Some view) }
         ensures refused { IfErr result (λ e. IsRefusal e (client_view_refusal (state_in self.now) client)) }
@@ -166,16 +166,16 @@ impl<A: Allocator + Copy> Core<A> {
         client_view(self.alloc, &self.state, client)
     }
 
-    /// One more owner of the book of a chain, of an empty one where there is no such chain. An error comes
-    /// only where a growth is refused, or too many share it.
+    /// One more owner of the book of a chain, of an empty one where there is no such chain. `AllocError`
+    /// where memory is refused, or the book has as many owners as can be counted.
     pub fn book(&self, chain: usize) -> Result<SharedBook<A>, AllocError>
         ensures { IfOk result (λ shared. shared.book ≡ book_at (state_in self.now).standing.books chain) }
     {
         book_of(self.alloc, &self.state, chain)
     }
 
-    /// A path as it is scanned. `UnknownObject` where there is no such path, `NoMemory` where a growth
-    /// is refused.
+    /// A path as it is scanned. `UnknownObject` where there is no such path, `NoMemory` where memory is
+    /// refused.
     pub fn path_view(&self, path: usize) -> Result<PathView<A>, CoreError>
         ensures view { IfOk result (λ view. path_view (state_in self.now).standing path ≡ Some view) }
         ensures refused { IfErr result (λ e. IsRefusal e (path_view_refusal (state_in self.now) path)) }
@@ -190,7 +190,7 @@ impl<A: Allocator + Copy> Core<A> {
         is_scanned(&self.state, path, part)
     }
 
-    /// The batch of a client that is open, if there is such a client.
+    /// The open batch of a client; None where there is no such client, or no batch of its is open.
     pub fn open_batch(&self, client: usize) -> Option<&OpenBatch<A>>
         ensures { option_copied result ≡ batch_open (state_in self.now).standing client }
     {

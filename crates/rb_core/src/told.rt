@@ -8,8 +8,8 @@ use rb_core_model::{Event, Ready, Scan, SharedEntry};
 use std::alloc::{AllocError, Allocator, Global};
 use std::marker::Model;
 
-/// What followers of a core's log are told of an event that the core judged: what the log keeps of it, and
-/// of a scan of a path the scan as it was made, so that who follows neither scans nor compares.
+/// An event that a core has judged, for the followers of its log: the log entry, and with the entry of a
+/// scan the scan as it was made, so that a follower neither scans nor compares.
 #[derive(Drop)]
 pub struct Told<A: Allocator = Global> {
     entry: SharedEntry<A>,
@@ -38,8 +38,8 @@ fn scan_in<A: Allocator + Copy>(event: &Event<A>) -> Result<Option<Scan<A>>, All
 }
 
 impl<A: Allocator + Copy> Told<A> {
-    /// What followers are told of this event. Takes no memory; the error is that too many share its
-    /// entry or its scan.
+    /// What followers are told of this event. `AllocError` where its entry or its scan has as many
+    /// owners as can be counted.
     pub fn of(ready: &Ready<A>) -> Result<Told<A>, AllocError>
         ensures { IfOk result (λ told. told ≡ told_of ready.now.event) }
     {
@@ -50,14 +50,14 @@ impl<A: Allocator + Copy> Told<A> {
 }
 
 impl<A: Allocator> Told<A> {
-    /// What the log keeps of it.
+    /// The log entry of the event.
     pub fn entry(&self) -> &SharedEntry<A>
         ensures { result.now ≡ self.now.entry }
     {
         &self.entry
     }
 
-    /// The scan of an entry of one.
+    /// The scan; None where the entry is of another event.
     pub(crate) fn scan(&self) -> Option<&Scan<A>>
         ensures value { option_copied result ≡ self.now.scan }
         ensures belongs { IsTold self.now.entry self.now.scan }

@@ -12,7 +12,7 @@ use Rattle.rb_scan.specs.Owed.{wanted}
 use Rattle.rb_scan.specs.declared.message.PacketMsg.{PacketMsg}
 use Rattle.rb_step.specs.LightClient.{Update, Client}
 use Rattle.rb_step.specs.View.{client_of}
-use Rattle.rb_plan_client.specs.Task.{Task, Message, goal_of, messages_of, ready_messages}
+use Rattle.rb_plan_client.specs.Task.{Task, Message, view_of, goal_of, messages_of, ready_messages}
 
 abbrev floors : List Message → List ℕ
 floors ms = map (λ (m : PacketMsg). m.floor) (map (λ (m : Message). m.packet) ms)
@@ -52,8 +52,8 @@ reached client goal us proof h meets is e =
     let there : Meets client (AtLeast h) us = subst (λ g. Meets client g us) e meets in
     omega (arith, is.greatest there.0 there.1, there.2)
 
-pub floors_fit : (t : Task) (reach : Option ℕ) (goal : Goal) (us : List Update) (proof : ℕ) → goal_of t reach ≡ Some goal → Meets (client_of t.view) goal us
-    → IsProofHeight (client_of t.view) us (Some proof) → All (λ (m : Message). m.packet.floor ≤ proof) (messages_of t reach)
+pub floors_fit : (t : Task) (reach : Option ℕ) (goal : Goal) (us : List Update) (proof : ℕ) → goal_of t reach ≡ Some goal → Meets (client_of (view_of t)) goal us
+    → IsProofHeight (client_of (view_of t)) us (Some proof) → All (λ (m : Message). m.packet.floor ≤ proof) (messages_of t reach)
 floors_fit t reach goal us proof e meets is =
     All-from_recursion (λ (m : Message). m.packet.floor ≤ proof) (messages_of t reach)
-    (by_goal t.asked _ (ready_messages t reach) goal proof e (λ h. reached (client_of t.view) goal us proof h meets is))
+    (by_goal t.asked _ (ready_messages t reach) goal proof e (λ h. reached (client_of (view_of t)) goal us proof h meets is))

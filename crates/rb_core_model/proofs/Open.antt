@@ -29,7 +29,7 @@ use Rattle.rb_core_model.specs.Machine.{State, opening, knows_client, is_known, 
 use Rattle.rb_script_types.specs.declared.refusal.Refusal.{Refusal}
 use Rattle.rb_script_types.specs.declared.refusal.Refusal.TheVariants.{UnknownObject, LogFull, Repeat, OutOfOrder}
 use Rattle.rb_core_model.specs.Standing.{OpenBatch, ClientState, PathState, Standing, opening_standing, new_path, new_client, view_of_path, owed_at, path_task, path_tasks, task_in, judged, changed, changed_at, with_path, new_packet, batch_opened, with_batch, after_answer, open_batch, settled_refusal, settled_refusal_of, settled_messages, after_batch, after_messages, after_settled, sent_refusal, with_height}
-use Rattle.rb_plan_client.specs.Task.{PathTask, Message, message_on, ready_on, messages_of}
+use Rattle.rb_plan_client.specs.Task.{PathTask, Message, view_of, message_on, ready_on, messages_of}
 use Rattle.rb_core_model.proofs.Drafted.{IsDrafted, drafted}
 use Rattle.rb_core_model.proofs.Marks.{all_at, all_take, all_weaker, has, part_of, is_settled, mark_in, mark_at, AllFound, KeepsPath, keeps_marked, keeps_packet, KeepsPaths, keeps_all, keeps_changed, IsAbout, all_grow, all_others, all_marked, configs_messages, found_messages}
 use Rattle.rb_core_model.proofs.Options.{passes, mapped, chained, none_from, get_changed}
@@ -202,7 +202,7 @@ plan_sent law config s d x b kept is e =
     let t = task_in s.standing x.window d.job.client x.known in
     let o = opens (x.known.batches + 1) d.answer b e in
     let planned : IsPlanned t o.planned = subst (IsAnswer t) o.is_planned (subst (λ u. IsAnswer u d.answer) x.task is) in
-    let plan : IsPlan t o.planned.goal (messages_of t planned.reach) o.plan = subst (λ p. MatchOption p (IsUnreachable (client_of t.view) o.planned.goal) (IsPlan t o.planned.goal (messages_of t planned.reach))) o.is_plan planned.plan in
+    let plan : IsPlan t o.planned.goal (messages_of t planned.reach) o.plan = subst (λ p. MatchOption p (IsUnreachable (client_of (view_of t)) o.planned.goal) (IsPlan t o.planned.goal (messages_of t planned.reach))) o.is_plan planned.plan in
     subst (AllByRecursion (IsSent config s.standing.paths d.job.client)) (sym plan.messages ∙ sym (ap (λ (y : OpenBatch). y.messages) o.is))
     (messages_sent law config s.standing kept d.job.client planned.reach x.known.asked)
 

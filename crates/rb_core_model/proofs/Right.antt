@@ -14,7 +14,7 @@ use Rattle.rb_plan_client.specs.Draft.{Batch, Sending, nothing, too_big, batched
 use Rattle.rb_core_model.specs.Event.{Planned}
 use Rattle.rb_core_model.specs.Machine.{State, Opened, reply_for, batch_for, refusal_of, accepted, after, state_of}
 use Rattle.rb_core_model.specs.Standing.{OpenBatch, ClientState, Standing, path_view, owed_at, path_tasks, task_in, batch_of_sending, batch_of, batch_opened, with_batch, after_answer}
-use Rattle.rb_plan_client.specs.Task.{Message, ready_on, messages_of}
+use Rattle.rb_plan_client.specs.Task.{Message, view_of, ready_on, messages_of}
 use Rattle.rb_core_model.proofs.Drafted.{IsDrafted, drafted}
 use Rattle.rb_core_model.proofs.Floors.{floors_fit}
 use Rattle.rb_core_model.proofs.InTurn.{in_turn}
@@ -72,7 +72,7 @@ module _ (law : ReadyReceivesAreConsecutive) (s : State) (d : Draft) where
   right_batch x b o right =
       let t = task_in s.standing x.window d.job.client x.known in
       let planned : IsPlanned t o.planned = subst (IsAnswer t) o.is_planned right in
-      let plan : IsPlan t o.planned.goal (messages_of t planned.reach) o.plan = subst (λ p. MatchOption p (IsUnreachable (client_of t.view) o.planned.goal) (IsPlan t o.planned.goal (messages_of t planned.reach))) o.is_plan planned.plan in
+      let plan : IsPlan t o.planned.goal (messages_of t planned.reach) o.plan = subst (λ p. MatchOption p (IsUnreachable (client_of (view_of t)) o.planned.goal) (IsPlan t o.planned.goal (messages_of t planned.reach))) o.is_plan planned.plan in
       let batch : IsBatch t o.plan o.batch = subst (IsSending t o.plan) o.is_batched plan.sending in
       subst (IsRightBatch s.standing d.job.client) (sym o.is) (record {
         window = x.window;

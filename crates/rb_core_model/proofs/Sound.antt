@@ -33,8 +33,8 @@ use Rattle.rb_core_model.specs.Event.{Event, IsEvent, Window, Asked, SetSeen, He
 use Rattle.rb_core_model.specs.Machine.{State, opening, job_of, refusal_of, accepted, after, state_of}
 use Rattle.rb_script_types.specs.declared.refusal.Refusal.{Refusal}
 use Rattle.rb_script_types.specs.declared.refusal.Refusal.TheVariants.{OutOfOrder}
-use Rattle.rb_core_model.specs.Standing.{OpenBatch, ClientState, PathState, Standing, empty_book, new_client, new_path, opening_standing, book_at, tracked, view_of_path, view_of, task_in, changed, changed_at, with_book, with_client, with_path, with_height, with_packet, new_packet, marked, with_mark, mark_of, batch_opened, with_batch, after_answer, after_batch, after_message, after_messages, settled_updates, settled_messages, sent_refusal}
-use Rattle.rb_plan_client.specs.Task.{Message, messages_of}
+use Rattle.rb_core_model.specs.Standing.{OpenBatch, ClientState, PathState, Standing, empty_book, new_client, new_path, opening_standing, book_at, tracked, view_of_path, task_of, task_in, changed, changed_at, with_book, with_client, with_path, with_height, with_packet, new_packet, marked, with_mark, mark_of, batch_opened, with_batch, after_answer, after_batch, after_message, after_messages, settled_updates, settled_messages, sent_refusal}
+use Rattle.rb_plan_client.specs.Task.{Message, view_of, messages_of}
 use Rattle.rb_core_model.specs.Views.{ClientViewsAreViews, PathViewsArePaths}
 use Rattle.rb_core_model.specs.Batches.{AreApart, MessagesStandOnce}
 use Rattle.rb_core_model.proofs.Apart.{messages_apart}
@@ -237,7 +237,7 @@ messages_sound (m ∷ ms) ps all = messages_sound ms (changed_at (after_message 
 
 -- ---- views
 
-pub client_view_sound : (s : Standing) (window : Span) (c : ClientState) → IsSound s → s.window ≡ Some window → IsSoundClient s.books c → IsView (view_of window (book_at s.books c.config.tracks) c)
+pub client_view_sound : (s : Standing) (window : Span) (c : ClientState) → IsSound s → s.window ≡ Some window → IsSoundClient s.books c → IsView (view_of (task_of window s.books [] c))
 client_view_sound s window c sound is_window is = record {
   stored = record { rising = is.rising; recorded = All-from_recursion (IsRecorded (book_at s.books c.config.tracks)) c.stored is.recorded };
   window = sound.window window is_window;
@@ -272,10 +272,10 @@ module _ (finds : FindsWhatWasAdded) (stays : StaysABook) (orderly : ViewsAreOrd
         recorded = sound_c.recorded;
         updates = λ b' f.
             let same : b ≡ b' = same_Some b b' f in
-            let v : View = view_of window (book_at s.books c.config.tracks) c in
+            let t = task_in s window client c in
+            let v : View = view_of t in
             let view : IsView v = client_view_sound s window c sound is_window sound_c in
             let o = opens (c.batches + 1) answer b e in
-            let t = task_in s window client c in
             let planned : IsPlanned t o.planned = subst (IsAnswer t) o.is_planned right in
             let plan : IsPlan t o.planned.goal (messages_of t planned.reach) o.plan = subst (λ p. MatchOption p (IsUnreachable (client_of v) o.planned.goal) (IsPlan t o.planned.goal (messages_of t planned.reach))) o.is_plan planned.plan in
             let recorded = runs_recorded v (orderly v view) o.plan.updates (client_of v).stored plan.least.acceptable in
@@ -285,7 +285,7 @@ module _ (finds : FindsWhatWasAdded) (stays : StaysABook) (orderly : ViewsAreOrd
             let o = opens (c.batches + 1) answer b e in
             let t = task_in s window client c in
             let planned : IsPlanned t o.planned = subst (IsAnswer t) o.is_planned right in
-            let plan : IsPlan t o.planned.goal (messages_of t planned.reach) o.plan = subst (λ p. MatchOption p (IsUnreachable (client_of t.view) o.planned.goal) (IsPlan t o.planned.goal (messages_of t planned.reach))) o.is_plan planned.plan in
+            let plan : IsPlan t o.planned.goal (messages_of t planned.reach) o.plan = subst (λ p. MatchOption p (IsUnreachable (client_of (view_of t)) o.planned.goal) (IsPlan t o.planned.goal (messages_of t planned.reach))) o.is_plan planned.plan in
             subst (Up AreApart) (sym plan.messages ∙ sym (ap (λ (y : OpenBatch). y.messages) (sym same ∙ o.is)))
             (messages_apart s (λ n p at_n. Up-from_increasing (λ (q : Packet). q.sequence) p.packets (all_at IsSoundPath s.paths n p sound.paths at_n).rising) client planned.reach c.asked);
       }
@@ -419,7 +419,7 @@ module _ (finds : FindsWhatWasAdded) (stays : StaysABook) (orderly : ViewsAreOrd
       let sound = sound_after config es is are in
       let w = chained (λ window. option_map (job_of s client window) (slice_get s.standing.clients client)) s.standing.window job view in
       let c = mapped (job_of s client w.0) (slice_get s.standing.clients client) job w.2 in
-      subst (λ (j : Job). IsView j.task.view) c.2
+      subst (λ (j : Job). IsView (view_of j.task)) c.2
       (client_view_sound s.standing w.0 c.0 sound w.1 (all_at (IsSoundClient s.standing.books) s.standing.clients client c.0 sound.clients c.1))
 
   heights_same : (ks : List RecordAt) → map (λ (r : ℕ × ℕ). r.0) (map (λ (k : RecordAt). (height_of k, time_of k)) ks) ≡ map height_of ks

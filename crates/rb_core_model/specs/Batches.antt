@@ -20,7 +20,7 @@ use Rattle.rb_core_model.specs.Event.{Event, IsEvent, Planned, Settled}
 use Rattle.rb_core_model.specs.Machine.{Opened, refusal_of, reply_of, after, state_of}
 use Rattle.rb_plan_client.specs.Reach.{IsReach}
 use Rattle.rb_core_model.specs.Standing.{OpenBatch, ClientState, Standing, path_view, task_in, settled_messages}
-use Rattle.rb_plan_client.specs.Task.{Message, goal_of, messages_of, gases}
+use Rattle.rb_plan_client.specs.Task.{Message, view_of, goal_of, messages_of, gases}
 
 -- ---- a batch when it is opened
 
@@ -46,12 +46,12 @@ pub record IsRightBatch (s : Standing) (client : ℕ) (b : OpenBatch) : Type 0 w
   pub is_window : s.window ≡ Some window
   pub is_known : slice_get s.clients client ≡ Some known
   pub none_open : known.batch ≡ None
-  pub is_reach : IsReach (client_of (task_in s window client known).view) reach
+  pub is_reach : IsReach (client_of (view_of (task_in s window client known))) reach
   pub is_goal : goal_of (task_in s window client known) reach ≡ Some goal
-  pub least : IsLeast (client_of (task_in s window client known).view) goal b.updates
+  pub least : IsLeast (client_of (view_of (task_in s window client known))) goal b.updates
   pub messages : b.messages ≡ messages_of (task_in s window client known) reach
   pub cut : IsLeastCut known.config.limits (gases (task_in s window client known) b.updates b.messages) b.transactions
-  pub proof : IsProofHeight (client_of (task_in s window client known).view) b.updates (Some b.proof)
+  pub proof : IsProofHeight (client_of (view_of (task_in s window client known))) b.updates (Some b.proof)
   pub floors : All (λ (m : Message). m.packet.floor ≤ b.proof) b.messages
   pub in_turn : (path : ℕ) (v : Path) → path_view s path ≡ Some v → v.order ≡ Ordered → AreInTurn v (receives_on path b.messages)
 

@@ -18,7 +18,6 @@ use Rattle.rb_scan.specs.declared.message.PacketMsg.{PacketMsg}
 use Rattle.rb_scan.specs.declared.path.Order.TheVariants.{Ordered}
 use Rattle.rb_base.specs.declared.gate.Part.{Part}
 use Rattle.rb_step.specs.LightClient.{Update}
-use Rattle.rb_step.specs.View.{View}
 use Rattle.rb_script_types.specs.Config.{Config}
 use Rattle.rb_script_types.specs.declared.config.ClientConfig.{ClientConfig}
 use Rattle.rb_script_types.specs.declared.config.PathConfig.{PathConfig}
@@ -115,17 +114,13 @@ path_task owed client (place, p) =
 abbrev pub path_tasks : (ℕ → Part → List PacketMsg) → List PathState → ℕ → List PathTask
 path_tasks owed paths client = filter_map (path_task owed client) (enumerate_from 0 paths)
 
--- a client in a window, over the book of the chain that it tracks
-abbrev pub view_of : Span → Book → ClientState → View
-view_of window book c =
-    record { options = c.config.options; fees = c.config.fees; stored = c.stored; window = window; book = book }
-
+-- a client in a window, over the book of the chain that it tracks, with paths
 abbrev pub task_of : Span → List Book → List PathTask → ClientState → Task
 task_of window books paths c = record {
-  view = view_of window (book_at books c.config.tracks) c;
-  gas = c.config.gas;
-  limits = c.config.limits;
-  refresh = c.config.refresh;
+  config = c.config;
+  stored = c.stored;
+  window = window;
+  book = book_at books c.config.tracks;
   paths = paths;
   asked = c.asked;
 }

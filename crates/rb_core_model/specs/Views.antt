@@ -8,12 +8,13 @@ use Rattle.rb_plan_client.specs.Draft.{Job}
 use Rattle.rb_core_model.specs.Event.{Event, IsEvent}
 use Rattle.rb_core_model.specs.Machine.{client_view, state_of}
 use Rattle.rb_core_model.specs.Standing.{path_view}
+use Rattle.rb_plan_client.specs.Task.{view_of}
 
 -- what is seen of a client keeps what every client's view keeps
 abbrev pub ClientViewsAreViews : Type 0
 ClientViewsAreViews =
     (config : Config) (events : List Event) → IsSetUp config → All IsEvent events
-    → (client : ℕ) (job : Job) → client_view (state_of config events) client ≡ Some job → IsView job.task.view
+    → (client : ℕ) (job : Job) → client_view (state_of config events) client ≡ Some job → IsView (view_of job.task)
 
 -- what is seen of a path keeps what every path keeps
 abbrev pub PathViewsArePaths : Type 0

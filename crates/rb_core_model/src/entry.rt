@@ -1,4 +1,4 @@
-//! What a log keeps of an event.
+//! Log entries.
 ghost use Rattle.std.specs.Prelude.{◌≡◌, IfOk};
 ghost use Rattle.rb_core_model.specs.Entry.{entry_view, logged_of};
 ghost use Rattle.rb_core_model.specs.Seen.{event_view};
@@ -9,22 +9,22 @@ use rb_plan_client::{Planned, copy_answer};
 use rb_script_types::{Asked, Observation, Settlement};
 use std::alloc::{AllocError, Allocator, Global};
 
-/// An event; of a scan and a plan what is left to say where the log before it is known: the path and
-/// the client are seen as they are after that log. So a log keeps no book alive.
+/// A log entry: an event, but of a scan only its path and part, and of a plan only its client and answer,
+/// since the log before it determines the path and the client. So a log keeps no book in memory.
 #[derive(Drop)]
 pub enum Entry<A: Allocator = Global> {
     /// The window in which updates may be submitted.
     Window(Window),
     /// What a client is to be brought to.
     Asked(Asked),
-    /// What was seen of a chain, a client or a path.
+    /// An observation of a chain, a client or a path.
     Observed(Observation<A>),
     /// A scan of a part of a path, as the path is after the log before it.
     Scan {
         path: usize,
         part: Part,
     },
-    /// What was planned for a client, as it is seen after the log before it.
+    /// What was planned for a client, as the client is after the log before it.
     Plan {
         client: usize,
         answer: Option<Planned<A>>,
@@ -34,7 +34,7 @@ pub enum Entry<A: Allocator = Global> {
 }
 
 impl<A: Allocator + Copy> Entry<A> {
-    /// What a log keeps of an event.
+    /// The log entry of an event. `AllocError` where memory is refused.
     pub fn of(event: &Event<A>) -> Result<Entry<A>, AllocError>
         ensures { IfOk result (λ entry. entry_view entry ≡ logged_of (event_view event.now)) }
     {

@@ -6,10 +6,10 @@ use thiserror::Error;
 /// Why an event isn't taken in, or a view isn't given. Nothing has changed then.
 #[derive(Clone, Copy, Debug, PartialEq, Eq, Error)]
 pub enum CoreError {
-    /// It is refused.
+    /// The event or the view is refused, for this reason.
     #[error("{0}")]
     Refused(Refusal),
-    /// A growth was refused.
+    /// Memory was refused, or something has as many owners as can be counted.
     #[error("no memory")]
     NoMemory,
 }

@@ -18,11 +18,11 @@ pub enum Event<A: Allocator = Global> {
     Window(Window),
     /// What a client is to be brought to.
     Asked(Asked),
-    /// What was seen of a chain, a client or a path.
+    /// An observation of a chain, a client or a path.
     Observed(Observation<A>),
-    /// What a part of a path owes, with the path as it was seen.
+    /// The pending messages of a part of a path, with the path that was scanned.
     Scanned { path: usize, scan: Scan<A> },
-    /// What was planned for a client, with the client as it was seen.
+    /// What was planned for a client, with the job that it was planned for.
     Planned(Draft<A>),
     /// So many transactions of a client's batch, by its number, were taken.
     Settled(Settlement),

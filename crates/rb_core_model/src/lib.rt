@@ -1,6 +1,7 @@
-//! The relayer as a machine over events: what happens to it (`Event`), what its log keeps of that
-//! (`Entry`), what it replies and why it refuses; the definitions of its state and of what an event
-//! makes of it, with their laws in `laws`; and what a part of a path owes (`scan`).
+//! Events and the relayer state machine's definitions and laws: what happens to a relayer (`Event`), the log
+//! entry of that (`Entry`), the reply (`Reply`) and the errors (`CoreError`); the definitions of the
+//! machine's state and of what an event makes of it, with their laws in `laws`; and the pending messages of
+//! a part of a path (`scan`).
 #![tactic(auto)]
 
 mod entry;

@@ -10,13 +10,13 @@ use std::sync::Arc;
 
 /// What the owners of a scan share.
 #[derive(Drop)]
-struct Seen<A: Allocator = Global> {
+struct Parts<A: Allocator = Global> {
     view: PathView<A>,
     part: Part,
     owed: Vec<PacketMsg, A>,
 }
 
-impl<A: Allocator> Model for Seen<A> {
+impl<A: Allocator> Model for Parts<A> {
     ghost use Rattle.std.specs.Prelude.{◌≡◌};
     ghost use Rattle.rb_scan.specs.Owed.{owed_part};
     ghost use Rattle.rb_core_model.specs.Scan as scans;
@@ -28,8 +28,8 @@ impl<A: Allocator> Model for Seen<A> {
     ghost invariant = { λ s. s.owed.items ≡ owed_part s.view s.part };
 }
 
-impl<A: Allocator> Seen<A> {
-    /// The path as it was seen.
+impl<A: Allocator> Parts<A> {
+    /// The path that was scanned.
     fn view(&self) -> &PathView<A>
         ensures { result.now ≡ self.now.view }
     {
@@ -51,11 +51,11 @@ impl<A: Allocator> Seen<A> {
     }
 }
 
-/// The messages that a part of a path owes, with the path as it was seen. It may have several owners,
-/// which share both.
+/// The pending messages of a part of a path, with the path that was scanned. A scan may have several
+/// owners, which share both.
 #[derive(Drop)]
 pub struct Scan<A: Allocator = Global> {
-    seen: Arc<Seen<A>, A>,
+    parts: Arc<Parts<A>, A>,
 }
 
 impl<A: Allocator> Model for Scan<A> {
@@ -64,37 +64,37 @@ impl<A: Allocator> Model for Scan<A> {
 
     ghost Value = { scans.Scan };
 
-    ghost view = { λ s. arc_value s.seen };
+    ghost view = { λ s. arc_value s.parts };
 }
 
 impl<A: Allocator> Scan<A> {
-    /// The path as it was seen.
+    /// The path that was scanned.
     pub fn view(&self) -> &PathView<A>
         ensures { result.now ≡ self.now.view }
     {
-        self.seen.view()
+        self.parts.view()
     }
 
     /// The part.
     pub fn part(&self) -> Part
         ensures { result ≡ self.now.part }
     {
-        self.seen.part()
+        self.parts.part()
     }
 
     /// The messages that it owes.
     pub fn owed(&self) -> &[PacketMsg]
         ensures { result.now ≡ owed_part self.now.view self.now.part }
     {
-        self.seen.owed()
+        self.parts.owed()
     }
 
-    /// The same scan, for one more owner. Takes no memory; the error is that too many share it.
+    /// The same scan, for one more owner. `AllocError` where it has as many owners as can be counted.
     pub fn share(&self) -> Result<Scan<A>, AllocError>
         ensures { IfOk result (λ scan. scan ≡ self.now) }
     {
         Ok(Scan {
-            seen: Arc::try_clone(&self.seen)?,
+            parts: Arc::try_clone(&self.parts)?,
         })
     }
 }
@@ -110,9 +110,9 @@ impl<A: Allocator + Copy> Scan<A> {
         ensures { IfOk result (λ scan. scan ≡ record { view = view; part = part }) }
     {
         let alloc = *owed.allocator();
-        let seen = Seen { view, part, owed };
+        let parts = Parts { view, part, owed };
         Ok(Scan {
-            seen: Arc::new(alloc, seen)?,
+            parts: Arc::new(alloc, parts)?,
         })
     }
 }

@@ -33,8 +33,8 @@ impl<A: Allocator> Model for Ready<A> {
 }
 
 impl<A: Allocator + Copy> Ready<A> {
-    /// The event, with what a log keeps of it. A core takes it in only where it has judged it
-    /// itself.
+    /// The event, with its log entry. A core takes it in only where it has judged it itself.
+    /// `AllocError` where memory is refused.
     pub fn new(alloc: A, front: usize, event: Event<A>) -> Result<Ready<A>, AllocError>
         ensures { IfOk result (λ ready. ready ≡ record { front = front; event = event_view event }) }
     {
@@ -61,14 +61,14 @@ impl<A: Allocator + Copy> Ready<A> {
         &self.event
     }
 
-    /// What a log keeps of the event.
+    /// The log entry of the event.
     pub fn entry(&self) -> &SharedEntry<A>
         ensures { result.now ≡ logged_of self.now.event }
     {
         &self.entry
     }
 
-    /// The event, and what a log keeps of it.
+    /// The event, and its log entry.
     pub fn into_parts(self) -> (Event<A>, SharedEntry<A>)
         ensures event { event_view result.0 ≡ self.event }
         ensures entry { result.1 ≡ logged_of self.event }

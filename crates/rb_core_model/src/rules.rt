@@ -1,4 +1,4 @@
-//! What values keep by their types, told to proofs. Each call only looks, and takes no memory.
+//! What is true of values by their types, for proofs. No call changes anything.
 ghost use Rattle.std.specs.Prelude.{All};
 ghost use Rattle.rb_base.specs.Fee.{IsFeeTable};
 ghost use Rattle.rb_script_types.specs.declared.config.ClientConfig.{ClientConfig as SetUpClient};

@@ -1,4 +1,4 @@
-//! What a part of a path owes.
+//! Scans for pending messages.
 ghost use Rattle.std.specs.Prelude.{◌≡◌, IfOk};
 
 use crate::path_scan::Scan;
@@ -6,7 +6,8 @@ use rb_base::Part;
 use rb_scan::{PathView, owed_part};
 use std::alloc::{AllocError, Allocator};
 
-/// What a part of a path owes as the path is seen; the view goes into the scan.
+/// The pending messages of a part of a path (ICS 4), as `rb_scan` finds them; the view goes into the scan.
+/// `AllocError` where memory is refused.
 pub fn scan<A: Allocator + Copy>(view: PathView<A>, part: Part) -> Result<Scan<A>, AllocError>
     ensures { IfOk result (λ scan. scan ≡ record { view = view; part = part }) }
 {

@@ -9,7 +9,7 @@ use rb_base::Part;
 use std::alloc::{AllocError, Allocator, Global};
 use std::marker::Model;
 
-/// Each part of a path as it was last scanned.
+/// The last scan of each part of a path.
 #[derive(Drop)]
 pub struct Scans<A: Allocator = Global> {
     packets: Option<Scan<A>>,
@@ -31,7 +31,7 @@ impl<A: Allocator> Model for Scans<A> {
 }
 
 impl<A: Allocator> Scans<A> {
-    /// A path of which nothing was scanned.
+    /// The scans of a path of which nothing was scanned.
     pub fn new() -> Scans<A>
         ensures { result ≡ no_scans }
     {
@@ -41,7 +41,7 @@ impl<A: Allocator> Scans<A> {
         }
     }
 
-    /// The last scan of a part.
+    /// The last scan of a part; None where it was never scanned.
     pub fn of(&self, part: Part) -> Option<&Scan<A>>
         ensures { option_copied result ≡ option_map (λ v. record { view = v; part = part }) (scan_of self.now part) }
     {
@@ -73,7 +73,8 @@ fn share_last<A: Allocator>(scan: &Option<Scan<A>>) -> Result<Option<Scan<A>>, A
 }
 
 impl<A: Allocator> Scans<A> {
-    /// The same scans, which share what was seen. Takes no memory; the error is that too many share it.
+    /// The same scans, for one more owner each. `AllocError` where one has as many owners as can be
+    /// counted.
     pub fn copy(&self) -> Result<Scans<A>, AllocError>
         ensures { IfOk result (λ copy. copy ≡ self.now) }
     {

@@ -1,4 +1,4 @@
-//! Entries that several logs hold.
+//! Log entries of several logs.
 ghost use Rattle.std.specs.Prelude.{◌≡◌, IfOk};
 ghost use Rattle.rb_core_model.specs.Entry.{entry_view, logged_of};
 ghost use Rattle.rb_core_model.specs.Seen.{event_view};
@@ -9,7 +9,7 @@ use std::alloc::{AllocError, Allocator, Global};
 use std::marker::Model;
 use std::sync::Arc;
 
-/// An entry that several logs hold: they share it. A contract sees what a log keeps.
+/// A log entry that several logs share. A contract sees the entry.
 #[derive(Drop)]
 pub struct SharedEntry<A: Allocator = Global> {
     entry: Arc<Entry<A>, A>,
@@ -25,7 +25,7 @@ impl<A: Allocator> Model for SharedEntry<A> {
 }
 
 impl<A: Allocator + Copy> SharedEntry<A> {
-    /// What a log keeps of an event.
+    /// The log entry of an event, with one owner. `AllocError` where memory is refused.
     pub fn of(alloc: A, event: &Event<A>) -> Result<SharedEntry<A>, AllocError>
         ensures { IfOk result (λ entry. entry ≡ logged_of (event_view event.now)) }
     {
@@ -43,7 +43,7 @@ impl<A: Allocator> SharedEntry<A> {
         &self.entry
     }
 
-    /// The same entry, for one more log. Takes no memory; the error is that too many logs hold it.
+    /// The same entry, for one more log. `AllocError` where as many logs have it as can be counted.
     pub fn share(&self) -> Result<SharedEntry<A>, AllocError>
         ensures { IfOk result (λ entry. entry ≡ self.now) }
     {
@@ -53,7 +53,8 @@ impl<A: Allocator> SharedEntry<A> {
     }
 }
 
-/// The same entries, in their order.
+/// The same entries, in their order, for one more log. `AllocError` where memory is refused, or as many
+/// logs have one as can be counted.
 pub fn share_entries<A: Allocator + Copy>(
     alloc: A,
     entries: &[SharedEntry<A>],

@@ -1,4 +1,4 @@
-//! The books of the chains, by their places.
+//! The light stores of the chains, by their places.
 ghost use Rattle.std.specs.Prelude.{◌≡◌, ◌<◌, ◌≤◌, ℕ, None, length, replicate, slice_set, IfOk, OnOk};
 ghost use Rattle.std.specs.Option.{option_and_then};
 ghost use Rattle.rb_book.specs.Intake.{set_refusal, header_refusal, record_refusal, after_set, after_header, after_record};
@@ -12,7 +12,7 @@ use rb_script_types::Refusal;
 use rb_valset::ValidatorSet;
 use std::alloc::{AllocError, Allocator};
 
-/// The book of a chain.
+/// The book of a chain that is there.
 pub(crate) fn book_in<A: Allocator + Copy>(books: &[SharedBook<A>], chain: usize) -> &ChainBook<A>
     requires { chain < length books.now }
     ensures { result.now ≡ book_at (books_of books.now) chain }
@@ -20,7 +20,9 @@ pub(crate) fn book_in<A: Allocator + Copy>(books: &[SharedBook<A>], chain: usize
     books[chain].book()
 }
 
-/// Why a set of a chain would be refused.
+/// Why a validator set of a chain would be refused, as `ChainBook::judge_set` judges it: `HashClash`
+/// where the book has another set of the same hash, `Full` where it has as many sets, or as many
+/// addresses of members, as it may. None where the set is accepted.
 pub fn refuse_set<A: Allocator + Copy>(
     books: &[SharedBook<A>],
     chain: usize,
@@ -35,7 +37,10 @@ pub fn refuse_set<A: Allocator + Copy>(
     }
 }
 
-/// Why a header of a chain would be refused.
+/// Why a header of a chain would be refused, as `ChainBook::judge_header` judges it: `UnknownSet` where
+/// the book lacks its validator set, `WrongVerdictCount` where it hasn't one vote for each member,
+/// `BadVote` where one is bad, `Conflict` where its height has another header, else why its record would
+/// be. None where the header is accepted.
 pub fn refuse_header<A: Allocator + Copy>(
     books: &[SharedBook<A>],
     chain: usize,
@@ -50,7 +55,10 @@ pub fn refuse_header<A: Allocator + Copy>(
     }
 }
 
-/// Why a record of a chain would be refused.
+/// Why a record of a chain at a height would be refused, as `ChainBook::judge_record` judges it:
+/// `Conflict` where the height has another record, `TimeOrder` where its time doesn't stand between
+/// those of its neighbours, `Full` where the book has as many records as it may. None where the record
+/// is accepted.
 pub fn refuse_record<A: Allocator + Copy>(
     books: &[SharedBook<A>],
     chain: usize,
@@ -66,7 +74,8 @@ pub fn refuse_record<A: Allocator + Copy>(
     }
 }
 
-/// Sets a chain's book apart, so that it can be changed.
+/// Makes a book of a chain that has one owner alone, by a copy if it has others, so that it can be
+/// changed. `AllocError` where the copy is refused memory; no book has changed then.
 pub fn set_apart<A: Allocator + Copy>(
     books: &mut Vec<SharedBook<A>, A>,
     chain: usize,
@@ -79,7 +88,8 @@ pub fn set_apart<A: Allocator + Copy>(
     books[chain].set_apart()
 }
 
-/// The same, with room for the addresses of a set.
+/// The same, with room for the addresses of a set's members. `AllocError` where memory is refused; no
+/// book has changed then.
 pub fn set_apart_for<A: Allocator + Copy>(
     books: &mut Vec<SharedBook<A>, A>,
     chain: usize,
@@ -93,7 +103,7 @@ pub fn set_apart_for<A: Allocator + Copy>(
     books[chain].set_apart_for(set)
 }
 
-/// Puts a set that is not refused into a chain's book, which stands apart.
+/// Puts a set that is not refused into a chain's book, which has one owner alone (`set_apart_for`).
 pub fn put_set<A: Allocator + Copy>(
     books: &mut Vec<SharedBook<A>, A>,
     chain: usize,
@@ -107,7 +117,7 @@ pub fn put_set<A: Allocator + Copy>(
     books[chain].put_set(set);
 }
 
-/// Puts a header that is not refused into a chain's book, which stands apart.
+/// Puts a header that is not refused into a chain's book, which has one owner alone (`set_apart`).
 pub fn put_header<A: Allocator + Copy>(
     books: &mut Vec<SharedBook<A>, A>,
     chain: usize,
@@ -121,7 +131,8 @@ pub fn put_header<A: Allocator + Copy>(
     books[chain].put_header(header);
 }
 
-/// Puts a record that is not refused into a chain's book, which stands apart.
+/// Puts a record that is not refused at a height into a chain's book, which has one owner alone
+/// (`set_apart`).
 pub fn put_record<A: Allocator + Copy>(
     books: &mut Vec<SharedBook<A>, A>,
     chain: usize,
@@ -136,7 +147,8 @@ pub fn put_record<A: Allocator + Copy>(
     books[chain].put_record(height, entry);
 }
 
-/// A book for each chain, with room for so many headers.
+/// An empty book for each of so many chains, for at most `limit` records each, 1 to 4,096. `AllocError`
+/// where memory is refused.
 pub fn new_books<A: Allocator + Copy>(
     alloc: A,
     chains: usize,
@@ -152,7 +164,8 @@ pub fn new_books<A: Allocator + Copy>(
     Ok(books)
 }
 
-/// The same books, with one more owner each; one that stands apart is copied.
+/// The same books, with one more owner each; one that was made to be changed is copied. `AllocError`
+/// where memory is refused, or a book has as many owners as can be counted.
 pub fn share_books<A: Allocator + Copy>(
     alloc: A,
     books: &[SharedBook<A>],

@@ -1,4 +1,4 @@
-//! A client as it is known.
+//! The state of one client.
 ghost use Rattle.std.specs.Prelude.{◌≡◌, ◌==◌, ◌≤◌, ◌<◌, ◌+◌, ℕ, fold, length, nat_lt, Some, None, IfOk, OnOk, is_some, vec_len, vec_capacity};
 ghost use Rattle.std.specs.List.Sorted.{IsStrictlyIncreasing};
 ghost use Rattle.std.specs.Option.{option_map, option_map_or, option_copied};
@@ -16,9 +16,9 @@ use rb_script_types::{ClientConfig, Goal, Refusal};
 use std::alloc::{AllocError, Allocator, Global};
 use std::marker::Model;
 
-/// A client: its configuration, the heights that it has stored, rising, the goal that it was asked
-/// for, how many batches it has opened, and the one that is open. A contract also sees for how many
-/// more stored heights there is room.
+/// The state of one client: its configuration, the heights that it has stored, rising, the goal that it
+/// was asked for, how many batches were opened for it, and the one that is open. A contract also sees
+/// for how many more stored heights there is room.
 #[derive(Drop)]
 pub struct ClientState<A: Allocator = Global> {
     config: ClientConfig,
@@ -44,7 +44,7 @@ impl<A: Allocator> Model for ClientState<A> {
 }
 
 impl<A: Allocator> ClientState<A> {
-    /// A client to which nothing has happened.
+    /// The state of a client before the first event: nothing is stored, asked or open.
     pub fn new(alloc: A, config: ClientConfig) -> ClientState<A>
         ensures { result.client ≡ new_client config }
     {
@@ -57,14 +57,14 @@ impl<A: Allocator> ClientState<A> {
         }
     }
 
-    /// Its configuration.
+    /// The client's configuration.
     pub fn config(&self) -> &ClientConfig
         ensures { result.now ≡ self.now.client.config }
     {
         &self.config
     }
 
-    /// The heights that it has stored.
+    /// The heights that the client has stored, rising.
     pub fn stored(&self) -> &[Height]
         ensures value { result.now ≡ self.now.client.stored }
         ensures rising { IsStrictlyIncreasing self.now.client.stored }
@@ -72,28 +72,28 @@ impl<A: Allocator> ClientState<A> {
         self.stored.as_slice()
     }
 
-    /// The goal that it was asked for.
+    /// The goal that the client was asked for; None where it was asked for none since its last plan.
     pub fn asked(&self) -> Option<Goal>
         ensures { result ≡ self.now.client.asked }
     {
         self.asked
     }
 
-    /// The batch that is open.
+    /// The client's open batch; None where none is open.
     pub(crate) fn batch(&self) -> Option<&OpenBatch<A>>
         ensures { option_copied result ≡ self.now.client.batch }
     {
         self.batch.as_ref()
     }
 
-    /// Whether a batch is open.
+    /// Whether a batch of the client is open.
     pub fn is_held(&self) -> bool
         ensures { result ≡ is_some self.now.client.batch }
     {
         self.batch.is_some()
     }
 
-    /// The batch with this number, if it is the open one.
+    /// The open batch, if it has this number.
     fn open_batch(&self, number: u64) -> Option<&OpenBatch<A>>
         ensures { option_copied result ≡ open_batch self.now.client number }
     {
@@ -105,7 +105,9 @@ impl<A: Allocator> ClientState<A> {
         }
     }
 
-    /// Why the settlement of so many transactions of a batch would be refused.
+    /// Why the settlement of a batch's first `done` transactions would be refused: `Repeat` where the
+    /// batch was opened but is open no more, `OutOfOrder` where it was never opened or has fewer
+    /// transactions. None where the settlement is accepted.
     pub(crate) fn refuse_settled(&self, number: u64, done: u64) -> Option<Refusal>
         ensures { result ≡ settled_refusal self.now.client number done }
     {
@@ -135,7 +137,7 @@ impl<A: Allocator> ClientState<A> {
         }
     }
 
-    /// Makes room for so many more stored heights.
+    /// Makes room for so many more stored heights. `AllocError` where memory is refused.
     pub(crate) fn make_room(&mut self, count: usize) -> Result<(), AllocError>
         ensures same { self.new.client ≡ self.old.client }
         ensures room { OnOk result (count ≤ self.new.room) }
@@ -225,7 +227,7 @@ fn put_heights<A: Allocator>(heights: &mut Vec<Height, A>, updates: &[Update])
     }
 }
 
-/// An equal batch, if there is one.
+/// An equal batch; None of None.
 fn copy_batch<A: Allocator + Copy>(
     batch: &Option<OpenBatch<A>>,
 ) -> Result<Option<OpenBatch<A>>, AllocError>
@@ -238,7 +240,7 @@ fn copy_batch<A: Allocator + Copy>(
 }
 
 impl<A: Allocator + Copy> ClientState<A> {
-    /// An equal client.
+    /// An equal state, on the same allocator. `AllocError` where memory is refused.
     pub fn copy(&self) -> Result<ClientState<A>, AllocError>
         ensures { IfOk result (λ copy. copy.client ≡ self.now.client) }
     {

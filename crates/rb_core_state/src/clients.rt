@@ -1,4 +1,4 @@
-//! The clients, by their places.
+//! The states of the clients, by their places.
 ghost use Rattle.std.specs.Prelude.{◌≡◌, ◌<◌, ℕ, length, map, slice_get, Some, IfOk, IfSome, IsSome, IsSomeAnd, OnOk};
 ghost use Rattle.std.specs.Option.{option_copied, option_map, option_and_then};
 ghost use Rattle.rb_core_model.specs.Machine.{max_events};
@@ -14,7 +14,7 @@ use rb_plan_client::Planned;
 use rb_script_types::{ClientConfig, Goal, Refusal};
 use std::alloc::{AllocError, Allocator};
 
-/// The client at a place.
+/// The state of a client that is there.
 pub(crate) fn client_in<A: Allocator>(clients: &[ClientState<A>], client: usize) -> &ClientState<A>
     requires { client < length clients.now }
     ensures { slice_get (clients_of clients.now) client ≡ Some result.now.client }
@@ -22,7 +22,7 @@ pub(crate) fn client_in<A: Allocator>(clients: &[ClientState<A>], client: usize)
     &clients[client]
 }
 
-/// The chain that a client tracks.
+/// The chain that a client tracks, by its place in the script.
 pub fn tracked<A: Allocator>(clients: &[ClientState<A>], client: usize) -> usize
     requires { client < length clients.now }
     ensures { result ≡ tracked (clients_of clients.now) client }
@@ -30,7 +30,7 @@ pub fn tracked<A: Allocator>(clients: &[ClientState<A>], client: usize) -> usize
     client_in(clients, client).config().tracks
 }
 
-/// The batch of a client that is open, if there is such a client.
+/// The open batch of a client; None where there is no such client, or no batch of its is open.
 pub fn open_batch<A: Allocator>(clients: &[ClientState<A>], client: usize) -> Option<&OpenBatch<A>>
     ensures { option_copied result ≡ option_and_then (λ (c : standings.ClientState). c.batch) (slice_get (clients_of clients.now) client) }
 {
@@ -40,7 +40,9 @@ pub fn open_batch<A: Allocator>(clients: &[ClientState<A>], client: usize) -> Op
     }
 }
 
-/// Why a settlement would be refused.
+/// Why the settlement of the first `done` transactions of a client's batch, by its number, would be
+/// refused: `Repeat` where the batch was opened but is open no more, `OutOfOrder` where it was never
+/// opened or has fewer transactions. None where the settlement is accepted. The rule is own.
 pub fn refuse_settled<A: Allocator>(
     clients: &[ClientState<A>],
     client: usize,
@@ -53,7 +55,7 @@ pub fn refuse_settled<A: Allocator>(
     client_in(clients, client).refuse_settled(number, done)
 }
 
-/// Asks a client for a goal.
+/// Asks a client for a goal, in place of what it was asked for before.
 pub fn ask<A: Allocator>(clients: &mut Vec<ClientState<A>, A>, client: usize, goal: Goal)
     requires { client < length clients.old.items }
     ensures { clients_of clients.new.items ≡ changed_at (λ c. record c { asked = Some goal }) (clients_of clients.old.items) client }
@@ -61,7 +63,8 @@ pub fn ask<A: Allocator>(clients: &mut Vec<ClientState<A>, A>, client: usize, go
     clients[client].ask(goal);
 }
 
-/// Makes room for so many more stored heights of a client.
+/// Makes room for so many more stored heights of a client. `AllocError` where memory is refused;
+/// nothing but room has changed then.
 pub fn make_stored_room<A: Allocator>(
     clients: &mut Vec<ClientState<A>, A>,
     client: usize,
@@ -85,8 +88,9 @@ pub fn store<A: Allocator>(clients: &mut Vec<ClientState<A>, A>, client: usize, 
     clients[client].store(height);
 }
 
-/// Drops what a client was asked for, and opens its next batch, if a plan opens one, whose number
-/// is then the answer.
+/// Takes in what was planned for a client: drops the goal that it was asked for, and opens the plan's
+/// batch in place of the one that was open. Answers the number of the batch, counted from 1 for each
+/// client; None where there is no plan, or it opens no batch.
 pub fn open<A: Allocator>(
     clients: &mut Vec<ClientState<A>, A>,
     client: usize,
@@ -100,8 +104,8 @@ pub fn open<A: Allocator>(
     clients[client].open(answer)
 }
 
-/// Closes the batch of a client that is open, and stores the heights of the updates in its first
-/// transactions.
+/// Settles the first `done` transactions of a client's open batch: stores the heights of the updates that
+/// they carry, closes the batch, and gives it out.
 pub fn settle<A: Allocator>(
     clients: &mut Vec<ClientState<A>, A>,
     client: usize,
@@ -112,13 +116,14 @@ pub fn settle<A: Allocator>(
     ensures batch { option_and_then (λ (c : standings.ClientState). c.batch) (slice_get (clients_of clients.old.items) client) ≡ Some result }
     ensures clients { clients_of clients.new.items ≡ changed_at (after_batch result done) (clients_of clients.old.items) client }
 {
-    let known = &mut clients[client];
-    let batch = known.close().unwrap();
-    known.store_all(settled_updates(&batch, done));
+    let state = &mut clients[client];
+    let batch = state.close().unwrap();
+    state.store_all(settled_updates(&batch, done));
     batch
 }
 
-/// Makes room for the heights of all updates of a client's batch, which is open.
+/// Makes room for the heights of all updates of a client's open batch. `AllocError` where memory is
+/// refused; nothing but room has changed then.
 pub fn make_settle_room<A: Allocator>(
     clients: &mut Vec<ClientState<A>, A>,
     client: usize,
@@ -130,12 +135,13 @@ pub fn make_settle_room<A: Allocator>(
     ensures kept { (some other : ℕ) → HasStoredRoom some clients.old.items other → HasStoredRoom some clients.new.items other }
     ensures settle { (other : ℕ) → HasSettleRoom clients.old.items other → HasSettleRoom clients.new.items other }
 {
-    let known = &mut clients[client];
-    let count = known.update_count();
-    known.make_room(count)
+    let state = &mut clients[client];
+    let count = state.update_count();
+    state.make_room(count)
 }
 
-/// The clients as they are configured, with nothing stored.
+/// The states of clients with these configurations before the first event. `AllocError` where memory is
+/// refused.
 pub fn new_clients<A: Allocator + Copy>(
     alloc: A,
     configs: &[ClientConfig],
@@ -149,7 +155,7 @@ pub fn new_clients<A: Allocator + Copy>(
     Ok(clients)
 }
 
-/// Equal clients.
+/// Equal states, in their order. `AllocError` where memory is refused.
 pub fn copy_clients<A: Allocator + Copy>(
     alloc: A,
     clients: &[ClientState<A>],

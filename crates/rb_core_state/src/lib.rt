@@ -1,6 +1,10 @@
-//! What is known of chains, clients and paths: books that may be shared (`books`), clients with what
-//! they have stored and their open batches (`clients`), and paths with their packets (`paths`). Each
-//! tells for how much more it has room; what there is room for is put without memory.
+//! The parts of the relayer state machine's state: the light store of each chain, which may be shared
+//! (`books`), clients with the heights that they have stored and their open batches (`clients`), and
+//! paths with their packets (`paths`, `views`).
+//!
+//! Chains, clients and paths are named by their places in the script. A change comes in three calls: a
+//! `refuse_` call says why it would be refused, a `make_` or `set_apart` call makes room for it, and a
+//! `put_` call, or one with a name of its own, makes the change, which then cannot fail.
 #![tactic(auto)]
 
 pub mod books;

@@ -1,4 +1,4 @@
-//! What becomes known of a packet.
+//! The steps of a packet's life cycle.
 ghost use Rattle.std.specs.Prelude.{◌≡◌};
 ghost use Rattle.rb_core_state.specs.Marked.{mark_by};
 ghost use Rattle.rb_core_model.specs.Standing.{mark_of};
@@ -7,21 +7,21 @@ use rb_base::Height;
 use rb_scan::{Kind, Packet};
 use rb_script_types::BlockHeight;
 
-/// What becomes known of a packet that was sent.
+/// A step in the life cycle of a packet that was sent (ICS 4).
 #[derive(Clone, Copy, Debug)]
 pub enum Mark {
-    /// It was received in a block.
+    /// The destination received it in a block of this height.
     Received(Height),
-    /// Its acknowledgement was written in a block.
+    /// The destination wrote its acknowledgement in a block of this height.
     Written(BlockHeight),
-    /// It was cleared.
+    /// The source cleared its commitment, by an acknowledgement or a timeout.
     Cleared,
-    /// A message for it was settled.
+    /// A batch with a message of this kind for it was settled.
     Settled(Kind),
 }
 
 impl Mark {
-    /// The packet with the mark.
+    /// The packet after the step.
     pub(crate) fn put(&self, packet: Packet) -> Packet
         ensures { result ≡ mark_by self.now packet }
     {
@@ -34,7 +34,7 @@ impl Mark {
     }
 }
 
-/// The packet, a message of a kind for it settled.
+/// The packet after a message of a kind for it was settled.
 fn settled(kind: Kind, packet: Packet) -> Packet
     ensures { result ≡ mark_of kind packet }
 {

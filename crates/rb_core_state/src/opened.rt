@@ -1,4 +1,4 @@
-//! Batches that are open.
+//! Open batches.
 ghost use Rattle.std.specs.Prelude.{◌≡◌, IfOk};
 ghost use Rattle.rb_core_model.specs.Standing.{batch_of};
 
@@ -9,8 +9,9 @@ use rb_plan_client::{Batch, Message, Planned, Sending};
 use std::alloc::{AllocError, Allocator, Global};
 use std::marker::Model;
 
-/// A batch that was opened: its number, its messages, the updates first, the height that it proves
-/// its packets at, and its transactions.
+/// A batch of a client, from when a plan opens it until it is settled: its number, its updates, its
+/// packet messages, which follow them, the height at which these are proved, and the transactions that
+/// carry both.
 #[derive(Debug, Drop)]
 pub struct OpenBatch<A: Allocator = Global> {
     number: u64,
@@ -28,7 +29,7 @@ impl<A: Allocator> Model for OpenBatch<A> {
 }
 
 impl<A: Allocator> OpenBatch<A> {
-    /// The batch of these under a number.
+    /// The batch with this number, of these updates and messages.
     pub(crate) fn new(
         number: u64,
         updates: Vec<Update, A>,
@@ -45,21 +46,22 @@ impl<A: Allocator> OpenBatch<A> {
         }
     }
 
-    /// Its number.
+    /// The number of the batch, counted from 1 for each client.
     pub fn number(&self) -> u64
         ensures { result ≡ self.now.number }
     {
         self.number
     }
 
-    /// The height that it proves its packets at.
+    /// The height at which its packet messages are proved: the greatest one that is stored and live in
+    /// the client once the batch's updates are made.
     pub fn proof(&self) -> Height
         ensures { result ≡ self.now.proof }
     {
         self.batch.proof()
     }
 
-    /// Its updates, in their order.
+    /// Its updates, in the order in which the client is to take them.
     pub fn updates(&self) -> &[Update]
         ensures { result.now ≡ self.now.updates }
     {
@@ -73,7 +75,8 @@ impl<A: Allocator> OpenBatch<A> {
         self.messages.as_slice()
     }
 
-    /// Its transactions, in their order.
+    /// Its transactions, in the order in which they are to be submitted. Messages are numbered from 0
+    /// in them, the updates first.
     pub fn transactions(&self) -> &[Transaction]
         ensures { result.now ≡ self.now.transactions }
     {
@@ -82,7 +85,7 @@ impl<A: Allocator> OpenBatch<A> {
 }
 
 impl<A: Allocator + Copy> OpenBatch<A> {
-    /// An equal batch, on the same allocator.
+    /// An equal batch, on the same allocator. `AllocError` where memory is refused.
     pub fn copy(&self) -> Result<OpenBatch<A>, AllocError>
         ensures { IfOk result (λ copy. copy ≡ self.now) }
     {
@@ -96,7 +99,7 @@ impl<A: Allocator + Copy> OpenBatch<A> {
     }
 }
 
-/// The batch that a plan opens under a number, if it opens one.
+/// The batch with this number that a plan opens; None where there is no plan, or it opens no batch.
 pub(crate) fn batch_of<A: Allocator>(
     number: u64,
     answer: Option<Planned<A>>,

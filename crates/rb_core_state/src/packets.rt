@@ -1,4 +1,4 @@
-//! Look-ups among the packets of a path.
+//! Packets of a path by their sequences.
 ghost use Rattle.std.specs.Prelude.{◌≡◌, ◌==◌, ◌+◌, ◌≤◌, false, IfSome, nat_lt, map, find, vec_len, vec_capacity};
 ghost use Rattle.std.specs.List.Sorted.{IsStrictlyIncreasing};
 ghost use Rattle.std.specs.Option.{option_map_or, option_copied};
@@ -48,7 +48,7 @@ pub(crate) fn place(packets: &[Packet], sequence: u64) -> Result<usize, usize>
     )
 }
 
-/// The packet with this sequence.
+/// The packet with this sequence; None where there is none.
 pub(crate) fn packet(packets: &[Packet], sequence: u64) -> Option<&Packet>
     requires { IsStrictlyIncreasing (sequences_of packets.now) }
     ensures { option_copied result ≡ find (λ (p : Packet). p.sequence == sequence) packets.now }
@@ -57,7 +57,7 @@ pub(crate) fn packet(packets: &[Packet], sequence: u64) -> Option<&Packet>
     Some(&packets[place])
 }
 
-/// Whether the packet with this sequence is finished.
+/// Whether there is a packet with this sequence, which is finished.
 pub(crate) fn is_finished(packets: &[Packet], sequence: u64) -> bool
     requires { IsStrictlyIncreasing (sequences_of packets.now) }
     ensures { result ≡ option_map_or (λ (p : Packet). is_finished p) (find (λ (p : Packet). p.sequence == sequence) packets.now) false }
@@ -68,7 +68,7 @@ pub(crate) fn is_finished(packets: &[Packet], sequence: u64) -> bool
     }
 }
 
-/// Puts a mark on the packet with this sequence, if there is one.
+/// Takes a packet one step on, if there is one with this sequence.
 pub(crate) fn put_mark<A: Allocator>(packets: &mut Vec<Packet, A>, sequence: u64, mark: Mark)
     requires { IsStrictlyIncreasing (sequences_of packets.old.items) }
     ensures items { packets.new.items ≡ map (marked (mark_by mark) sequence) packets.old.items }

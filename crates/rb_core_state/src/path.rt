@@ -1,4 +1,4 @@
-//! A path as it is known.
+//! The state of one path.
 ghost use Rattle.std.specs.Prelude.{◌≡◌, ◌+◌, ◌<◌, ◌≤◌, ◌==◌, [], length, find, Some, None, true, OnOk, IfOk};
 ghost use Rattle.std.specs.List.Sorted.{IsStrictlyIncreasing};
 ghost use Rattle.std.specs.Option.{option_copied};
@@ -21,9 +21,9 @@ use std::marker::Model;
 /// The most packets of a path.
 const MAX_PACKETS: usize = 4096;
 
-/// A path: its configuration, the packets that were sent, by rising sequence, how many sequences
-/// from the first on are finished, as far as it was counted, and whether it is closed. A contract
-/// sees for how many more packets there is room, and not how far was counted.
+/// The state of one path (ICS 4): its configuration, the packets that were sent, by rising sequence, how
+/// many sequences from the first on are finished, as far as it was counted, and whether the channel is
+/// closed. A contract sees for how many more packets there is room, and not how far was counted.
 #[derive(Drop)]
 pub struct PathState<A: Allocator = Global> {
     config: PathConfig,
@@ -62,7 +62,7 @@ fn count_run(packets: &[Packet], first: Sequence, run: usize) -> usize
 }
 
 impl<A: Allocator> PathState<A> {
-    /// A path on which nothing has happened.
+    /// The state of a path before the first event: no packet was sent, and the channel is not closed.
     pub fn new(alloc: A, config: PathConfig) -> PathState<A>
         ensures { result.path ≡ new_path config }
     {
@@ -74,14 +74,15 @@ impl<A: Allocator> PathState<A> {
         }
     }
 
-    /// Its configuration.
+    /// The path's configuration.
     pub fn config(&self) -> &PathConfig
         ensures { result.now ≡ self.now.path.config }
     {
         &self.config
     }
 
-    /// The packets that were sent, by rising sequence.
+    /// The packets that were sent on the path, by rising sequence, at most 4,096. None has a sequence
+    /// below the path's first one.
     pub fn packets(&self) -> &[Packet]
         ensures value { result.now ≡ self.now.path.packets }
         ensures rising { IsStrictlyIncreasing (sequences_of self.now.path.packets) }
@@ -91,21 +92,21 @@ impl<A: Allocator> PathState<A> {
         self.packets.as_slice()
     }
 
-    /// Whether it is closed.
+    /// Whether the channel is closed: it was seen closed, or a timeout of an ORDERED path was settled.
     pub fn is_closed(&self) -> bool
         ensures { result ≡ self.now.path.closed }
     {
         self.closed
     }
 
-    /// The packet with this sequence.
+    /// The packet with this sequence; None where none was sent.
     fn packet(&self, sequence: Sequence) -> Option<&Packet>
         ensures { option_copied result ≡ find (λ (p : Packet). p.sequence == sequence) self.now.path.packets }
     {
         packet(self.packets.as_slice(), sequence.get())
     }
 
-    /// Whether a lower sequence of an ORDERED path is not finished.
+    /// Whether the path is ORDERED, and a lower sequence of it is not finished.
     fn comes_early(&self, sequence: Sequence) -> bool
         ensures { result ≡ comes_early (view_of_path [] self.now.path) sequence }
     {
@@ -116,7 +117,9 @@ impl<A: Allocator> PathState<A> {
         self.config.first.get() + (run as u64) < sequence.get()
     }
 
-    /// Why a packet that was sent would be refused.
+    /// Why the sending of a packet would be refused: `OutOfOrder` where its sequence is below the path's
+    /// first one, `Repeat` where it was sent before, `Full` where the path has 4,096 packets. None where
+    /// it is accepted.
     pub(crate) fn refuse_sent(&self, sequence: Sequence) -> Option<Refusal>
         ensures { result ≡ sent_refusal (view_of_path [] self.now.path) sequence }
     {
@@ -132,7 +135,9 @@ impl<A: Allocator> PathState<A> {
         None
     }
 
-    /// Why a packet that was received would be refused.
+    /// Why the receiving of a packet would be refused: `OutOfOrder` where it was not sent, or the path
+    /// is ORDERED and a lower sequence is not finished, `Repeat` where it was received before. None where
+    /// it is accepted.
     pub(crate) fn refuse_received(&self, sequence: Sequence) -> Option<Refusal>
         ensures { result ≡ received_refusal (view_of_path [] self.now.path) sequence (packet_at (view_of_path [] self.now.path) sequence) }
     {
@@ -148,7 +153,9 @@ impl<A: Allocator> PathState<A> {
         None
     }
 
-    /// Why an acknowledgement that was written would be refused.
+    /// Why the writing of a packet's acknowledgement in a block would be refused: `OutOfOrder` where the
+    /// packet was not received up to that block, `Repeat` where one was written before. None where it is
+    /// accepted.
     pub(crate) fn refuse_written(&self, sequence: Sequence, block: Height) -> Option<Refusal>
         ensures { result ≡ written_refusal block (packet_at (view_of_path [] self.now.path) sequence) }
     {
@@ -165,7 +172,8 @@ impl<A: Allocator> PathState<A> {
         None
     }
 
-    /// Why a packet that was cleared would be refused.
+    /// Why the clearing of a packet would be refused: `OutOfOrder` where it was not sent, `Repeat` where
+    /// it was cleared before. None where it is accepted.
     pub(crate) fn refuse_cleared(&self, sequence: Sequence) -> Option<Refusal>
         ensures { result ≡ cleared_refusal (packet_at (view_of_path [] self.now.path) sequence) }
     {
@@ -178,7 +186,8 @@ impl<A: Allocator> PathState<A> {
         None
     }
 
-    /// Why the path's being closed would be refused.
+    /// Why the closing of the channel would be refused: `Repeat` where it is closed. None where it is
+    /// accepted.
     pub(crate) fn refuse_closed(&self) -> Option<Refusal>
         ensures { result ≡ refused_if self.now.path.closed Refusal.Repeat None }
     {
@@ -188,7 +197,7 @@ impl<A: Allocator> PathState<A> {
         None
     }
 
-    /// Makes room for one more packet.
+    /// Makes room for one more packet. `AllocError` where memory is refused.
     pub(crate) fn make_room(&mut self) -> Result<(), AllocError>
         ensures same { self.new.path ≡ self.old.path }
         ensures room { OnOk result (0 < self.new.room) }
@@ -197,7 +206,7 @@ impl<A: Allocator> PathState<A> {
         self.packets.reserve(1)
     }
 
-    /// Puts a packet that is not refused in its place.
+    /// Puts a sent packet that is not refused in its place.
     pub(crate) fn put_sent(&mut self, packet: Packet)
         requires accepted { sent_refusal (view_of_path [] self.old.path) packet.sequence ≡ None }
         requires room { 0 < self.old.room }
@@ -209,7 +218,7 @@ impl<A: Allocator> PathState<A> {
         }
     }
 
-    /// Puts a mark on the packet with this sequence, if there is one.
+    /// Takes a packet one step on, if there is one with this sequence.
     pub(crate) fn put_mark(&mut self, sequence: Sequence, mark: Mark)
         ensures path { self.new.path ≡ with_mark (mark_by mark) sequence self.old.path }
         ensures room { self.new.room ≡ self.old.room }
@@ -224,7 +233,7 @@ impl<A: Allocator> PathState<A> {
         self.run = count_run(self.packets.as_slice(), self.config.first, self.run);
     }
 
-    /// Closes the path.
+    /// Closes the channel.
     pub(crate) fn close(&mut self)
         ensures path { self.new.path ≡ record self.old.path { closed = true } }
         ensures room { self.new.room ≡ self.old.room }
@@ -232,7 +241,8 @@ impl<A: Allocator> PathState<A> {
         self.closed = true;
     }
 
-    /// Marks the packet of a message that was settled; a settled timeout closes an ORDERED path.
+    /// Takes in that a message was settled: its packet goes on, and a timeout closes an ORDERED path
+    /// (ICS 4).
     pub(crate) fn settle(&mut self, message: PacketMsg)
         ensures path { self.new.path ≡ after_message message self.old.path }
         ensures room { self.new.room ≡ self.old.room }
@@ -245,7 +255,7 @@ impl<A: Allocator> PathState<A> {
 }
 
 impl<A: Allocator + Copy> PathState<A> {
-    /// An equal path.
+    /// An equal state, on the same allocator. `AllocError` where memory is refused.
     pub fn copy(&self) -> Result<PathState<A>, AllocError>
         ensures { IfOk result (λ copy. copy.path ≡ self.now.path) }
     {

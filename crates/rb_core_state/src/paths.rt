@@ -1,4 +1,4 @@
-//! The paths, by their places.
+//! The states of the paths, by their places.
 ghost use Rattle.std.specs.Prelude.{◌≡◌, ◌<◌, ℕ, List, [], length, map, slice_get, Some, None, true, IfOk, IfSome, OnOk};
 ghost use Rattle.std.specs.Option.{option_map, option_and_then};
 ghost use Rattle.rb_book.specs.Book.{Book};
@@ -17,7 +17,7 @@ use rb_scan::{Packet, PacketMsg, Sequence};
 use rb_script_types::{PathConfig, Refusal};
 use std::alloc::{AllocError, Allocator};
 
-/// The path at a place.
+/// The state of a path that is there.
 pub(crate) fn path_in<A: Allocator>(paths: &[PathState<A>], path: usize) -> &PathState<A>
     requires { path < length paths.now }
     ensures { slice_get (paths_of paths.now) path ≡ Some result.now.path }
@@ -25,7 +25,9 @@ pub(crate) fn path_in<A: Allocator>(paths: &[PathState<A>], path: usize) -> &Pat
     &paths[path]
 }
 
-/// Why a packet that was sent would be refused, whatever is known of the destination.
+/// Why the sending of a packet on a path would be refused: `OutOfOrder` where its sequence is below the
+/// path's first one, `Repeat` where it was sent before, `Full` where the path has 4,096 packets. None
+/// where it is accepted. The rule is ICS 4's, with own limits; the destination's book plays no part.
 pub fn refuse_sent<A: Allocator>(
     paths: &[PathState<A>],
     path: usize,
@@ -37,7 +39,9 @@ pub fn refuse_sent<A: Allocator>(
     path_in(paths, path).refuse_sent(sequence)
 }
 
-/// Why a packet that was received would be refused, whatever is known of the destination.
+/// Why the receiving of a path's packet would be refused: `OutOfOrder` where it was not sent, or the path
+/// is ORDERED and a lower sequence is not finished, `Repeat` where it was received before. None where it
+/// is accepted. The rule is ICS 4's; the destination's book plays no part.
 pub fn refuse_received<A: Allocator>(
     paths: &[PathState<A>],
     path: usize,
@@ -49,7 +53,9 @@ pub fn refuse_received<A: Allocator>(
     path_in(paths, path).refuse_received(sequence)
 }
 
-/// Why an acknowledgement that was written would be refused, whatever is known of the destination.
+/// Why the writing of an acknowledgement of a path's packet in a block would be refused: `OutOfOrder`
+/// where the packet was not received up to that block, `Repeat` where one was written before. None where
+/// it is accepted. The rule is ICS 4's; the destination's book plays no part.
 pub fn refuse_written<A: Allocator>(
     paths: &[PathState<A>],
     path: usize,
@@ -62,7 +68,9 @@ pub fn refuse_written<A: Allocator>(
     path_in(paths, path).refuse_written(sequence, block)
 }
 
-/// Why a packet that was cleared would be refused, whatever is known of the destination.
+/// Why the clearing of a path's packet would be refused: `OutOfOrder` where it was not sent, `Repeat`
+/// where it was cleared before, or its acknowledgement or timeout was settled. None where it is accepted.
+/// The rule is ICS 4's; the destination's book plays no part.
 pub fn refuse_cleared<A: Allocator>(
     paths: &[PathState<A>],
     path: usize,
@@ -74,7 +82,8 @@ pub fn refuse_cleared<A: Allocator>(
     path_in(paths, path).refuse_cleared(sequence)
 }
 
-/// Why a path's being closed would be refused, whatever is known of the destination.
+/// Why the closing of a path's channel would be refused: `Repeat` where it is closed. None where it is
+/// accepted. The destination's book plays no part.
 pub fn refuse_closed<A: Allocator>(paths: &[PathState<A>], path: usize) -> Option<Refusal>
     requires { path < length paths.now }
     ensures { (books : List Book) → result ≡ option_and_then (λ (v : Path). refused_if v.closed Refusal.Repeat None) (option_map (view_of_path books) (slice_get (paths_of paths.now) path)) }
@@ -82,7 +91,8 @@ pub fn refuse_closed<A: Allocator>(paths: &[PathState<A>], path: usize) -> Optio
     path_in(paths, path).refuse_closed()
 }
 
-/// Makes room for one more packet of a path.
+/// Makes room for one more packet of a path. `AllocError` where memory is refused; nothing but room has
+/// changed then.
 pub fn make_packet_room<A: Allocator>(
     paths: &mut Vec<PathState<A>, A>,
     path: usize,
@@ -95,7 +105,7 @@ pub fn make_packet_room<A: Allocator>(
     paths[path].make_room()
 }
 
-/// Puts a packet that is not refused in its place on its path.
+/// Puts a sent packet that is not refused in its place on its path.
 pub fn put_sent<A: Allocator>(paths: &mut Vec<PathState<A>, A>, path: usize, packet: Packet)
     requires within { path < length paths.old.items }
     requires accepted { IfSome (slice_get (paths_of paths.old.items) path) (λ p. sent_refusal (view_of_path [] p) packet.sequence ≡ None) }
@@ -105,8 +115,7 @@ pub fn put_sent<A: Allocator>(paths: &mut Vec<PathState<A>, A>, path: usize, pac
     paths[path].put_sent(packet);
 }
 
-/// Puts a mark on a packet of a path, if there is one with this sequence, and counts on how many
-/// are finished.
+/// Takes a packet of a path one step on, if there is one with this sequence.
 pub fn put_mark<A: Allocator>(
     paths: &mut Vec<PathState<A>, A>,
     path: usize,
@@ -121,7 +130,7 @@ pub fn put_mark<A: Allocator>(
     path.count_on();
 }
 
-/// Closes a path.
+/// Closes the channel of a path.
 pub fn close<A: Allocator>(paths: &mut Vec<PathState<A>, A>, path: usize)
     requires { path < length paths.old.items }
     ensures { paths_of paths.new.items ≡ changed_at (λ p. record p { closed = true }) (paths_of paths.old.items) path }
@@ -129,18 +138,19 @@ pub fn close<A: Allocator>(paths: &mut Vec<PathState<A>, A>, path: usize)
     paths[path].close();
 }
 
-/// Marks the packet of a message that was settled.
+/// Takes in that a message was settled, if there is its path.
 fn settle_message<A: Allocator>(paths: &mut Vec<PathState<A>, A>, path: usize, message: PacketMsg)
     ensures { paths_of paths.new.items ≡ changed_at (after_message message) (paths_of paths.old.items) path }
 {
     if path < paths.len() {
-        let known = &mut paths[path];
-        known.settle(message);
-        known.count_on();
+        let state = &mut paths[path];
+        state.settle(message);
+        state.count_on();
     }
 }
 
-/// Marks the packets of messages that were settled.
+/// Takes in that messages were settled, one after another: their packets go on, and a timeout closes an
+/// ORDERED path (ICS 4).
 pub fn settle_messages<A: Allocator>(paths: &mut Vec<PathState<A>, A>, messages: &[Message])
     ensures { paths_of paths.new.items ≡ after_messages (paths_of paths.old.items) messages.now }
 {
@@ -149,7 +159,8 @@ pub fn settle_messages<A: Allocator>(paths: &mut Vec<PathState<A>, A>, messages:
     }
 }
 
-/// The paths as they are configured, on which nothing has happened.
+/// The states of paths with these configurations before the first event. `AllocError` where memory is
+/// refused.
 pub fn new_paths<A: Allocator + Copy>(
     alloc: A,
     configs: &[PathConfig],
@@ -163,7 +174,7 @@ pub fn new_paths<A: Allocator + Copy>(
     Ok(paths)
 }
 
-/// Equal paths.
+/// Equal states, in their order. `AllocError` where memory is refused.
 pub fn copy_paths<A: Allocator + Copy>(
     alloc: A,
     paths: &[PathState<A>],

@@ -1,4 +1,4 @@
-//! What a settlement takes of a batch.
+//! Which messages of a batch its first transactions carry.
 ghost use Rattle.std.specs.Prelude.{◌≡◌, ℕ, take, sum_by};
 ghost use Rattle.rb_batch.specs.declared.transaction.Transaction.{Transaction};
 ghost use Rattle.rb_core_model.specs.Standing.{count_in, settled_updates, settled_messages};
@@ -38,14 +38,15 @@ fn count_in<A: Allocator>(batch: &OpenBatch<A>, done: u64) -> u128
     carried(batch.transactions(), done)
 }
 
-/// The updates among the messages of the first transactions.
+/// The updates that the first `done` transactions of a batch carry.
 pub(crate) fn settled_updates<A: Allocator>(batch: &OpenBatch<A>, done: u64) -> &[Update]
     ensures { result.now ≡ settled_updates batch.now done }
 {
     first(batch.updates(), count_in(batch, done))
 }
 
-/// The packet messages among them.
+/// The packet messages that the first `done` transactions of a batch carry, in their order; all of them
+/// where it has no more transactions.
 pub fn settled_messages<A: Allocator>(batch: &OpenBatch<A>, done: u64) -> &[Message]
     ensures { result.now ≡ settled_messages batch.now done }
 {

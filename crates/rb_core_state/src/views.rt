@@ -1,4 +1,4 @@
-//! What is seen of paths, as they are scanned.
+//! Paths as they are scanned for pending messages.
 ghost use Rattle.std.specs.Prelude.{◌≡◌, ◌==◌, ◌&&◌, map, IfOk, MatchOption};
 ghost use Rattle.std.specs.Bool.{beq};
 ghost use Rattle.std.specs.Cmp.Lexicographic.{pointwise};
@@ -15,7 +15,7 @@ use rb_book::{RecordAt, SharedBook};
 use rb_scan::{Packet, PathView};
 use std::alloc::{AllocError, Allocator};
 
-/// The book of a chain, if there is such a chain.
+/// The book of a chain; None where there is no such chain.
 pub fn find_book<A: Allocator + Copy>(
     books: &[SharedBook<A>],
     chain: usize,
@@ -26,7 +26,7 @@ pub fn find_book<A: Allocator + Copy>(
     books.get(chain)
 }
 
-/// The records of the book of a chain.
+/// The records of the book of a chain; none where there is no such chain.
 fn records_in<A: Allocator + Copy>(books: &[SharedBook<A>], chain: usize) -> &[RecordAt]
     ensures { result.now ≡ (book_at (books_of books.now) chain).records }
 {
@@ -53,7 +53,9 @@ fn times_in<A: Allocator + Copy>(
     Ok(list)
 }
 
-/// A path as it is scanned.
+/// A path as it is scanned: its order, its first sequence, its packets, whether its channel is closed,
+/// and the heights and the times of its destination's records, by which packets expire (ICS 4).
+/// `AllocError` where memory is refused.
 pub fn view_of<A: Allocator + Copy>(
     alloc: A,
     books: &[SharedBook<A>],
@@ -89,8 +91,7 @@ fn are_times_of(times: &[(Height, Moment)], records: &[RecordAt]) -> bool
     true
 }
 
-/// Whether a path has the order, the first sequence and the packets that were seen, and is closed as
-/// was seen.
+/// Whether a path's order, first sequence, packets and closedness are those of a view.
 fn is_sent_as_seen<A: Allocator + Copy>(path: &PathState<A>, view: &PathView<A>) -> bool
     ensures { let p = path.now.path in let v = view.now
         in result ≡ (same_order v.order p.config.order && (v.first == p.config.first) && beq v.closed p.closed && pointwise same_packet v.packets p.packets) }
@@ -102,7 +103,8 @@ fn is_sent_as_seen<A: Allocator + Copy>(path: &PathState<A>, view: &PathView<A>)
         && same_packets(view.packets(), path.packets())
 }
 
-/// Whether a path is as it was seen.
+/// Whether a path still is as a view shows it, its destination's records among it: a scan of the view is
+/// valid as long as this is so.
 pub fn is_as_seen<A: Allocator + Copy>(
     books: &[SharedBook<A>],
     path: &PathState<A>,

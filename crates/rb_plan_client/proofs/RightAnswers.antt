@@ -17,7 +17,7 @@ use Rattle.rb_step.specs.View.{client_of}
 use Rattle.rb_plan_client.specs.Draft.{Planned, IsPlan, IsPlanned, IsIdle, IsAnswer}
 use Rattle.rb_plan_client.specs.Planning.{IsPlannedFor, IsPlannedIf}
 use Rattle.rb_plan_client.specs.Reach.{IsReachable, IsReach}
-use Rattle.rb_plan_client.specs.Task.{Task, Message, ready_messages, refresh_goal, first_goal, goal_of, messages_of}
+use Rattle.rb_plan_client.specs.Task.{Task, Message, view_of, ready_messages, refresh_goal, first_goal, goal_of, messages_of}
 
 -- ---- the greatest labelled height is the reach
 
@@ -66,15 +66,15 @@ pub goal_same : (t : Task) (reach : Option ℕ) → first_goal t (wanted (map (�
 goal_same t reach = go t.asked
   where
     go : (o : Option Goal)
-        → option_or o (option_or (option_map (λ h. AtLeast h) (wanted (map (λ (m : Message). m.packet) (if is_some o then [] else ready_messages t reach)))) (refresh_goal t.refresh t.view))
-        ≡ option_or o (option_or (option_map (λ h. AtLeast h) (wanted (map (λ (m : Message). m.packet) (ready_messages t reach)))) (refresh_goal t.refresh t.view))
+        → option_or o (option_or (option_map (λ h. AtLeast h) (wanted (map (λ (m : Message). m.packet) (if is_some o then [] else ready_messages t reach)))) (refresh_goal t))
+        ≡ option_or o (option_or (option_map (λ h. AtLeast h) (wanted (map (λ (m : Message). m.packet) (ready_messages t reach)))) (refresh_goal t))
     go None = refl
     go (Some g) = refl
 
 by_messages : (t : Task) (reach : Option ℕ) (ms : List Message) (o : Option Goal) → ms ≡ messages_of t reach → first_goal t (wanted (map (λ (m : Message). m.packet) ms)) ≡ o → goal_of t reach ≡ o
 by_messages t reach ms o same goal = sym (goal_same t reach) ∙ ap (λ (xs : List Message). first_goal t (wanted (map (λ (m : Message). m.packet) xs))) (sym same) ∙ goal
 
-pub planned_right : (t : Task) (reach : Option ℕ) (ms : List Message) (g : Goal) (p : Planned) → IsReach (client_of t.view) reach → ms ≡ messages_of t reach
+pub planned_right : (t : Task) (reach : Option ℕ) (ms : List Message) (g : Goal) (p : Planned) → IsReach (client_of (view_of t)) reach → ms ≡ messages_of t reach
     → first_goal t (wanted (map (λ (m : Message). m.packet) ms)) ≡ Some g → IsPlannedFor t g ms p → IsPlanned t p
 planned_right t reach ms g p is same goal planned = record {
   reach = reach;
@@ -82,14 +82,14 @@ planned_right t reach ms g p is same goal planned = record {
   goal = by_messages t reach ms (Some g) same goal ∙ ap (λ (x : Goal). Some x) (sym planned.goal);
   labels = planned.labels;
   exact = planned.exact;
-  plan = subst (λ (x : Goal). MatchOption p.plan (IsUnreachable (client_of t.view) x) (IsPlan t x (messages_of t reach))) (sym planned.goal)
-      (subst (λ (xs : List Message). MatchOption p.plan (IsUnreachable (client_of t.view) g) (IsPlan t g xs)) same planned.plan);
+  plan = subst (λ (x : Goal). MatchOption p.plan (IsUnreachable (client_of (view_of t)) x) (IsPlan t x (messages_of t reach))) (sym planned.goal)
+      (subst (λ (xs : List Message). MatchOption p.plan (IsUnreachable (client_of (view_of t)) g) (IsPlan t g xs)) same planned.plan);
 }
 
-pub idle_right : (t : Task) (reach : Option ℕ) (ms : List Message) → IsReach (client_of t.view) reach → ms ≡ messages_of t reach → first_goal t (wanted (map (λ (m : Message). m.packet) ms)) ≡ None → IsIdle t
+pub idle_right : (t : Task) (reach : Option ℕ) (ms : List Message) → IsReach (client_of (view_of t)) reach → ms ≡ messages_of t reach → first_goal t (wanted (map (λ (m : Message). m.packet) ms)) ≡ None → IsIdle t
 idle_right t reach ms is same goal = record { reach = reach; is_reach = is; goal = by_messages t reach ms None same goal }
 
-pub answer_right : (t : Task) (reach : Option ℕ) (ms : List Message) (o : Option Goal) (p : Option Planned) → IsReach (client_of t.view) reach → ms ≡ messages_of t reach
+pub answer_right : (t : Task) (reach : Option ℕ) (ms : List Message) (o : Option Goal) (p : Option Planned) → IsReach (client_of (view_of t)) reach → ms ≡ messages_of t reach
     → o ≡ first_goal t (wanted (map (λ (m : Message). m.packet) ms)) → IsPlannedIf t o ms p → IsAnswer t p
 answer_right t reach ms None None is same goal planned = idle_right t reach ms is same (sym goal)
 answer_right t reach ms None (Some p) is same goal planned = absurd planned

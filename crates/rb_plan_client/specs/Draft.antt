@@ -10,7 +10,7 @@ use Rattle.rb_plan.specs.ProofHeight.{IsProofHeight}
 use Rattle.rb_step.specs.LightClient.{Update}
 use Rattle.rb_step.specs.View.{client_of}
 use Rattle.rb_plan_client.specs.Reach.{IsReach}
-use Rattle.rb_plan_client.specs.Task.{Task, Message, goal_of, messages_of, gases}
+use Rattle.rb_plan_client.specs.Task.{Task, Message, view_of, goal_of, messages_of, gases}
 
 -- the height that a batch proves its packets at, and its transactions
 pub record Batch : Type 0 where
@@ -39,32 +39,32 @@ pub record Planned : Type 0 where
 
 pub record IsBatch (t : Task) (p : Plan) (b : Batch) : Type 0 where
   pub some : 0 < length p.updates + length p.messages
-  pub proof : IsProofHeight (client_of t.view) p.updates (Some b.proof)
-  pub transactions : IsLeastCut t.limits (gases t p.updates p.messages) b.transactions
+  pub proof : IsProofHeight (client_of (view_of t)) p.updates (Some b.proof)
+  pub transactions : IsLeastCut t.config.limits (gases t p.updates p.messages) b.transactions
 
 abbrev pub IsSending : Task → Plan → Sending → Type 0
 IsSending t p nothing = (p.updates ≡ []) × (p.messages ≡ [])
-IsSending t p (too_big index) = IsFirstTooBig t.limits (gases t p.updates p.messages) index
+IsSending t p (too_big index) = IsFirstTooBig t.config.limits (gases t p.updates p.messages) index
 IsSending t p (batched b) = IsBatch t p b
 
 -- the least list of updates that meets the goal, the messages that go with it, and the least cut of them all
 pub record IsPlan (t : Task) (goal : Goal) (ms : List Message) (p : Plan) : Type 0 where
-  pub least : IsLeast (client_of t.view) goal p.updates
+  pub least : IsLeast (client_of (view_of t)) goal p.updates
   pub messages : p.messages ≡ ms
   pub sending : IsSending t p p.sending
 
 pub record IsPlanned (t : Task) (p : Planned) : Type 0 where
   pub reach : Option ℕ
-  pub is_reach : IsReach (client_of t.view) reach
+  pub is_reach : IsReach (client_of (view_of t)) reach
   pub goal : goal_of t reach ≡ Some p.goal
   pub labels : IsLabelling p.labels
-  pub exact : IsExact (client_of t.view) (label_of p.labels)
-  pub plan : MatchOption p.plan (IsUnreachable (client_of t.view) p.goal) (IsPlan t p.goal (messages_of t reach))
+  pub exact : IsExact (client_of (view_of t)) (label_of p.labels)
+  pub plan : MatchOption p.plan (IsUnreachable (client_of (view_of t)) p.goal) (IsPlan t p.goal (messages_of t reach))
 
 -- there is no goal
 pub record IsIdle (t : Task) : Type 0 where
   pub reach : Option ℕ
-  pub is_reach : IsReach (client_of t.view) reach
+  pub is_reach : IsReach (client_of (view_of t)) reach
   pub goal : goal_of t reach ≡ None
 
 -- what is planned for a task, or none where it has no goal

@@ -3,16 +3,18 @@ use Rattle.std.specs.Prelude.{◌≡◌, ◌==◌, ◌&&◌, Bool, false, Option
 use Rattle.std.proofs.Common.{ap, nat_eq}
 use Rattle.std.specs.Bool.{Decides, beq}
 use Rattle.std.specs.Option.{option_eq}
+use Rattle.std.specs.Str.{bytes_eq}
 use Rattle.std.specs.Cmp.{IsPartialEquivalence, IsEquivalence, decided, partial_equiv_from_equiv, booleans_Decides, unsigned_Decides}
 use Rattle.std.specs.Cmp.Lexicographic.{pointwise}
 use Rattle.std.proofs.lemmas.Bool.Decides.{Decides-and, Decides-like}
-use Rattle.std.proofs.lemmas.Slice.Eq.{slice_eq-Decides}
+use Rattle.std.proofs.lemmas.Slice.Eq.{bytes_eq-Decides, slice_eq-Decides}
 use Rattle.rb_base.specs.Fee.{Fees}
 use Rattle.rb_base.specs.Options.{ClientOptions}
 use Rattle.rb_base.specs.Window.{Span}
 use Rattle.rb_batch.specs.Limits.{TransactionLimits}
 use Rattle.rb_book.specs.Book.{same_book}
 use Rattle.rb_book.specs.Same.{same_book-Decides}
+use Rattle.rb_script_types.specs.declared.config.ClientConfig.{ClientConfig}
 use Rattle.rb_script_types.specs.declared.goal.Goal.{Goal}
 use Rattle.rb_script_types.specs.declared.goal.Goal.TheVariants.{Exactly, AtLeast}
 use Rattle.rb_scan.specs.Owed.{same_kind}
@@ -20,28 +22,29 @@ use Rattle.rb_scan.specs.Same.{same_order, options_Decides, orders_Decides}
 use Rattle.rb_scan.specs.declared.message.Kind.{Kind}
 use Rattle.rb_scan.specs.declared.message.Kind.TheVariants.{Receive, Acknowledge, Timeout}
 use Rattle.rb_scan.specs.declared.message.PacketMsg.{PacketMsg}
-use Rattle.rb_step.specs.View.{View}
 use Rattle.rb_script_types.specs.Gas.{PathGas}
 use Rattle.rb_plan_client.specs.Draft.{Job}
 use Rattle.rb_plan_client.specs.Task.{PathTask, Task}
 
+-- Field by field, grouped to the right as the derived comparisons are, so that `==` of two configurations is `same_config`.
 abbrev pub same_options : ClientOptions → ClientOptions → Bool
 same_options o p =
-    (o.period == p.period) && (o.drift == p.drift) && (o.trust.numerator == p.trust.numerator) && (o.trust.denominator == p.trust.denominator)
+    (o.period == p.period) && ((o.drift == p.drift) && ((o.trust.numerator == p.trust.numerator) && (o.trust.denominator == p.trust.denominator)))
 
 abbrev pub same_fees : Fees → Fees → Bool
-same_fees f g = (f.base == g.base) && (f.signature == g.signature) && (f.validator == g.validator)
+same_fees f g = (f.base == g.base) && ((f.signature == g.signature) && (f.validator == g.validator))
 
 abbrev pub same_limits : TransactionLimits → TransactionLimits → Bool
-same_limits l m = (l.gas == m.gas) && (l.count == m.count) && (l.transaction_gas == m.transaction_gas)
+same_limits l m = (l.gas == m.gas) && ((l.count == m.count) && (l.transaction_gas == m.transaction_gas))
+
+-- by all that a client is set up with
+abbrev pub same_config : ClientConfig → ClientConfig → Bool
+same_config c d =
+    bytes_eq c.id d.id && ((c.host == d.host) && ((c.tracks == d.tracks) && (same_options c.options d.options && ((c.refresh == d.refresh)
+    && (same_fees c.fees d.fees && (same_fees c.gas d.gas && same_limits c.limits d.limits))))))
 
 abbrev pub same_span : Span → Span → Bool
 same_span s t = (s.from == t.from) && (s.until == t.until)
-
-abbrev pub same_view : View → View → Bool
-same_view v w =
-    same_options v.options w.options && same_fees v.fees w.fees && pointwise nat_eq v.stored w.stored && same_span v.window w.window
-    && same_book v.book w.book
 
 abbrev pub same_gas : PathGas → PathGas → Bool
 same_gas g h = (g.receive == h.receive) && (g.acknowledge == h.acknowledge) && (g.timeout == h.timeout)
@@ -61,7 +64,7 @@ same_goal (AtLeast g) (AtLeast h) = g == h
 
 abbrev pub same_task : Task → Task → Bool
 same_task t u =
-    same_view t.view u.view && same_fees t.gas u.gas && same_limits t.limits u.limits && (t.refresh == u.refresh)
+    same_config t.config u.config && pointwise nat_eq t.stored u.stored && same_span t.window u.window && same_book t.book u.book
     && pointwise same_path_task t.paths u.paths && option_eq same_goal t.asked u.asked
 
 abbrev pub same_job : Job → Job → Bool
@@ -89,34 +92,36 @@ goals_Decides (AtLeast g) (AtLeast h) = Decides-like _ (λ e. ap (λ n. AtLeast 
 same_options-Decides : (o p : ClientOptions) → Decides (same_options o p) (o ≡ p)
 same_options-Decides o p =
     Decides-like _
-    (λ h i. record { period = h.0.0.0 i; drift = h.0.0.1 i; trust = record { numerator = h.0.1 i; denominator = h.1 i } })
-    (λ e. (((ap (λ (x : ClientOptions). x.period) e, ap (λ (x : ClientOptions). x.drift) e), ap (λ (x : ClientOptions). x.trust.numerator) e), ap (λ (x : ClientOptions). x.trust.denominator) e))
-    (Decides-and _ _ (Decides-and _ _ (Decides-and _ _ (unsigned_Decides o.period p.period) (unsigned_Decides o.drift p.drift)) (unsigned_Decides o.trust.numerator p.trust.numerator)) (unsigned_Decides o.trust.denominator p.trust.denominator))
+    (λ e i. record { period = e.0 i; drift = e.1.0 i; trust = record { numerator = e.1.1.0 i; denominator = e.1.1.1 i } })
+    (λ e. (ap (λ (x : ClientOptions). x.period) e, (ap (λ (x : ClientOptions). x.drift) e, (ap (λ (x : ClientOptions). x.trust.numerator) e, ap (λ (x : ClientOptions). x.trust.denominator) e))))
+    (Decides-and _ _ (unsigned_Decides o.period p.period) (Decides-and _ _ (unsigned_Decides o.drift p.drift)
+    (Decides-and _ _ (unsigned_Decides o.trust.numerator p.trust.numerator) (unsigned_Decides o.trust.denominator p.trust.denominator))))
 
 same_fees-Decides : (f g : Fees) → Decides (same_fees f g) (f ≡ g)
 same_fees-Decides f g =
-    Decides-like _ (λ h i. record { base = h.0.0 i; signature = h.0.1 i; validator = h.1 i })
-    (λ e. ((ap (λ (x : Fees). x.base) e, ap (λ (x : Fees). x.signature) e), ap (λ (x : Fees). x.validator) e))
-    (Decides-and _ _ (Decides-and _ _ (unsigned_Decides f.base g.base) (unsigned_Decides f.signature g.signature)) (unsigned_Decides f.validator g.validator))
+    Decides-like _ (λ e i. record { base = e.0 i; signature = e.1.0 i; validator = e.1.1 i })
+    (λ e. (ap (λ (x : Fees). x.base) e, (ap (λ (x : Fees). x.signature) e, ap (λ (x : Fees). x.validator) e)))
+    (Decides-and _ _ (unsigned_Decides f.base g.base) (Decides-and _ _ (unsigned_Decides f.signature g.signature) (unsigned_Decides f.validator g.validator)))
 
 same_limits-Decides : (l m : TransactionLimits) → Decides (same_limits l m) (l ≡ m)
 same_limits-Decides l m =
-    Decides-like _ (λ h i. record { gas = h.0.0 i; count = h.0.1 i; transaction_gas = h.1 i })
-    (λ e. ((ap (λ (x : TransactionLimits). x.gas) e, ap (λ (x : TransactionLimits). x.count) e), ap (λ (x : TransactionLimits). x.transaction_gas) e))
-    (Decides-and _ _ (Decides-and _ _ (unsigned_Decides l.gas m.gas) (unsigned_Decides l.count m.count)) (unsigned_Decides l.transaction_gas m.transaction_gas))
+    Decides-like _ (λ e i. record { gas = e.0 i; count = e.1.0 i; transaction_gas = e.1.1 i })
+    (λ e. (ap (λ (x : TransactionLimits). x.gas) e, (ap (λ (x : TransactionLimits). x.count) e, ap (λ (x : TransactionLimits). x.transaction_gas) e)))
+    (Decides-and _ _ (unsigned_Decides l.gas m.gas) (Decides-and _ _ (unsigned_Decides l.count m.count) (unsigned_Decides l.transaction_gas m.transaction_gas)))
+
+same_config-Decides : (c d : ClientConfig) → Decides (same_config c d) (c ≡ d)
+same_config-Decides c d =
+    Decides-like _
+    (λ e i. record { id = e.0 i; host = e.1.0 i; tracks = e.1.1.0 i; options = e.1.1.1.0 i; refresh = e.1.1.1.1.0 i; fees = e.1.1.1.1.1.0 i; gas = e.1.1.1.1.1.1.0 i; limits = e.1.1.1.1.1.1.1 i })
+    (λ e. (ap (λ (x : ClientConfig). x.id) e, (ap (λ (x : ClientConfig). x.host) e, (ap (λ (x : ClientConfig). x.tracks) e, (ap (λ (x : ClientConfig). x.options) e, (ap (λ (x : ClientConfig). x.refresh) e, (ap (λ (x : ClientConfig). x.fees) e, (ap (λ (x : ClientConfig). x.gas) e, ap (λ (x : ClientConfig). x.limits) e))))))))
+    (Decides-and _ _ (bytes_eq-Decides c.id d.id) (Decides-and _ _ (unsigned_Decides c.host d.host) (Decides-and _ _ (unsigned_Decides c.tracks d.tracks)
+    (Decides-and _ _ (same_options-Decides c.options d.options) (Decides-and _ _ (unsigned_Decides c.refresh d.refresh)
+    (Decides-and _ _ (same_fees-Decides c.fees d.fees) (Decides-and _ _ (same_fees-Decides c.gas d.gas) (same_limits-Decides c.limits d.limits))))))))
 
 same_span-Decides : (s t : Span) → Decides (same_span s t) (s ≡ t)
 same_span-Decides s t =
     Decides-like _ (λ h i. record { from = h.0 i; until = h.1 i }) (λ e. (ap (λ (x : Span). x.from) e, ap (λ (x : Span). x.until) e))
     (Decides-and _ _ (unsigned_Decides s.from t.from) (unsigned_Decides s.until t.until))
-
-same_view-Decides : (v w : View) → Decides (same_view v w) (v ≡ w)
-same_view-Decides v w =
-    Decides-like _
-    (λ h i. record { options = h.0.0.0.0 i; fees = h.0.0.0.1 i; stored = h.0.0.1 i; window = h.0.1 i; book = h.1 i })
-    (λ e. ((((ap (λ (x : View). x.options) e, ap (λ (x : View). x.fees) e), ap (λ (x : View). x.stored) e), ap (λ (x : View). x.window) e), ap (λ (x : View). x.book) e))
-    (Decides-and _ _ (Decides-and _ _ (Decides-and _ _ (Decides-and _ _ (same_options-Decides v.options w.options) (same_fees-Decides v.fees w.fees))
-    (slice_eq-Decides unsigned_Decides v.stored w.stored _ refl)) (same_span-Decides v.window w.window)) (same_book-Decides v.book w.book))
 
 same_gas-Decides : (g h : PathGas) → Decides (same_gas g h) (g ≡ h)
 same_gas-Decides g h =
@@ -140,10 +145,10 @@ same_path_task-Decides p q =
 same_task-Decides : (t u : Task) → Decides (same_task t u) (t ≡ u)
 same_task-Decides t u =
     Decides-like _
-    (λ e i. record { view = e.0.0.0.0.0 i; gas = e.0.0.0.0.1 i; limits = e.0.0.0.1 i; refresh = e.0.0.1 i; paths = e.0.1 i; asked = e.1 i })
-    (λ e. (((((ap (λ (x : Task). x.view) e, ap (λ (x : Task). x.gas) e), ap (λ (x : Task). x.limits) e), ap (λ (x : Task). x.refresh) e), ap (λ (x : Task). x.paths) e), ap (λ (x : Task). x.asked) e))
-    (Decides-and _ _ (Decides-and _ _ (Decides-and _ _ (Decides-and _ _ (Decides-and _ _ (same_view-Decides t.view u.view) (same_fees-Decides t.gas u.gas))
-    (same_limits-Decides t.limits u.limits)) (unsigned_Decides t.refresh u.refresh))
+    (λ e i. record { config = e.0.0.0.0.0 i; stored = e.0.0.0.0.1 i; window = e.0.0.0.1 i; book = e.0.0.1 i; paths = e.0.1 i; asked = e.1 i })
+    (λ e. (((((ap (λ (x : Task). x.config) e, ap (λ (x : Task). x.stored) e), ap (λ (x : Task). x.window) e), ap (λ (x : Task). x.book) e), ap (λ (x : Task). x.paths) e), ap (λ (x : Task). x.asked) e))
+    (Decides-and _ _ (Decides-and _ _ (Decides-and _ _ (Decides-and _ _ (Decides-and _ _ (same_config-Decides t.config u.config)
+    (slice_eq-Decides unsigned_Decides t.stored u.stored _ refl)) (same_span-Decides t.window u.window)) (same_book-Decides t.book u.book))
     (slice_eq-Decides same_path_task-Decides t.paths u.paths _ refl)) (options_Decides same_goal goals_Decides t.asked u.asked))
 
 pub same_job-Decides : (j k : Job) → Decides (same_job j k) (j ≡ k)

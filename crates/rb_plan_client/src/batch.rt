@@ -1,4 +1,4 @@
-//! How messages are sent.
+//! In which transactions messages are sent.
 ghost use Rattle.std.specs.Prelude.{◌≡◌, IfOk};
 
 use rb_base::Height;
@@ -6,7 +6,7 @@ use rb_batch::Transaction;
 use std::alloc::{AllocError, Allocator, Global};
 use std::marker::Model;
 
-/// The height that a batch proves its packets at, and its transactions.
+/// The transactions of a plan, and the height of the proving chain whose record proves its packets.
 #[derive(Debug, Drop)]
 pub struct Batch<A: Allocator = Global> {
     proof: Height,
@@ -22,7 +22,7 @@ impl<A: Allocator> Model for Batch<A> {
 }
 
 impl<A: Allocator> Batch<A> {
-    /// The batch of these.
+    /// The batch of these transactions, with the height that proves its packets.
     pub(crate) fn new(proof: Height, transactions: Vec<Transaction, A>) -> Batch<A>
         ensures { result ≡ record { proof = proof; transactions = transactions.items } }
     {
@@ -32,14 +32,16 @@ impl<A: Allocator> Batch<A> {
         }
     }
 
-    /// The height that it proves its packets at.
+    /// The height at which its packets are proved: the greatest one that is stored and live in the
+    /// client once the batch's updates are made.
     pub fn proof(&self) -> Height
         ensures { result ≡ self.now.proof }
     {
         self.proof
     }
 
-    /// Its transactions, in their order.
+    /// Its transactions, in the order in which they are to be submitted. Together they carry the
+    /// updates, then the packet messages, each once.
     pub fn transactions(&self) -> &[Transaction]
         ensures { result.now ≡ self.now.transactions }
     {
@@ -48,7 +50,7 @@ impl<A: Allocator> Batch<A> {
 }
 
 impl<A: Allocator + Copy> Batch<A> {
-    /// An equal batch, on the same allocator.
+    /// An equal batch, on the same allocator. `AllocError` where the copy is refused memory.
     pub fn copy(&self) -> Result<Batch<A>, AllocError>
         ensures { IfOk result (λ copy. copy ≡ self.now) }
     {
@@ -60,13 +62,15 @@ impl<A: Allocator + Copy> Batch<A> {
     }
 }
 
-/// How messages are sent. They are numbered from 0, the updates first.
+/// In which transactions the messages of a plan are sent. The messages are numbered from 0, the
+/// updates first.
 #[derive(Debug, Drop)]
 pub enum Sending<A: Allocator = Global> {
-    /// There is no message: the goal is met.
+    /// In none: there is no message, since the goal is met as it is.
     Nothing,
-    /// The message with this number is over the gas limit alone.
+    /// In none: the message with this number, and no earlier one, takes more gas alone than a
+    /// transaction of the client may.
     TooBig(usize),
-    /// They open a batch.
+    /// In the fewest transactions that carry them all, each as long as it can be: they open a batch.
     Batched(Batch<A>),
 }

@@ -8,14 +8,14 @@ use crate::planning::answer;
 use rb_graph::Graph;
 use std::alloc::{AllocError, Allocator};
 
-/// What is planned for a client as the worker got it, which the draft keeps. `graph` is the table
-/// of its book, as `Graph::is_of` tells.
+/// A job with what is planned for it, as `answer` plans it. `graph` is the table of the job's book, as
+/// `Graph::is_of` tells. `AllocError` where memory is refused; the job is given up then.
 pub fn draft<A: Allocator + Copy>(job: JobView<A>, graph: &Graph<A>) -> Result<Draft<A>, AllocError>
-    requires { graph.now ≡ job.task.view.book }
+    requires { graph.now ≡ job.task.book }
     ensures job { IfOk result (λ draft. draft.job ≡ job) }
     ensures right { IfOk result IsDraft }
 {
     let alloc = job.alloc();
-    let planned = answer(alloc, &job.task(), graph)?;
+    let planned = answer(alloc, &job, graph)?;
     Draft::new(alloc, job, planned)
 }

@@ -1,4 +1,4 @@
-//! Drafts: what was planned for a client, with what the worker got of it.
+//! Drafts: jobs with what is planned for them.
 ghost use Rattle.std.specs.Prelude.{◌≡◌, IfOk};
 ghost use Rattle.std.specs.Option.{option_copied};
 ghost use Rattle.rb_plan_client.specs.Draft.{IsAnswer, IsDraft};
@@ -8,8 +8,9 @@ use crate::planned::Planned;
 use std::alloc::{AllocError, Allocator, Global};
 use std::marker::Model;
 
-/// What is planned for a client, none where it has no goal, with the client as the worker got it.
-/// What is planned is right for that.
+/// A job with what is planned for it, None where the client has no goal. What is planned is right for
+/// that job, however it came to be: a relayer that accepts the draft needs only to compare the job with
+/// the client as it is by then.
 #[derive(Drop)]
 pub struct Draft<A: Allocator = Global> {
     // apart, since drafts are handed on by value among much smaller events
@@ -34,7 +35,7 @@ impl<A: Allocator> Model for Draft<A> {
 }
 
 impl<A: Allocator> Draft<A> {
-    /// What is planned for a client, which is right for it.
+    /// The draft of a job and of an answer that is right for it.
     pub(crate) fn new(
         alloc: A,
         job: JobView<A>,
@@ -47,14 +48,14 @@ impl<A: Allocator> Draft<A> {
         Ok(Draft { parts })
     }
 
-    /// The client as the worker got it.
+    /// The job that the draft was made for.
     pub fn job(&self) -> &JobView<A>
         ensures { result.now ≡ self.now.job }
     {
         &self.parts.job
     }
 
-    /// What is planned for it.
+    /// What is planned for the job, and right for it; None where the client has no goal.
     pub fn answer(&self) -> Option<&Planned<A>>
         ensures value { option_copied result ≡ self.now.answer }
         ensures right { IsDraft self.now }
@@ -62,7 +63,7 @@ impl<A: Allocator> Draft<A> {
         self.parts.answer.as_ref()
     }
 
-    /// Both, apart.
+    /// The job, and what is planned for it.
     pub fn into_parts(self) -> (JobView<A>, Option<Planned<A>>)
         ensures job { result.0 ≡ self.job }
         ensures answer { result.1 ≡ self.answer }
@@ -74,7 +75,8 @@ impl<A: Allocator> Draft<A> {
 }
 
 impl<A: Allocator + Copy> Draft<A> {
-    /// An equal draft, on the same allocator; the book is shared.
+    /// An equal draft, on the same allocator, with one more owner of the job's book. `AllocError` where
+    /// memory is refused, or the book has as many owners as can be counted.
     pub fn copy(&self) -> Result<Draft<A>, AllocError>
         ensures { IfOk result (λ copy. copy ≡ self.now) }
     {
@@ -85,7 +87,7 @@ impl<A: Allocator + Copy> Draft<A> {
     }
 }
 
-/// An equal answer, if there is one.
+/// An equal answer; None of None. `AllocError` where the copy is refused memory.
 pub fn copy_answer<A: Allocator + Copy>(
     answer: Option<&Planned<A>>,
 ) -> Result<Option<Planned<A>>, AllocError>

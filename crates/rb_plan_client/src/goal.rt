@@ -4,65 +4,64 @@ ghost use Rattle.std.specs.Option.{option_copied};
 ghost use Rattle.rb_scan.specs.Owed.{wanted};
 ghost use Rattle.rb_plan_client.specs.Task.{Message, newest_stored, is_due, is_fresh, refresh_goal, first_goal};
 
+use crate::job::JobView;
 use crate::message::Message;
-use crate::task::Task;
 use rb_base::Height;
 use rb_book::{Record, RecordAt};
 use rb_script_types::Goal;
-use rb_step::ClientView;
 use std::alloc::Allocator;
 
-/// The record of the greatest stored height.
-fn newest_stored<'a, A: Allocator + Copy>(view: &ClientView<'a, A>) -> Option<&'a Record>
-    ensures { option_copied result ≡ newest_stored view.now }
+/// The record of the client's greatest stored height.
+fn newest_stored<A: Allocator + Copy>(job: &JobView<A>) -> Option<&Record>
+    ensures { option_copied result ≡ newest_stored job.now.task }
 {
-    view.book().record(*view.stored().last()?)
+    job.book().record(*job.stored().last()?)
 }
 
-/// Whether that record is due for a refresh by the end of the window: so many nanoseconds after
-/// its time; 0 is never.
-fn is_due<A: Allocator + Copy>(refresh: u64, view: &ClientView<A>) -> bool
-    ensures { result ≡ is_due refresh view.now }
+/// Whether that record is due for a refresh by the end of the window: as many nanoseconds after its
+/// time as the client is set up with, 0 being never.
+fn is_due<A: Allocator + Copy>(job: &JobView<A>) -> bool
+    ensures { result ≡ is_due job.now.task }
 {
-    let until = view.window().until().nanoseconds();
-    match newest_stored(view) {
+    let refresh = job.config().refresh;
+    let until = job.window().until().nanoseconds();
+    match newest_stored(job) {
         Some(newest) => refresh != 0 && newest.time().nanoseconds() + u128::from(refresh) <= until,
         None => false,
     }
 }
 
-/// Whether a known record is not due.
-fn is_fresh<A: Allocator + Copy>(refresh: u64, view: &ClientView<A>, known: &RecordAt) -> bool
-    ensures { result ≡ is_fresh refresh view.now known.now }
+/// Whether a record of the book is not due for a refresh by then.
+fn is_fresh<A: Allocator + Copy>(job: &JobView<A>, entry: &RecordAt) -> bool
+    ensures { result ≡ is_fresh job.now.task entry.now }
 {
-    view.window().until().nanoseconds() < known.record().time().nanoseconds() + u128::from(refresh)
+    let time = entry.record().time().nanoseconds();
+    job.window().until().nanoseconds() < time + u128::from(job.config().refresh)
 }
 
-/// The lowest known record that is fresh.
-fn first_fresh<'a, A: Allocator + Copy>(
-    refresh: u64,
-    view: &ClientView<'a, A>,
-) -> Option<&'a RecordAt>
-    ensures { option_copied result ≡ find (is_fresh refresh view.now) view.now.book.records }
+/// The lowest record of the book that is fresh.
+fn first_fresh<A: Allocator + Copy>(job: &JobView<A>) -> Option<&RecordAt>
+    ensures { option_copied result ≡ find (is_fresh job.now.task) job.now.task.book.records }
 {
-    view.book()
+    job.book()
         .records()
         .iter()
-        .find(|known| is_fresh(refresh, view, known))
+        .find(|entry| is_fresh(job, entry))
 }
 
-/// The height of the lowest fresh record, or one above it, where the client is due.
-fn refresh_goal<A: Allocator + Copy>(refresh: u64, view: &ClientView<A>) -> Option<Goal>
-    ensures { result ≡ refresh_goal refresh view.now }
+/// The height of the lowest fresh record, or one above it; None where the client is not due for a
+/// refresh, or no record is fresh.
+fn refresh_goal<A: Allocator + Copy>(job: &JobView<A>) -> Option<Goal>
+    ensures { result ≡ refresh_goal job.now.task }
 {
-    if !is_due(refresh, view) {
+    if !is_due(job) {
         return None;
     }
-    let fresh = first_fresh(refresh, view)?;
+    let fresh = first_fresh(job)?;
     Some(Goal::AtLeast(fresh.height()))
 }
 
-/// The greatest floor of messages: the height that they want.
+/// The greatest floor of messages, from which all of them can be proved.
 fn wanted(messages: &[Message]) -> Option<Height>
     ensures { result ≡ wanted (map (λ (m : Message). m.packet) messages.now) }
 {
@@ -73,16 +72,16 @@ fn wanted(messages: &[Message]) -> Option<Height>
         .max()
 }
 
-/// The goal that was asked for, else the height that the ready messages want, else the one that
+/// The goal that was asked for, else the height that proves all ready messages, else the one that
 /// refreshes the client.
-pub(crate) fn first_goal<A: Allocator + Copy>(task: &Task<A>, ready: &[Message]) -> Option<Goal>
-    ensures { result ≡ first_goal task.now (wanted (map (λ (m : Message). m.packet) ready.now)) }
+pub(crate) fn first_goal<A: Allocator + Copy>(job: &JobView<A>, ready: &[Message]) -> Option<Goal>
+    ensures { result ≡ first_goal job.now.task (wanted (map (λ (m : Message). m.packet) ready.now)) }
 {
-    if let Some(asked) = task.asked() {
+    if let Some(asked) = job.asked() {
         return Some(asked);
     }
     if let Some(height) = wanted(ready) {
         return Some(Goal::AtLeast(height));
     }
-    refresh_goal(task.refresh(), task.view())
+    refresh_goal(job)
 }

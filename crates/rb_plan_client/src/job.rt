@@ -1,45 +1,48 @@
-//! What a worker gets of a client.
+//! A client with all that its next plan is made from.
 ghost use Rattle.std.specs.Prelude.{◌≡◌, ◌↔◌, IsTrue, IfOk};
 ghost use Rattle.std.specs.Cmp.Lexicographic.{pointwise};
 ghost use Rattle.std.proofs.Common.{nat_eq};
 ghost use Rattle.rb_step.specs.View.{AreKnown};
-ghost use Rattle.rb_plan_client.specs.Same.{same_job, same_path_task, same_task, same_view};
+ghost use Rattle.rb_plan_client.specs.Same.{same_config, same_job, same_path_task, same_task};
+ghost use Rattle.rb_plan_client.specs.Task.{view_of};
 
-use crate::task::{PathTask, Task};
-use rb_base::{FeeTable, Height, Options, Window};
-use rb_batch::Limits;
-use rb_book::SharedBook;
+use crate::task::PathTask;
+use rb_base::{Height, Window};
+use rb_book::{ChainBook, SharedBook};
 use rb_script_types::{ClientConfig, Goal};
 use rb_step::ClientView;
 use std::alloc::{AllocError, Allocator, Global};
 use std::marker::Model;
 
-/// The next plan of a client: the client by its place, the number of the plan, and whether a batch of
-/// the client is open.
+/// Which plan of which client is made next.
 #[derive(Clone, Copy)]
 pub struct NextPlan {
+    /// The client, by its place in the script.
     pub client: usize,
+    /// The number of the plan: how many plans of the client were accepted before it.
     pub number: usize,
-    pub held: bool,
+    /// Whether a batch of the client is open, so that a plan for it is refused.
+    pub is_held: bool,
 }
 
-/// A client as a worker gets it: its place, all that a plan for it goes by, the number of its next
-/// plan, and whether a batch of its is open. It owns what it has, and shares the book with others.
+/// A client with all that its next plan is made from: how it is set up, the heights that it has
+/// stored, the window in which it is updated, the book of the chain that it tracks, its paths, and
+/// the goal that it was asked for; with the number of that plan, and whether a batch of the client
+/// is open. A job owns all of it, but shares the book.
+///
+/// A relayer refuses a plan as stale where the job that it was made for differs from the client as
+/// it is by then, which `==` tells.
 #[derive(Drop)]
 pub struct JobView<A: Allocator = Global> {
     client: usize,
-    options: Options,
-    fees: FeeTable,
+    config: ClientConfig,
     stored: Vec<Height, A>,
     window: Window,
     book: SharedBook<A>,
-    gas: FeeTable,
-    limits: Limits,
-    refresh: u64,
     paths: Vec<PathTask<A>, A>,
     asked: Option<Goal>,
     plan: usize,
-    held: bool,
+    is_held: bool,
 }
 
 impl<A: Allocator> Model for JobView<A> {
@@ -50,48 +53,77 @@ impl<A: Allocator> Model for JobView<A> {
 
     ghost view = { λ j. record {
       client = j.client;
-      task = record {
-        view = record { options = j.options; fees = j.fees; stored = j.stored.items; window = j.window; book = j.book.book };
-        gas = j.gas;
-        limits = j.limits;
-        refresh = j.refresh;
-        paths = j.paths.items;
-        asked = j.asked;
-      };
+      task = record { config = j.config; stored = j.stored.items; window = j.window; book = j.book.book; paths = j.paths.items; asked = j.asked };
       plan = j.plan;
-      held = j.held;
+      held = j.is_held;
     } };
 
     ghost invariant = { λ j. AreKnown j.book.book j.stored.items };
 }
 
 impl<A: Allocator> JobView<A> {
-    /// The client, by its place.
+    /// The client, by its place in the script.
     pub fn client(&self) -> usize
         ensures { result ≡ self.now.client }
     {
         self.client
     }
 
-    /// The number of its next plan: so many of its plans were taken in.
+    /// The client's configuration.
+    pub fn config(&self) -> &ClientConfig
+        ensures { result.now ≡ self.now.task.config }
+    {
+        &self.config
+    }
+
+    /// The heights that the client has stored, rising. Each has a record in the book.
+    pub fn stored(&self) -> &[Height]
+        ensures { result.now ≡ self.now.task.stored }
+    {
+        self.stored.as_slice()
+    }
+
+    /// The window in which the client is to be updated.
+    pub fn window(&self) -> Window
+        ensures { result ≡ self.now.task.window }
+    {
+        self.window
+    }
+
+    /// The client's paths, in script order.
+    pub fn paths(&self) -> &[PathTask<A>]
+        ensures { result.now ≡ self.now.task.paths }
+    {
+        self.paths.as_slice()
+    }
+
+    /// The goal that the client was asked for; None where it was asked for none since its last plan.
+    pub fn asked(&self) -> Option<Goal>
+        ensures { result ≡ self.now.task.asked }
+    {
+        self.asked
+    }
+
+    /// The number of the client's next plan: how many of its plans were accepted.
     pub fn plan(&self) -> usize
         ensures { result ≡ self.now.plan }
     {
         self.plan
     }
 
-    /// Whether a batch of its is open.
+    /// Whether a batch of the client is open.
     pub fn is_held(&self) -> bool
         ensures { result ≡ self.now.held }
     {
-        self.held
+        self.is_held
     }
 }
 
 impl<A: Allocator + Copy> JobView<A> {
-    /// The client of a plan: its configuration, the heights that it has stored and what it is asked
-    /// for, the window, the book of the chain that it tracks, which has a record of each of those
-    /// heights, and its paths.
+    /// The job for the next plan of a client: its configuration, the heights that it has stored,
+    /// rising, the goal that it was asked for, if any, the window in which it is to be updated, the
+    /// book of the chain that it tracks, with a record at each stored height, and its paths in script
+    /// order. `AllocError` where the copy of the heights is refused memory.
     pub fn new(
         next: NextPlan,
         config: &ClientConfig,
@@ -104,79 +136,51 @@ impl<A: Allocator + Copy> JobView<A> {
         requires { AreKnown book.book stored.now }
         ensures { IfOk result (λ job. job ≡ record {
           client = next.client;
-          task = record {
-            view = record { options = config.now.options; fees = config.now.fees; stored = stored.now; window = window; book = book.book };
-            gas = config.now.gas;
-            limits = config.now.limits;
-            refresh = config.now.refresh;
-            paths = paths.items;
-            asked = asked;
-          };
+          task = record { config = config.now; stored = stored.now; window = window; book = book.book; paths = paths.items; asked = asked };
           plan = next.number;
-          held = next.held;
+          held = next.is_held;
         }) }
     {
         Ok(JobView {
             client: next.client,
-            options: config.options,
-            fees: config.fees,
+            config: *config,
             stored: Vec::from_slice(*paths.allocator(), stored)?,
             window,
             book,
-            gas: config.gas,
-            limits: config.limits,
-            refresh: config.refresh,
             paths,
             asked,
             plan: next.number,
-            held: next.held,
+            is_held: next.is_held,
         })
+    }
+
+    /// The book of the chain that the client tracks.
+    pub fn book(&self) -> &ChainBook<A>
+        ensures { result.now ≡ self.now.task.book }
+    {
+        self.book.book()
     }
 
     /// The client in its window, over the book of the chain that it tracks.
     pub fn view(&self) -> ClientView<'_, A>
-        ensures { result ≡ self.now.task.view }
+        ensures { result ≡ view_of self.now.task }
     {
         ClientView::new(
-            self.options,
-            self.fees,
+            self.config.options,
+            self.config.fees,
             self.stored.as_slice(),
             self.window,
             self.book.book(),
         )
     }
 
-    /// All that a plan for the client goes by.
-    pub fn task(&self) -> Task<'_, A>
-        ensures { result ≡ self.now.task }
-    {
-        Task::new(
-            self.view(),
-            self.gas,
-            self.limits,
-            self.refresh,
-            self.paths.as_slice(),
-            self.asked,
-        )
-    }
-
-    fn is_same_view(&self, other: &JobView<A>) -> bool
-        ensures { result ≡ same_view self.now.task.view other.now.task.view }
-    {
-        self.options == other.options
-            && self.fees == other.fees
-            && same_heights(self.stored.as_slice(), other.stored.as_slice())
-            && self.window == other.window
-            && *self.book.book() == *other.book.book()
-    }
-
     fn is_same_task(&self, other: &JobView<A>) -> bool
         ensures { result ≡ same_task self.now.task other.now.task }
     {
-        self.is_same_view(other)
-            && self.gas == other.gas
-            && self.limits == other.limits
-            && self.refresh == other.refresh
+        same_config(&self.config, &other.config)
+            && same_heights(self.stored.as_slice(), other.stored.as_slice())
+            && self.window == other.window
+            && *self.book.book() == *other.book.book()
             && same_paths(self.paths.as_slice(), other.paths.as_slice())
             && self.asked == other.asked
     }
@@ -187,7 +191,7 @@ impl<A: Allocator + Copy> JobView<A> {
         self.client == other.client
             && self.is_same_task(other)
             && self.plan == other.plan
-            && self.held == other.held
+            && self.is_held == other.is_held
     }
 
     /// The allocator of its lists.
@@ -195,25 +199,22 @@ impl<A: Allocator + Copy> JobView<A> {
         *self.stored.allocator()
     }
 
-    /// An equal one, on the same allocator; the book is shared.
+    /// An equal job, on the same allocator, with one more owner of the book. `AllocError` where a
+    /// list is refused memory, or the book has as many owners as can be counted.
     pub fn copy(&self) -> Result<JobView<A>, AllocError>
         ensures { IfOk result (λ copy. copy ≡ self.now) }
     {
         let alloc = self.alloc();
         Ok(JobView {
             client: self.client,
-            options: self.options,
-            fees: self.fees,
+            config: self.config,
             stored: Vec::from_slice(alloc, self.stored.as_slice())?,
             window: self.window,
             book: self.book.share()?,
-            gas: self.gas,
-            limits: self.limits,
-            refresh: self.refresh,
             paths: copy_paths(alloc, self.paths.as_slice())?,
             asked: self.asked,
             plan: self.plan,
-            held: self.held,
+            is_held: self.is_held,
         })
     }
 }
@@ -225,7 +226,8 @@ impl<A: Allocator + Copy> PartialEq for JobView<A> {
 
     ghost laws = { same_job-laws };
 
-    /// Whether the two are equal, by all that they say.
+    /// Whether two jobs are for the same plan of the same client, and have the same content. Books
+    /// are compared by their content too.
     fn eq(&self, other: &JobView<A>) -> bool
         ensures value { result ≡ same_job self.now other.now }
         ensures equal { IsTrue result ↔ (self.now ≡ other.now) }
@@ -240,7 +242,14 @@ impl<A: Allocator + Copy> Eq for JobView<A> {
     ghost laws = { same_job-equiv };
 }
 
-/// Whether two lists of heights are equal.
+/// Whether two clients are set up alike, in every key.
+pub fn same_config(config: &ClientConfig, other: &ClientConfig) -> bool
+    ensures { result ≡ same_config config.now other.now }
+{
+    *config == *other
+}
+
+/// Whether two lists have the same heights in the same order.
 pub fn same_heights(heights: &[Height], others: &[Height]) -> bool
     ensures { result ≡ pointwise nat_eq heights.now others.now }
 {
@@ -253,7 +262,7 @@ fn same_paths<A: Allocator>(paths: &[PathTask<A>], others: &[PathTask<A>]) -> bo
     paths == others
 }
 
-/// Equal ones, in their order.
+/// Equal paths, in their order.
 fn copy_paths<A: Allocator + Copy>(
     alloc: A,
     paths: &[PathTask<A>],

@@ -1,5 +1,6 @@
-//! What a client is to be sent: its goal, the plan that brings it there, the messages for it and the
-//! batch of them (`answer`, `draft`), by what is known of it (`Task`, `JobView`).
+//! The whole plan of one client: its goal, the least list of updates that meets it, the packet messages
+//! that follow and the batch of them (`answer`, `draft`), from all that such a plan is made from
+//! (`JobView`).
 #![tactic(auto)]
 
 mod batch;
@@ -15,8 +16,8 @@ mod task;
 pub use batch::{Batch, Sending};
 pub use drafting::draft;
 pub use drafts::{Draft, copy_answer};
-pub use job::{JobView, NextPlan, same_heights};
+pub use job::{JobView, NextPlan, same_config, same_heights};
 pub use message::Message;
 pub use planned::{Plan, Planned};
 pub use planning::answer;
-pub use task::{PathTask, Task, same_messages};
+pub use task::{PathTask, same_messages};

@@ -1,4 +1,4 @@
-//! The messages that follow the updates of a client.
+//! The packet messages that follow the updates of a client.
 ghost use Rattle.std.specs.Prelude.{◌≡◌, ◌≤◌, ◌^◌};
 ghost use Rattle.rb_script_types.specs.Gas.{gas_for};
 
@@ -6,7 +6,8 @@ use rb_scan::PacketMsg;
 use rb_script_types::PathGas;
 use std::marker::Model;
 
-/// A packet message, with its path, by its place, and its gas, which is at most 10^9.
+/// A packet message (ICS 4) for one of a client's paths, with the gas that it takes of a transaction, at
+/// most 10^9.
 #[derive(Clone, Copy, Debug, PartialEq, Eq)]
 pub struct Message {
     path: usize,
@@ -28,7 +29,7 @@ impl Model for Message {
 }
 
 impl Message {
-    /// The message on a path with this gas.
+    /// The message for a packet of a path, the gas being that of the path's messages of its kind.
     pub(crate) fn new(path: usize, gas: PathGas, packet: PacketMsg) -> Message
         ensures { result ≡ record { path = path; packet = packet; gas = gas_for gas packet.kind } }
     {
@@ -39,21 +40,21 @@ impl Message {
         }
     }
 
-    /// The path that it is for, by its place.
+    /// The path of the packet, by its place in the script.
     pub fn path(&self) -> usize
         ensures { result ≡ self.now.path }
     {
         self.path
     }
 
-    /// What it does, and for which packet.
+    /// What it does, for which packet of the path, and from which height on it can be proved.
     pub fn packet(&self) -> PacketMsg
         ensures { result ≡ self.now.packet }
     {
         self.packet
     }
 
-    /// The gas that it takes.
+    /// The gas that it takes of a transaction, at most 10^9.
     pub fn gas(&self) -> u64
         ensures value { result ≡ self.now.gas }
         ensures range { result ≤ 10 ^ 9 }

@@ -11,7 +11,7 @@ use std::alloc::{AllocError, Allocator, Global};
 use std::marker::Model;
 
 impl<A: Allocator + Copy> Sending<A> {
-    /// An equal one, on the same allocator.
+    /// An equal value, on the same allocator. `AllocError` where the copy is refused memory.
     pub fn copy(&self) -> Result<Sending<A>, AllocError>
         ensures { IfOk result (λ copy. sending_view copy ≡ sending_view self.now) }
     {
@@ -23,7 +23,8 @@ impl<A: Allocator + Copy> Sending<A> {
     }
 }
 
-/// The updates, then the packet messages, and how they are sent.
+/// A plan: the least list of updates that meets a goal, the packet messages that follow them, and in
+/// which transactions both are sent.
 #[derive(Debug, Drop)]
 pub struct Plan<A: Allocator = Global> {
     updates: Vec<Update, A>,
@@ -41,7 +42,7 @@ impl<A: Allocator> Model for Plan<A> {
 }
 
 impl<A: Allocator> Plan<A> {
-    /// The plan of these.
+    /// The plan of these updates and messages, sent so.
     pub(crate) fn new(
         updates: Vec<Update, A>,
         messages: Vec<Message, A>,
@@ -56,7 +57,7 @@ impl<A: Allocator> Plan<A> {
         }
     }
 
-    /// The updates, in their order.
+    /// The updates, in the order in which the client is to take them.
     pub fn updates(&self) -> &[Update]
         ensures { result.now ≡ self.now.updates }
     {
@@ -70,14 +71,14 @@ impl<A: Allocator> Plan<A> {
         self.messages.as_slice()
     }
 
-    /// How they are sent.
+    /// In which transactions the updates and the messages are sent.
     pub fn sending(&self) -> &Sending<A>
         ensures { sending_view result.now ≡ self.now.sending }
     {
         &self.sending
     }
 
-    /// The updates, the packet messages, and how they are sent.
+    /// The updates, the packet messages, and in which transactions they are sent.
     pub fn into_parts(self) -> (Vec<Update, A>, Vec<Message, A>, Sending<A>)
         ensures updates { result.0.items ≡ self.updates }
         ensures messages { result.1.items ≡ self.messages }
@@ -88,7 +89,7 @@ impl<A: Allocator> Plan<A> {
 }
 
 impl<A: Allocator + Copy> Plan<A> {
-    /// An equal plan, on the same allocator.
+    /// An equal plan, on the same allocator. `AllocError` where the copy is refused memory.
     pub fn copy(&self) -> Result<Plan<A>, AllocError>
         ensures { IfOk result (λ copy. copy ≡ self.now) }
     {
@@ -101,7 +102,9 @@ impl<A: Allocator + Copy> Plan<A> {
     }
 }
 
-/// A goal, the exact labelling, and the plan; none where the goal can't be reached.
+/// What is planned for a client that has a goal: the goal, the exact labelling (the least cost of each
+/// height that the client can be brought to), and the plan; None where no acceptable list of updates
+/// meets the goal.
 #[derive(Debug, Drop)]
 pub struct Planned<A: Allocator = Global> {
     goal: Goal,
@@ -118,7 +121,7 @@ impl<A: Allocator> Model for Planned<A> {
 }
 
 impl<A: Allocator> Planned<A> {
-    /// The plan for a goal, if it can be reached.
+    /// What is planned for a goal, by the exact labelling.
     pub(crate) fn new(goal: Goal, labelling: Labelling<A>, plan: Option<Plan<A>>) -> Planned<A>
         ensures { result ≡ record { goal = goal; labels = labelling; plan = plan } }
     {
@@ -129,28 +132,30 @@ impl<A: Allocator> Planned<A> {
         }
     }
 
-    /// The goal.
+    /// The goal: the one that was asked for, else the height that proves all ready packet messages,
+    /// else the one that refreshes the client.
     pub fn goal(&self) -> Goal
         ensures { result ≡ self.now.goal }
     {
         self.goal
     }
 
-    /// The exact labelling.
+    /// The exact labelling: each height that the client can be brought to in its window, with the
+    /// least cost of the updates that bring it there.
     pub fn labelling(&self) -> &Labelling<A>
         ensures { result.now ≡ self.now.labels }
     {
         &self.labelling
     }
 
-    /// The plan, if the goal can be reached.
+    /// The plan; None where no acceptable list of updates meets the goal.
     pub fn plan(&self) -> Option<&Plan<A>>
         ensures { option_copied result ≡ self.now.plan }
     {
         self.plan.as_ref()
     }
 
-    /// The plan alone.
+    /// The plan alone; None where no acceptable list of updates meets the goal.
     pub fn into_plan(self) -> Option<Plan<A>>
         ensures { result ≡ self.plan }
     {
@@ -159,7 +164,7 @@ impl<A: Allocator> Planned<A> {
 }
 
 impl<A: Allocator + Copy> Planned<A> {
-    /// An equal one, on the same allocator.
+    /// An equal value, on the same allocator. `AllocError` where the copy is refused memory.
     pub fn copy(&self) -> Result<Planned<A>, AllocError>
         ensures { IfOk result (λ copy. copy ≡ self.now) }
     {

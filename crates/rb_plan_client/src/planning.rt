@@ -1,4 +1,4 @@
-//! What is planned for a task.
+//! What is planned for a job.
 ghost use Rattle.std.specs.Prelude.{◌≡◌, ◌+◌, ◌<◌, ◌++◌, [], length, map, IfOk, OnOk};
 ghost use Rattle.std.specs.Bool.{OnTrue, OnFalse};
 ghost use Rattle.rb_plan.specs.Goal.{Meets};
@@ -7,13 +7,14 @@ ghost use Rattle.rb_step.specs.View.{client_of};
 ghost use Rattle.rb_plan_client.specs.Draft.{IsSending, IsAnswer};
 ghost use Rattle.rb_plan_client.specs.Planning.{IsPlannedFor, IsPlannedIf};
 ghost use Rattle.rb_plan_client.specs.Sent.{sending_view};
-ghost use Rattle.rb_plan_client.specs.Task.{Message, gas_of, gases, messages_of};
+ghost use Rattle.rb_plan_client.specs.Task.{Message, view_of, gas_of, gases, messages_of};
 
 use crate::batch::{Batch, Sending};
 use crate::goal::first_goal;
+use crate::job::JobView;
 use crate::message::Message;
 use crate::planned::{Plan, Planned};
-use crate::task::{Task, ready_messages};
+use crate::task::ready_messages;
 use rb_base::Height;
 use rb_batch::{BatchError, Msg, cut};
 use rb_graph::Graph;
@@ -23,14 +24,15 @@ use std::alloc::{AllocError, Allocator};
 
 /// Puts the gas of each update to the end of a list.
 fn append_updates<A: Allocator + Copy>(
-    task: &Task<A>,
+    job: &JobView<A>,
     updates: &[Update],
     gases: &mut Vec<Msg, A>,
 ) -> Result<(), AllocError>
-    ensures { OnOk result (gases.new.items ≡ gases.old.items ++ map (gas_of task.now) updates.now) }
+    ensures { OnOk result (gases.new.items ≡ gases.old.items ++ map (gas_of job.now.task) updates.now) }
 {
+    let view = job.view();
     for update in updates {
-        gases.push(Msg::new(gas_of(task.view(), &task.gas(), update)))?;
+        gases.push(Msg::new(gas_of(&view, &job.config().gas, update)))?;
     }
     Ok(())
 }
@@ -51,15 +53,15 @@ fn append_messages<A: Allocator + Copy>(
 /// The gas of each message in turn, the updates first.
 fn gases<A: Allocator + Copy>(
     alloc: A,
-    task: &Task<A>,
+    job: &JobView<A>,
     updates: &[Update],
     messages: &[Message],
 ) -> Result<Vec<Msg, A>, AllocError>
-    ensures { IfOk result (λ list. list.items ≡ gases task.now updates.now messages.now) }
+    ensures { IfOk result (λ list. list.items ≡ gases job.now.task updates.now messages.now) }
 {
     let size = updates.len().saturating_add(messages.len());
     let mut gases = Vec::with_capacity(alloc, size)?;
-    append_updates(task, updates, &mut gases)?;
+    append_updates(job, updates, &mut gases)?;
     append_messages(messages, &mut gases)?;
     Ok(gases)
 }
@@ -75,21 +77,21 @@ fn is_nothing(updates: &[Update], messages: &[Message]) -> bool
 /// How updates that meet a goal are sent, with the messages that go with them.
 fn sending<A: Allocator + Copy>(
     alloc: A,
-    task: &Task<A>,
+    job: &JobView<A>,
     goal: &Goal,
     updates: &[Update],
     messages: &[Message],
 ) -> Result<Sending<A>, AllocError>
-    requires { Meets (client_of task.now.view) goal.now updates.now }
-    ensures { IfOk result (λ s. IsSending task.now (record { updates = updates.now; messages = messages.now; sending = sending_view s }) (sending_view s)) }
+    requires { Meets (client_of (view_of job.now.task)) goal.now updates.now }
+    ensures { IfOk result (λ s. IsSending job.now.task (record { updates = updates.now; messages = messages.now; sending = sending_view s }) (sending_view s)) }
 {
     if is_nothing(updates, messages) {
         return Ok(Sending::Nothing);
     }
-    let gases = gases(alloc, task, updates, messages)?;
-    match cut(alloc, gases.as_slice(), task.limits()) {
+    let gases = gases(alloc, job, updates, messages)?;
+    match cut(alloc, gases.as_slice(), job.config().limits) {
         Ok(transactions) => {
-            let proof = proof_height(task.view(), updates).unwrap();
+            let proof = proof_height(&job.view(), updates).unwrap();
             Ok(Sending::Batched(Batch::new(proof, transactions)))
         }
         Err(BatchError::TooBig(index)) => Ok(Sending::TooBig(index)),
@@ -101,20 +103,20 @@ fn sending<A: Allocator + Copy>(
 /// with it.
 fn planned<A: Allocator + Copy>(
     alloc: A,
-    task: &Task<A>,
+    job: &JobView<A>,
     graph: &Graph<A>,
     labelling: Labelling<A>,
     goal: Goal,
     messages: Vec<Message, A>,
 ) -> Result<Planned<A>, AllocError>
-    requires table { graph.now ≡ task.now.view.book }
+    requires table { graph.now ≡ job.now.task.book }
     requires labels { IsLabelling labelling }
-    requires exact { IsExact (client_of task.now.view) (label_of labelling) }
-    ensures { IfOk result (IsPlannedFor task.now goal messages.items) }
+    requires exact { IsExact (client_of (view_of job.now.task)) (label_of labelling) }
+    ensures { IfOk result (IsPlannedFor job.now.task goal messages.items) }
 {
-    match plan_by(alloc, task.view(), graph, labelling, goal)? {
+    match plan_by(alloc, &job.view(), graph, labelling, goal)? {
         Answer::Plan { updates, labelling } => {
-            let sending = sending(alloc, task, &goal, updates.as_slice(), messages.as_slice())?;
+            let sending = sending(alloc, job, &goal, updates.as_slice(), messages.as_slice())?;
             let sent = Plan::new(updates, messages, sending);
             Ok(Planned::new(goal, labelling, Some(sent)))
         }
@@ -126,51 +128,54 @@ fn planned<A: Allocator + Copy>(
 /// asked for. The reach is the greatest height that the client can be brought to.
 fn messages_of<A: Allocator + Copy>(
     alloc: A,
-    task: &Task<A>,
+    job: &JobView<A>,
     reach: Option<Height>,
 ) -> Result<Vec<Message, A>, AllocError>
-    ensures { IfOk result (λ messages. messages.items ≡ messages_of task.now reach) }
+    ensures { IfOk result (λ messages. messages.items ≡ messages_of job.now.task reach) }
 {
-    if task.asked().is_some() {
+    if job.asked().is_some() {
         return Ok(Vec::new(alloc));
     }
-    ready_messages(alloc, task.paths(), &reach)
+    ready_messages(alloc, job.paths(), &reach)
 }
 
 /// What is planned for a goal, if there is one.
 fn planned_if<A: Allocator + Copy>(
     alloc: A,
-    task: &Task<A>,
+    job: &JobView<A>,
     graph: &Graph<A>,
     labelling: Labelling<A>,
     goal: Option<Goal>,
     messages: Vec<Message, A>,
 ) -> Result<Option<Planned<A>>, AllocError>
-    requires table { graph.now ≡ task.now.view.book }
+    requires table { graph.now ≡ job.now.task.book }
     requires labels { IsLabelling labelling }
-    requires exact { IsExact (client_of task.now.view) (label_of labelling) }
-    ensures { IfOk result (IsPlannedIf task.now goal messages.items) }
+    requires exact { IsExact (client_of (view_of job.now.task)) (label_of labelling) }
+    ensures { IfOk result (IsPlannedIf job.now.task goal messages.items) }
 {
     match goal {
-        Some(goal) => Ok(Some(planned(alloc, task, graph, labelling, goal, messages)?)),
+        Some(goal) => Ok(Some(planned(alloc, job, graph, labelling, goal, messages)?)),
         None => Ok(None),
     }
 }
 
-/// What is planned for a task: none where it has no goal. `graph` is the table of the view's book,
-/// as `Graph::is_of` tells.
+/// What is planned for a job: its goal with the exact labelling and the least list of updates that
+/// meets it, the packet messages that follow, and the transactions that carry them; None where the
+/// client has no goal. `graph` is the table of the job's book, as `Graph::is_of` tells. `AllocError`
+/// where memory is refused. The rule is own, over the least lists of `rb_plan`, the ready messages of
+/// `rb_scan` and the least cut of `rb_batch`.
 pub fn answer<A: Allocator + Copy>(
     alloc: A,
-    task: &Task<A>,
+    job: &JobView<A>,
     graph: &Graph<A>,
 ) -> Result<Option<Planned<A>>, AllocError>
-    requires { graph.now ≡ task.now.view.book }
-    ensures { IfOk result (IsAnswer task.now) }
+    requires { graph.now ≡ job.now.task.book }
+    ensures { IfOk result (IsAnswer job.now.task) }
 {
-    let labelling = label(alloc, task.view(), graph)?;
+    let labelling = label(alloc, &job.view(), graph)?;
     let reach = top_reachable(&labelling);
-    let messages = messages_of(alloc, task, reach)?;
-    let goal = first_goal(task, messages.as_slice());
-    let outcome = planned_if(alloc, task, graph, labelling, goal, messages)?;
+    let messages = messages_of(alloc, job, reach)?;
+    let goal = first_goal(job, messages.as_slice());
+    let outcome = planned_if(alloc, job, graph, labelling, goal, messages)?;
     Ok(outcome)
 }

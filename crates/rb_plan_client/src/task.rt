@@ -1,4 +1,4 @@
-//! What a plan for a client goes by.
+//! The paths of a client, and their messages that are ready.
 ghost use Rattle.std.specs.Prelude.{◌≡◌, ◌↔◌, ◌++◌, map, IsTrue, IfOk, OnOk};
 ghost use Rattle.std.specs.Cmp.Lexicographic.{pointwise};
 ghost use Rattle.std.specs.List.{flat_map};
@@ -7,16 +7,14 @@ ghost use Rattle.rb_plan_client.specs.Same.{same_packet_message, same_path_task}
 ghost use Rattle.rb_plan_client.specs.Task.{message_on, ready_on};
 
 use crate::message::Message;
-use rb_base::{FeeTable, Height};
-use rb_batch::Limits;
+use rb_base::Height;
 use rb_scan::{Order, PacketMsg, ready};
-use rb_script_types::{Goal, PathGas};
-use rb_step::ClientView;
+use rb_script_types::PathGas;
 use std::alloc::{AllocError, Allocator, Global};
 use std::marker::Model;
 
-/// A path, by its place, as one of its clients has it: its order, the gas of its messages, and the
-/// messages that it owes that client.
+/// A path as one of its clients has it: its place in the script, in which order its packets are
+/// received (ICS 4), the gas of its messages, and the messages that are owed to that client.
 #[derive(Debug, Drop)]
 pub struct PathTask<A: Allocator = Global> {
     path: usize,
@@ -34,7 +32,8 @@ impl<A: Allocator> Model for PathTask<A> {
 }
 
 impl<A: Allocator> PathTask<A> {
-    /// The path at a place, with what it owes one of its clients.
+    /// The path at a place of the script, with the messages that are owed to one of its clients, in
+    /// the order in which they are to be sent.
     pub fn new(path: usize, order: Order, gas: PathGas, owed: Vec<PacketMsg, A>) -> PathTask<A>
         ensures { result ≡ record { path = path; order = order; gas = gas; owed = owed.items } }
     {
@@ -46,28 +45,28 @@ impl<A: Allocator> PathTask<A> {
         }
     }
 
-    /// Its place.
+    /// The path, by its place in the script.
     pub fn path(&self) -> usize
         ensures { result ≡ self.now.path }
     {
         self.path
     }
 
-    /// In which order its packets are received.
+    /// In which order the path's packets are received (ICS 4).
     pub fn order(&self) -> Order
         ensures { result ≡ self.now.order }
     {
         self.order
     }
 
-    /// The gas of its messages.
+    /// The gas of the path's messages, by their kind.
     pub fn gas(&self) -> PathGas
         ensures { result ≡ self.now.gas }
     {
         self.gas
     }
 
-    /// The messages that it owes the client.
+    /// The messages that are owed to the client, in the order in which they are to be sent.
     pub fn owed(&self) -> &[PacketMsg]
         ensures { result.now ≡ self.now.owed }
     {
@@ -93,6 +92,7 @@ impl<A: Allocator> PartialEq for PathTask<A> {
 
     ghost laws = { same_path_task-laws };
 
+    /// Whether two paths have the same place and the same content.
     fn eq(&self, other: &PathTask<A>) -> bool
         ensures value { result ≡ same_path_task self.now other.now }
         ensures equal { IsTrue result ↔ (self.now ≡ other.now) }
@@ -107,7 +107,7 @@ impl<A: Allocator> Eq for PathTask<A> {
     ghost laws = { same_path_task-equiv };
 }
 
-/// Whether two lists of messages are equal.
+/// Whether two lists have the same messages in the same order.
 pub fn same_messages(messages: &[PacketMsg], others: &[PacketMsg]) -> bool
     ensures { result ≡ pointwise same_packet_message messages.now others.now }
 {
@@ -115,7 +115,8 @@ pub fn same_messages(messages: &[PacketMsg], others: &[PacketMsg]) -> bool
 }
 
 impl<A: Allocator + Copy> PathTask<A> {
-    /// An equal one, on the same allocator.
+    /// An equal path, on the same allocator. `AllocError` where the copy of the messages is refused
+    /// memory.
     pub fn copy(&self) -> Result<PathTask<A>, AllocError>
         ensures { IfOk result (λ copy. copy ≡ self.now) }
     {
@@ -127,8 +128,9 @@ impl<A: Allocator + Copy> PathTask<A> {
         })
     }
 
-    /// The messages that are ready, the reach being the greatest height that the client can be
-    /// brought to.
+    /// The owed messages that are ready: those that a height up to `reach` proves, and of an ORDERED
+    /// path none that follows one that isn't. `reach` is the greatest height that the client can be
+    /// brought to, None where there is none.
     fn ready(&self, alloc: A, reach: Option<Height>) -> Result<Vec<PacketMsg, A>, AllocError>
         ensures { IfOk result (λ list. list.items ≡ ready self.now.owed self.now.order reach) }
     {
@@ -172,90 +174,4 @@ pub(crate) fn ready_messages<A: Allocator + Copy>(
         path.append_ready(alloc, reach, &mut messages)?;
     }
     Ok(messages)
-}
-
-/// What a plan for a client goes by: its view, what transactions cost and may carry, after how many
-/// nanoseconds it is due for a refresh (0: never), its paths in their order, and the goal that it
-/// was asked for.
-#[derive(Debug, Drop)]
-pub struct Task<'a, A: Allocator = Global> {
-    view: ClientView<'a, A>,
-    gas: FeeTable,
-    limits: Limits,
-    refresh: u64,
-    paths: &'a [PathTask<A>],
-    asked: Option<Goal>,
-}
-
-impl<'a, A: Allocator> Model for Task<'a, A> {
-    ghost use Rattle.rb_plan_client.specs.Task as tasks;
-
-    ghost Value = { tasks.Task };
-
-    ghost view = { λ t. record { view = t.view; gas = t.gas; limits = t.limits; refresh = t.refresh; paths = t.paths.now; asked = t.asked } };
-}
-
-impl<'a, A: Allocator> Task<'a, A> {
-    /// The task of these.
-    pub fn new(
-        view: ClientView<'a, A>,
-        gas: FeeTable,
-        limits: Limits,
-        refresh: u64,
-        paths: &'a [PathTask<A>],
-        asked: Option<Goal>,
-    ) -> Task<'a, A>
-        ensures { result ≡ record { view = view.entry; gas = gas; limits = limits; refresh = refresh; paths = paths.entry.now; asked = asked } }
-    {
-        Task {
-            view,
-            gas,
-            limits,
-            refresh,
-            paths,
-            asked,
-        }
-    }
-
-    /// The client in its window, over the book of the chain that it tracks.
-    pub fn view(&self) -> &ClientView<'a, A>
-        ensures { result.now ≡ self.now.view }
-    {
-        &self.view
-    }
-
-    /// What an update takes of a transaction's gas.
-    pub fn gas(&self) -> FeeTable
-        ensures { result ≡ self.now.gas }
-    {
-        self.gas
-    }
-
-    /// What a transaction may carry.
-    pub fn limits(&self) -> Limits
-        ensures { result ≡ self.now.limits }
-    {
-        self.limits
-    }
-
-    /// After how many nanoseconds it is due for a refresh; 0 is never.
-    pub fn refresh(&self) -> u64
-        ensures { result ≡ self.now.refresh }
-    {
-        self.refresh
-    }
-
-    /// Its paths, in their order.
-    pub fn paths(&self) -> &'a [PathTask<A>]
-        ensures { result.now ≡ self.now.paths }
-    {
-        self.paths
-    }
-
-    /// The goal that it was asked for.
-    pub fn asked(&self) -> Option<Goal>
-        ensures { result ≡ self.now.asked }
-    {
-        self.asked
-    }
 }

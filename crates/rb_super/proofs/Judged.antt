@@ -12,7 +12,7 @@ use Rattle.rb_core.specs.Core.{Core, state_in}
 use Rattle.rb_plan_client.specs.Draft.{Job, Draft}
 use Rattle.rb_core_model.specs.Machine.{client_view}
 use Rattle.rb_core_model.specs.Standing.{OpenBatch, ClientState, Standing, task_in}
-use Rattle.rb_plan_client.specs.Task.{Task, goal_of}
+use Rattle.rb_plan_client.specs.Task.{Task, view_of, goal_of}
 use Rattle.rb_core_model.proofs.Drafted.{drafted}
 use Rattle.rb_core_model.proofs.Options.{some_from}
 use Rattle.rb_script_types.specs.declared.goal.Goal.{Goal}
@@ -37,7 +37,7 @@ one_task s client k l t u a b =
     a.is_task ∙ (λ i. task_in s (window i) client (known i)) ∙ sym b.is_task
 
 one_wanted : (t : Task) (g h : Option Goal) → IsWanted t g → IsWanted t h → g ≡ h
-one_wanted t g h a b = a.is_goal ∙ ap (goal_of t) (one_reach (client_of t.view) a.reach b.reach a.is_reach b.is_reach) ∙ sym b.is_goal
+one_wanted t g h a b = a.is_goal ∙ ap (goal_of t) (one_reach (client_of (view_of t)) a.reach b.reach a.is_reach b.is_reach) ∙ sym b.is_goal
 
 pub one_goal : (k : ClientState) (t : Task) (g h : Option Goal) → IsPlannedGoal k t g → IsPlannedGoal k t h → g ≡ h
 one_goal k t g h a b = go k.batch a b
@@ -87,12 +87,12 @@ wanted_free k t goal free wanted = subst (λ o. MatchOption o (IsWanted t goal) 
 module _ (core : Core) (client : ℕ) (job : Job) (lt : client < length core.config.clients) (room : HasLogRoom core 1) (ready : IsPlannable core)
     (none_open : batch_open (standing_in core) client ≡ None) (view : client_view (state_in core) client ≡ Some job)
     (goal : Option Goal) (wanted : IsWanted job.task goal) (labels : Labels) (claim : Option (List Update)) (verdict : Option Judgement) where
-  pub judged_there : IsVerdictFor job.task.view goal labels claim verdict → IsVerdictIn (standing_in core) client labels claim verdict
+  pub judged_there : IsVerdictFor (view_of job.task) goal labels claim verdict → IsVerdictIn (standing_in core) client labels claim verdict
   judged_there judged =
       let x = job_there core client job lt room ready none_open view in
       record { known = x.0; task = job.task; is = x.1; goal = goal; is_planned = wanted_free x.0 job.task goal x.2 wanted; judged = judged }
 
-  pub right_there : (verdict ≡ Some Yes → (g : Goal) × (goal ≡ Some g) × IsSound (client_of job.task.view) labels × Shows (client_of job.task.view) g claim)
+  pub right_there : (verdict ≡ Some Yes → (g : Goal) × (goal ≡ Some g) × IsSound (client_of (view_of job.task)) labels × Shows (client_of (view_of job.task)) g claim)
       → ◌≡◌ {A = Result (Option Judgement) AllocError} (Ok verdict) (Ok (Some Yes)) → IsRightAs (standing_in core) client labels claim
   right_there right answered =
       let said : verdict ≡ Some Yes = ap (λ (r : Result (Option Judgement) AllocError). unwrap_or (result_ok r) verdict) answered in
@@ -108,7 +108,7 @@ module _ (core : Core) (client : ℕ) (job : Job) (lt : client < length core.con
         shows = r.3;
       }
 
-  pub accepts_there : ((g : Goal) → goal ≡ Some g → IsExact (client_of job.task.view) labels → Shows (client_of job.task.view) g claim → verdict ≡ Some Yes)
+  pub accepts_there : ((g : Goal) → goal ≡ Some g → IsExact (client_of (view_of job.task)) labels → Shows (client_of (view_of job.task)) g claim → verdict ≡ Some Yes)
       → IsExactAs (standing_in core) client labels claim → verdict ≡ Some Yes
   accepts_there accepts own =
       let x = job_there core client job lt room ready none_open view in
@@ -117,7 +117,7 @@ module _ (core : Core) (client : ℕ) (job : Job) (lt : client < length core.con
       let tasks : own.task ≡ job.task = one_task (standing_in core) client own.known x.0 own.task job.task own.is x.1 in
       let mine : IsPlannedGoal x.0 job.task (Some g) = subst (λ (p : ClientState × Task). IsPlannedGoal p.0 p.1 (Some g)) (λ i. (knowns i, tasks i)) own.is_planned in
       let goals : goal ≡ Some g = one_goal x.0 job.task goal (Some g) (wanted_free x.0 job.task goal x.2 wanted) mine in
-      accepts g goals (subst (λ (t : Task). IsExact (client_of t.view) labels) tasks own.exact) (subst (λ (t : Task). Shows (client_of t.view) g claim) tasks own.shows)
+      accepts g goals (subst (λ (t : Task). IsExact (client_of (view_of t)) labels) tasks own.exact) (subst (λ (t : Task). Shows (client_of (view_of t)) g claim) tasks own.shows)
 
 -- one that is held has no answer
 pub held_alone : (core : Core) (client : ℕ) (b : OpenBatch) → client < length core.config.clients → IsPlannable core → Some b ≡ batch_open (standing_in core) client

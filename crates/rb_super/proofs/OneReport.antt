@@ -21,7 +21,7 @@ use Rattle.rb_step.specs.View.{client_of}
 use Rattle.rb_plan_client.specs.Draft.{Batch, Sending, nothing, too_big, batched, Plan, Planned as Answer, IsBatch, IsSending, IsPlan, IsPlanned, IsIdle}
 use Rattle.rb_plan_client.specs.Reach.{IsReach}
 use Rattle.rb_core_model.specs.Standing.{OpenBatch, ClientState, Standing, task_in}
-use Rattle.rb_plan_client.specs.Task.{Task, Message, goal_of, messages_of, gas_of, gases}
+use Rattle.rb_plan_client.specs.Task.{Task, Message, view_of, goal_of, messages_of, gas_of, gases}
 use Rattle.rb_super_turn.specs.Report.{Outcome, held, idle, planned, ClientReport, TurnReport}
 use Rattle.rb_super_turn.specs.Script.{Turn}
 use Rattle.rb_super_turn.specs.Turns.{reported, IsOutcome, IsClientReport, before_plans, after_plans, settlement_reports, IsTurnReport}
@@ -73,13 +73,13 @@ moved t p q us ms nothing h = (sym us ∙ h.0, sym ms ∙ h.1)
 moved t p q us ms (too_big index) h = subst (λ (y : List Update × List Message). IsFirstTooBig t.limits (gases t y.0 y.1) index) (λ i. (us i, ms i)) h
 moved t p q us ms (batched b) h = record {
   some = subst (λ (y : List Update × List Message). 0 < length y.0 + length y.1) (λ i. (us i, ms i)) h.some;
-  proof = subst (λ (y : List Update). IsProofHeight (client_of t.view) y (Some b.proof)) us h.proof;
+  proof = subst (λ (y : List Update). IsProofHeight (client_of (view_of t)) y (Some b.proof)) us h.proof;
   transactions = subst (λ (y : List Update × List Message). IsLeastCut t.limits (gases t y.0 y.1) b.transactions) (λ i. (us i, ms i)) h.transactions;
 }
 
 -- unreachable, or the plan
 abbrev IsPlanOr : Task → Option ℕ → Goal → Option Plan → Type 0
-IsPlanOr t reach goal plan = MatchOption plan (IsUnreachable (client_of t.view) goal) (IsPlan t goal (messages_of t reach))
+IsPlanOr t reach goal plan = MatchOption plan (IsUnreachable (client_of (view_of t)) goal) (IsPlan t goal (messages_of t reach))
 
 module _ (one : AnswersAreOne) (cuts : LeastCutIsOne) where
   nothing_is_small : (t : Task) (p : Plan) (index : ℕ) → IsSending t p nothing → IsFirstTooBig t.limits (gases t p.updates p.messages) index → ⊥
@@ -104,7 +104,7 @@ module _ (one : AnswersAreOne) (cuts : LeastCutIsOne) where
 
   one_plan : (t : Task) (reach : Option ℕ) (goal : Goal) (p q : Plan) → IsPlan t goal (messages_of t reach) p → IsPlan t goal (messages_of t reach) q → p ≡ q
   one_plan t reach goal p q a b =
-      let updates : p.updates ≡ q.updates = one.least t.view goal p.updates q.updates a.least b.least in
+      let updates : p.updates ≡ q.updates = one.least (view_of t) goal p.updates q.updates a.least b.least in
       let messages : p.messages ≡ q.messages = a.messages ∙ sym b.messages in
       let sending : p.sending ≡ q.sending = one_sending t q p.sending q.sending (moved t p q updates messages p.sending a.sending) b.sending in
       λ i. record { updates = updates i; messages = messages i; sending = sending i }
@@ -117,17 +117,17 @@ module _ (one : AnswersAreOne) (cuts : LeastCutIsOne) where
 
   one_planned : (t : Task) (p q : Answer) → IsPlanned t p → IsPlanned t q → p ≡ q
   one_planned t p q a b =
-      let reach = one_reach (client_of t.view) a.reach b.reach a.is_reach b.is_reach in
+      let reach = one_reach (client_of (view_of t)) a.reach b.reach a.is_reach b.is_reach in
       let goal : p.goal ≡ q.goal = same_Some p.goal q.goal (sym a.goal ∙ ap (goal_of t) reach ∙ b.goal) in
       let labels : p.labels ≡ q.labels =
-      one_labelling p.labels q.labels a.labels b.labels (one.exact t.view (label_of p.labels) (label_of q.labels) a.exact b.exact)
-      (one.exact t.view (label_of q.labels) (label_of p.labels) b.exact a.exact) in
+      one_labelling p.labels q.labels a.labels b.labels (one.exact (view_of t) (label_of p.labels) (label_of q.labels) a.exact b.exact)
+      (one.exact (view_of t) (label_of q.labels) (label_of p.labels) b.exact a.exact) in
       let plan : p.plan ≡ q.plan = one_or t b.reach q.goal p.plan q.plan (subst (λ (x : Option ℕ × Goal). IsPlanOr t x.0 x.1 p.plan) (λ i. (reach i, goal i)) a.plan) b.plan in
       λ i. record { goal = goal i; labels = labels i; plan = plan i }
 
   idle_or_planned : (t : Task) (p : Answer) → IsIdle t → IsPlanned t p → ⊥
   idle_or_planned t p a b =
-      none-some p.goal (sym a.goal ∙ ap (goal_of t) (one_reach (client_of t.view) a.reach b.reach a.is_reach b.is_reach) ∙ b.goal)
+      none-some p.goal (sym a.goal ∙ ap (goal_of t) (one_reach (client_of (view_of t)) a.reach b.reach a.is_reach b.is_reach) ∙ b.goal)
 
   held_or_free : (c : ClientState) (n : ℕ) → option_map (λ (b : OpenBatch). b.number) c.batch ≡ Some n → c.batch ≡ None → ⊥
   held_or_free c n e free = none-some n (sym (ap (option_map (λ (b : OpenBatch). b.number)) free) ∙ e)

@@ -6,7 +6,7 @@ use Rattle.std.proofs.lemmas.Option.{same_Some}
 use Rattle.rb_batch.specs.Laws.{LeastCutIsOne}
 use Rattle.rb_plan_client.specs.Draft.{Plan as SentPlan, Planned as Answer, IsPlan}
 use Rattle.rb_core_model.specs.Standing.{Standing, opening_standing, task_in}
-use Rattle.rb_plan_client.specs.Task.{Task, messages_of}
+use Rattle.rb_plan_client.specs.Task.{Task, view_of, messages_of}
 use Rattle.rb_script_types.specs.declared.goal.Goal.{Goal}
 use Rattle.rb_plan.specs.Answer.{Shows}
 use Rattle.rb_plan.specs.Labelling.{Labels, IsExact, label_of}
@@ -55,8 +55,8 @@ claimed t number a = go a.plan
     go None = refl
     go (Some p) = ap (λ us. Some us) (updates_back t p.updates)
 
-shown : (t : Task) (reach : Option ℕ) (goal : Goal) (plan : Option SentPlan) → MatchOption plan (IsUnreachable (client_of t.view) goal) (IsPlan t goal (messages_of t reach))
-    → Shows (client_of t.view) goal (option_map (λ (p : SentPlan). p.updates) plan)
+shown : (t : Task) (reach : Option ℕ) (goal : Goal) (plan : Option SentPlan) → MatchOption plan (IsUnreachable (client_of (view_of t)) goal) (IsPlan t goal (messages_of t reach))
+    → Shows (client_of (view_of t)) goal (option_map (λ (p : SentPlan). p.updates) plan)
 shown t reach goal None none = none
 shown t reach goal (Some p) is = is.least
 
@@ -85,6 +85,6 @@ own_answer one cuts script turn client labels claim s Accepted phase accepts rep
       is = record { window = mine.window; is_window = mine.is_window; is_known = at.1; is_task = refl };
       goal = a.goal;
       is_planned = goal;
-      exact = subst (λ (l : Labels). IsExact (client_of t.view) l) (sym (own.labels_are ∙ ap (λ (p : PlannedReport). label_of p.labels) is)) right.exact;
-      shows = subst (λ (x : Option (List Update)). Shows (client_of t.view) a.goal x) (sym (own.claim_is ∙ ap claim_in is ∙ claimed t (c.batches + 1) a)) (shown t right.reach a.goal a.plan right.plan);
+      exact = subst (λ (l : Labels). IsExact (client_of (view_of t)) l) (sym (own.labels_are ∙ ap (λ (p : PlannedReport). label_of p.labels) is)) right.exact;
+      shows = subst (λ (x : Option (List Update)). Shows (client_of (view_of t)) a.goal x) (sym (own.claim_is ∙ ap claim_in is ∙ claimed t (c.batches + 1) a)) (shown t right.reach a.goal a.plan right.plan);
     })

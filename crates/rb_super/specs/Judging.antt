@@ -6,7 +6,7 @@ use Rattle.rb_cert.specs.declared.verdict.Judgement.{Judgement}
 use Rattle.rb_cert.specs.Judgement.{Judges}
 use Rattle.rb_plan_client.specs.Reach.{IsReach}
 use Rattle.rb_core_model.specs.Standing.{ClientState, Standing, opening_standing, task_in}
-use Rattle.rb_plan_client.specs.Task.{Task, goal_of}
+use Rattle.rb_plan_client.specs.Task.{Task, view_of, goal_of}
 use Rattle.rb_script_types.specs.declared.goal.Goal.{Goal}
 use Rattle.rb_plan.specs.Answer.{Shows}
 use Rattle.rb_plan.specs.Labelling.{Labels, IsSound, IsExact, label_of}
@@ -41,7 +41,7 @@ pub record IsClientIn (s : Standing) (client : ℕ) (known : ClientState) (task 
 -- what a client is to be brought to, by the greatest height that it can be brought to
 pub record IsWanted (task : Task) (goal : Option Goal) : Type 0 where
   pub reach : Option ℕ
-  pub is_reach : IsReach (client_of task.view) reach
+  pub is_reach : IsReach (client_of (view_of task)) reach
   pub is_goal : goal ≡ goal_of task reach
 
 -- the goal that it is planned for: none while a batch of its is open
@@ -63,7 +63,7 @@ pub record IsVerdictIn (s : Standing) (client : ℕ) (labels : Labels) (claim : 
   pub is : IsClientIn s client known task
   pub goal : Option Goal
   pub is_planned : IsPlannedGoal known task goal
-  pub judged : IsVerdictFor task.view goal labels claim verdict
+  pub judged : IsVerdictFor (view_of task) goal labels claim verdict
 
 -- the labelling is sound, and the claim true for the goal that the client is planned for as things stand
 pub record IsRightAs (s : Standing) (client : ℕ) (labels : Labels) (claim : Option (List Update)) : Type 0 where
@@ -72,8 +72,8 @@ pub record IsRightAs (s : Standing) (client : ℕ) (labels : Labels) (claim : Op
   pub is : IsClientIn s client known task
   pub goal : Goal
   pub is_planned : IsPlannedGoal known task (Some goal)
-  pub sound : IsSound (client_of task.view) labels
-  pub shows : Shows (client_of task.view) goal claim
+  pub sound : IsSound (client_of (view_of task)) labels
+  pub shows : Shows (client_of (view_of task)) goal claim
 
 -- the same of an exact labelling
 pub record IsExactAs (s : Standing) (client : ℕ) (labels : Labels) (claim : Option (List Update)) : Type 0 where
@@ -82,8 +82,8 @@ pub record IsExactAs (s : Standing) (client : ℕ) (labels : Labels) (claim : Op
   pub is : IsClientIn s client known task
   pub goal : Goal
   pub is_planned : IsPlannedGoal known task (Some goal)
-  pub exact : IsExact (client_of task.view) labels
-  pub shows : Shows (client_of task.view) goal claim
+  pub exact : IsExact (client_of (view_of task)) labels
+  pub shows : Shows (client_of (view_of task)) goal claim
 
 -- the verdict on an answer for a script's client in a turn
 pub record IsVerdictOn (script : Script) (turn client : ℕ) (labels : Labels) (claim : Option (List Update)) (verdict : Option Judgement) : Type 0 where

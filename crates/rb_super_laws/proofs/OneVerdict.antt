@@ -15,7 +15,7 @@ use Rattle.rb_plan.specs.Laws.{AnswersAreOne}
 use Rattle.rb_step.specs.LightClient.{Update, Client}
 use Rattle.rb_step.specs.View.{View, client_of}
 use Rattle.rb_core_model.specs.Standing.{ClientState, Standing, opening_standing}
-use Rattle.rb_plan_client.specs.Task.{Task}
+use Rattle.rb_plan_client.specs.Task.{Task, view_of}
 use Rattle.rb_super.specs.Judging.{Leads, IsPlanPhase, IsPlannedGoal, IsVerdictFor, IsVerdictIn}
 use Rattle.rb_super_laws.specs.Laws.{VerdictIsOne}
 use Rattle.rb_super_turn.specs.Report.{TurnReport}
@@ -118,5 +118,5 @@ module _ (one : AnswersAreOne) (cuts : LeastCutIsOne) where
       let tasks : x.task ≡ y.task = one_task b.standing client x.known y.known x.task y.task x.is y.is in
       let mine : IsPlannedGoal y.known y.task x.goal = subst (λ (p : ClientState × Task). IsPlannedGoal p.0 p.1 x.goal) (λ i. (knowns i, tasks i)) x.is_planned in
       let goals : x.goal ≡ y.goal = one_goal y.known y.task x.goal y.goal mine y.is_planned in
-      one_for_goal y.task.view y.goal labels claim v w
-      (subst (λ (p : Task × Option Goal). IsVerdictFor p.0.view p.1 labels claim v) (λ i. (tasks i, goals i)) x.judged) y.judged
+      one_for_goal (view_of y.task) y.goal labels claim v w
+      (subst (λ (p : Task × Option Goal). IsVerdictFor (view_of p.0) p.1 labels claim v) (λ i. (tasks i, goals i)) x.judged) y.judged

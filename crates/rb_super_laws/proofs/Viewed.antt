@@ -10,7 +10,7 @@ use Rattle.rb_script_types.specs.declared.script.Asked.{Asked as Question}
 use Rattle.rb_script_types.specs.declared.script.Settlement.{Settlement}
 use Rattle.rb_step.specs.Laws.{ViewsAreOrderly}
 use Rattle.rb_step.specs.View.{IsView}
-use Rattle.rb_plan_client.specs.Task.{Task}
+use Rattle.rb_plan_client.specs.Task.{Task, view_of}
 use Rattle.rb_core_model.specs.Config.{IsSetUp}
 use Rattle.rb_core_model.specs.Event.{Event, IsEvent, Window, Asked, SetSeen, HeaderSeen, StoredSeen, Sent, Received, AckWritten, Cleared, Closed, Scanned, Planned, Settled}
 use Rattle.rb_core_model.specs.Machine.{State, no_scans, opening, is_known, refusal_of}
@@ -158,4 +158,4 @@ module _ (finds : FindsWhatWasAdded) (stays : StaysABook) (orderly : ViewsAreOrd
       let this = all_at (IsTurn script.config) script.turns turn phase.this turns phase.is in
       let fit = subst (IsFit script.config) (sym phase.taken_in) (before_fit script.config phase.begun phase.this this begun) in
       let its = all_at (IsSoundClient s.books) s.clients client known fit.sound.clients there.is_known in
-      subst (λ (t : Task). IsView t.view) (sym there.is_task) (client_view_sound s there.window known fit.sound there.is_window its)
+      subst (λ (t : Task). IsView (view_of t)) (sym there.is_task) (client_view_sound s there.window known fit.sound there.is_window its)

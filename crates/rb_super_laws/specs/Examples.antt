@@ -8,11 +8,11 @@ use Rattle.rb_step.specs.LightClient.{Client}
 use Rattle.rb_step.specs.View.{client_of}
 use Rattle.rb_plan_client.specs.Draft.{Job, IsIdle}
 use Rattle.rb_core_model.specs.Event.{Sent}
-use Rattle.rb_core_model.specs.Examples.{a_config, a_client, no_fees}
+use Rattle.rb_core_model.specs.Examples.{a_config, a_client}
 use Rattle.rb_core_model.specs.Machine.{client_view}
 use Rattle.rb_plan_client.specs.Reach.{IsReachable}
 use Rattle.rb_core_model.specs.Standing.{empty_book}
-use Rattle.rb_plan_client.specs.Task.{Task, goal_of}
+use Rattle.rb_plan_client.specs.Task.{Task, view_of, goal_of}
 use Rattle.rb_super_turn.specs.Report.{idle, ClientReport, TurnReport}
 use Rattle.rb_super_laws.specs.Schedule.{RightDraft, Step, acts, publishes, tells, learns, scans, plans, world_after}
 use Rattle.rb_super_turn.specs.Script.{Turn, Script}
@@ -32,16 +32,16 @@ unreachable : (client : Client) (h : ℕ) → client.stored ≡ [] → IsReachab
 unreachable client h e ([], accepted, left) = none_stored client.stored h e left.0
 unreachable client h e (u ∷ us, accepted, left) = none_stored client.stored u.trusted e accepted.0
 
-pub idle_without_records : (t : Task) → t.view.stored ≡ [] → goal_of t None ≡ None → IsIdle t
+pub idle_without_records : (t : Task) → t.stored ≡ [] → goal_of t None ≡ None → IsIdle t
 unfolding client_of
-idle_without_records t stored goal = record { reach = None; is_reach = record { reached = tt; greatest = λ h r. absurd (unreachable (client_of t.view) h stored r) }; goal = goal }
+idle_without_records t stored goal = record { reach = None; is_reach = record { reached = tt; greatest = λ h r. absurd (unreachable (client_of (view_of t)) h stored r) }; goal = goal }
 
 abbrev pub no_task : Task
 no_task = record {
-  view = record { options = (a_client [] 0 0).options; fees = no_fees; stored = []; window = record { from = 0; until = 0 }; book = empty_book 1 };
-  gas = no_fees;
-  limits = (a_client [] 0 0).limits;
-  refresh = 0;
+  config = a_client [] 0 0;
+  stored = [];
+  window = record { from = 0; until = 0 };
+  book = empty_book 1;
   paths = [];
   asked = None;
 }
@@ -51,7 +51,7 @@ abbrev pub job_after : List Step → ℕ → Job
 job_after steps client =
     unwrap_or (client_view (world_after a_script steps).core client) (record { client = client; task = no_task; plan = 0; held = false })
 
-abbrev pub idle_draft : (j : Job) → j.task.view.stored ≡ [] → goal_of j.task None ≡ None → RightDraft
+abbrev pub idle_draft : (j : Job) → j.task.stored ≡ [] → goal_of j.task None ≡ None → RightDraft
 idle_draft j stored goal = record { draft = record { job = j; answer = None }; right = idle_without_records j.task stored goal }
 
 abbrev pub act : Step

@@ -6,7 +6,7 @@ use Rattle.rb_core_model.specs.Standing.{ClientState, Standing}
 use Rattle.rb_step.specs.LightClient.{Update}
 use Rattle.rb_step.specs.View.{IsView}
 use Rattle.rb_super.specs.Judging.{IsVerdictOn, IsPlanPhase, IsClientIn}
-use Rattle.rb_plan_client.specs.Task.{Task}
+use Rattle.rb_plan_client.specs.Task.{Task, view_of}
 use Rattle.rb_super_turn.specs.Report.{Report}
 use Rattle.rb_super_turn.specs.Script.{Script, IsScript}
 use Rattle.rb_super_turn.specs.Turns.{IsReportOf}
@@ -25,4 +25,4 @@ VerdictIsOne =
 abbrev pub PlannedViewsAreViews : Type 0
 PlannedViewsAreViews =
     (script : Script) → IsScript script → (turn client : ℕ) (s : Standing) (known : ClientState) (task : Task)
-    → IsPlanPhase script turn s → IsClientIn s client known task → IsView task.view
+    → IsPlanPhase script turn s → IsClientIn s client known task → IsView (view_of task)

@@ -23,12 +23,12 @@ use Rattle.rb_super_turn.proofs.Steps.{sizes_in}
 -- ---- the book of a view
 
 pub book_seen : (core : Core) (client : ℕ) (c : ClientConfig) (job : Job) → client < length core.config.clients → c ≡ get_or core.config.clients client c
-    → client_view (state_in core) client ≡ Some job → job.task.view.book ≡ book_at (standing_in core).books c.tracks
+    → client_view (state_in core) client ≡ Some job → job.task.book ≡ book_at (standing_in core).books c.tracks
 book_seen core client c job lt at view =
     let s = state_in core in
     let w = chained (λ window. option_map (job_of s client window) (slice_get s.standing.clients client)) s.standing.window job view in
     let k = mapped (job_of s client w.0) (slice_get s.standing.clients client) job w.2 in
-    ap (λ (j : Job). j.task.view.book) (sym k.2) ∙ ap (λ (x : ClientConfig). book_at s.standing.books x.tracks) (known_config core client c lt at k.0 k.1)
+    ap (λ (j : Job). j.task.book) (sym k.2) ∙ ap (λ (x : ClientConfig). book_at s.standing.books x.tracks) (known_config core client c lt at k.0 k.1)
 
 -- ---- what is seen to be owed
 

@@ -14,7 +14,7 @@ use Rattle.rb_script_types.specs.declared.config.ClientConfig.{ClientConfig}
 use Rattle.rb_script_types.specs.declared.refusal.Refusal.TheVariants.{UnknownObject}
 use Rattle.rb_plan.specs.Order.{cost_of}
 use Rattle.rb_step.specs.View.{client_of}
-use Rattle.rb_plan_client.specs.Task.{Task}
+use Rattle.rb_plan_client.specs.Task.{Task, view_of}
 use Rattle.rb_core_model.proofs.Options.{mapped, chained, passes, some_from}
 use Rattle.rb_core_model.proofs.Steps.{present_drafts, of_the_moment}
 use Rattle.rb_super_turn.specs.Report.{Outcome, held, idle, planned}
@@ -61,7 +61,7 @@ numbered_as t number a = ap (λ plan. record { goal = a.goal; labels = a.labels;
     go : (o : Option Plan) → option_map (reported_plan t (number_of (reply_for (option_and_then (λ (p : Plan). batch_of_sending number p p.sending) o)))) o ≡ option_map (reported_plan t number) o
     go None = refl
     go (Some p) =
-        ap (λ x. Some (record { updates = map (priced t) p.updates; total = cost_of (client_of t.view) p.updates; messages = p.messages; sending = x }))
+        ap (λ x. Some (record { updates = map (priced t) p.updates; total = cost_of (client_of (view_of t)) p.updates; messages = p.messages; sending = x }))
         (sent_as number p p.sending)
 
 pub outcome_is : (s : State) (c : ClientState) (d : Draft) (reply : Reply) → slice_get s.standing.clients d.job.client ≡ Some c → reply ≡ reply_of s (Planned d)

@@ -5,7 +5,7 @@ use Rattle.std.proofs.lemmas.List.{length-map}
 use Rattle.std.proofs.lemmas.List.Elements.{All-head, All-tail}
 use Rattle.std.proofs.lemmas.List.Sums.{sum_by-cons}
 use Rattle.rb_plan_client.specs.Draft.{Plan as SentPlan, Planned as Answer, Draft, IsPlan, IsPlanned, IsAnswer, IsDraft}
-use Rattle.rb_plan_client.specs.Task.{Task, Message, messages_of}
+use Rattle.rb_plan_client.specs.Task.{Task, Message, view_of, messages_of}
 use Rattle.rb_plan.specs.declared.cost.Cost.{Cost}
 use Rattle.rb_script_types.specs.declared.goal.Goal.{Goal}
 use Rattle.rb_plan.specs.declared.labelling.Label.{Label}
@@ -25,18 +25,18 @@ fees_told [] = refl
 fees_told (p ∷ ps) =
     sum_by-cons (λ (u : PricedUpdate). u.fee) (priced_view p) (map priced_view ps) ∙ ap (λ n. p.fee + n) (fees_told ps) ∙ sym (sum_by-cons (λ (u : CodePriced). u.fee) p ps)
 
-fees_priced : (t : Task) (us : List Update) → sum_by (λ (u : PricedUpdate). u.fee) (map (priced t) us) ≡ total_fee (client_of t.view) us
+fees_priced : (t : Task) (us : List Update) → sum_by (λ (u : PricedUpdate). u.fee) (map (priced t) us) ≡ total_fee (client_of (view_of t)) us
 fees_priced t [] = refl
 fees_priced t (u ∷ us) =
     sum_by-cons (λ (v : PricedUpdate). v.fee) (priced t u) (map (priced t) us)
-    ∙ ap (λ n. (client_of t.view).fee u.trusted u.height + n) (fees_priced t us)
-    ∙ sym (sum_by-cons (λ (v : Update). (client_of t.view).fee v.trusted v.height) u us)
+    ∙ ap (λ n. (client_of (view_of t)).fee u.trusted u.height + n) (fees_priced t us)
+    ∙ sym (sum_by-cons (λ (v : Update). (client_of (view_of t)).fee v.trusted v.height) u us)
 
-fees_in_all : (t : Task) (us : List Update) (ps : List CodePriced) → map priced_view ps ≡ map (priced t) us → sum_by (λ (u : CodePriced). u.fee) ps ≡ total_fee (client_of t.view) us
+fees_in_all : (t : Task) (us : List Update) (ps : List CodePriced) → map priced_view ps ≡ map (priced t) us → sum_by (λ (u : CodePriced). u.fee) ps ≡ total_fee (client_of (view_of t)) us
 fees_in_all t us ps e = sym (fees_told ps) ∙ ap (sum_by (λ (u : PricedUpdate). u.fee)) e ∙ fees_priced t us
 
 -- the sum of the fees fits
-pub fees_fit : (t : Task) (us : List Update) (ps : List CodePriced) → map priced_view ps ≡ map (priced t) us → total_fee (client_of t.view) us < 2 ^ 63 → sum_by (λ (u : CodePriced). u.fee) ps < 2 ^ 64
+pub fees_fit : (t : Task) (us : List Update) (ps : List CodePriced) → map priced_view ps ≡ map (priced t) us → total_fee (client_of (view_of t)) us < 2 ^ 63 → sum_by (λ (u : CodePriced). u.fee) ps < 2 ^ 64
 fees_fit t us ps e small = let same = fees_in_all t us ps e in omega arith
 
 abbrev pub told_plan : List CodePriced → Cost → List Message → SendingReport → PlanReport
@@ -49,7 +49,7 @@ pub plan_told : (t : Task) (number : ℕ) (p : SentPlan) (ps : List CodePriced) 
 plan_told t number p ps total messages sending updates fee count same_messages same_sending =
     let us = p.updates in
     let long : length ps ≡ length us = sym (length-map ps priced_view) ∙ ap length updates ∙ length-map us (priced t) in
-    let whole : total ≡ cost_of (client_of t.view) us = same_cost total (cost_of (client_of t.view) us) (fee ∙ fees_in_all t us ps updates) (count ∙ long) in
+    let whole : total ≡ cost_of (client_of (view_of t)) us = same_cost total (cost_of (client_of (view_of t)) us) (fee ∙ fees_in_all t us ps updates) (count ∙ long) in
     λ i. record { updates = updates i; total = whole i; messages = same_messages i; sending = same_sending i }
 
 -- ---- the least list costs what a label says
@@ -88,12 +88,12 @@ total_is_small client labels goal us labelling exact least =
     omega (arith, no_less, bound)
 
 -- a plan that is right costs little enough
-pub plan_is_small : (t : Task) (a : Answer) → IsPlanned t a → IfSome a.plan (λ (p : SentPlan). total_fee (client_of t.view) p.updates < 2 ^ 63)
+pub plan_is_small : (t : Task) (a : Answer) → IsPlanned t a → IfSome a.plan (λ (p : SentPlan). total_fee (client_of (view_of t)) p.updates < 2 ^ 63)
 plan_is_small t a is = go a.plan is.plan
   where
-    go : (o : Option SentPlan) → MatchOption o (IsUnreachable (client_of t.view) a.goal) (IsPlan t a.goal (messages_of t is.reach)) → IfSome o (λ (p : SentPlan). total_fee (client_of t.view) p.updates < 2 ^ 63)
+    go : (o : Option SentPlan) → MatchOption o (IsUnreachable (client_of (view_of t)) a.goal) (IsPlan t a.goal (messages_of t is.reach)) → IfSome o (λ (p : SentPlan). total_fee (client_of (view_of t)) p.updates < 2 ^ 63)
     go None right = tt
-    go (Some p) right = total_is_small (client_of t.view) a.labels a.goal p.updates is.labels is.exact right.least
+    go (Some p) right = total_is_small (client_of (view_of t)) a.labels a.goal p.updates is.labels is.exact right.least
 
 -- the answer of a draft is right for its job
 pub answer_right : (d : Draft) (a : Answer) (t : Task) → IsDraft d → Some a ≡ d.answer → t ≡ d.job.task → IsPlanned t a

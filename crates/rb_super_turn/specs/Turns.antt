@@ -9,7 +9,7 @@ use Rattle.rb_step.specs.View.{client_of}
 use Rattle.rb_plan_client.specs.Draft.{Plan as SentPlan, Planned as Answer, Sending as SentAs, nothing as sent_nothing, too_big as sent_too_big, batched as sent_batched, Draft, IsIdle, IsPlanned}
 use Rattle.rb_core_model.specs.Event.{Event, Window, Asked, Settled}
 use Rattle.rb_core_model.specs.Standing.{OpenBatch, ClientState, Standing, opening_standing, task_in, with_batch, goes_back, judged, standing_after}
-use Rattle.rb_plan_client.specs.Task.{Task}
+use Rattle.rb_plan_client.specs.Task.{Task, view_of}
 use Rattle.rb_super_turn.specs.Report.{RefusedEvent, PricedUpdate, SendingReport, nothing, too_big, batched, PlanReport, PlannedReport, Outcome, held, idle, planned, ClientReport, SettlementReport, TurnReport, Report}
 use Rattle.rb_script_types.specs.declared.refusal.Refusal.{Refusal}
 use Rattle.rb_script_types.specs.declared.script.Asked.{Asked as Question}
@@ -53,7 +53,7 @@ refusals_in s turn = refusals 0 (before_events s turn) turn.events
 
 -- what is reported of an answer: each update with its fee, the total, and the batch by its number
 abbrev pub priced : Task → Update → PricedUpdate
-priced t u = record { update = u; fee = (client_of t.view).fee u.trusted u.height }
+priced t u = record { update = u; fee = (client_of (view_of t)).fee u.trusted u.height }
 
 abbrev pub numbered : ℕ → SentAs → SendingReport
 numbered number sent_nothing = nothing
@@ -63,7 +63,7 @@ numbered number (sent_batched b) = batched (record { number = number; proof = b.
 abbrev pub reported_plan : Task → ℕ → SentPlan → PlanReport
 reported_plan t number p = record {
   updates = map (priced t) p.updates;
-  total = cost_of (client_of t.view) p.updates;
+  total = cost_of (client_of (view_of t)) p.updates;
   messages = p.messages;
   sending = numbered number p.sending;
 }

@@ -6,6 +6,7 @@ ghost use Rattle.rb_core_model.specs.Replied.{reply_view};
 ghost use Rattle.rb_plan_client.specs.Sent.{sending_view as sent_view};
 ghost use Rattle.rb_step.specs.LightClient.{total_fee};
 ghost use Rattle.rb_step.specs.View.{client_of};
+ghost use Rattle.rb_plan_client.specs.Task.{view_of};
 ghost use Rattle.rb_super_turn.specs.Turns.{priced, numbered, reported_plan, reported, outcome_numbered};
 ghost use Rattle.rb_super_turn.specs.Views.{priced_view, sending_view, plan_view, planned_view, outcome_view, number_of};
 
@@ -73,7 +74,7 @@ fn plan_of<A: Allocator + Copy>(
     plan: &rb_plan_client::Plan<A>,
     number: u64,
 ) -> Result<PlanReport<A>, AllocError>
-    requires { total_fee (client_of job.now.task.view) plan.now.updates < 2 ^ 63 }
+    requires { total_fee (client_of (view_of job.now.task)) plan.now.updates < 2 ^ 63 }
     ensures { IfOk result (λ p. plan_view p ≡ reported_plan job.now.task number plan.now) }
 {
     let updates = plan.updates();
@@ -96,7 +97,7 @@ fn plan_if<A: Allocator + Copy>(
     plan: Option<&rb_plan_client::Plan<A>>,
     number: u64,
 ) -> Result<Option<PlanReport<A>>, AllocError>
-    requires { IfSome (option_copied plan) (λ p. total_fee (client_of job.now.task.view) p.updates < 2 ^ 63) }
+    requires { IfSome (option_copied plan) (λ p. total_fee (client_of (view_of job.now.task)) p.updates < 2 ^ 63) }
     ensures { IfOk result (λ p. option_map plan_view p ≡ option_map (reported_plan job.now.task number) (option_copied plan.entry)) }
 {
     match plan {

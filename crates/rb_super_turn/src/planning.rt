@@ -57,7 +57,7 @@ pub fn table_for<
 ) -> Result<SharedGraph<A>, AllocError>
     requires client { client < length relayer.old.config.clients }
     requires alloc { Frees A.Allocator A.dealloc_token }
-    ensures table { (job : Job) → client_view (state_in relayer.old) client ≡ Some job → IfOk result (λ table. table ≡ job.task.view.book) }
+    ensures table { (job : Job) → client_view (state_in relayer.old) client ≡ Some job → IfOk result (λ table. table ≡ job.task.book) }
     ensures same { relayer.new ≡ relayer.old }
 {
     let chain = config_of(relayer, client).tracks;

@@ -95,7 +95,7 @@ const ORDER: &[Row] = &[
         "owes | Receive 2 6 | Receive 3 7",
     ),
     (Deed::Last, "Noted"),
-    (Deed::Kept(1), "802 Stale"),
+    (Deed::Made(1), "802 Stale"),
     // the path is UNORDERED
     (Deed::Received(0, 3, 6), "Noted"),
     // closed paths and settlements
@@ -148,47 +148,47 @@ const RECEIVES: &[Row] = &[
     (Deed::Last, "Noted"),
     // another window, and another header
     (Deed::Window(200, 201), "Noted"),
-    (Deed::Kept(3), "802 Stale"),
+    (Deed::Made(3), "802 Stale"),
     (Deed::Draft(0), FIRST_PLAN),
     (Deed::Header(0, 9, 90, 0xa1, THREE), "Noted"),
-    (Deed::Kept(5), "802 Stale"),
+    (Deed::Made(5), "802 Stale"),
     (Deed::Draft(0), FIRST_PLAN),
     // a copy takes the plan in, and makes the next two
     (Deed::Copy, ""),
     (Deed::Swap, ""),
-    (Deed::Kept(6), "Opened(1)"),
+    (Deed::Made(6), "Opened(1)"),
     (Deed::Draft(0), FIRST_PLAN),
     (Deed::Settled(0, 1, 0), "Noted"),
     (Deed::Draft(0), FIRST_PLAN),
-    (Deed::Kept(8), "Opened(2)"),
+    (Deed::Made(8), "Opened(2)"),
     (Deed::Draft(0), FIRST_PLAN),
     (Deed::Swap, ""),
     // they come early
-    (Deed::Kept(7), "805 OutOfOrder"),
-    (Deed::Kept(9), "805 OutOfOrder"),
+    (Deed::Made(7), "805 OutOfOrder"),
+    (Deed::Made(9), "805 OutOfOrder"),
     // what comes again changes no view
     (Deed::Window(200, 201), "Noted"),
     (Deed::Header(0, 10, 100, 0xa1, THREE), "Noted"),
-    (Deed::Kept(6), "Opened(1)"),
+    (Deed::Made(6), "Opened(1)"),
     // again, and late; early; and while a batch is open
-    (Deed::Kept(6), "804 Repeat"),
-    (Deed::Kept(3), "804 Repeat"),
-    (Deed::Kept(9), "805 OutOfOrder"),
-    (Deed::Kept(7), "803 Busy"),
+    (Deed::Made(6), "804 Repeat"),
+    (Deed::Made(3), "804 Repeat"),
+    (Deed::Made(9), "805 OutOfOrder"),
+    (Deed::Made(7), "803 Busy"),
     // a path has changed since it was scanned
     (Deed::Sent(1, 6, 9, 0), "Noted"),
-    (Deed::Kept(6), "804 Repeat"),
-    (Deed::Kept(9), "805 OutOfOrder"),
-    (Deed::Kept(7), "803 Busy"),
+    (Deed::Made(6), "804 Repeat"),
+    (Deed::Made(9), "805 OutOfOrder"),
+    (Deed::Made(7), "803 Busy"),
     // the update and two receives are taken
     (Deed::Settled(0, 0, 0), "805 OutOfOrder"),
     (Deed::Settled(0, 2, 1), "805 OutOfOrder"),
     (Deed::Settled(0, 1, 4), "805 OutOfOrder"),
     (Deed::Settled(0, 1, 2), "Noted"),
     (Deed::Settled(0, 1, 4), "804 Repeat"),
-    (Deed::Kept(6), "804 Repeat"),
-    (Deed::Kept(9), "805 OutOfOrder"),
-    (Deed::Kept(7), "807 NotOwed"),
+    (Deed::Made(6), "804 Repeat"),
+    (Deed::Made(9), "805 OutOfOrder"),
+    (Deed::Made(7), "807 NotOwed"),
     (Deed::Scan(0, Part::Packets), "owes"),
     (Deed::Last, "Noted"),
     (Deed::Scan(0, Part::Channel), "owes"),
@@ -197,7 +197,7 @@ const RECEIVES: &[Row] = &[
     (Deed::Last, "Noted"),
     (Deed::Scan(1, Part::Channel), "owes"),
     (Deed::Last, "Noted"),
-    (Deed::Kept(7), "802 Stale"),
+    (Deed::Made(7), "802 Stale"),
     (Deed::Draft(0), SECOND_PLAN),
     (Deed::Last, "Opened(2)"),
     (Deed::Settled(0, 1, 0), "804 Repeat"),
@@ -298,7 +298,7 @@ fn keeps_what_was_settled(rt: HostRuntime) -> Result<(), Fail> {
     run.go(&rt, alloc, OUTCOMES)
 }
 
-/// A chain of which 1,024 sets were seen.
+/// A chain of which 1,024 sets were observed.
 const MORE_SETS: &[Row] = &[
     (Deed::Set(0, 0xa1), "406 Full"),
     (Deed::LoneSet(0, 1024), "406 Full"),
@@ -311,8 +311,8 @@ fn refuses_more_sets(rt: HostRuntime) -> Result<(), Fail> {
     let alloc = rt.alloc();
     let mut run = Run::new(alloc, start(alloc, 12, &[]).ok_or("start")?);
     for number in 0..1024 {
-        let told = run.act(&rt, alloc, Deed::LoneSet(0, number)).ok_or("set")?;
-        assert_same(&rt, &number, &told.as_str(), &"Noted");
+        let text = run.act(&rt, alloc, Deed::LoneSet(0, number)).ok_or("set")?;
+        assert_same(&rt, &number, &text.as_str(), &"Noted");
     }
     run.go(&rt, alloc, MORE_SETS)
 }
@@ -329,15 +329,15 @@ fn refuses_more_packets(rt: HostRuntime) -> Result<(), Fail> {
     let alloc = rt.alloc();
     let mut run = Run::new(alloc, start(alloc, 12, &[]).ok_or("start")?);
     for sequence in 1..4097 {
-        let told = run
+        let text = run
             .act(&rt, alloc, Deed::Sent(0, sequence, 5, 0))
             .ok_or("sent")?;
-        assert_same(&rt, &sequence, &told.as_str(), &"Noted");
+        assert_same(&rt, &sequence, &text.as_str(), &"Noted");
     }
     run.go(&rt, alloc, FULL)
 }
 
-/// What is known before a log is full: what would be taken in, and what would be refused.
+/// The events before a log is full: some would be taken in again, and some refused.
 const NEARLY_FULL: &[Row] = &[
     (Deed::Window(50, 60), "Noted"),
     (Deed::Set(0, 0xa1), "Noted"),
@@ -383,9 +383,9 @@ const LOG_FULL: &[Row] = &[
     (Deed::Last, "808 LogFull"),
     (Deed::LastOn(1), "808 LogFull"),
     (Deed::LastOn(2), "801 UnknownObject"),
-    (Deed::Kept(1), "808 LogFull"),
-    (Deed::Kept(2), "808 LogFull"),
-    (Deed::Kept(0), "801 UnknownObject"),
+    (Deed::Made(1), "808 LogFull"),
+    (Deed::Made(2), "808 LogFull"),
+    (Deed::Made(0), "801 UnknownObject"),
     (Deed::Settled(0, 1, 0), "808 LogFull"),
     (Deed::Settled(2, 1, 0), "801 UnknownObject"),
 ];

@@ -40,12 +40,12 @@ pub enum Deed {
     Closed(usize),
     /// The client's batch, by its number, and how many of its transactions were taken.
     Settled(usize, u64, u64),
-    /// Scans a part of a path, or plans for a client, and keeps what comes out.
+    /// Scans a part of a path, or plans for a client, without entering it.
     Scan(usize, Part),
     Draft(usize),
-    /// Enters what was kept last, or at a place; or the last scan as one of another path.
+    /// Enters the last scan or plan, or the one at a place; or the last scan as one of another path.
     Last,
-    Kept(usize),
+    Made(usize),
     LastOn(usize),
     /// Puts a copy of the machine aside, or goes on with the one that is there.
     Copy,
@@ -55,16 +55,16 @@ pub enum Deed {
 /// What is done, and what comes out.
 pub type Row = (Deed, &'static str);
 
-/// A machine, what was made out by it, and another machine.
+/// A machine, the scans and plans that were made by it, and another machine.
 #[derive(Drop)]
 pub struct Run {
     alloc: Global,
     pub core: Core,
-    kept: Vec<Event>,
+    made: Vec<Event>,
     aside: Option<Core>,
 }
 
-/// A machine that knows nothing, whose books have so many records at most, and which has so many more
+/// A machine before its first event, whose books have so many records at most, and which has so many more
 /// clients.
 pub fn start(alloc: Global, limit: usize, more: &[&'static str]) -> Option<Core> {
     let config = make_config(alloc, limit, more)?;
@@ -74,8 +74,8 @@ pub fn start(alloc: Global, limit: usize, more: &[&'static str]) -> Option<Core>
     Core::new(alloc, config).ok()
 }
 
-/// What was seen of a chain or a client.
-fn chain_seen(alloc: Global, deed: Deed) -> Option<Observation> {
+/// An observation of a chain or a client.
+fn chain_observation(alloc: Global, deed: Deed) -> Option<Observation> {
     match deed {
         Deed::Set(chain, first) => Some(Observation::SetSeen {
             chain,
@@ -98,8 +98,8 @@ fn chain_seen(alloc: Global, deed: Deed) -> Option<Observation> {
     }
 }
 
-/// What was seen of a path.
-fn path_seen(deed: Deed) -> Option<Observation> {
+/// An observation of a path.
+fn path_observation(deed: Deed) -> Option<Observation> {
     match deed {
         Deed::Sent(path, number, block, timeout) => Some(Observation::Sent {
             path,
@@ -127,7 +127,7 @@ fn path_seen(deed: Deed) -> Option<Observation> {
     }
 }
 
-/// What was seen of a chain, a client or a path, asked or settled.
+/// An observation, a question or a settlement.
 fn event_of(alloc: Global, deed: Deed) -> Option<Event> {
     match deed {
         Deed::Window(from, until) => Some(Event::Window(Window::new(
@@ -144,9 +144,9 @@ fn event_of(alloc: Global, deed: Deed) -> Option<Event> {
             done,
         })),
         Deed::Set(..) | Deed::LoneSet(..) | Deed::Header(..) | Deed::Stored(..) => {
-            Some(Event::Observed(chain_seen(alloc, deed)?))
+            Some(Event::Observed(chain_observation(alloc, deed)?))
         }
-        _ => Some(Event::Observed(path_seen(deed)?)),
+        _ => Some(Event::Observed(path_observation(deed)?)),
     }
 }
 
@@ -177,8 +177,8 @@ fn learn(core: &mut Core, event: Event) -> Option<()> {
 fn offer(rt: &impl Abort, core: &mut Core, event: Event) -> Option<Result<Reply, Refusal>> {
     let front = core.front();
     let answer = answered(enter(core, event))?;
-    if let Err(Refusal::Stale { front: told }) = answer {
-        assert!(rt; told == front);
+    if let Err(Refusal::Stale { front: named }) = answer {
+        assert!(rt; named == front);
     }
     Some(answer)
 }
@@ -192,7 +192,7 @@ fn table_of(alloc: Global, book: &ChainBook) -> Result<Graph, AllocError>
     Ok(graph)
 }
 
-/// What is planned for a client as it is seen.
+/// What is planned for a job.
 fn draft_of(alloc: Global, job: JobView) -> Result<Draft, AllocError> {
     let graph = table_of(alloc, job.view().book())?;
     let draft = draft(job, &graph)?;
@@ -205,7 +205,7 @@ impl Run {
         Run {
             alloc,
             core,
-            kept: Vec::new(alloc),
+            made: Vec::new(alloc),
             aside: None,
         }
     }
@@ -217,7 +217,7 @@ impl Run {
         };
         let scan = scan(view, part).ok()?;
         let text = scan_text(texts, &scan).ok()?;
-        self.kept.push(Event::Scanned { path, scan }).ok()?;
+        self.made.push(Event::Scanned { path, scan }).ok()?;
         Some(text)
     }
 
@@ -228,12 +228,12 @@ impl Run {
         };
         let draft = draft_of(self.alloc, job).ok()?;
         let text = answer_text(texts, draft.answer()).ok()?;
-        self.kept.push(Event::Planned(draft)).ok()?;
+        self.made.push(Event::Planned(draft)).ok()?;
         Some(text)
     }
 
     fn last_on(&self, path: usize) -> Option<Event> {
-        match self.kept.last()?.copy().ok()? {
+        match self.made.last()?.copy().ok()? {
             Event::Scanned { scan, .. } => Some(Event::Scanned { path, scan }),
             _ => None,
         }
@@ -241,8 +241,8 @@ impl Run {
 
     fn event(&self, deed: Deed) -> Option<Event> {
         match deed {
-            Deed::Last => self.kept.last()?.copy().ok(),
-            Deed::Kept(place) => self.kept.get(place)?.copy().ok(),
+            Deed::Last => self.made.last()?.copy().ok(),
+            Deed::Made(place) => self.made.get(place)?.copy().ok(),
             Deed::LastOn(path) => self.last_on(path),
             _ => event_of(self.alloc, deed),
         }
@@ -294,8 +294,8 @@ impl Run {
     /// Does all this, from which what is beside it comes out.
     pub fn go(&mut self, rt: &impl Abort, texts: Global, rows: &[Row]) -> Result<(), Fail> {
         for (deed, wanted) in rows {
-            let told = self.act(rt, texts, *deed).ok_or("no answer")?;
-            assert_same(rt, deed, &told.as_str(), wanted);
+            let text = self.act(rt, texts, *deed).ok_or("no answer")?;
+            assert_same(rt, deed, &text.as_str(), wanted);
         }
         Ok(())
     }

@@ -2,7 +2,7 @@ use Rattle.std.proofs.Common.{List, map, subst, ap, ◌∙◌}
 use Rattle.rb_plan.specs.Labelling.{IsExact, label_of}
 use Rattle.rb_scan.specs.Owed.{wanted}
 use Rattle.rb_step.specs.View.{View, client_of}
-use Rattle.rb_plan_client.specs.Task.{Message, first_goal}
+use Rattle.rb_plan_client.specs.Task.{Message, view_of, first_goal}
 use Rattle.rb_plan_client.proofs.RightAnswers.{answer_right, reach_from_top}
 use Rattle.rb_plan_client.proofs.planning.answer.Goals as goal
 
@@ -10,6 +10,6 @@ pub returns : goal.returns
 returns g c =
     let labelling = c.in_ok-labelling.labelling in
     let exact = subst (λ (v : View). IsExact (client_of v) (label_of labelling)) c.view.ensures c.in_ok-labelling.ensures.exact in
-    let reach = reach_from_top (client_of c.args.task.now.view) labelling c.top_reachable-reach.result exact c.top_reachable-reach.ensures.labelled c.top_reachable-reach.ensures.greatest in
-    answer_right c.args.task.now c.top_reachable-reach.result c.in_ok-messages.messages.items c.first_goal-goal.result c.in_ok-outcome.outcome reach c.in_ok-messages.ensures
-    (c.first_goal-goal.ensures ∙ ap (λ (ms : List Message). first_goal c.args.task.now (wanted (map (λ (m : Message). m.packet) ms))) c.as_slice.ensures.value) c.in_ok-outcome.ensures
+    let reach = reach_from_top (client_of (view_of c.args.job.now.task)) labelling c.top_reachable-reach.result exact c.top_reachable-reach.ensures.labelled c.top_reachable-reach.ensures.greatest in
+    answer_right c.args.job.now.task c.top_reachable-reach.result c.in_ok-messages.messages.items c.first_goal-goal.result c.in_ok-outcome.outcome reach c.in_ok-messages.ensures
+    (c.first_goal-goal.ensures ∙ ap (λ (ms : List Message). first_goal c.args.job.now.task (wanted (map (λ (m : Message). m.packet) ms))) c.as_slice.ensures.value) c.in_ok-outcome.ensures

@@ -3,4 +3,4 @@ use Rattle.rb_plan_client.specs.Task.{gas_of}
 use Rattle.rb_plan_client.proofs.planning.append_updates.Given as goal
 
 abbrev pub invariant-loop-update : goal.invariant-loop-update
-invariant-loop-update g l = l.gases.items ≡ l.initial.gases.items ++ map (gas_of l.task) (take l.update-index l.updates)
+invariant-loop-update g l = l.gases.items ≡ l.initial.gases.items ++ map (gas_of l.job.task) (take l.update-index l.updates)
