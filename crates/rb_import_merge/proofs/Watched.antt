@@ -51,14 +51,14 @@ paths_all setup answers paths n whole (long, all) = (all, λ reached. long ∙ w
 
 -- also where the next one's destination is no chain of the setup
 pub paths_some : (setup : Setup) (answers : List (Vec Saved Global)) (paths : List (Vec SeenPacket Global)) (n : ℕ) (p : PathSetup) → n < length setup.paths.items → p ≡ get_or setup.paths.items n p
-    → slice_get setup.chains.items p.dest ≡ None → PathsSoFar n setup answers paths → AreSeenPaths setup answers paths
+    → slice_get setup.chains.items p.config.destination ≡ None → PathsSoFar n setup answers paths → AreSeenPaths setup answers paths
 unfolding AreSeenPaths AtEachBefore
 paths_some setup answers paths n p small is gone (long, all) = (all, λ reached. absurd (apart reached))
   where
     apart : ReachChains setup → ⊥
     apart reached =
-        let within : p.dest < length setup.chains.items = subst (λ (x : PathSetup). x.dest < length setup.chains.items) (sym is) (reached n p small) in
-        none-some (get_or setup.chains.items p.dest p.id) (sym gone ∙ slice_get-get_or setup.chains.items p.dest p.id within)
+        let within : p.config.destination < length setup.chains.items = subst (λ (x : PathSetup). x.config.destination < length setup.chains.items) (sym is) (reached n p small) in
+        none-some (get_or setup.chains.items p.config.destination p.config.id) (sym gone ∙ slice_get-get_or setup.chains.items p.config.destination p.config.id within)
 
 -- what holds of the chain at a place holds of what stands there
 pub of_tracked : (P : List ℕ → Type 0) (chains : List (List ℕ)) (n : ℕ) {tracked : List ℕ} → P tracked → slice_get chains n ≡ Some tracked → IsSomeAnd (slice_get chains n) P

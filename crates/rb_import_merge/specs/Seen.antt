@@ -69,11 +69,11 @@ surplus_of saved = length (headers_of saved) - 4096
 -- these are the path's packets that its answers tell of, each with the height of its destination, a chain of the setup, from which on it isn't received
 abbrev pub IsSeenPath : List (List ℕ) → PathSetup → List Saved → List SeenPacket → Type 0
 IsSeenPath chains path saved packets =
-    HaveEvents path (events_of saved) packets × IsSomeAnd (slice_get chains path.dest) (λ dest. All (Expires dest) packets)
+    HaveEvents path (events_of saved) packets × IsSomeAnd (slice_get chains path.config.destination) (λ dest. All (Expires dest) packets)
 
 -- each path's destination is a chain of the setup
 abbrev pub ReachChains : Setup → Type 0
-ReachChains setup = All (λ (p : PathSetup). p.dest < length setup.chains.items) setup.paths.items
+ReachChains setup = All (λ (p : PathSetup). p.config.destination < length setup.chains.items) setup.paths.items
 
 -- each of these is what was seen of the path at its place; there is one of each path, if each one's destination is a chain of the setup
 unfoldable pub AreSeenPaths : Setup → List (Vec Saved Global) → List (Vec SeenPacket Global) → Type 0

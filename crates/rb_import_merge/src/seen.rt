@@ -204,7 +204,7 @@ fn seen_paths<'a>(
 {
     let mut paths = Vec::with_capacity(alloc, setup.paths.len())?;
     for (place, path) in setup.paths.iter().enumerate() {
-        let Some(dest) = setup.chains.get(path.dest) else {
+        let Some(dest) = setup.chains.get(path.config.destination) else {
             return Ok(paths);
         };
         let saved = answers_at(&answers.paths, place);

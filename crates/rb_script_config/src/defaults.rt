@@ -2,10 +2,11 @@
 ghost use Rattle.std.specs.Prelude.{◌≡◌, codes};
 ghost use Rattle.rb_base.specs.Fraction.{one_third};
 ghost use Rattle.rb_script_toml.specs.Faults.{Gives};
-ghost use Rattle.rb_script_toml.specs.Fields.{field_view, section_view, only, optional, or_default, maybe, number, fee_table, trust, max_number};
+ghost use Rattle.rb_script_toml.specs.Fields.{field_view, section_view, optional, or_default, maybe, number, fee_table, trust, max_number};
 ghost use Rattle.rb_script_toml.specs.declared.fault.FaultName.TheVariants.{OutOfRange};
-ghost use Rattle.rb_script_config.specs.Chains.{no_defaults, default_keys, defaults, defaults_at};
+ghost use Rattle.rb_script_config.specs.Chains.{no_defaults, defaults, defaults_at};
 
+use crate::client_keys::{DRIFT, FEE, GAS, PERIOD, REFRESH, TRUST, only_default_keys};
 use crate::drift::Drift;
 use rb_base::{FeeTable, Fraction, Period};
 use rb_script_toml::{FaultName, Field, MAX_NUMBER, RunError, Section, child_path, section_at};
@@ -60,17 +61,18 @@ pub fn read_drift(field: &Field<'_>) -> Result<Drift, RunError>
 pub fn maybe_period(section: &Section<'_>) -> Result<Option<Period>, RunError>
     ensures { Gives (λ p. p) result (maybe (number 1 max_number OutOfRange) (optional (codes "period_ns") (section_view section.now))) }
 {
-    match section.optional("period_ns") {
+    match section.optional(PERIOD) {
         Some(field) => Ok(Some(read_period(&field)?)),
         None => Ok(None),
     }
 }
 
+/// The clock drift, if it is there.
 #[tactic(auto, using(rb_script_toml::proofs::Steps::steps))]
-fn maybe_drift(section: &Section<'_>) -> Result<Option<Drift>, RunError>
+pub fn maybe_drift(section: &Section<'_>) -> Result<Option<Drift>, RunError>
     ensures { Gives (λ d. d) result (maybe (number 0 max_number OutOfRange) (optional (codes "drift_ns") (section_view section.now))) }
 {
-    match section.optional("drift_ns") {
+    match section.optional(DRIFT) {
         Some(field) => Ok(Some(read_drift(&field)?)),
         None => Ok(None),
     }
@@ -91,16 +93,10 @@ fn maybe_fees<'a>(section: &Section<'a>, key: &'a str) -> Result<Option<FeeTable
 pub fn trust_or(section: &Section<'_>, default: Fraction) -> Result<Fraction, RunError>
     ensures { Gives (λ t. t) result (or_default default trust (optional (codes "trust") (section_view section.now))) }
 {
-    match section.optional("trust") {
+    match section.optional(TRUST) {
         Some(field) => field.trust(),
         None => Ok(default),
     }
-}
-
-fn only_default_keys(section: &Section<'_>) -> Result<(), RunError>
-    ensures { Gives (λ u. u) result (only default_keys (section_view section.now)) }
-{
-    section.only(&["period_ns", "drift_ns", "refresh_ns", "fee", "gas", "trust"])
 }
 
 #[tactic(auto, using(rb_script_toml::proofs::Steps::steps), unfolding(crate::specs::Chains::defaults))]
@@ -110,9 +106,9 @@ fn defaults_of(section: &Section<'_>) -> Result<Defaults, RunError>
     only_default_keys(section)?;
     let period = maybe_period(section)?;
     let drift = maybe_drift(section)?;
-    let refresh = section.number_or("refresh_ns", 0, 0, MAX_NUMBER)?;
-    let fees = maybe_fees(section, "fee")?;
-    let gas = maybe_fees(section, "gas")?;
+    let refresh = section.number_or(REFRESH, 0, 0, MAX_NUMBER)?;
+    let fees = maybe_fees(section, FEE)?;
+    let gas = maybe_fees(section, GAS)?;
     let trust = trust_or(section, Fraction::one_third())?;
     Ok(Defaults {
         period,

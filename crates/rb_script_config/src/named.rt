@@ -45,6 +45,30 @@ impl Named for PathConfig {
     }
 }
 
+/// A client of a script or of a setup.
+pub trait Client: Named {
+    /// The place of the chain that hosts it, and of the one that it tracks.
+    ghost ends: { Self → ℕ × ℕ };
+
+    fn host(&self) -> usize
+        ensures { result ≡ (ends self.now).0 };
+
+    fn tracks(&self) -> usize
+        ensures { result ≡ (ends self.now).1 };
+}
+
+impl Client for ClientConfig {
+    ghost ends = { λ c. (c.host, c.tracks) };
+
+    fn host(&self) -> usize {
+        self.host
+    }
+
+    fn tracks(&self) -> usize {
+        self.tracks
+    }
+}
+
 /// The place of the object that a key names.
 #[tactic(auto, using(rb_script_toml::proofs::Steps::steps))]
 pub fn reference<'a, T: Named>(

@@ -1,12 +1,13 @@
 //! The paths of a script.
-ghost use Rattle.std.specs.Prelude.{◌≡◌, ◌<◌, [], codes, length};
+ghost use Rattle.std.specs.Prelude.{◌≡◌, ◌<◌, [], IfOk, codes, length, map};
 ghost use Rattle.toml.specs.View.{view, items_view};
 ghost use Rattle.rb_script_toml.specs.Faults.{Gives};
 ghost use Rattle.rb_script_toml.specs.Fields.{field_view, section_view, only, needs, optional, or_default, at_element, elements};
-ghost use Rattle.rb_script_config.specs.Paths.{order, sequence, path_gas, connects, path, path_keys};
+ghost use Rattle.rb_script_config.specs.Paths.{order, sequence, path_gas, connects, fits, path, path_config, path_keys};
 
+use crate::client::two_chains;
 use crate::directory::Directory;
-use crate::named::{new_identifier, reference};
+use crate::named::{Client, Named, new_identifier, reference};
 use rb_base::{ChainId, PathId};
 use rb_scan::{Order, Sequence};
 use rb_script_toml::{FaultName, Field, RunError, Section, element_path, section_at};
@@ -25,9 +26,8 @@ fn order(field: &Field<'_>) -> Result<Order, RunError>
     }
 }
 
-/// In which order a path's packets are received.
 #[tactic(auto, using(rb_script_toml::proofs::Steps::steps))]
-pub fn needed_order(section: &Section<'_>) -> Result<Order, RunError>
+fn needed_order(section: &Section<'_>) -> Result<Order, RunError>
     ensures { Gives (λ o. o) result (needs (codes "order") order (section_view section.now)) }
 {
     order(&section.required("order")?)
@@ -75,12 +75,12 @@ fn needed_gas(section: &Section<'_>) -> Result<PathGas, RunError>
 }
 
 /// Whether a client is hosted on the one chain and tracks the other.
-fn connects(clients: &Directory<ClientConfig>, place: usize, host: usize, tracks: usize) -> bool
+fn connects<C: Client>(clients: &Directory<C>, place: usize, host: usize, tracks: usize) -> bool
     requires { place < length clients.now }
-    ensures { result ≡ connects clients.now place host tracks }
+    ensures { result ≡ connects C.ends clients.now place host tracks }
 {
     let client = &clients.as_slice()[place];
-    client.host == host && client.tracks == tracks
+    client.host() == host && client.tracks() == tracks
 }
 
 fn only_path_keys(section: &Section<'_>) -> Result<(), RunError>
@@ -89,6 +89,61 @@ fn only_path_keys(section: &Section<'_>) -> Result<(), RunError>
     section.only(&[
         "id", "source", "dest", "order", "first", "forward", "back", "gas",
     ])
+}
+
+/// Reads what scripts and setups say of a path alike: its identifier, which has to be none of those of
+/// the paths before it, its chains and clients out of these, its order, its first sequence and its gas.
+#[tactic(auto, using(rb_script_toml::proofs::Steps::steps), unfolding(crate::specs::Paths::path_config))]
+pub fn read_path_config<C: Named, T: Named>(
+    section: &Section<'_>,
+    chains: &Directory<ChainId>,
+    clients: &Directory<C>,
+    before: &Directory<T>,
+) -> Result<PathConfig, RunError>
+    ensures read { Gives (λ p. p) result (path_config chains.now (map C.name clients.now) (map T.name before.now) (section_view section.now)) }
+    ensures forward { IfOk result (λ p. p.forward < length clients.now) }
+    ensures back { IfOk result (λ p. p.back < length clients.now) }
+{
+    let id = new_identifier(section, before)?;
+    let source = reference(section, "source", chains)?;
+    let destination = reference(section, "dest", chains)?;
+    let order = needed_order(section)?;
+    let first = first_or_one(section)?;
+    let forward = reference(section, "forward", clients)?;
+    let back = reference(section, "back", clients)?;
+    let gas = needed_gas(section)?;
+    Ok(PathConfig {
+        id: PathId::new(id).unwrap(),
+        source,
+        destination,
+        order,
+        first,
+        forward,
+        back,
+        gas,
+    })
+}
+
+/// Refuses a path from a chain to itself, or one that its clients don't fit: `forward` has to be hosted
+/// on the destination and to track the source, `back` the other way round.
+#[tactic(auto, using(rb_script_toml::proofs::Steps::steps))]
+pub fn judge_path<C: Client>(
+    section: &Section<'_>,
+    clients: &Directory<C>,
+    path: &PathConfig,
+) -> Result<(), RunError>
+    requires forward { path.now.forward < length clients.now }
+    requires back { path.now.back < length clients.now }
+    ensures { Gives (λ u. u) result (fits C.ends clients.now path.now (section_view section.now).path) }
+{
+    let (source, destination) = (path.source, path.destination);
+    two_chains(section, source, destination)?;
+    if !connects(clients, path.forward, destination, source)
+        || !connects(clients, path.back, source, destination)
+    {
+        return Err(section.fault(FaultName::WrongClient));
+    }
+    Ok(())
 }
 
 #[tactic(auto, using(rb_script_toml::proofs::Steps::steps), unfolding(crate::specs::Paths::path))]
@@ -101,32 +156,9 @@ fn read_path(
     ensures { Gives (λ p. p) result (path chains.now clients.now before.now (section_view section.now)) }
 {
     only_path_keys(section)?;
-    let id = new_identifier(section, before)?;
-    let source = reference(section, "source", chains)?;
-    let destination = reference(section, "dest", chains)?;
-    let order = needed_order(section)?;
-    let first = first_or_one(section)?;
-    let forward = reference(section, "forward", clients)?;
-    let back = reference(section, "back", clients)?;
-    let gas = needed_gas(section)?;
-    if source == destination {
-        return Err(section.fault(FaultName::SameChain));
-    }
-    if !connects(clients, forward, destination, source)
-        || !connects(clients, back, source, destination)
-    {
-        return Err(section.fault(FaultName::WrongClient));
-    }
-    Ok(PathConfig {
-        id: PathId::new(id).unwrap(),
-        source,
-        destination,
-        order,
-        first,
-        forward,
-        back,
-        gas,
-    })
+    let path = read_path_config(section, chains, clients, before)?;
+    judge_path(section, clients, &path)?;
+    Ok(path)
 }
 
 #[tactic(auto, using(rb_script_toml::proofs::Steps::steps))]
