@@ -107,8 +107,12 @@ fn own_fees<'a>(
     }
 }
 
-/// Reads which client a table is of, one of these chains hosting it and one being tracked, and refuses
-/// keys that no client has. The identifier has to be none of those of the clients before it.
+/// Reads which client a table is of: `id`, which none of the clients before it may have, and `host` and
+/// `of`, each the identifier of one of these chains, whose places are answered. `Fault` is the first of:
+/// a key that no client has (`UnknownKey`); then of `id`, `host` and `of`, in this order, that it is
+/// missing (`MissingKey`), no text (`WrongType`), ill formed (`BadIdentifier`), one that an earlier
+/// client has (`DuplicateIdentifier`), or no chain's (`UnknownIdentifier`). `NoMemory` comes where a
+/// growth is refused.
 #[tactic(auto, using(rb_script_toml::proofs::Steps::steps), unfolding(crate::specs::Clients::identity))]
 pub fn read_identity<C: Named, T: Named>(
     section: &Section<'_>,
@@ -130,7 +134,12 @@ pub fn read_identity<C: Named, T: Named>(
     })
 }
 
-/// Reads a client's terms; a key that isn't there has what the clients of the chain share.
+/// Reads a client's terms: `refresh_ns`, `fee`, `gas` and `limits`, in this order. A key that isn't
+/// there has what the clients of the chain share; `limits` is never shared. `Fault` is the first of: a
+/// key that is needed isn't there (`MissingKey`), a value has another type or length (`WrongType`), a
+/// number of nanoseconds isn't from 0 to 2^63 - 1 (`OutOfRange`), one of fees or gas isn't from 0 to 10^9
+/// (`BadFee`), one of the limits is outside its range (`BadLimit`). `NoMemory` comes where a growth is
+/// refused.
 #[tactic(auto, using(rb_script_toml::proofs::Steps::steps), unfolding(crate::specs::Clients::terms))]
 pub fn read_terms(section: &Section<'_>, shared: &Defaults) -> Result<ClientTerms, RunError>
     ensures { Gives (λ t. t) result (terms shared.now (section_view section.now)) }
@@ -147,7 +156,8 @@ pub fn read_terms(section: &Section<'_>, shared: &Defaults) -> Result<ClientTerm
     })
 }
 
-/// Refuses one chain where two have to be.
+/// Refuses one chain where two have to be, by their places: `Fault` is `SameChain` at the table. `NoMemory`
+/// comes where the path of the fault finds no room.
 pub fn two_chains(section: &Section<'_>, chain: usize, other: usize) -> Result<(), RunError>
     ensures { Gives (λ u. u) result (check (not (chain == other)) SameChain (section_view section.now).path) }
 {
@@ -198,7 +208,11 @@ fn read_client_at(
     read_client(&section, chains, before)
 }
 
-/// Reads the clients of these chains, each beside those before it.
+/// Reads the tables of the array `client`, in their order, each as `read_identity` and `read_terms` tell,
+/// with `period_ns` and `drift_ns` before the terms, and `trust` behind them. The trusting period and the
+/// clock drift are needed where the tracked chain shares none; the trust level is a third where it has
+/// none. `Fault` is the first of the first table that is refused, at last `SameChain` where it tracks the
+/// chain that hosts it. `NoMemory` comes where a growth is refused.
 pub fn read_clients(
     alloc: Global,
     items: &[Value],

@@ -38,7 +38,8 @@ pub fn no_defaults() -> Defaults
     }
 }
 
-/// The trusting period that it holds.
+/// The trusting period that a key holds, in nanoseconds. `Fault` is `WrongType` where that is no integer,
+/// else `OutOfRange` where it isn't from 1 to 2^63 - 1; `NoMemory` where the path finds no room.
 #[tactic(auto, using(rb_script_toml::proofs::Steps::steps))]
 pub fn read_period(field: &Field<'_>) -> Result<Period, RunError>
     ensures { Gives (λ p. p) result (number 1 max_number OutOfRange (field_view field.now)) }
@@ -47,7 +48,8 @@ pub fn read_period(field: &Field<'_>) -> Result<Period, RunError>
     Ok(Period::new(number).unwrap())
 }
 
-/// The clock drift that it holds.
+/// The clock drift that a key holds, in nanoseconds. `Fault` is `WrongType` where that is no integer, else
+/// `OutOfRange` where it isn't from 0 to 2^63 - 1; `NoMemory` where the path finds no room.
 #[tactic(auto, using(rb_script_toml::proofs::Steps::steps))]
 pub fn read_drift(field: &Field<'_>) -> Result<Drift, RunError>
     ensures { Gives (λ d. d) result (number 0 max_number OutOfRange (field_view field.now)) }
@@ -56,7 +58,7 @@ pub fn read_drift(field: &Field<'_>) -> Result<Drift, RunError>
     Ok(Drift::new(number))
 }
 
-/// The trusting period, if it is there.
+/// The trusting period of the key `period_ns`, as `read_period` reads it; `None` where it isn't there.
 #[tactic(auto, using(rb_script_toml::proofs::Steps::steps))]
 pub fn maybe_period(section: &Section<'_>) -> Result<Option<Period>, RunError>
     ensures { Gives (λ p. p) result (maybe (number 1 max_number OutOfRange) (optional (codes "period_ns") (section_view section.now))) }
@@ -67,7 +69,7 @@ pub fn maybe_period(section: &Section<'_>) -> Result<Option<Period>, RunError>
     }
 }
 
-/// The clock drift, if it is there.
+/// The clock drift of the key `drift_ns`, as `read_drift` reads it; `None` where it isn't there.
 #[tactic(auto, using(rb_script_toml::proofs::Steps::steps))]
 pub fn maybe_drift(section: &Section<'_>) -> Result<Option<Drift>, RunError>
     ensures { Gives (λ d. d) result (maybe (number 0 max_number OutOfRange) (optional (codes "drift_ns") (section_view section.now))) }
@@ -88,7 +90,9 @@ fn maybe_fees<'a>(section: &Section<'a>, key: &'a str) -> Result<Option<FeeTable
     }
 }
 
-/// The trust level, or the default where the key isn't there.
+/// The trust level of the key `trust`, or the default where it isn't there. `Fault` is `WrongType` where
+/// it isn't two integers, `OutOfRange` where one of them isn't from 0 to 2^63 - 1, `BadTrust` where they
+/// aren't from a third to one (CometBFT light client); `NoMemory` where the path finds no room.
 #[tactic(auto, using(rb_script_toml::proofs::Steps::steps))]
 pub fn trust_or(section: &Section<'_>, default: Fraction) -> Result<Fraction, RunError>
     ensures { Gives (λ t. t) result (or_default default trust (optional (codes "trust") (section_view section.now))) }
@@ -120,7 +124,10 @@ fn defaults_of(section: &Section<'_>) -> Result<Defaults, RunError>
     })
 }
 
-/// Reads the table that a key holds.
+/// Reads the table `defaults` of a chain: any of `period_ns`, `drift_ns`, `refresh_ns`, `fee`, `gas` and
+/// `trust`, each as a client has it, in this order. `Fault` is the first: it is no table (`WrongType`), it
+/// has another key (`UnknownKey`), a value is refused as a client's is. `NoMemory` comes where a growth is
+/// refused.
 #[tactic(auto, using(rb_script_toml::proofs::Steps::steps), unfolding(crate::specs::Chains::defaults_at))]
 pub fn read_defaults(field: &Field<'_>) -> Result<Defaults, RunError>
     ensures { Gives (λ d. d) result (defaults_at (field_view field.now)) }

@@ -69,7 +69,9 @@ impl Client for ClientConfig {
     }
 }
 
-/// The place of the object that a key names.
+/// The place of the object that a key names by its identifier. `Fault` is `MissingKey` where the key isn't
+/// there, then `WrongType` where it holds no text, `BadIdentifier` where that is ill formed (ICS 24),
+/// `UnknownIdentifier` where no object has it; `NoMemory` where the path finds no room.
 #[tactic(auto, using(rb_script_toml::proofs::Steps::steps))]
 pub fn reference<'a, T: Named>(
     section: &Section<'a>,
@@ -93,7 +95,9 @@ fn place_named<T: Named>(field: &Field<'_>, objects: &Directory<T>) -> Result<us
     }
 }
 
-/// The identifier of a new object, which none of these has.
+/// The identifier of a new object, which the key `id` holds. `Fault` is `MissingKey` where the key isn't
+/// there, then `WrongType` where it holds no text, `BadIdentifier` where that is ill formed (ICS 24),
+/// `DuplicateIdentifier` where one of these objects has it; `NoMemory` where the path finds no room.
 #[tactic(auto, using(rb_script_toml::proofs::Steps::steps))]
 pub fn new_identifier<'a, T: Named>(
     section: &Section<'a>,

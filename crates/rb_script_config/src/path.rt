@@ -41,7 +41,9 @@ fn sequence(field: &Field<'_>) -> Result<Sequence, RunError>
     Ok(Sequence::new(number).unwrap())
 }
 
-/// The sequence of a packet.
+/// The sequence of a packet (ICS 4), which the key `seq` holds. `Fault` is `MissingKey` where the key isn't
+/// there, `WrongType` where it holds no integer, `OutOfRange` where that isn't from 1 to 2^63 - 1;
+/// `NoMemory` where the path finds no room.
 #[tactic(auto, using(rb_script_toml::proofs::Steps::steps))]
 pub fn needed_sequence(section: &Section<'_>) -> Result<Sequence, RunError>
     ensures { Gives (λ n. n) result (needs (codes "seq") sequence (section_view section.now)) }
@@ -91,8 +93,14 @@ fn only_path_keys(section: &Section<'_>) -> Result<(), RunError>
     ])
 }
 
-/// Reads what scripts and setups say of a path alike: its identifier, which has to be none of those of
-/// the paths before it, its chains and clients out of these, its order, its first sequence and its gas.
+/// Reads what scripts and setups say of a path alike, in this order: `id`, which none of the paths before
+/// it may have, `source` and `dest`, each the identifier of one of these chains, `order` (`ordered` or
+/// `unordered`), `first`, a sequence from 1 to 2^63 - 1 (1 where it isn't there), `forward` and `back`,
+/// each the identifier of one of these clients, and `gas`, three numbers from 0 to 10^9. Chains and
+/// clients are answered by their places. `Fault` is the first of: a key is missing (`MissingKey`), has
+/// another type (`WrongType`), is ill formed (`BadIdentifier`), an earlier path's (`DuplicateIdentifier`),
+/// no object's (`UnknownIdentifier`), no order (`BadOrder`), no sequence (`OutOfRange`), too much gas
+/// (`BadFee`). `NoMemory` comes where a growth is refused. Other keys are not judged.
 #[tactic(auto, using(rb_script_toml::proofs::Steps::steps), unfolding(crate::specs::Paths::path_config))]
 pub fn read_path_config<C: Named, T: Named>(
     section: &Section<'_>,
@@ -124,8 +132,10 @@ pub fn read_path_config<C: Named, T: Named>(
     })
 }
 
-/// Refuses a path from a chain to itself, or one that its clients don't fit: `forward` has to be hosted
-/// on the destination and to track the source, `back` the other way round.
+/// Judges whether a path's chains and clients fit (ICS 4). `Fault` is `SameChain` at the table where its
+/// source is its destination, else `WrongClient` where `forward` isn't hosted on the destination or
+/// doesn't track the source, or `back` the other way round; `NoMemory` where the path of the fault finds
+/// no room.
 #[tactic(auto, using(rb_script_toml::proofs::Steps::steps))]
 pub fn judge_path<C: Client>(
     section: &Section<'_>,
@@ -176,7 +186,9 @@ fn read_path_at(
     read_path(&section, chains, clients, before)
 }
 
-/// Reads the paths between these chains by these clients, each beside those before it.
+/// Reads the tables of the array `path`, in their order: keys that no path has are refused, then each is
+/// read as by `read_path_config` and judged as by `judge_path`. `Fault` is the first of the first table
+/// that is refused; `NoMemory` comes where a growth is refused.
 pub fn read_paths(
     alloc: Global,
     items: &[Value],
