@@ -1,4 +1,6 @@
-//! What a file should have in the place of a fault.
+//! What a file should have in the place of a fault. What is said of a client's keys stands in
+//! `rb_script_config`, beside what they are called.
+use rb_script_config::{CLIENT_KEY_LIST, DEFAULT_KEY_LIST, client_key};
 use rb_script_toml::FaultName;
 
 /// Which kinds of events there are.
@@ -16,7 +18,7 @@ pub fn advice_for(name: FaultName, path: &str) -> &'static str {
         FaultName::MissingKey => missing_at(path),
         FaultName::WrongType => type_at(path),
         FaultName::BadVersion => "the version of a script is 1 or 2, of a setup or a certificate 1",
-        FaultName::OutOfRange => range_at(path),
+        FaultName::OutOfRange | FaultName::BadLimit | FaultName::BadFee => range_at(path),
         FaultName::BadIdentifier => {
             "an identifier has 1 to 64 letters, digits and . _ + - # [ ] < >, a set's name at most 32"
         }
@@ -47,11 +49,6 @@ pub fn advice_for(name: FaultName, path: &str) -> &'static str {
             "a set has 1 to 10,000 validators of different keys, with powers from 1 to 2^60 - 1 in all"
         }
         FaultName::BadWindow => "until is before from",
-        FaultName::BadLimit => {
-            "limits are gas (1 to 10^15), messages (1 to 10,000) and a transaction's own gas (0 to 10^9)"
-        }
-        FaultName::BadFee =>
-            "fees and gas are numbers from 0 to 10^9; take a larger unit where one is more",
         FaultName::NoSuchTurn => "the script doesn't have this turn",
         FaultName::BadAnswer => "an answer is 'plan', or 'unreachable' without updates",
         FaultName::NoGoal => "nothing is planned for this client in the turn",
@@ -85,10 +82,8 @@ fn keys_at(path: &str) -> &'static str {
         "chain" => {
             "a chain has id and, in version 2, defaults; TOML puts a key that stands after [[chain]] into that chain"
         }
-        "defaults" => "defaults are period_ns, drift_ns, refresh_ns, fee, gas and trust",
-        "client" => {
-            "a client has id, host, of, period_ns, drift_ns, refresh_ns, fee, gas, limits and trust"
-        }
+        "defaults" => DEFAULT_KEY_LIST,
+        "client" => CLIENT_KEY_LIST,
         "path" => {
             "a path has id, source, dest, order, first, forward, back and gas, and in a setup port, channel, counterparty_port and counterparty_channel"
         }
@@ -105,15 +100,10 @@ fn keys_at(path: &str) -> &'static str {
 /// What should stand where a key is missing.
 fn missing_at(path: &str) -> &'static str {
     let (table, key) = table_and_key(path);
-    match key {
-        "kind" => KINDS,
-        "order" => ORDERS,
-        "period_ns" | "drift_ns" if key_of(table) == "client" => {
-            "a whole number of nanoseconds belongs here or, in version 2, in [chain.defaults] of the chain that the client follows; only a setup for import may leave it out"
-        }
-        "fee" | "gas" if key_of(table) == "client" => {
-            "three numbers belong here, as [100, 1, 1], or, in version 2, in [chain.defaults] of the chain that the client follows"
-        }
+    match (key, client_key(key)) {
+        ("kind", _) => KINDS,
+        ("order", _) => ORDERS,
+        (_, Some(entry)) if key_of(table) == "client" => entry.missing,
         _ => type_at(path),
     }
 }
@@ -131,14 +121,16 @@ fn hex_at(path: &str) -> &'static str {
 
 /// Which numbers may stand at a path.
 fn range_at(path: &str) -> &'static str {
-    match key_of(path) {
+    let key = key_of(path);
+    if let Some(entry) = client_key(key) {
+        return entry.range;
+    }
+    match key {
         "height" => "a height is from 1 to 2^63 - 1, in an event of a packet to 2^63 - 2",
         "at_least" | "exactly" | "updates" => "a height is from 1 to 2^63 - 1",
         "seq" | "first" => "a sequence is from 1 to 2^63 - 1",
-        "period_ns" | "batch" | "turn" => "a number from 1 to 2^63 - 1 belongs here",
-        "drift_ns" | "refresh_ns" | "timeout_height" | "done" | "trust" => {
-            "a number from 0 to 2^63 - 1 belongs here"
-        }
+        "batch" | "turn" => "a number from 1 to 2^63 - 1 belongs here",
+        "timeout_height" | "done" => "a number from 0 to 2^63 - 1 belongs here",
         "validators" => "a power is from 1 to 2^60 - 1",
         "labels" => "a label's height is from 1, its fee and its count from 0 to 2^63 - 1",
         _ => "this number is too small or too big",
@@ -161,6 +153,9 @@ fn wanted_at(path: &str) -> &'static str {
 
 /// What belongs where an element of an array, or of one of its elements, has another type.
 fn element_type(array: &str, is_inner: bool) -> &'static str {
+    if let Some(entry) = client_key(array) {
+        return entry.element;
+    }
     match array {
         "validators" if is_inner => {
             "a key in quotes, 64 hexadecimal digits, and a power without belong here"
@@ -168,10 +163,7 @@ fn element_type(array: &str, is_inner: bool) -> &'static str {
         "validators" => { "a key and a power belong here, as ['64 hexadecimal digits', 10]" }
         "updates" if !is_inner => "a height and a trusted height belong here, as [3, 1]",
         "labels" if !is_inner => "a height, a fee and a count belong here, as [3, 112, 1]",
-        "fee" | "gas" => {
-            "a whole number belongs here, so take a smaller unit where it has decimals"
-        }
-        "limits" | "trust" | "updates" | "labels" => "a whole number belongs here",
+        "updates" | "labels" => "a whole number belongs here",
         "chain" | "client" | "path" | "turn" | "goal" | "event" | "settle" => {
             "a table belongs here"
         }
@@ -198,15 +190,15 @@ fn type_at(path: &str) -> &'static str {
     if let Some((array, indices)) = key.split_once('[') {
         return element_type(array, indices.contains("]["));
     }
+    if let Some(entry) = client_key(key) {
+        return entry.kind;
+    }
     match key {
         "from" | "until" | "time" | "timeout_time" => {
             "a time in quotes belongs here, as '2026-11-22T10:00:00Z'"
         }
         "version" if table.is_empty() => {
             "a whole number without quotes belongs here, above the first [[..]]: TOML puts a key that stands after [[chain]] into that chain"
-        }
-        "period_ns" | "drift_ns" | "refresh_ns" => {
-            "a whole number of nanoseconds without quotes belongs here, as 1_209_600_000_000_000 (two weeks)"
         }
         "version"
         | "at_least"
@@ -217,16 +209,6 @@ fn type_at(path: &str) -> &'static str {
         | "first"
         | "batch"
         | "done" => { "a whole number without quotes belongs here" }
-        "limits" => {
-            "three numbers belong here, as [25_000_000, 50, 80_000]: gas and messages of a transaction, and gas of its own"
-        }
-        "fee" => {
-            "three numbers belong here, as [100, 1, 1]: of an update, of each commit vote, of each validator of the two sets"
-        }
-        "gas" => {
-            "three numbers belong here, as [100, 1, 1]: of a client those of an update, each commit vote and each validator, of a path those of a receive, an acknowledgement and a timeout"
-        }
-        "trust" => "two numbers belong here, as [1, 3]",
         "validators" =>
             "pairs of a key and a power belong here, as [['64 hexadecimal digits', 10]]",
         "goal" => "an array of tables belongs here, as [[turn.goal]]",
@@ -238,10 +220,7 @@ fn type_at(path: &str) -> &'static str {
             "an array of tables belongs here, as [[client]]; in a certificate an identifier in quotes"
         }
         "turn" => "an array of tables belongs here, as [[turn]]; in a certificate a turn's number",
-        "id"
-        | "host"
-        | "of"
-        | "source"
+        "source"
         | "dest"
         | "order"
         | "forward"

@@ -81,7 +81,7 @@ fn read_answers<'a, R: Host>(
     }
     let mut paths = Vec::new(alloc);
     for path in &setup.paths {
-        add_folder(rt, folder, Some(path.id.as_str()), &mut paths)?;
+        add_folder(rt, folder, Some(path.config.id.as_str()), &mut paths)?;
     }
     Ok(SavedAnswers {
         chains,

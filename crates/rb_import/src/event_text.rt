@@ -9,6 +9,7 @@ use rb_import_answers::{PacketKind, Signature};
 use rb_import_check::{Commit, Stored};
 use rb_import_merge::{SeenPacket, some_timed_out};
 use rb_import_setup::PathSetup;
+use rb_scan::Order;
 use rb_valset::{Validator, ValidatorSet};
 use std::alloc::AllocError;
 
@@ -154,7 +155,7 @@ pub fn push_closing(
     ensures { OnOk result (string_bytes text.new ≡ string_bytes text.old ++ closing path.now packets.now) }
 {
     if is_closed(path, packets) {
-        push_closed(text, path.id.as_str())
+        push_closed(text, path.config.id.as_str())
     } else {
         Ok(())
     }
@@ -174,7 +175,10 @@ fn push_closed(text: &mut String, id: &str) -> Result<(), AllocError>
 fn is_closed(path: &PathSetup, packets: &[SeenPacket<'_>]) -> bool
     ensures { result ≡ is_closed path.now packets.now }
 {
-    path.is_ordered && some_timed_out(packets)
+    match path.config.order {
+        Order::Ordered => some_timed_out(packets),
+        Order::Unordered => false,
+    }
 }
 
 /// Adds the timeouts of a packet that has some.

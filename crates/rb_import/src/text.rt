@@ -1,11 +1,12 @@
 //! The text of a script.
 use crate::event_text::{push_closing, push_header, push_packet, push_set, push_stored};
 use jiff::Timestamp;
-use rb_base::Moment;
+use rb_base::{FeeTable, Moment};
 use rb_import_check::{SeenChain, SeenClient, Stored};
 use rb_import_merge::Seen;
-use rb_import_setup::{ClientSetup, PathSetup, Setup, TurnSetup};
-use rb_script_types::{Asked, Goal, Settlement};
+use rb_import_setup::{ClientSetup, Setup, TurnSetup};
+use rb_scan::{Kind, Order};
+use rb_script_types::{Asked, Goal, PathConfig, Settlement};
 use std::alloc::AllocError;
 
 const HEAD: &str = "# Written by ibcplan import.
@@ -24,7 +25,7 @@ pub fn push_script(text: &mut String, setup: &Setup, seen: &Seen<'_>) -> Result<
         push_client(text, setup, client, seen)?;
     }
     for path in &setup.paths {
-        push_path(text, setup, path)?;
+        push_path(text, setup, &path.config)?;
     }
     let last = setup.turns.len().saturating_sub(1);
     for (place, turn) in setup.turns.iter().enumerate() {
@@ -50,9 +51,17 @@ fn client_at(setup: &Setup, place: usize) -> &str {
     }
 }
 
-fn push_numbers(text: &mut String, key: &str, numbers: &[u64; 3]) -> Result<(), AllocError> {
-    let [first, second, third] = *numbers;
+fn push_numbers(text: &mut String, key: &str, numbers: [u64; 3]) -> Result<(), AllocError> {
+    let [first, second, third] = numbers;
     writeln!(text, "{key} = [{first}, {second}, {third}]")
+}
+
+/// Adds what an update costs: without votes and validators, and what one of each adds.
+fn push_fees(text: &mut String, key: &str, table: &FeeTable) -> Result<(), AllocError> {
+    let base = table.charge(0, 0);
+    let vote = table.charge(1, 0) - base;
+    let validator = table.charge(0, 1) - base;
+    push_numbers(text, key, [base, vote, validator])
 }
 
 fn push_client(
@@ -70,38 +79,47 @@ fn push_client(
     )?;
     let period = seen.period.nanoseconds();
     let drift = seen.drift;
-    let refresh = client.refresh;
+    let refresh = client.terms.refresh;
     writeln!(
         text,
         "period_ns = {period}\ndrift_ns = {drift}\nrefresh_ns = {refresh}"
     )?;
-    push_numbers(text, "fee", &client.fees)?;
-    push_numbers(text, "gas", &client.gas)?;
-    push_numbers(text, "limits", &client.limits)?;
+    push_fees(text, "fee", &client.terms.fees)?;
+    push_fees(text, "gas", &client.terms.gas)?;
+    let limits = &client.terms.limits;
+    let messages = limits.count() as u64;
+    push_numbers(
+        text,
+        "limits",
+        [limits.gas(), messages, limits.transaction_gas()],
+    )?;
     let numerator = seen.trust.numerator;
     let denominator = seen.trust.denominator;
     writeln!(text, "trust = [{numerator}, {denominator}]")
 }
 
-fn push_path(text: &mut String, setup: &Setup, path: &PathSetup) -> Result<(), AllocError> {
+fn push_path(text: &mut String, setup: &Setup, path: &PathConfig) -> Result<(), AllocError> {
     let id = path.id.as_str();
     let source = chain_at(setup, path.source);
-    let dest = chain_at(setup, path.dest);
+    let dest = chain_at(setup, path.destination);
     writeln!(
         text,
         "\n[[path]]\nid = \"{id}\"\nsource = \"{source}\"\ndest = \"{dest}\""
     )?;
-    let order = if path.is_ordered {
-        "ordered"
-    } else {
-        "unordered"
+    let order = match path.order {
+        Order::Ordered => "ordered",
+        Order::Unordered => "unordered",
     };
-    let first = path.first;
+    let first = path.first.get();
     writeln!(text, "order = \"{order}\"\nfirst = {first}")?;
     let forward = client_at(setup, path.forward);
     let back = client_at(setup, path.back);
     writeln!(text, "forward = \"{forward}\"\nback = \"{back}\"")?;
-    push_numbers(text, "gas", &path.gas)
+    push_numbers(
+        text,
+        "gas",
+        [Kind::Receive, Kind::Acknowledge, Kind::Timeout].map(|kind: Kind| path.gas.of(kind)),
+    )
 }
 
 /// Adds a turn, with what was seen where it is the last one.
@@ -168,7 +186,7 @@ fn push_events(text: &mut String, setup: &Setup, seen: &Seen<'_>) -> Result<(), 
     }
     for (path, packets) in setup.paths.iter().zip(&seen.paths) {
         for packet in packets {
-            push_packet(text, path.id.as_str(), packet)?;
+            push_packet(text, path.config.id.as_str(), packet)?;
         }
         push_closing(text, path, packets.as_slice())?;
     }

@@ -105,7 +105,7 @@ fn read_state(alloc: Global, answer: &Object<'_>) -> Result<NodeAnswer, AnswerEr
 
 /// The flaw of this name at the whole answer.
 fn whole(name: FieldErrorName) -> AnswerError
-    ensures { result ≡ AnswerError.FieldError (whole name) }
+    ensures { result ≡ AnswerError.Invalid (whole name) }
 {
     AnswerError::Invalid(FieldError {
         name,

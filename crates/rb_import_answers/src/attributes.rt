@@ -148,7 +148,7 @@ impl Attributes<'_> {
     }
 
     fn flaw(&self, name: Key, flaw: FieldErrorName) -> AnswerError
-        ensures { result ≡ AnswerError.FieldError (flaw_at (object_view self.now.event) name flaw) }
+        ensures { result ≡ AnswerError.Invalid (flaw_at (object_view self.now.event) name flaw) }
     {
         AnswerError::Invalid(self.event.flaw(name, flaw))
     }

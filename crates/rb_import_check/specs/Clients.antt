@@ -1,13 +1,15 @@
 -- What was seen of a client (ibc-go's `client_states/ID` and `consensus_states/ID`).
-use Rattle.std.specs.Prelude.{◌≡◌, ◌≢◌, ◌⊎◌, ◌+◌, ◌<◌, ◌≤◌, ⊤, ℕ, List, [], ◌∷◌, Bool, true, false, Option, Some, None, Any, length, map, filter, count_by, ◌==◌, nat_le, slice_index}
+use Rattle.std.specs.Prelude.{option_map, ◌≡◌, ◌≢◌, ◌⊎◌, ◌+◌, ◌<◌, ◌≤◌, ⊤, ℕ, List, [], ◌∷◌, Bool, true, false, Option, Some, None, Any, length, map, filter, count_by, ◌==◌, nat_le, slice_index}
 use Rattle.std.specs.List.{flat_map, list_any}
 use Rattle.std.specs.List.Sorted.{IsPermutation}
 use Rattle.rb_import_answers.specs.declared.answer.NodeAnswer.{NodeAnswer}
 use Rattle.rb_import_answers.specs.declared.answer.NodeAnswer.TheVariants as answers
 use Rattle.rb_import_answers.specs.declared.client.ClientState.{ClientState}
 use Rattle.rb_import_answers.specs.declared.client.ConsensusState.{ConsensusState}
+use Rattle.rb_import_answers.specs.declared.client.TrustLevel.{TrustLevel}
 use Rattle.rb_import_answers.specs.Revisions.{IsRevision}
 use Rattle.rb_import_setup.specs.declared.setup.ClientSetup.{ClientSetup}
+use Rattle.rb_import_setup.specs.declared.setup.TrustSetup.{TrustSetup}
 use Rattle.rb_import_check.specs.declared.client.SeenClient.{SeenClient}
 use Rattle.rb_import_check.specs.declared.client.Stored.{Stored}
 use Rattle.rb_import_check.specs.declared.saved.Saved.{Saved}
@@ -36,11 +38,15 @@ chosen (Some x) get states = Some x
 chosen None get [] = None
 chosen None get (s ∷ states) = Some (get s)
 
+-- a trust level, as a client state has it
+abbrev pub level_of : TrustSetup → TrustLevel
+level_of t = record { numerator = t.numerator; denominator = t.denominator }
+
 abbrev pub JudgesAs : ClientSetup → List ClientState → SeenClient → Type 0
 JudgesAs setup states c =
     (chosen setup.period (λ s. s.period) states ≡ Some c.period)
     × (chosen setup.drift (λ s. s.drift) states ≡ Some c.drift)
-    × (chosen setup.trust (λ s. s.trust) states ≡ Some c.trust)
+    × (chosen (option_map level_of setup.trust) (λ s. s.trust) states ≡ Some c.trust)
 
 abbrev pub stored_in : NodeAnswer → List ConsensusState
 stored_in (answers.Commit header) = []

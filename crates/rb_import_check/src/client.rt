@@ -2,14 +2,14 @@
 ghost use Rattle.std.specs.Prelude.{◌≡◌, ◌≢◌, ◌↔◌, ◌++◌, ⊤, IsTrue, true, false, map, filter, nat_le, All, Any, IfOk, IfErr, OnOk, option_map, option_to_list};
 ghost use Rattle.rb_import_check.specs.Errors.{IsTold, IsToldOf};
 ghost use Rattle.std.specs.List.Sorted.{IsNonDecreasingBy, IsStrictlyIncreasing};
-ghost use Rattle.rb_import_check.specs.Clients.{IsOfRevision, JudgesAs, AtRevision, HaveStates, HasReason, Falls, client_states_of, current_of, is_of_client, is_last_in, has_last};
+ghost use Rattle.rb_import_check.specs.Clients.{IsOfRevision, JudgesAs, level_of, AtRevision, HaveStates, HasReason, Falls, client_states_of, current_of, is_of_client, is_last_in, has_last};
 
 use crate::error::{CheckErrorName, ImportError};
 use crate::repeat::repeated;
 use crate::saved::Saved;
 use rb_base::{ChainId, Height, Period};
 use rb_import_answers::{ClientState, ConsensusState, NodeAnswer, TrustLevel, revision_of};
-use rb_import_setup::ClientSetup;
+use rb_import_setup::{ClientSetup, TrustSetup};
 use std::alloc::{AllocError, Global};
 
 /// A record that a client has stored, and its file.
@@ -47,8 +47,10 @@ pub fn seen_client<'a>(
     let state = state_of(setup, tracked, answers)?;
     let stored = stored_of(alloc, setup, tracked, answers)?;
     let period = setup.period.or(state.map(|state| state.period));
-    let drift = setup.drift.or(state.map(|state| state.drift));
-    let trust = setup.trust.or(state.map(|state| state.trust));
+    let drift = setup.drift.map(|drift| drift.nanoseconds());
+    let drift = drift.or(state.map(|state| state.drift));
+    let trust = setup.trust.map(level_of);
+    let trust = trust.or(state.map(|state| state.trust));
     match (period, drift, trust) {
         (Some(period), Some(drift), Some(trust)) => Ok(SeenClient {
             period,
@@ -57,6 +59,16 @@ pub fn seen_client<'a>(
             stored,
         }),
         _ => Err(ImportError::of(CheckErrorName::MissingClientState, setup.id.as_str())),
+    }
+}
+
+/// A trust level, as an answer on a client's state has it.
+fn level_of(level: TrustSetup) -> TrustLevel
+    ensures { result ≡ level_of level }
+{
+    TrustLevel {
+        numerator: level.numerator,
+        denominator: level.denominator,
     }
 }
 

@@ -109,7 +109,7 @@ is_of_path : (setup : PathSetup) (end : Option (List ℕ)) (p : SeenPacket) → 
 is_of_path setup end p e =
     let whole = and_parts _ _ e in
     let ends = and_parts _ _ whole.0 in
-    (leb-true setup.first p.event.now.sequence whole.1, is_source_of setup.source_channel (string_bytes p.event.now.source) ends.0, is_dest_of end (string_bytes p.event.now.dest) ends.1)
+    (leb-true setup.config.first p.event.now.sequence whole.1, is_source_of setup.source_channel (string_bytes p.event.now.source) ends.0, is_dest_of end (string_bytes p.event.now.dest) ends.1)
 
 -- what holds of the wanted ones holds of what is seen
 carried : (P : SeenPacket → Type 0) (wanted lowest packets : List SeenPacket) → All P wanted → All (Contains wanted) lowest → IsPermutation lowest packets → All P packets

@@ -23,7 +23,7 @@ told_of_client setup c i e small is told = told_in setup c.id e (inr (inl (c, (i
 pub told_of_client_by : (setup : Setup) (c : ClientSetup) (i : ℕ) (id : List ℕ) (e : ImportError) → i < length setup.clients.items → c ≡ get_or setup.clients.items i c → id ≡ c.id → IsToldOf id e → IsToldIn setup e
 told_of_client_by setup c i id e small is same told = told_in setup id e (inr (inl (c, (i, small, sym is), sym same))) told
 
-pub told_of_path : (setup : Setup) (p : PathSetup) (i : ℕ) (e : ImportError) → i < length setup.paths.items → p ≡ get_or setup.paths.items i p → IsToldOf p.id e → IsToldIn setup e
-told_of_path setup p i e small is told = told_in setup p.id e (inr (inr (inl (p, (i, small, sym is), refl)))) told
+pub told_of_path : (setup : Setup) (p : PathSetup) (i : ℕ) (e : ImportError) → i < length setup.paths.items → p ≡ get_or setup.paths.items i p → IsToldOf p.config.id e → IsToldIn setup e
+told_of_path setup p i e small is told = told_in setup p.config.id e (inr (inr (inl (p, (i, small, sym is), refl)))) told
 
 pub ruleset naming = (told_of_chain, told_of_client, told_of_client_by, told_of_path, All-push)

@@ -1,10 +1,9 @@
 -- What was seen of a setup's chains and clients.
-use Rattle.std.proofs.Common.{◌≡◌, ℕ, ◌<◌, ◌-◌, List, Vec, length, get_or, map, None, Some, sym, subst, ap, ◌∙◌}
+use Rattle.std.proofs.Common.{◌≡◌, ℕ, ◌<◌, ◌-◌, List, Vec, length, get_or, map, Some, sym, subst, ap, ◌∙◌}
 use Rattle.std.specs.Prelude.{IsSomeAnd, slice_get}
 use Rattle.std.specs.Global.{Global}
 use Rattle.std.proofs.lemmas.List.{length-map}
 use Rattle.std.proofs.lemmas.List.Sorted.{length_permutation}
-use Rattle.std.proofs.lemmas.Option.{none-some, slice_get-get_or}
 use Rattle.rb_import_setup.specs.declared.setup.ClientSetup.{ClientSetup}
 use Rattle.rb_import_setup.specs.declared.setup.PathSetup.{PathSetup}
 use Rattle.rb_import_setup.specs.declared.setup.Setup.{Setup}
@@ -17,7 +16,7 @@ use Rattle.rb_import_check.specs.Chains.{HaveHeaders, headers_of}
 use Rattle.rb_import_merge.specs.declared.packets.SeenPacket.{SeenPacket}
 use Rattle.rb_import_merge.specs.declared.seen.Seen.{Seen}
 use Rattle.rb_import_merge.specs.Room.{AtEachPlace, FitBooks}
-use Rattle.rb_import_merge.specs.Seen.{AreSeenClients, AreSeenPaths, IsSeenChain, IsSeenClient, IsSeenIn, IsSeenPath, ReachChains, TrackChains, answers_at, surplus_of}
+use Rattle.rb_import_merge.specs.Seen.{AreSeenClients, AreSeenPaths, IsSeenChain, IsSeenClient, IsSeenIn, IsSeenPath, answers_at, surplus_of}
 use Rattle.rb_import_merge.specs.Sets.{AreKeptSets}
 use Rattle.rb_import_merge.proofs.Rooms.{AtEachBefore}
 
@@ -25,40 +24,17 @@ use Rattle.rb_import_merge.proofs.Rooms.{AtEachBefore}
 abbrev pub SeenSoFar : ℕ → Setup → List (Vec Saved Global) → List SeenChain → List SeenClient → Type 0
 SeenSoFar n setup answers seen clients = AtEachBefore n (λ (i : ℕ) (x : ClientSetup) (client : SeenClient). IsSeenClient setup.chains.items seen x (answers_at answers i) client) setup.clients.items clients
 
-pub clients_all : (setup : Setup) (answers : List (Vec Saved Global)) (seen : List SeenChain) (clients : List SeenClient) (n : ℕ) → n ≡ length setup.clients.items → SeenSoFar n setup answers seen clients
-    → AreSeenClients setup answers seen clients
-unfolding AreSeenClients AtEachBefore
-clients_all setup answers seen clients n whole (long, all) = (all, λ tracked. long ∙ whole)
-
--- also where the next one tracks no chain of the setup
-pub clients_some : (setup : Setup) (answers : List (Vec Saved Global)) (seen : List SeenChain) (clients : List SeenClient) (n : ℕ) (c : ClientSetup) → n < length setup.clients.items → c ≡ get_or setup.clients.items n c
-    → slice_get setup.chains.items c.tracks ≡ None → SeenSoFar n setup answers seen clients → AreSeenClients setup answers seen clients
-unfolding AreSeenClients AtEachBefore
-clients_some setup answers seen clients n c small is gone (long, all) = (all, λ tracked. absurd (apart tracked))
-  where
-    apart : TrackChains setup → ⊥
-    apart tracked =
-        let within : c.tracks < length setup.chains.items = subst (λ (x : ClientSetup). x.tracks < length setup.chains.items) (sym is) (tracked n c small) in
-        none-some (get_or setup.chains.items c.tracks c.id) (sym gone ∙ slice_get-get_or setup.chains.items c.tracks c.id within)
+-- a client tracks a chain of the setup
+pub client_within : (setup : Setup) (c : ClientSetup) (i : ℕ) → i < length setup.clients.items → c ≡ get_or setup.clients.items i c → c.tracks < length setup.chains.items
+client_within setup c i small is = subst (λ (x : ClientSetup). x.tracks < length setup.chains.items) (sym is) (setup.places.each_client i c small).tracks
 
 -- the first so many paths, each as it was seen
 abbrev pub PathsSoFar : ℕ → Setup → List (Vec Saved Global) → List (Vec SeenPacket Global) → Type 0
 PathsSoFar n setup answers paths = AtEachBefore n (λ (i : ℕ) (x : PathSetup) (packets : Vec SeenPacket Global). IsSeenPath setup.chains.items x (answers_at answers i) packets.items) setup.paths.items paths
 
-pub paths_all : (setup : Setup) (answers : List (Vec Saved Global)) (paths : List (Vec SeenPacket Global)) (n : ℕ) → n ≡ length setup.paths.items → PathsSoFar n setup answers paths → AreSeenPaths setup answers paths
-unfolding AreSeenPaths AtEachBefore
-paths_all setup answers paths n whole (long, all) = (all, λ reached. long ∙ whole)
-
--- also where the next one's destination is no chain of the setup
-pub paths_some : (setup : Setup) (answers : List (Vec Saved Global)) (paths : List (Vec SeenPacket Global)) (n : ℕ) (p : PathSetup) → n < length setup.paths.items → p ≡ get_or setup.paths.items n p
-    → slice_get setup.chains.items p.dest ≡ None → PathsSoFar n setup answers paths → AreSeenPaths setup answers paths
-unfolding AreSeenPaths AtEachBefore
-paths_some setup answers paths n p small is gone (long, all) = (all, λ reached. absurd (apart reached))
-  where
-    apart : ReachChains setup → ⊥
-    apart reached =
-        let within : p.dest < length setup.chains.items = subst (λ (x : PathSetup). x.dest < length setup.chains.items) (sym is) (reached n p small) in
-        none-some (get_or setup.chains.items p.dest p.id) (sym gone ∙ slice_get-get_or setup.chains.items p.dest p.id within)
+-- a path's destination is a chain of the setup
+pub path_within : (setup : Setup) (p : PathSetup) (i : ℕ) → i < length setup.paths.items → p ≡ get_or setup.paths.items i p → p.config.destination < length setup.chains.items
+path_within setup p i small is = subst (λ (x : PathSetup). x.config.destination < length setup.chains.items) (sym is) (setup.places.each_path i p small).destination
 
 -- what holds of the chain at a place holds of what stands there
 pub of_tracked : (P : List ℕ → Type 0) (chains : List (List ℕ)) (n : ℕ) {tracked : List ℕ} → P tracked → slice_get chains n ≡ Some tracked → IsSomeAnd (slice_get chains n) P

@@ -11,7 +11,7 @@ abbrev pub IsNamedIn : Setup → List ℕ → Type 0
 IsNamedIn setup id =
     Contains setup.chains.items id
     ⊎ ((c : ClientSetup) × Contains setup.clients.items c × (c.id ≡ id))
-    ⊎ ((p : PathSetup) × Contains setup.paths.items p × (p.id ≡ id))
+    ⊎ ((p : PathSetup) × Contains setup.paths.items p × (p.config.id ≡ id))
     ⊎ (id ≡ codes "-")
 
 -- the problem is told of an object of the setup, or of the script

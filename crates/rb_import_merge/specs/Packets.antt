@@ -55,13 +55,13 @@ counterparty setup events = option_or (option_map string_bytes setup.counterpart
 -- the packet is the path's: its sequence is the first one or later, its source is the one that the setup names, and its destination this one
 abbrev pub IsOfPath : PathSetup → Option (List ℕ) → SeenPacket → Type 0
 IsOfPath setup end p =
-    (setup.first ≤ p.event.now.sequence)
+    (setup.config.first ≤ p.event.now.sequence)
     × IfSome setup.source_channel (λ source. string_bytes p.event.now.source ≡ string_bytes source)
     × IfSome end (λ dest. string_bytes p.event.now.dest ≡ dest)
 
 -- whether an event is of the path's packets
 abbrev pub is_wanted : PathSetup → Option (List ℕ) → PacketEvent → Bool
-is_wanted setup end e = is_source setup.source_channel (string_bytes e.source) && is_dest end (string_bytes e.dest) && nat_le setup.first e.sequence
+is_wanted setup end e = is_source setup.source_channel (string_bytes e.source) && is_dest end (string_bytes e.dest) && nat_le setup.config.first e.sequence
 
 abbrev pub events_in : NodeAnswer → List PacketEvent
 events_in (answers.Commit header) = []

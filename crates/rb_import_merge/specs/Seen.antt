@@ -52,15 +52,10 @@ IsSeenClient chains seen c saved client =
     × IsSomeAnd (slice_get chains c.tracks) (λ tracked. AtRevision tracked (λ revision. HaveStates (current_of revision saved) client.stored.items))
     × AgreesWithChain seen c client.stored.items
 
--- each client tracks a chain of the setup
-abbrev pub TrackChains : Setup → Type 0
-TrackChains setup = All (λ (c : ClientSetup). c.tracks < length setup.chains.items) setup.clients.items
-
--- each of these is what was seen of the client at its place; there is one of each client, if each tracks a chain of the setup
-unfoldable pub AreSeenClients : Setup → List (Vec Saved Global) → List SeenChain → List SeenClient → Type 0
+-- each of these is what was seen of the client at its place
+abbrev pub AreSeenClients : Setup → List (Vec Saved Global) → List SeenChain → List SeenClient → Type 0
 AreSeenClients setup answers seen clients =
-    ((i : ℕ) → (c : ClientSetup) → (client : SeenClient) → slice_get setup.clients.items i ≡ Some c → slice_get clients i ≡ Some client → IsSeenClient setup.chains.items seen c (answers_at answers i) client)
-    × (TrackChains setup → length clients ≡ length setup.clients.items)
+    AtEachPlace (λ i c client. IsSeenClient setup.chains.items seen c (answers_at answers i) client) setup.clients.items clients
 
 -- how many of the headers that a chain's answers tell of a book has no room for
 abbrev pub surplus_of : List Saved → ℕ
@@ -69,17 +64,12 @@ surplus_of saved = length (headers_of saved) - 4096
 -- these are the path's packets that its answers tell of, each with the height of its destination, a chain of the setup, from which on it isn't received
 abbrev pub IsSeenPath : List (List ℕ) → PathSetup → List Saved → List SeenPacket → Type 0
 IsSeenPath chains path saved packets =
-    HaveEvents path (events_of saved) packets × IsSomeAnd (slice_get chains path.dest) (λ dest. All (Expires dest) packets)
+    HaveEvents path (events_of saved) packets × IsSomeAnd (slice_get chains path.config.destination) (λ dest. All (Expires dest) packets)
 
--- each path's destination is a chain of the setup
-abbrev pub ReachChains : Setup → Type 0
-ReachChains setup = All (λ (p : PathSetup). p.dest < length setup.chains.items) setup.paths.items
-
--- each of these is what was seen of the path at its place; there is one of each path, if each one's destination is a chain of the setup
-unfoldable pub AreSeenPaths : Setup → List (Vec Saved Global) → List (Vec SeenPacket Global) → Type 0
+-- each of these is what was seen of the path at its place
+abbrev pub AreSeenPaths : Setup → List (Vec Saved Global) → List (Vec SeenPacket Global) → Type 0
 AreSeenPaths setup answers paths =
-    ((i : ℕ) → (path : PathSetup) → (packets : Vec SeenPacket Global) → slice_get setup.paths.items i ≡ Some path → slice_get paths i ≡ Some packets → IsSeenPath setup.chains.items path (answers_at answers i) packets.items)
-    × (ReachChains setup → length paths ≡ length setup.paths.items)
+    AtEachPlace (λ i path (packets : Vec SeenPacket Global). IsSeenPath setup.chains.items path (answers_at answers i) packets.items) setup.paths.items paths
 
 -- this was seen of the setup's chains, clients and paths in their answers; books have room for the records, and for the sets that are kept
 unfoldable pub IsSeenIn : Setup → SavedAnswers → Seen → Type 0

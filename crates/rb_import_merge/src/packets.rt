@@ -77,9 +77,9 @@ pub fn seen_packets<'a>(
     ensures path { IfOk result (λ packets. All (IsOfPath setup.entry.now (counterparty setup.entry.now (events_of answers.entry.now))) packets.items) }
     ensures events { IfOk result (λ packets. HaveEvents setup.entry.now (events_of answers.entry.now) packets.items) }
     ensures expiry { IfOk result (λ packets. All (Expires dest.now) packets.items) }
-    ensures told { IfErr result (IsToldOf setup.entry.now.id) }
+    ensures told { IfErr result (IsToldOf setup.entry.now.config.id) }
 {
-    let id = setup.id.as_str();
+    let id = setup.config.id.as_str();
     let pages = pages_of(alloc, id, answers)?;
     judge_totals(id, pages.as_slice())?;
     let all = all_events(alloc, revision_of(dest.as_str()), pages.as_slice())?;
@@ -323,7 +323,7 @@ fn wanted_of<'a>(
     all: &[SeenPacket<'a>],
 ) -> Result<Vec<SeenPacket<'a>>, ImportError<'a>>
     ensures wanted { IfOk result (λ wanted. wanted.items ≡ filter (λ s. is_wanted setup.entry.now (option_map (λ e. e.now) end.entry) s.event.now) all.now) }
-    ensures told { IfErr result (IsToldOf setup.entry.now.id) }
+    ensures told { IfErr result (IsToldOf setup.entry.now.config.id) }
 {
     let mut wanted = Vec::new(alloc);
     for seen in all {
@@ -340,7 +340,7 @@ fn add_wanted<'a>(
     wanted: &mut Vec<SeenPacket<'a>>,
 ) -> Result<(), ImportError<'a>>
     ensures wanted { OnOk result (wanted.new.items ≡ wanted.old.items ++ (if is_wanted setup.entry.now (option_map (λ e. e.now) end.entry) seen.entry.event.now then seen.entry ∷ [] else [])) }
-    ensures told { IfErr result (IsToldOf setup.entry.now.id) }
+    ensures told { IfErr result (IsToldOf setup.entry.now.config.id) }
 {
     if is_wanted(setup, end, wanted.first(), &seen)? {
         wanted.push(seen)?;
@@ -357,19 +357,25 @@ fn is_wanted<'a>(
     seen: &SeenPacket<'a>,
 ) -> Result<bool, ImportError<'a>>
     ensures wanted { IfOk result (λ is. is ≡ is_wanted setup.entry.now (option_map (λ e. e.now) end.entry) seen.now.event.now) }
-    ensures told { IfErr result (IsToldOf setup.entry.now.id) }
+    ensures told { IfErr result (IsToldOf setup.entry.now.config.id) }
 {
     let source = seen.event.source.as_str();
     match (&setup.source_channel, first) {
         (None, Some(first)) if first.event.source.as_str() != source => {
             let name = CheckErrorName::TwoChannels;
             let sequence = seen.event.sequence;
-            Err(ImportError::between(name, setup.id.as_str(), sequence, first.file, seen.file))
+            Err(ImportError::between(
+                name,
+                setup.config.id.as_str(),
+                sequence,
+                first.file,
+                seen.file,
+            ))
         }
         _ => Ok(
             is_source(setup, source)
                 && is_dest(end, seen.event.dest.as_str())
-                && setup.first <= seen.event.sequence,
+                && setup.config.first.get() <= seen.event.sequence,
         ),
     }
 }

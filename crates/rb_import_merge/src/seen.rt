@@ -1,5 +1,5 @@
 //! What was seen of a setup's chains, clients and paths, as much of it as books have room for.
-ghost use Rattle.std.specs.Prelude.{◌≡◌, ◌≤◌, ◌↔◌, length, All, IsTrue, IfOk, IfErr, OnOk};
+ghost use Rattle.std.specs.Prelude.{◌≡◌, ◌<◌, ◌≤◌, ◌↔◌, Some, length, slice_get, All, IsTrue, IfOk, IfErr, OnOk};
 ghost use Rattle.rb_import_check.specs.Errors.{IsToldOf};
 ghost use Rattle.rb_import_merge.specs.Errors.{IsToldIn};
 ghost use Rattle.rb_import_merge.specs.Room.{AtEachPlace};
@@ -9,6 +9,7 @@ use crate::kept::KeptSets;
 use crate::packets::{SeenPacket, seen_packets};
 use crate::room::{kept_records, surplus_of, with_room};
 use crate::sets::kept_sets;
+use rb_base::ChainId;
 use rb_import_check::{
     ImportError, Saved, SavedAnswers, SeenChain, SeenClient, Stored, judge_records, seen_chain,
     seen_client,
@@ -151,7 +152,15 @@ fn seen_chains<'a>(
     Ok((chains, surplus))
 }
 
-/// What was seen of each client, by its place; of one that tracks no chain of the setup nothing is, nor of those behind.
+/// The identifier of the chain at a place.
+fn chain_at(setup: &Setup, place: usize) -> &ChainId
+    requires { place < length setup.now.chains.items }
+    ensures { slice_get setup.now.chains.items place ≡ Some result.now }
+{
+    &setup.chains[place]
+}
+
+/// What was seen of each client, by its place.
 #[tactic(auto, using(crate::proofs::Told::naming))]
 fn seen_clients<'a>(
     alloc: Global,
@@ -164,9 +173,7 @@ fn seen_clients<'a>(
 {
     let mut clients = Vec::with_capacity(alloc, setup.clients.len())?;
     for (place, client) in setup.clients.iter().enumerate() {
-        let Some(tracked) = setup.chains.get(client.tracks) else {
-            return Ok(clients);
-        };
+        let tracked = chain_at(setup, client.tracks);
         let saved = answers_at(&answers.clients, place);
         let seen = seen_client(alloc, client, tracked, saved)?;
         judge_client(alloc, client, chains, seen.stored.as_slice())?;
@@ -191,8 +198,7 @@ fn judge_client<'a>(
     }
 }
 
-/// What was seen of each path, by its place; of one whose destination is no chain of the setup nothing is, nor of those
-/// behind.
+/// What was seen of each path, by its place.
 #[tactic(auto, using(crate::proofs::Told::naming))]
 fn seen_paths<'a>(
     alloc: Global,
@@ -204,9 +210,7 @@ fn seen_paths<'a>(
 {
     let mut paths = Vec::with_capacity(alloc, setup.paths.len())?;
     for (place, path) in setup.paths.iter().enumerate() {
-        let Some(dest) = setup.chains.get(path.dest) else {
-            return Ok(paths);
-        };
+        let dest = chain_at(setup, path.config.destination);
         let saved = answers_at(&answers.paths, place);
         let seen = seen_packets(alloc, path, dest, saved)?;
         paths.push(seen)?;

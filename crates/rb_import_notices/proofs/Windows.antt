@@ -84,13 +84,13 @@ no_last setup seen found none empty =
 
 pub fresh_here : (setup : Setup) (seen : Seen) (place : ℕ) (c : ClientSetup) (turn : TurnSetup) (chain : SeenChain) (records : Vec Stored Global) (id : List ℕ) (notice : NothingFresh)
     → last_turn setup ≡ Some turn → slice_get seen.chains.items c.tracks ≡ Some chain → slice_get seen.records.items place ≡ Some records → slice_get setup.chains.items c.tracks ≡ Some id
-    → AreStale c.refresh turn.window chain.commits.items records.items → notice.client.now ≡ c.id → notice.chain.now ≡ id → LacksFresh setup seen place c × SaysFresh setup c notice
+    → AreStale c.terms.refresh turn.window chain.commits.items records.items → notice.client.now ≡ c.id → notice.chain.now ≡ id → LacksFresh setup seen place c × SaysFresh setup c notice
 fresh_here setup seen place c turn chain records id notice last tracked stored named stale told its = (
   (
     slice_get_within setup.chains.items c.tracks id named,
-    here (last_turn setup) turn (λ (t : TurnSetup). IsSomeAnd (slice_get seen.chains.items c.tracks) (λ (k : SeenChain). IsSomeAnd (slice_get seen.records.items place) (λ (r : Vec Stored Global). AreStale c.refresh t.window k.commits.items r.items))) last
-        (here (slice_get seen.chains.items c.tracks) chain (λ (k : SeenChain). IsSomeAnd (slice_get seen.records.items place) (λ (r : Vec Stored Global). AreStale c.refresh turn.window k.commits.items r.items)) tracked
-        (here (slice_get seen.records.items place) records (λ (r : Vec Stored Global). AreStale c.refresh turn.window chain.commits.items r.items) stored stale)),
+    here (last_turn setup) turn (λ (t : TurnSetup). IsSomeAnd (slice_get seen.chains.items c.tracks) (λ (k : SeenChain). IsSomeAnd (slice_get seen.records.items place) (λ (r : Vec Stored Global). AreStale c.terms.refresh t.window k.commits.items r.items))) last
+        (here (slice_get seen.chains.items c.tracks) chain (λ (k : SeenChain). IsSomeAnd (slice_get seen.records.items place) (λ (r : Vec Stored Global). AreStale c.terms.refresh turn.window k.commits.items r.items)) tracked
+        (here (slice_get seen.records.items place) records (λ (r : Vec Stored Global). AreStale c.terms.refresh turn.window chain.commits.items r.items) stored stale)),
   ),
   (told, subst (λ x. slice_get setup.chains.items c.tracks ≡ Some x) (sym its) named),
 )

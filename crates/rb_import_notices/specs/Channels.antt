@@ -15,7 +15,7 @@ IsOfOthers answers place path = LacksSource path (answers_at answers place)
 
 -- it is told of this path, with the source that the setup names and another one that packets came from
 abbrev pub SaysChannels : List (Vec Saved Global) → ℕ → PathSetup → OtherChannel → Type 0
-SaysChannels answers place path notice = (notice.path.now ≡ path.id) × AreSources path (answers_at answers place) notice.sources
+SaysChannels answers place path notice = (notice.path.now ≡ path.config.id) × AreSources path (answers_at answers place) notice.sources
 
 -- a notice for each path of the setup whose packets are of other sources
 unfoldable pub TellChannels : Setup → List (Vec Saved Global) → List OtherChannel → Type 0

@@ -18,7 +18,7 @@ SentToSeveral answers place path = HasSeveral path (events_of (answers_at answer
 -- it is told of this path, with the destination that is taken and another one
 abbrev pub SaysCounterparties : List (Vec Saved Global) → ℕ → PathSetup → SeveralCounterparties → Type 0
 SaysCounterparties answers place path notice =
-    (notice.path.now ≡ path.id) × AreCounterparties path (events_of (answers_at answers place)) notice.counterparties
+    (notice.path.now ≡ path.config.id) × AreCounterparties path (events_of (answers_at answers place)) notice.counterparties
 
 -- a notice for each path of the setup from whose source packets were sent to several destinations
 unfoldable pub TellCounterparties : Setup → List (Vec Saved Global) → List SeveralCounterparties → Type 0

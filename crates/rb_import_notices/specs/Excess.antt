@@ -84,7 +84,7 @@ TellsSent packets sent first = (sent ≡ sent_in packets) × IsSomeAnd (slice_ge
 -- it is told of this path, and of its packets
 abbrev pub SaysPackets : Seen → ℕ → PathSetup → TooManyPackets → Type 0
 SaysPackets seen place path notice =
-    (notice.path.now ≡ path.id) × IsSomeAnd (slice_get seen.paths.items place) (λ (packets : Vec SeenPacket Global). TellsSent packets.items notice.sent notice.first)
+    (notice.path.now ≡ path.config.id) × IsSomeAnd (slice_get seen.paths.items place) (λ (packets : Vec SeenPacket Global). TellsSent packets.items notice.sent notice.first)
 
 -- a notice for each path of the setup of which more packets were sent than a path holds
 unfoldable pub TellExcessPackets : Setup → Seen → List TooManyPackets → Type 0

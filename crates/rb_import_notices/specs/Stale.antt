@@ -32,7 +32,7 @@ LacksFresh setup seen place c =
     × IsSomeAnd (last_turn setup) (λ (turn : TurnSetup).
     IsSomeAnd (slice_get seen.chains.items c.tracks) (λ (chain : SeenChain).
     IsSomeAnd (slice_get seen.records.items place) (λ (records : Vec Stored Global).
-    AreStale c.refresh turn.window chain.commits.items records.items)))
+    AreStale c.terms.refresh turn.window chain.commits.items records.items)))
 
 -- it is told of this client, and of the chain that it tracks
 abbrev pub SaysFresh : Setup → ClientSetup → NothingFresh → Type 0

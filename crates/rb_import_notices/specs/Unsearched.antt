@@ -33,7 +33,7 @@ LacksSearches answers place = IsSomeAnd (slice_get answers place) (λ (saved : V
 -- it is told of this path, and of what its answers don't tell
 abbrev pub SaysSearches : List (Vec Saved Global) → ℕ → PathSetup → MissingSearches → Type 0
 SaysSearches answers place path notice =
-    (notice.path.now ≡ path.id) × IsSomeAnd (slice_get answers place) (λ (saved : Vec Saved Global). AreSearches saved.items notice.searches)
+    (notice.path.now ≡ path.config.id) × IsSomeAnd (slice_get answers place) (λ (saved : Vec Saved Global). AreSearches saved.items notice.searches)
 
 -- a notice for each path of the setup of which searches aren't there
 unfoldable pub TellSearches : Setup → List (Vec Saved Global) → List MissingSearches → Type 0

@@ -52,6 +52,6 @@ fn other_of<'a>(
     ensures { MatchOption result (¬ IsOfOthers answers.entry.now.paths.items place path.entry.now) (λ n. IsOfOthers answers.entry.now.paths.items place path.entry.now × SaysChannels answers.entry.now.paths.items place path.entry.now n) }
 {
     let sources = other_source(path, answers_at(&answers.paths, place))?;
-    let path = path.id.as_str();
+    let path = path.config.id.as_str();
     Some(OtherChannel { path, sources })
 }

@@ -53,7 +53,7 @@ fn several_of<'a>(
     ensures { MatchOption result (¬ SentToSeveral answers.entry.now.paths.items place path.entry.now) (λ n. SentToSeveral answers.entry.now.paths.items place path.entry.now × SaysCounterparties answers.entry.now.paths.items place path.entry.now n) }
 {
     let counterparties = several_counterparties(path, answers_at(&answers.paths, place))?;
-    let path = path.id.as_str();
+    let path = path.config.id.as_str();
     Some(SeveralCounterparties {
         path,
         counterparties,

@@ -221,7 +221,7 @@ fn packets_at<'a>(seen: &Seen<'_>, place: usize, path: &'a PathSetup) -> Option<
     }
     let first = sequence_after(packets.as_slice(), sent - PATH_PACKETS);
     Some(TooManyPackets {
-        path: path.id.as_str(),
+        path: path.config.id.as_str(),
         sent,
         first,
     })

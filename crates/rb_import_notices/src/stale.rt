@@ -59,7 +59,7 @@ fn stale_at<'a>(
     let chain = seen.chains.get(client.tracks)?;
     let records = seen.records.get(place)?;
     if !are_stale(
-        client.refresh,
+        client.terms.refresh,
         &turn.window,
         chain.commits.as_slice(),
         records.as_slice(),

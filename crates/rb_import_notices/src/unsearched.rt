@@ -97,6 +97,6 @@ fn missing_of<'a>(
     if !searches.are_missing() {
         return None;
     }
-    let path = path.id.as_str();
+    let path = path.config.id.as_str();
     Some(MissingSearches { path, searches })
 }

@@ -3,4 +3,5 @@ pub use Rattle.rb_script_toml.specs.Faults
 pub mod Clients
 pub mod Paths
 pub mod Turns
+pub mod Places
 pub mod Setups

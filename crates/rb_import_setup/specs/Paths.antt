@@ -1,49 +1,23 @@
 -- The tables of paths (ICS 4: one direction of a channel).
-use Rattle.std.specs.Prelude.{ℕ, List, [], ◌∷◌, ◌++◌, map, codes, string_bytes, Option, Some, None, option_map, unwrap_or, is_none, slice_get, Bool, true, false, not, ◌&&◌, ◌==◌, Result, Ok, if◌then◌else◌}
-use Rattle.rb_scan.specs.declared.path.Order.{Order}
-use Rattle.rb_scan.specs.declared.path.Order.TheVariants.{Ordered, Unordered}
-use Rattle.rb_script_toml.specs.Faults.{Fault, ◌>>=◌, check}
-use Rattle.rb_script_toml.specs.Fields.{Section, text, only, needs, optional, or_default, number, max_number}
-use Rattle.rb_script_toml.specs.declared.fault.FaultName.TheVariants.{OutOfRange, SameChain, WrongClient}
-use Rattle.rb_script_config.specs.Named.{reference, new_identifier}
-use Rattle.rb_script_config.specs.Paths.{order}
+use Rattle.std.specs.Prelude.{ℕ, List, [], ◌∷◌, ◌++◌, map, codes, string_bytes, Option, Some, None, option_map, is_none, Bool, ◌&&◌, Result, Ok, if◌then◌else◌}
+use Rattle.rb_script_types.specs.declared.config.PathConfig.{PathConfig}
+use Rattle.rb_script_toml.specs.Faults.{Fault, ◌>>=◌}
+use Rattle.rb_script_toml.specs.Fields.{Section, text, only, needs, optional}
+use Rattle.rb_script_config.specs.Paths.{path_config, fits}
 use Rattle.rb_import_setup.specs.declared.setup.ClientSetup.{ClientSetup}
 use Rattle.rb_import_setup.specs.declared.setup.PathSetup.{PathSetup}
-use Rattle.rb_import_setup.specs.Clients.{client_ids, three}
+use Rattle.rb_import_setup.specs.Clients.{client_ends, client_ids}
 
--- a path: its chains and clients by their places, and the two ends of its channel, each as `port/channel`
+-- a path as a script has it, and the two ends of its channel, each as `port/channel`
 pub record Path : Type 0 where
-  pub id : List ℕ
-  pub source : ℕ
-  pub dest : ℕ
-  pub is_ordered : Bool
-  pub first : ℕ
-  pub forward : ℕ
-  pub back : ℕ
-  pub gas : List ℕ
+  pub config : PathConfig
   pub source_channel : Option (List ℕ)
   pub counterparty : Option (List ℕ)
 
 abbrev pub path_view : PathSetup → Path
-path_view p = record {
-  id = p.id;
-  source = p.source;
-  dest = p.dest;
-  is_ordered = p.is_ordered;
-  first = p.first;
-  forward = p.forward;
-  back = p.back;
-  gas = p.gas;
-  source_channel = option_map string_bytes p.source_channel;
-  counterparty = option_map string_bytes p.counterparty;
-}
+path_view p = record { config = p.config; source_channel = option_map string_bytes p.source_channel; counterparty = option_map string_bytes p.counterparty }
 
 -- ---- values of their own
-
--- whether packets go in order
-abbrev pub is_ordered : Order → Bool
-is_ordered Ordered = true
-is_ordered Unordered = false
 
 -- whether neither of an end's two keys is there
 abbrev pub is_unnamed : List ℕ → List ℕ → Section → Bool
@@ -68,15 +42,10 @@ counterparty s =
     if is_unnamed (codes "counterparty_port") (codes "counterparty_channel") s then Ok None
     else named_end (codes "counterparty_port") (codes "counterparty_channel") s
 
--- whether the client at a place is hosted on the one chain and tracks the other
-abbrev pub connects : List ClientSetup → ℕ → ℕ → ℕ → Bool
-connects clients place host tracks =
-    unwrap_or (option_map (λ (c : ClientSetup). c.host == host && c.tracks == tracks) (slice_get clients place)) false
-
 -- ---- paths
 
 abbrev pub path_ids : List Path → List (List ℕ)
-path_ids paths = map (λ p. p.id) paths
+path_ids paths = map (λ p. p.config.id) paths
 
 abbrev pub path_keys : List (List ℕ)
 path_keys =
@@ -87,27 +56,8 @@ path_keys =
 unfoldable pub path : List (List ℕ) → List ClientSetup → List Path → Section → Result Path Fault
 path chains clients before s = do
   _ ← only path_keys s
-  id ← needs (codes "id") (new_identifier (path_ids before)) s
-  source ← needs (codes "source") (reference chains) s
-  dest ← needs (codes "dest") (reference chains) s
-  o ← needs (codes "order") order s
-  first ← or_default 1 (number 1 max_number OutOfRange) (optional (codes "first") s)
-  forward ← needs (codes "forward") (reference (client_ids clients)) s
-  back ← needs (codes "back") (reference (client_ids clients)) s
-  gas ← needs (codes "gas") three s
+  p ← path_config chains (client_ids clients) (path_ids before) s
   channel ← source_channel s
   other ← counterparty s
-  _ ← check (not (source == dest)) SameChain s.path
-  _ ← check (connects clients forward dest source && connects clients back source dest) WrongClient s.path
-  Ok (record {
-    id = id;
-    source = source;
-    dest = dest;
-    is_ordered = is_ordered o;
-    first = first;
-    forward = forward;
-    back = back;
-    gas = gas;
-    source_channel = channel;
-    counterparty = other;
-  })
+  _ ← fits client_ends clients p s.path
+  Ok (record { config = p; source_channel = channel; counterparty = other })

@@ -2,59 +2,31 @@
 ghost use Rattle.std.specs.Prelude.{◌≡◌, [], codes};
 ghost use Rattle.toml.specs.View.{view, items_view};
 ghost use Rattle.rb_script_toml.specs.Faults.{Gives};
-ghost use Rattle.rb_script_toml.specs.Fields.{field_view, section_view, needs, optional, maybe, number, max_number, at_element, elements};
-ghost use Rattle.rb_script_toml.specs.declared.fault.FaultName.TheVariants.{OutOfRange};
-ghost use Rattle.rb_import_setup.specs.Clients.{three, level, client};
+ghost use Rattle.rb_script_toml.specs.Fields.{field_view, section_view, optional, maybe, at_element, elements};
+ghost use Rattle.rb_import_setup.specs.Clients.{level, client};
 
-use crate::setup::ClientSetup;
-use rb_base::{ChainId, ClientId};
-use rb_import_answers::TrustLevel;
+use crate::setup::{ClientSetup, TrustSetup};
+use rb_base::ChainId;
 use rb_script_config::{
-    Directory, maybe_period, needed_limits, new_identifier, only_client_keys, reference,
+    Directory, maybe_drift, maybe_period, no_defaults, read_identity, read_terms, two_chains,
 };
-use rb_script_toml::{FaultName, Field, MAX_NUMBER, RunError, Section, element_path, section_at};
+use rb_script_toml::{Field, RunError, Section, element_path, section_at};
 use std::alloc::Global;
 use toml::Value;
 
-#[tactic(auto, using(rb_script_toml::proofs::Steps::steps), unfolding(crate::specs::Clients::three))]
-fn three(field: &Field<'_>) -> Result<[u64; 3], RunError>
-    ensures { Gives (λ n. n) result (three (field_view field.now)) }
-{
-    let (first, second, third) = field.fees()?;
-    Ok([first, second, third])
-}
-
-/// Reads three numbers of fees or of gas.
-#[tactic(auto, using(rb_script_toml::proofs::Steps::steps))]
-pub fn needed_three<'a>(section: &Section<'a>, key: &'a str) -> Result<[u64; 3], RunError>
-    ensures { Gives (λ n. n) result (needs key.entry.now three (section_view section.now)) }
-{
-    three(&section.required(key)?)
-}
-
-#[tactic(auto, using(rb_script_toml::proofs::Steps::steps))]
-fn maybe_drift(section: &Section<'_>) -> Result<Option<u64>, RunError>
-    ensures { Gives (λ d. d) result (maybe (number 0 max_number OutOfRange) (optional (codes "drift_ns") (section_view section.now))) }
-{
-    match section.optional("drift_ns") {
-        Some(field) => Ok(Some(field.number(0, MAX_NUMBER, FaultName::OutOfRange)?)),
-        None => Ok(None),
-    }
-}
-
 #[tactic(auto, using(rb_script_toml::proofs::Steps::steps), unfolding(crate::specs::Clients::level))]
-fn level(field: &Field<'_>) -> Result<TrustLevel, RunError>
+fn level(field: &Field<'_>) -> Result<TrustSetup, RunError>
     ensures { Gives (λ t. t) result (level (field_view field.now)) }
 {
     let (numerator, denominator) = field.level()?;
-    Ok(TrustLevel {
+    Ok(TrustSetup {
         numerator,
         denominator,
     })
 }
 
 #[tactic(auto, using(rb_script_toml::proofs::Steps::steps))]
-fn maybe_level(section: &Section<'_>) -> Result<Option<TrustLevel>, RunError>
+fn maybe_level(section: &Section<'_>) -> Result<Option<TrustSetup>, RunError>
     ensures { Gives (λ t. t) result (maybe level (optional (codes "trust") (section_view section.now))) }
 {
     match section.optional("trust") {
@@ -71,35 +43,20 @@ fn read_client(
 ) -> Result<ClientSetup, RunError>
     ensures { Gives (λ c. c) result (client chains.now before.now (section_view section.now)) }
 {
-    only_client_keys(section)?;
-    let id = new_identifier(section, before)?;
-    let host = reference(section, "host", chains)?;
-    let tracks = reference(section, "of", chains)?;
+    let identity = read_identity(section, chains, before)?;
     let period = maybe_period(section)?;
     let drift = maybe_drift(section)?;
-    let refresh = section.number_or("refresh_ns", 0, 0, MAX_NUMBER)?;
-    let fees = needed_three(section, "fee")?;
-    let gas = needed_three(section, "gas")?;
-    let limits = needed_limits(section)?;
+    let terms = read_terms(section, &no_defaults())?;
     let trust = maybe_level(section)?;
-    if host == tracks {
-        return Err(section.fault(FaultName::SameChain));
-    }
+    two_chains(section, identity.host, identity.tracks)?;
     Ok(ClientSetup {
-        id: ClientId::new(id).unwrap(),
-        host,
-        tracks,
+        id: identity.id,
+        host: identity.host,
+        tracks: identity.tracks,
         period,
         drift,
-        refresh,
-        fees,
-        gas,
-        limits: [
-            limits.gas(),
-            limits.count() as u64,
-            limits.transaction_gas(),
-        ],
         trust,
+        terms,
     })
 }
 

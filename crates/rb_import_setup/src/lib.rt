@@ -10,4 +10,4 @@ mod setup;
 mod turn;
 
 pub use reading::read_setup;
-pub use setup::{ClientSetup, PathSetup, Setup, TurnSetup};
+pub use setup::{ClientSetup, PathSetup, Setup, TrustSetup, TurnSetup};

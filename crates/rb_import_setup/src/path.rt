@@ -1,30 +1,16 @@
 //! The paths of a setup.
-ghost use Rattle.std.specs.Prelude.{◌≡◌, ◌<◌, [], IfOk, codes, length, map, option_map, string_bytes};
+ghost use Rattle.std.specs.Prelude.{◌≡◌, [], codes, map, option_map, string_bytes};
 ghost use Rattle.toml.specs.View.{view, items_view};
 ghost use Rattle.rb_script_toml.specs.Faults.{Gives};
 ghost use Rattle.rb_script_toml.specs.Fields.{section_view, only, needs, text, at_element, elements};
-ghost use Rattle.rb_base.specs.Identifier.{IsIdentifier};
-ghost use Rattle.rb_script_config.specs.Named.{new_identifier};
-ghost use Rattle.rb_import_setup.specs.Paths.{is_ordered, is_unnamed, named_end, source_channel, counterparty, connects, path, path_ids, path_keys, path_view};
+ghost use Rattle.rb_import_setup.specs.Paths.{is_unnamed, named_end, source_channel, counterparty, path, path_keys, path_view};
 
-use crate::client::needed_three;
 use crate::setup::{ClientSetup, PathSetup};
-use rb_base::{ChainId, PathId};
-use rb_scan::Order;
-use rb_script_config::{Directory, needed_order, new_identifier, reference};
-use rb_script_toml::{FaultName, Field, MAX_NUMBER, RunError, Section, element_path, section_at};
+use rb_base::ChainId;
+use rb_script_config::{Directory, judge_path, read_path_config};
+use rb_script_toml::{RunError, Section, element_path, section_at};
 use std::alloc::Global;
 use toml::Value;
-
-/// Whether packets go in order.
-fn is_ordered(order: Order) -> bool
-    ensures { result ≡ is_ordered order }
-{
-    match order {
-        Order::Ordered => true,
-        Order::Unordered => false,
-    }
-}
 
 #[tactic(auto, using(rb_script_toml::proofs::Steps::steps))]
 fn needed_text<'a>(section: &Section<'a>, key: &'a str) -> Result<&'a str, RunError>
@@ -78,27 +64,6 @@ fn counterparty(section: &Section<'_>) -> Result<Option<String>, RunError>
     named_end(section, "counterparty_port", "counterparty_channel")
 }
 
-/// Whether a client is hosted on the one chain and tracks the other.
-fn connects(clients: &Directory<ClientSetup>, place: usize, host: usize, tracks: usize) -> bool
-    requires { place < length clients.now }
-    ensures { result ≡ connects clients.now place host tracks }
-{
-    let client = &clients.as_slice()[place];
-    client.host == host && client.tracks == tracks
-}
-
-/// The identifier of a new path, which none of these has.
-#[tactic(auto, using(rb_script_toml::proofs::Steps::steps, crate::proofs::PathsLemmas::views))]
-fn path_identifier<'a>(
-    section: &Section<'a>,
-    before: &Directory<PathSetup>,
-) -> Result<&'a str, RunError>
-    ensures read { Gives (λ t. t.now) result (needs (codes "id") (new_identifier (path_ids (map path_view before.now))) (section_view section.now)) }
-    ensures form { IfOk result (λ t. IsIdentifier t.now) }
-{
-    new_identifier(section, before)
-}
-
 fn only_path_keys(section: &Section<'_>) -> Result<(), RunError>
     ensures { Gives (λ u. u) result (only path_keys (section_view section.now)) }
 {
@@ -118,7 +83,7 @@ fn only_path_keys(section: &Section<'_>) -> Result<(), RunError>
     ])
 }
 
-#[tactic(auto, using(rb_script_toml::proofs::Steps::steps), unfolding(crate::specs::Paths::path))]
+#[tactic(auto, using(rb_script_toml::proofs::Steps::steps, crate::proofs::PathsLemmas::views), unfolding(crate::specs::Paths::path))]
 fn read_path(
     section: &Section<'_>,
     chains: &Directory<ChainId>,
@@ -128,31 +93,12 @@ fn read_path(
     ensures { Gives path_view result (path chains.now clients.now (map path_view before.now) (section_view section.now)) }
 {
     only_path_keys(section)?;
-    let id = path_identifier(section, before)?;
-    let source = reference(section, "source", chains)?;
-    let dest = reference(section, "dest", chains)?;
-    let order = needed_order(section)?;
-    let first = section.number_or("first", 1, 1, MAX_NUMBER)?;
-    let forward = reference(section, "forward", clients)?;
-    let back = reference(section, "back", clients)?;
-    let gas = needed_three(section, "gas")?;
+    let config = read_path_config(section, chains, clients, before)?;
     let source_channel = source_channel(section)?;
     let counterparty = counterparty(section)?;
-    if source == dest {
-        return Err(section.fault(FaultName::SameChain));
-    }
-    if !connects(clients, forward, dest, source) || !connects(clients, back, source, dest) {
-        return Err(section.fault(FaultName::WrongClient));
-    }
+    judge_path(section, clients, &config)?;
     Ok(PathSetup {
-        id: PathId::new(id).unwrap(),
-        source,
-        dest,
-        is_ordered: is_ordered(order),
-        first,
-        forward,
-        back,
-        gas,
+        config,
         source_channel,
         counterparty,
     })

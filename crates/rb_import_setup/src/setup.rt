@@ -1,35 +1,41 @@
 //! What a setup says: a script without events.
-use rb_base::{ChainId, ClientId, PathId, Period, Window};
-use rb_import_answers::TrustLevel;
-use rb_script_config::Named;
-use rb_script_types::{Asked, Settlement};
+ghost use Rattle.std.specs.Prelude.{length};
+ghost use Rattle.rb_import_setup.specs.Places.{ArePlaces};
+ghost use Rattle.rb_import_setup.specs.Clients.{client_ends};
+
+use rb_base::{ChainId, ClientId, Period, Window};
+use rb_script_config::{Client, ClientTerms, Drift, Named};
+use rb_script_types::{Asked, PathConfig, Settlement};
 
 /// The chains, clients and paths of a script, and its turns, of which there is at least one. Chains
-/// and clients are named by their places.
+/// and clients are named by their places, each of which is the place of one.
 #[derive(Drop)]
 pub struct Setup {
     pub chains: Vec<ChainId>,
     pub clients: Vec<ClientSetup>,
     pub paths: Vec<PathSetup>,
     pub turns: Vec<TurnSetup>,
+    ghost places: { ArePlaces (length chains.items) clients.items paths.items turns.items },
 }
 
-/// A client. The trusting period, the clock drift in nanoseconds and the trust level that aren't
-/// there are taken from the answer on its state. Fees and gas are a base, so much for each commit
-/// vote and so much for each validator; limits are the gas of a transaction, its messages, and the
-/// gas that it takes itself.
+/// A client. The trusting period, the clock drift and the trust level that aren't there are taken from
+/// the answer on its state.
 #[derive(Clone, Copy)]
 pub struct ClientSetup {
     pub id: ClientId,
     pub host: usize,
     pub tracks: usize,
     pub period: Option<Period>,
-    pub drift: Option<u64>,
-    pub refresh: u64,
-    pub fees: [u64; 3],
-    pub gas: [u64; 3],
-    pub limits: [u64; 3],
-    pub trust: Option<TrustLevel>,
+    pub drift: Option<Drift>,
+    pub trust: Option<TrustSetup>,
+    pub terms: ClientTerms,
+}
+
+/// A trust level, from a third to one (CometBFT light client).
+#[derive(Clone, Copy)]
+pub struct TrustSetup {
+    pub numerator: u64,
+    pub denominator: u64,
 }
 
 impl Named for ClientSetup {
@@ -40,29 +46,34 @@ impl Named for ClientSetup {
     }
 }
 
+impl Client for ClientSetup {
+    ghost ends = { client_ends };
+
+    fn host(&self) -> usize {
+        self.host
+    }
+
+    fn tracks(&self) -> usize {
+        self.tracks
+    }
+}
+
 /// A path: one direction of a channel. Its packets are those from `source_channel`, the source's end
 /// of the channel as `port/channel`, where that is there, else all that the answers tell of; and of
 /// these the ones to `counterparty`, the channel's other end, where that is there (never without
 /// `source_channel`), else those to the end that the first of them was sent to.
 #[derive(Drop)]
 pub struct PathSetup {
-    pub id: PathId,
-    pub source: usize,
-    pub dest: usize,
-    pub is_ordered: bool,
-    pub first: u64,
-    pub forward: usize,
-    pub back: usize,
-    pub gas: [u64; 3],
+    pub config: PathConfig,
     pub source_channel: Option<String>,
     pub counterparty: Option<String>,
 }
 
 impl Named for PathSetup {
-    ghost name = { λ p. p.id };
+    ghost name = { λ p. p.config.id };
 
     fn id(&self) -> &str {
-        self.id.as_str()
+        self.config.id.as_str()
     }
 }
 

@@ -23,8 +23,9 @@ use Rattle.rb_script_config.specs.declared.version.Version.TheVariants as versio
 use Rattle.rb_script_config.specs.declared.chain.Chain.{Chain}
 use Rattle.rb_script_config.specs.Versions.{version, max_records}
 use Rattle.rb_script_config.specs.Chains.{chain, chain_keys, chain_ids, shared, no_defaults}
-use Rattle.rb_script_config.specs.Clients.{client, client_keys, client_ids, limits, own, shared_by}
-use Rattle.rb_script_config.specs.Paths.{path, path_keys, path_ids, order, sequence, path_gas, connects}
+use Rattle.rb_script_config.specs.declared.client.ClientIdentity.{ClientIdentity}
+use Rattle.rb_script_config.specs.Clients.{identity, terms, client, client_ends, client_keys, client_ids, own, shared_by}
+use Rattle.rb_script_config.specs.Paths.{path, path_config, path_keys, path_ids, order, sequence, path_gas, connects, fits}
 use Rattle.rb_script_config.specs.Tables.{Tables, tables, top_keys, config}
 
 -- ---- steps
@@ -173,33 +174,38 @@ chains-alone ds chains h =
 different : (i j : ℕ) → not (i == j) ≡ true → i ≢ j
 different i j h e = true≢false (sym h ∙ ap not (eq-eqb i j e))
 
+pub identity-form : (chains before : List (List ℕ)) (s : Section) (n : ClientIdentity) → identity chains before s ≡ Ok n
+    → (n.host < length chains) × (n.tracks < length chains) × All (λ x. x ≢ n.id) before
+unfolding identity
+identity-form chains before s n h =
+    pass (only client_keys s) _ n h (λ u e0 h0.
+    pass (needs (codes "id") (new_identifier before) s) _ n h0 (λ id e1 h1.
+    pass (needs (codes "host") (reference chains) s) _ n h1 (λ host e2 h2.
+    pass (needs (codes "of") (reference chains) s) _ n h2 (λ tracks e3 same.
+    subst (λ (x : ClientIdentity). (x.host < length chains) × (x.tracks < length chains) × All (λ i. i ≢ x.id) before) (same_ok _ n same) (
+      needs-field (codes "host") (reference chains) s host e2 (λ f r. reference-within chains f host r),
+      needs-field (codes "of") (reference chains) s tracks e3 (λ f r. reference-within chains f tracks r),
+      needs-field (codes "id") (new_identifier before) s id e1 (λ f r. new_identifier-new before f id r),
+    )))))
+
 client-form : (chains : List Chain) (before : List ClientConfig) (s : Section) (c : ClientConfig) → client chains before s ≡ Ok c
     → IsClient (length (chain_ids chains)) c × All (λ x. x ≢ c.id) (client_ids before)
 unfolding client
 client-form chains before s c h =
     let ids = chain_ids chains in
-    pass (only client_keys s) _ c h (λ u e0 h0.
-    pass (needs (codes "id") (new_identifier (client_ids before)) s) _ c h0 (λ id e1 h1.
-    pass (needs (codes "host") (reference ids) s) _ c h1 (λ host e2 h2.
-    pass (needs (codes "of") (reference ids) s) _ c h2 (λ tracks e3 h3.
-    let d = shared_by chains tracks in
-    pass (own d.period (codes "period_ns") (number 1 max_number OutOfRange) s) _ c h3 (λ period e4 h4.
-    pass (own d.drift (codes "drift_ns") (number 0 max_number OutOfRange) s) _ c h4 (λ drift e5 h5.
-    pass (or_default d.refresh (number 0 max_number OutOfRange) (optional (codes "refresh_ns") s)) _ c h5 (λ refresh e6 h6.
-    pass (own d.fees (codes "fee") fee_table s) _ c h6 (λ fees e7 h7.
-    pass (own d.gas (codes "gas") fee_table s) _ c h7 (λ gas e8 h8.
-    pass (needs (codes "limits") limits s) _ c h8 (λ limit e9 h9.
-    pass (or_default d.trust trust (optional (codes "trust") s)) _ c h9 (λ level e10 h10.
-    pass (check (not (host == tracks)) SameChain s.path) _ c h10 (λ v passed same.
+    pass (identity ids (client_ids before) s) _ c h (λ n e0 h0.
+    let d = shared_by chains n.tracks in
+    pass (own d.period (codes "period_ns") (number 1 max_number OutOfRange) s) _ c h0 (λ period e1 h1.
+    pass (own d.drift (codes "drift_ns") (number 0 max_number OutOfRange) s) _ c h1 (λ drift e2 h2.
+    pass (terms d s) _ c h2 (λ t e3 h3.
+    pass (or_default d.trust trust (optional (codes "trust") s)) _ c h3 (λ level e4 h4.
+    pass (check (not (n.host == n.tracks)) SameChain s.path) _ c h4 (λ v passed same.
     let it = same_ok _ c same in
+    let named = identity-form ids (client_ids before) s n e0 in
     subst (λ x. IsClient (length ids) x × All (λ i. i ≢ x.id) (client_ids before)) it (
-      record {
-        host = needs-field (codes "host") (reference ids) s host e2 (λ f r. reference-within ids f host r);
-        tracks = needs-field (codes "of") (reference ids) s tracks e3 (λ f r. reference-within ids f tracks r);
-        different = different host tracks (check-passed _ SameChain s.path v passed);
-      },
-      needs-field (codes "id") (new_identifier (client_ids before)) s id e1 (λ f r. new_identifier-new (client_ids before) f id r),
-    )))))))))))))
+      record { host = named.0; tracks = named.1; different = different n.host n.tracks (check-passed _ SameChain s.path v passed) },
+      named.2,
+    )))))))
 
 abbrev AreClients : ℕ → List ClientConfig → Type 0
 AreClients chains cs = AllPairs (λ c d. c.id ≢ d.id) cs × All (IsClient chains) cs
@@ -230,32 +236,46 @@ connected : (o : Option ClientConfig) (host tracks : ℕ) → unwrap_or (option_
 connected (Some c) host tracks h = let parts = and_parts (c.host == host) (c.tracks == tracks) h in (eqb-true c.host host parts.0, eqb-true c.tracks tracks parts.1)
 connected None host tracks h = absurd (true≢false (sym h))
 
+pub path_config-form : (chains clients before : List (List ℕ)) (s : Section) (p : PathConfig) → path_config chains clients before s ≡ Ok p
+    → (p.source < length chains) × (p.destination < length chains) × (p.forward < length clients) × (p.back < length clients) × All (λ x. x ≢ p.id) before
+unfolding path_config
+path_config-form chains clients before s p h =
+    pass (needs (codes "id") (new_identifier before) s) _ p h (λ id e1 h1.
+    pass (needs (codes "source") (reference chains) s) _ p h1 (λ source e2 h2.
+    pass (needs (codes "dest") (reference chains) s) _ p h2 (λ destination e3 h3.
+    pass (needs (codes "order") order s) _ p h3 (λ o e4 h4.
+    pass (or_default 1 sequence (optional (codes "first") s)) _ p h4 (λ first e5 h5.
+    pass (needs (codes "forward") (reference clients) s) _ p h5 (λ forward e6 h6.
+    pass (needs (codes "back") (reference clients) s) _ p h6 (λ back e7 h7.
+    pass (needs (codes "gas") path_gas s) _ p h7 (λ gas e8 same.
+    subst (λ (x : PathConfig). (x.source < length chains) × (x.destination < length chains) × (x.forward < length clients) × (x.back < length clients) × All (λ i. i ≢ x.id) before) (same_ok _ p same) (
+      place-within (codes "source") chains s source e2,
+      place-within (codes "dest") chains s destination e3,
+      place-within (codes "forward") clients s forward e6,
+      place-within (codes "back") clients s back e7,
+      needs-field (codes "id") (new_identifier before) s id e1 (λ f r. new_identifier-new before f id r),
+    )))))))))
+
 path-form : (chains : List (List ℕ)) (clients : List ClientConfig) (before : List PathConfig) (s : Section) (p : PathConfig) → path chains clients before s ≡ Ok p
     → IsPathConfig (length chains) clients p × All (λ x. x ≢ p.id) (path_ids before)
 unfolding path
 path-form chains clients before s p h =
     pass (only path_keys s) _ p h (λ u e0 h0.
-    pass (needs (codes "id") (new_identifier (path_ids before)) s) _ p h0 (λ id e1 h1.
-    pass (needs (codes "source") (reference chains) s) _ p h1 (λ source e2 h2.
-    pass (needs (codes "dest") (reference chains) s) _ p h2 (λ destination e3 h3.
-    pass (needs (codes "order") order s) _ p h3 (λ o e4 h4.
-    pass (or_default 1 sequence (optional (codes "first") s)) _ p h4 (λ first e5 h5.
-    pass (needs (codes "forward") (reference (client_ids clients)) s) _ p h5 (λ forward e6 h6.
-    pass (needs (codes "back") (reference (client_ids clients)) s) _ p h6 (λ back e7 h7.
-    pass (needs (codes "gas") path_gas s) _ p h7 (λ gas e8 h8.
-    pass (check (not (source == destination)) SameChain s.path) _ p h8 (λ v apart h9.
-    pass (check (connects clients forward destination source && connects clients back source destination) WrongClient s.path) _ p h9 (λ w fit same.
-    let fits = and_parts (connects clients forward destination source) (connects clients back source destination) (check-passed _ WrongClient s.path w fit) in
-    subst (λ x. IsPathConfig (length chains) clients x × All (λ i. i ≢ x.id) (path_ids before)) (same_ok _ p same) (
+    pass (path_config chains (client_ids clients) (path_ids before) s) _ p h0 (λ q e1 h1.
+    pass (fits client_ends clients q s.path) _ p h1 (λ v fit same.
+    pass (check (not (q.source == q.destination)) SameChain s.path) _ v fit (λ w apart whole.
+    let named = path_config-form chains (client_ids clients) (path_ids before) s q e1 in
+    let fits = and_parts (connects client_ends clients q.forward q.destination q.source) (connects client_ends clients q.back q.source q.destination) (check-passed _ WrongClient s.path v whole) in
+    subst (λ x. IsPathConfig (length chains) clients x × All (λ i. i ≢ x.id) (path_ids before)) (same_ok q p same) (
       record {
-        source = place-within (codes "source") chains s source e2;
-        destination = place-within (codes "dest") chains s destination e3;
-        different = different source destination (check-passed _ SameChain s.path v apart);
-        forward = connected (slice_get clients forward) destination source fits.0;
-        back = connected (slice_get clients back) source destination fits.1;
+        source = named.0;
+        destination = named.1;
+        different = different q.source q.destination (check-passed _ SameChain s.path w apart);
+        forward = connected (slice_get clients q.forward) q.destination q.source fits.0;
+        back = connected (slice_get clients q.back) q.source q.destination fits.1;
       },
-      needs-field (codes "id") (new_identifier (path_ids before)) s id e1 (λ f r. new_identifier-new (path_ids before) f id r),
-    ))))))))))))
+      named.4,
+    )))))
 
 abbrev ArePaths : ℕ → List ClientConfig → List PathConfig → Type 0
 ArePaths chains clients ps = AllPairs (λ p q. p.id ≢ q.id) ps × All (IsPathConfig chains clients) ps

@@ -8,6 +8,8 @@ use Rattle.rb_script_toml.specs.Fields.{Field, Section, only, needs, optional, o
 use Rattle.rb_script_toml.specs.declared.fault.FaultName.TheVariants.{OutOfRange, BadLimit, SameChain}
 use Rattle.rb_script_config.specs.declared.defaults.Defaults.{Defaults}
 use Rattle.rb_script_config.specs.declared.chain.Chain.{Chain}
+use Rattle.rb_script_config.specs.declared.client.ClientIdentity.{ClientIdentity}
+use Rattle.rb_script_config.specs.declared.client.ClientTerms.{ClientTerms}
 use Rattle.rb_script_config.specs.Named.{reference, new_identifier}
 use Rattle.rb_script_config.specs.Chains.{chain_ids, no_defaults}
 
@@ -23,6 +25,10 @@ limits f = do
 abbrev pub client_ids : List ClientConfig → List (List ℕ)
 client_ids clients = map (λ c. c.id) clients
 
+-- the chain that hosts a client, and the one that it tracks
+abbrev pub client_ends : ClientConfig → ℕ × ℕ
+client_ends c = (c.host, c.tracks)
+
 abbrev pub client_keys : List (List ℕ)
 client_keys =
     codes "id" ∷ codes "host" ∷ codes "of" ∷ codes "period_ns" ∷ codes "drift_ns" ∷ codes "refresh_ns" ∷ codes "fee" ∷ codes "gas"
@@ -37,29 +43,41 @@ abbrev pub own : {A : Type 0} → Option A → List ℕ → (Field → Result A 
 own None key read s = needs key read s
 own (Some x) key read s = or_default x read (optional key s)
 
--- a client of these chains, beside those before it
-unfoldable pub client : List Chain → List ClientConfig → Section → Result ClientConfig Fault
-client chains before s = do
+-- which client it is, of these chains, beside the clients before it
+unfoldable pub identity : List (List ℕ) → List (List ℕ) → Section → Result ClientIdentity Fault
+identity chains before s = do
   _ ← only client_keys s
-  id ← needs (codes "id") (new_identifier (client_ids before)) s
-  host ← needs (codes "host") (reference (chain_ids chains)) s
-  tracks ← needs (codes "of") (reference (chain_ids chains)) s
-  let d = shared_by chains tracks
-  period ← own d.period (codes "period_ns") (number 1 max_number OutOfRange) s
-  drift ← own d.drift (codes "drift_ns") (number 0 max_number OutOfRange) s
+  id ← needs (codes "id") (new_identifier before) s
+  host ← needs (codes "host") (reference chains) s
+  tracks ← needs (codes "of") (reference chains) s
+  Ok (record { id = id; host = host; tracks = tracks })
+
+-- what scripts and setups say of a client alike
+unfoldable pub terms : Defaults → Section → Result ClientTerms Fault
+terms d s = do
   refresh ← or_default d.refresh (number 0 max_number OutOfRange) (optional (codes "refresh_ns") s)
   fees ← own d.fees (codes "fee") fee_table s
   gas ← own d.gas (codes "gas") fee_table s
   limit ← needs (codes "limits") limits s
+  Ok (record { refresh = refresh; fees = fees; gas = gas; limits = limit })
+
+-- a client of these chains, beside those before it
+unfoldable pub client : List Chain → List ClientConfig → Section → Result ClientConfig Fault
+client chains before s = do
+  i ← identity (chain_ids chains) (client_ids before) s
+  let d = shared_by chains i.tracks
+  period ← own d.period (codes "period_ns") (number 1 max_number OutOfRange) s
+  drift ← own d.drift (codes "drift_ns") (number 0 max_number OutOfRange) s
+  t ← terms d s
   level ← or_default d.trust trust (optional (codes "trust") s)
-  _ ← check (not (host == tracks)) SameChain s.path
+  _ ← check (not (i.host == i.tracks)) SameChain s.path
   Ok (record {
-    id = id;
-    host = host;
-    tracks = tracks;
+    id = i.id;
+    host = i.host;
+    tracks = i.tracks;
     options = record { period = period; drift = drift; trust = level };
-    refresh = refresh;
-    fees = fees;
-    gas = gas;
-    limits = limit;
+    refresh = t.refresh;
+    fees = t.fees;
+    gas = t.gas;
+    limits = t.limits;
   })

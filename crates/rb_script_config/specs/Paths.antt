@@ -10,7 +10,7 @@ use Rattle.rb_script_toml.specs.Faults.{Fault, ◌>>=◌, fault, check}
 use Rattle.rb_script_toml.specs.Fields.{Field, Section, text, only, needs, optional, or_default, number, fees, max_number}
 use Rattle.rb_script_toml.specs.declared.fault.FaultName.TheVariants.{OutOfRange, BadOrder, SameChain, WrongClient}
 use Rattle.rb_script_config.specs.Named.{reference, new_identifier}
-use Rattle.rb_script_config.specs.Clients.{client_ids}
+use Rattle.rb_script_config.specs.Clients.{client_ends, client_ids}
 
 -- ---- values of their own
 
@@ -39,9 +39,9 @@ path_gas f = do
   Ok (record { receive = n.0; acknowledge = n.1; timeout = n.2 })
 
 -- whether the client at a place is hosted on the one chain and tracks the other
-abbrev pub connects : List ClientConfig → ℕ → ℕ → ℕ → Bool
-connects clients place host tracks =
-    unwrap_or (option_map (λ (c : ClientConfig). c.host == host && c.tracks == tracks) (slice_get clients place)) false
+abbrev pub connects : {A : Type 0} → (A → ℕ × ℕ) → List A → ℕ → ℕ → ℕ → Bool
+connects ends clients place host tracks =
+    unwrap_or (option_map (λ c. (ends c).0 == host && (ends c).1 == tracks) (slice_get clients place)) false
 
 -- ---- paths
 
@@ -52,20 +52,17 @@ abbrev pub path_keys : List (List ℕ)
 path_keys =
     codes "id" ∷ codes "source" ∷ codes "dest" ∷ codes "order" ∷ codes "first" ∷ codes "forward" ∷ codes "back" ∷ codes "gas" ∷ []
 
--- a path of these chains and clients, beside those before it
-unfoldable pub path : List (List ℕ) → List ClientConfig → List PathConfig → Section → Result PathConfig Fault
-path chains clients before s = do
-  _ ← only path_keys s
-  id ← needs (codes "id") (new_identifier (path_ids before)) s
+-- what scripts and setups say of a path alike, of these chains and clients, beside the paths before it
+unfoldable pub path_config : List (List ℕ) → List (List ℕ) → List (List ℕ) → Section → Result PathConfig Fault
+path_config chains clients before s = do
+  id ← needs (codes "id") (new_identifier before) s
   source ← needs (codes "source") (reference chains) s
   destination ← needs (codes "dest") (reference chains) s
   order ← needs (codes "order") order s
   first ← or_default 1 sequence (optional (codes "first") s)
-  forward ← needs (codes "forward") (reference (client_ids clients)) s
-  back ← needs (codes "back") (reference (client_ids clients)) s
+  forward ← needs (codes "forward") (reference clients) s
+  back ← needs (codes "back") (reference clients) s
   gas ← needs (codes "gas") path_gas s
-  _ ← check (not (source == destination)) SameChain s.path
-  _ ← check (connects clients forward destination source && connects clients back source destination) WrongClient s.path
   Ok (record {
     id = id;
     source = source;
@@ -76,3 +73,17 @@ path chains clients before s = do
     back = back;
     gas = gas;
   })
+
+-- its chains differ, and its clients are hosted on the one and track the other
+abbrev pub fits : {A : Type 0} → (A → ℕ × ℕ) → List A → PathConfig → List ℕ → Result (Unit {0}) Fault
+fits ends clients p place = do
+  _ ← check (not (p.source == p.destination)) SameChain place
+  check (connects ends clients p.forward p.destination p.source && connects ends clients p.back p.source p.destination) WrongClient place
+
+-- a path of these chains and clients, beside those before it
+unfoldable pub path : List (List ℕ) → List ClientConfig → List PathConfig → Section → Result PathConfig Fault
+path chains clients before s = do
+  _ ← only path_keys s
+  p ← path_config chains (client_ids clients) (path_ids before) s
+  _ ← fits client_ends clients p s.path
+  Ok p

@@ -14,7 +14,8 @@ use rb_script_toml::{RunError, Section, element_path, section_at};
 use std::alloc::{AllocError, Global};
 use toml::Value;
 
-/// A chain, and what the clients that track it share.
+/// A chain: its identifier, and what a client that tracks it takes where it has no key of its own. In
+/// version 1 of the format nothing is shared.
 #[derive(Clone, Copy)]
 pub struct Chain {
     pub id: ChainId,
@@ -82,7 +83,11 @@ fn read_chain_at(
     read_chain(version, &section, before)
 }
 
-/// Reads the chains, each beside those before it.
+/// Reads the tables of the array `chain`, in their order: `id`, and from version 2 on `defaults`.
+/// `Fault` is the first of these in the order of the tables, and in each table in this order: it is no
+/// table (`WrongType`), it has another key (`UnknownKey`), its identifier is missing, no text, ill formed
+/// or one of an earlier chain (`DuplicateIdentifier`), a default is refused (`read_defaults`). `NoMemory`
+/// comes where a growth is refused.
 pub fn read_chains(
     alloc: Global,
     version: Version,
@@ -98,7 +103,7 @@ pub fn read_chains(
     Ok(chains)
 }
 
-/// The identifiers of these chains, at their places.
+/// The identifiers of these chains, at their places. `AllocError` where a growth is refused.
 pub fn ids_of(alloc: Global, chains: &Directory<Chain>) -> Result<Directory<ChainId>, AllocError>
     ensures { IfOk result (λ d. d ≡ chain_ids chains.now) }
 {

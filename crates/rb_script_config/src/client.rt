@@ -1,22 +1,43 @@
 //! The clients of a script.
-ghost use Rattle.std.specs.Prelude.{◌≡◌, ◌<◌, [], codes, length};
+ghost use Rattle.std.specs.Prelude.{◌≡◌, ◌<◌, [], IfOk, codes, length, map, not, ◌==◌};
 ghost use Rattle.toml.specs.View.{view, items_view};
-ghost use Rattle.rb_script_toml.specs.Faults.{Gives};
-ghost use Rattle.rb_script_toml.specs.Fields.{field_view, section_view, only, needs, number, fee_table, max_number, at_element, elements};
-ghost use Rattle.rb_script_toml.specs.declared.fault.FaultName.TheVariants.{OutOfRange};
-ghost use Rattle.rb_script_config.specs.Clients.{limits, client, client_keys, own, shared_by};
+ghost use Rattle.rb_script_toml.specs.Faults.{Gives, check};
+ghost use Rattle.rb_script_toml.specs.Fields.{field_view, section_view, number, fee_table, max_number, at_element, elements};
+ghost use Rattle.rb_script_toml.specs.declared.fault.FaultName.TheVariants.{OutOfRange, SameChain};
+ghost use Rattle.rb_script_config.specs.Clients.{limits, identity, terms, client, own, shared_by};
 
 use crate::chain::Chain;
+use crate::client_keys::{DRIFT, FEE, GAS, HOST, LIMITS, OF, PERIOD, REFRESH, only_client_keys};
 use crate::defaults::{Defaults, read_drift, read_period, trust_or};
 use crate::directory::Directory;
 use crate::drift::Drift;
-use crate::named::{new_identifier, reference};
+use crate::named::{Named, new_identifier, reference};
 use rb_base::{ClientId, FeeTable, Options, Period};
 use rb_batch::Limits;
 use rb_script_toml::{FaultName, Field, MAX_NUMBER, RunError, Section, element_path, section_at};
 use rb_script_types::ClientConfig;
 use std::alloc::Global;
 use toml::Value;
+
+/// Which client it is: its identifier, and the places of the chain that hosts it and of the chain that
+/// it tracks (ICS 2).
+#[derive(Clone, Copy)]
+pub struct ClientIdentity {
+    pub id: ClientId,
+    pub host: usize,
+    pub tracks: usize,
+}
+
+/// What a client's table says, beside the identity, in a script and in a setup alike: the age in
+/// nanoseconds at which the client is refreshed (0: never), what an update costs in fees and in gas,
+/// and what a transaction may carry.
+#[derive(Clone, Copy)]
+pub struct ClientTerms {
+    pub refresh: u64,
+    pub fees: FeeTable,
+    pub gas: FeeTable,
+    pub limits: Limits,
+}
 
 #[tactic(auto, using(rb_script_toml::proofs::Steps::steps), unfolding(crate::specs::Clients::limits))]
 fn limits(field: &Field<'_>) -> Result<Limits, RunError>
@@ -35,14 +56,6 @@ fn limits(field: &Field<'_>) -> Result<Limits, RunError>
     Ok(Limits::new(gas, count as usize, transaction))
 }
 
-/// What a transaction may carry.
-#[tactic(auto, using(rb_script_toml::proofs::Steps::steps))]
-pub fn needed_limits(section: &Section<'_>) -> Result<Limits, RunError>
-    ensures { Gives (λ l. l) result (needs (codes "limits") limits (section_view section.now)) }
-{
-    limits(&section.required("limits")?)
-}
-
 /// What the clients that track this chain share.
 fn shared_by(chains: &Directory<Chain>, place: usize) -> Defaults
     requires { place < length chains.now }
@@ -56,9 +69,9 @@ fn own_period(section: &Section<'_>, shared: Option<Period>) -> Result<Period, R
     ensures { Gives (λ p. p) result (own shared (codes "period_ns") (number 1 max_number OutOfRange) (section_view section.now)) }
 {
     let Some(shared) = shared else {
-        return read_period(&section.required("period_ns")?);
+        return read_period(&section.required(PERIOD)?);
     };
-    match section.optional("period_ns") {
+    match section.optional(PERIOD) {
         Some(field) => read_period(&field),
         None => Ok(shared),
     }
@@ -69,9 +82,9 @@ fn own_drift(section: &Section<'_>, shared: Option<Drift>) -> Result<Drift, RunE
     ensures { Gives (λ d. d) result (own shared (codes "drift_ns") (number 0 max_number OutOfRange) (section_view section.now)) }
 {
     let Some(shared) = shared else {
-        return read_drift(&section.required("drift_ns")?);
+        return read_drift(&section.required(DRIFT)?);
     };
-    match section.optional("drift_ns") {
+    match section.optional(DRIFT) {
         Some(field) => read_drift(&field),
         None => Ok(shared),
     }
@@ -94,22 +107,64 @@ fn own_fees<'a>(
     }
 }
 
-/// Refuses other keys than those of a client.
-pub fn only_client_keys(section: &Section<'_>) -> Result<(), RunError>
-    ensures { Gives (λ u. u) result (only client_keys (section_view section.now)) }
+/// Reads which client a table is of: `id`, which none of the clients before it may have, and `host` and
+/// `of`, each the identifier of one of these chains, whose places are answered. `Fault` is the first of:
+/// a key that no client has (`UnknownKey`); then of `id`, `host` and `of`, in this order, that it is
+/// missing (`MissingKey`), no text (`WrongType`), ill formed (`BadIdentifier`), one that an earlier
+/// client has (`DuplicateIdentifier`), or no chain's (`UnknownIdentifier`). `NoMemory` comes where a
+/// growth is refused.
+#[tactic(auto, using(rb_script_toml::proofs::Steps::steps), unfolding(crate::specs::Clients::identity))]
+pub fn read_identity<C: Named, T: Named>(
+    section: &Section<'_>,
+    chains: &Directory<C>,
+    before: &Directory<T>,
+) -> Result<ClientIdentity, RunError>
+    ensures read { Gives (λ i. i) result (identity (map C.name chains.now) (map T.name before.now) (section_view section.now)) }
+    ensures host { IfOk result (λ i. i.host < length chains.now) }
+    ensures tracks { IfOk result (λ i. i.tracks < length chains.now) }
 {
-    section.only(&[
-        "id",
-        "host",
-        "of",
-        "period_ns",
-        "drift_ns",
-        "refresh_ns",
-        "fee",
-        "gas",
-        "limits",
-        "trust",
-    ])
+    only_client_keys(section)?;
+    let id = new_identifier(section, before)?;
+    let host = reference(section, HOST, chains)?;
+    let tracks = reference(section, OF, chains)?;
+    Ok(ClientIdentity {
+        id: ClientId::new(id).unwrap(),
+        host,
+        tracks,
+    })
+}
+
+/// Reads a client's terms: `refresh_ns`, `fee`, `gas` and `limits`, in this order. A key that isn't
+/// there has what the clients of the chain share; `limits` is never shared. `Fault` is the first of: a
+/// key that is needed isn't there (`MissingKey`), a value has another type or length (`WrongType`), a
+/// number of nanoseconds isn't from 0 to 2^63 - 1 (`OutOfRange`), one of fees or gas isn't from 0 to 10^9
+/// (`BadFee`), one of the limits is outside its range (`BadLimit`). `NoMemory` comes where a growth is
+/// refused.
+#[tactic(auto, using(rb_script_toml::proofs::Steps::steps), unfolding(crate::specs::Clients::terms))]
+pub fn read_terms(section: &Section<'_>, shared: &Defaults) -> Result<ClientTerms, RunError>
+    ensures { Gives (λ t. t) result (terms shared.now (section_view section.now)) }
+{
+    let refresh = section.number_or(REFRESH, shared.refresh, 0, MAX_NUMBER)?;
+    let fees = own_fees(section, FEE, shared.fees)?;
+    let gas = own_fees(section, GAS, shared.gas)?;
+    let limits = limits(&section.required(LIMITS)?)?;
+    Ok(ClientTerms {
+        refresh,
+        fees,
+        gas,
+        limits,
+    })
+}
+
+/// Refuses one chain where two have to be, by their places: `Fault` is `SameChain` at the table. `NoMemory`
+/// comes where the path of the fault finds no room.
+pub fn two_chains(section: &Section<'_>, chain: usize, other: usize) -> Result<(), RunError>
+    ensures { Gives (λ u. u) result (check (not (chain == other)) SameChain (section_view section.now).path) }
+{
+    if chain == other {
+        return Err(section.fault(FaultName::SameChain));
+    }
+    Ok(())
 }
 
 #[tactic(auto, using(rb_script_toml::proofs::Steps::steps), unfolding(crate::specs::Clients::client))]
@@ -120,30 +175,22 @@ fn read_client(
 ) -> Result<ClientConfig, RunError>
     ensures { Gives (λ c. c) result (client chains.now before.now (section_view section.now)) }
 {
-    only_client_keys(section)?;
-    let id = new_identifier(section, before)?;
-    let host = reference(section, "host", chains)?;
-    let tracks = reference(section, "of", chains)?;
-    let shared = shared_by(chains, tracks);
+    let identity = read_identity(section, chains, before)?;
+    let shared = shared_by(chains, identity.tracks);
     let period = own_period(section, shared.period)?;
     let drift = own_drift(section, shared.drift)?;
-    let refresh = section.number_or("refresh_ns", shared.refresh, 0, MAX_NUMBER)?;
-    let fees = own_fees(section, "fee", shared.fees)?;
-    let gas = own_fees(section, "gas", shared.gas)?;
-    let limits = needed_limits(section)?;
+    let terms = read_terms(section, &shared)?;
     let trust = trust_or(section, shared.trust)?;
-    if host == tracks {
-        return Err(section.fault(FaultName::SameChain));
-    }
+    two_chains(section, identity.host, identity.tracks)?;
     Ok(ClientConfig {
-        id: ClientId::new(id).unwrap(),
-        host,
-        tracks,
+        id: identity.id,
+        host: identity.host,
+        tracks: identity.tracks,
         options: Options::new(period, drift.nanoseconds()).with_trust(trust),
-        refresh,
-        fees,
-        gas,
-        limits,
+        refresh: terms.refresh,
+        fees: terms.fees,
+        gas: terms.gas,
+        limits: terms.limits,
     })
 }
 
@@ -161,7 +208,11 @@ fn read_client_at(
     read_client(&section, chains, before)
 }
 
-/// Reads the clients of these chains, each beside those before it.
+/// Reads the tables of the array `client`, in their order, each as `read_identity` and `read_terms` tell,
+/// with `period_ns` and `drift_ns` before the terms, and `trust` behind them. The trusting period and the
+/// clock drift are needed where the tracked chain shares none; the trust level is a third where it has
+/// none. `Fault` is the first of the first table that is refused, at last `SameChain` where it tracks the
+/// chain that hosts it. `NoMemory` comes where a growth is refused.
 pub fn read_clients(
     alloc: Global,
     items: &[Value],

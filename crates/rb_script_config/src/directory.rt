@@ -38,7 +38,8 @@ impl<T: Named> Directory<T> {
         }
     }
 
-    /// These objects and one more.
+    /// These objects and one more, which is found by its identifier unless an earlier one has it.
+    /// `AllocError` where a growth is refused.
     pub fn with(self, object: T) -> Result<Directory<T>, AllocError>
         ensures { IfOk result (λ d. d ≡ self ++ object ∷ []) }
     {
@@ -54,7 +55,7 @@ impl<T: Named> Directory<T> {
         Ok(Directory { objects, places })
     }
 
-    /// The objects.
+    /// The objects in their order.
     pub fn as_slice(&self) -> &[T]
         ensures { result.now ≡ self.now }
     {
@@ -69,7 +70,7 @@ impl<T: Named> Directory<T> {
         self.places.get(id).copied()
     }
 
-    /// The objects, without the way to find them.
+    /// The objects in their order, without the way to find them.
     pub fn into_vec(self) -> Vec<T>
         ensures { result.items ≡ self }
     {

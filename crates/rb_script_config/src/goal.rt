@@ -62,7 +62,11 @@ fn read_goal_at<T: Named>(
     read_goal(&section, clients, before)
 }
 
-/// Reads the goals of a turn for these clients, each beside those before it.
+/// Reads the tables of an array of goals, whose path this is, in their order: `client`, the identifier of
+/// one of these, and one of `at_least` and `exactly`, a height from 1 to 2^63 - 1. `Fault` is the first of
+/// the first table that is refused: no table (`WrongType`), another key (`UnknownKey`), a client that is
+/// missing, ill formed or unknown, a height of another type or range, both heights or none, or an earlier
+/// goal for the client (`TwoGoals`). `NoMemory` comes where a growth is refused.
 pub fn read_goals<T: Named>(
     alloc: Global,
     path: &str,

@@ -5,6 +5,7 @@
 
 mod chain;
 mod client;
+mod client_keys;
 mod defaults;
 mod directory;
 mod drift;
@@ -18,12 +19,14 @@ mod tables;
 mod version;
 
 pub use chain::{Chain, ids_of, read_chains};
-pub use client::{needed_limits, only_client_keys};
-pub use defaults::maybe_period;
+pub use client::{ClientIdentity, ClientTerms, read_identity, read_terms, two_chains};
+pub use client_keys::{CLIENT_KEY_LIST, ClientKey, DEFAULT_KEY_LIST, client_key};
+pub use defaults::{Defaults, maybe_drift, maybe_period, no_defaults};
 pub use directory::Directory;
+pub use drift::Drift;
 pub use goal::read_goals;
-pub use named::{Named, new_identifier, place_of, reference};
-pub use path::{needed_order, needed_sequence};
+pub use named::{Client, Named, new_identifier, place_of, reference};
+pub use path::{judge_path, needed_sequence, read_path_config};
 pub use settlement::read_settlements;
 pub use setup::Setup;
 pub use tables::{Tables, only_top_keys, read_setup, read_tables};

@@ -45,7 +45,33 @@ impl Named for PathConfig {
     }
 }
 
-/// The place of the object that a key names.
+/// A client of a script or of a setup.
+pub trait Client: Named {
+    /// The place of the chain that hosts it, and of the one that it tracks.
+    ghost ends: { Self → ℕ × ℕ };
+
+    fn host(&self) -> usize
+        ensures { result ≡ (ends self.now).0 };
+
+    fn tracks(&self) -> usize
+        ensures { result ≡ (ends self.now).1 };
+}
+
+impl Client for ClientConfig {
+    ghost ends = { λ c. (c.host, c.tracks) };
+
+    fn host(&self) -> usize {
+        self.host
+    }
+
+    fn tracks(&self) -> usize {
+        self.tracks
+    }
+}
+
+/// The place of the object that a key names by its identifier. `Fault` is `MissingKey` where the key isn't
+/// there, then `WrongType` where it holds no text, `BadIdentifier` where that is ill formed (ICS 24),
+/// `UnknownIdentifier` where no object has it; `NoMemory` where the path finds no room.
 #[tactic(auto, using(rb_script_toml::proofs::Steps::steps))]
 pub fn reference<'a, T: Named>(
     section: &Section<'a>,
@@ -69,7 +95,9 @@ fn place_named<T: Named>(field: &Field<'_>, objects: &Directory<T>) -> Result<us
     }
 }
 
-/// The identifier of a new object, which none of these has.
+/// The identifier of a new object, which the key `id` holds. `Fault` is `MissingKey` where the key isn't
+/// there, then `WrongType` where it holds no text, `BadIdentifier` where that is ill formed (ICS 24),
+/// `DuplicateIdentifier` where one of these objects has it; `NoMemory` where the path finds no room.
 #[tactic(auto, using(rb_script_toml::proofs::Steps::steps))]
 pub fn new_identifier<'a, T: Named>(
     section: &Section<'a>,

@@ -1,12 +1,13 @@
 //! The paths of a script.
-ghost use Rattle.std.specs.Prelude.{◌≡◌, ◌<◌, [], codes, length};
+ghost use Rattle.std.specs.Prelude.{◌≡◌, ◌<◌, [], IfOk, codes, length, map};
 ghost use Rattle.toml.specs.View.{view, items_view};
 ghost use Rattle.rb_script_toml.specs.Faults.{Gives};
 ghost use Rattle.rb_script_toml.specs.Fields.{field_view, section_view, only, needs, optional, or_default, at_element, elements};
-ghost use Rattle.rb_script_config.specs.Paths.{order, sequence, path_gas, connects, path, path_keys};
+ghost use Rattle.rb_script_config.specs.Paths.{order, sequence, path_gas, connects, fits, path, path_config, path_keys};
 
+use crate::client::two_chains;
 use crate::directory::Directory;
-use crate::named::{new_identifier, reference};
+use crate::named::{Client, Named, new_identifier, reference};
 use rb_base::{ChainId, PathId};
 use rb_scan::{Order, Sequence};
 use rb_script_toml::{FaultName, Field, RunError, Section, element_path, section_at};
@@ -25,9 +26,8 @@ fn order(field: &Field<'_>) -> Result<Order, RunError>
     }
 }
 
-/// In which order a path's packets are received.
 #[tactic(auto, using(rb_script_toml::proofs::Steps::steps))]
-pub fn needed_order(section: &Section<'_>) -> Result<Order, RunError>
+fn needed_order(section: &Section<'_>) -> Result<Order, RunError>
     ensures { Gives (λ o. o) result (needs (codes "order") order (section_view section.now)) }
 {
     order(&section.required("order")?)
@@ -41,7 +41,9 @@ fn sequence(field: &Field<'_>) -> Result<Sequence, RunError>
     Ok(Sequence::new(number).unwrap())
 }
 
-/// The sequence of a packet.
+/// The sequence of a packet (ICS 4), which the key `seq` holds. `Fault` is `MissingKey` where the key isn't
+/// there, `WrongType` where it holds no integer, `OutOfRange` where that isn't from 1 to 2^63 - 1;
+/// `NoMemory` where the path finds no room.
 #[tactic(auto, using(rb_script_toml::proofs::Steps::steps))]
 pub fn needed_sequence(section: &Section<'_>) -> Result<Sequence, RunError>
     ensures { Gives (λ n. n) result (needs (codes "seq") sequence (section_view section.now)) }
@@ -75,12 +77,12 @@ fn needed_gas(section: &Section<'_>) -> Result<PathGas, RunError>
 }
 
 /// Whether a client is hosted on the one chain and tracks the other.
-fn connects(clients: &Directory<ClientConfig>, place: usize, host: usize, tracks: usize) -> bool
+fn connects<C: Client>(clients: &Directory<C>, place: usize, host: usize, tracks: usize) -> bool
     requires { place < length clients.now }
-    ensures { result ≡ connects clients.now place host tracks }
+    ensures { result ≡ connects C.ends clients.now place host tracks }
 {
     let client = &clients.as_slice()[place];
-    client.host == host && client.tracks == tracks
+    client.host() == host && client.tracks() == tracks
 }
 
 fn only_path_keys(section: &Section<'_>) -> Result<(), RunError>
@@ -89,6 +91,69 @@ fn only_path_keys(section: &Section<'_>) -> Result<(), RunError>
     section.only(&[
         "id", "source", "dest", "order", "first", "forward", "back", "gas",
     ])
+}
+
+/// Reads what scripts and setups say of a path alike, in this order: `id`, which none of the paths before
+/// it may have, `source` and `dest`, each the identifier of one of these chains, `order` (`ordered` or
+/// `unordered`), `first`, a sequence from 1 to 2^63 - 1 (1 where it isn't there), `forward` and `back`,
+/// each the identifier of one of these clients, and `gas`, three numbers from 0 to 10^9. Chains and
+/// clients are answered by their places. `Fault` is the first of: a key is missing (`MissingKey`), has
+/// another type (`WrongType`), is ill formed (`BadIdentifier`), an earlier path's (`DuplicateIdentifier`),
+/// no object's (`UnknownIdentifier`), no order (`BadOrder`), no sequence (`OutOfRange`), too much gas
+/// (`BadFee`). `NoMemory` comes where a growth is refused. Other keys are not judged.
+#[tactic(auto, using(rb_script_toml::proofs::Steps::steps), unfolding(crate::specs::Paths::path_config))]
+pub fn read_path_config<C: Named, T: Named>(
+    section: &Section<'_>,
+    chains: &Directory<ChainId>,
+    clients: &Directory<C>,
+    before: &Directory<T>,
+) -> Result<PathConfig, RunError>
+    ensures read { Gives (λ p. p) result (path_config chains.now (map C.name clients.now) (map T.name before.now) (section_view section.now)) }
+    ensures forward { IfOk result (λ p. p.forward < length clients.now) }
+    ensures back { IfOk result (λ p. p.back < length clients.now) }
+{
+    let id = new_identifier(section, before)?;
+    let source = reference(section, "source", chains)?;
+    let destination = reference(section, "dest", chains)?;
+    let order = needed_order(section)?;
+    let first = first_or_one(section)?;
+    let forward = reference(section, "forward", clients)?;
+    let back = reference(section, "back", clients)?;
+    let gas = needed_gas(section)?;
+    Ok(PathConfig {
+        id: PathId::new(id).unwrap(),
+        source,
+        destination,
+        order,
+        first,
+        forward,
+        back,
+        gas,
+    })
+}
+
+/// Judges whether a path's chains and clients fit (ICS 4). `Fault` is `SameChain` at the table where its
+/// source is its destination, else `WrongClient` where `forward` isn't hosted on the destination or
+/// doesn't track the source, or `back` the other way round; `NoMemory` where the path of the fault finds
+/// no room.
+#[tactic(auto, using(rb_script_toml::proofs::Steps::steps))]
+pub fn judge_path<C: Client>(
+    section: &Section<'_>,
+    clients: &Directory<C>,
+    path: &PathConfig,
+) -> Result<(), RunError>
+    requires forward { path.now.forward < length clients.now }
+    requires back { path.now.back < length clients.now }
+    ensures { Gives (λ u. u) result (fits C.ends clients.now path.now (section_view section.now).path) }
+{
+    let (source, destination) = (path.source, path.destination);
+    two_chains(section, source, destination)?;
+    if !connects(clients, path.forward, destination, source)
+        || !connects(clients, path.back, source, destination)
+    {
+        return Err(section.fault(FaultName::WrongClient));
+    }
+    Ok(())
 }
 
 #[tactic(auto, using(rb_script_toml::proofs::Steps::steps), unfolding(crate::specs::Paths::path))]
@@ -101,32 +166,9 @@ fn read_path(
     ensures { Gives (λ p. p) result (path chains.now clients.now before.now (section_view section.now)) }
 {
     only_path_keys(section)?;
-    let id = new_identifier(section, before)?;
-    let source = reference(section, "source", chains)?;
-    let destination = reference(section, "dest", chains)?;
-    let order = needed_order(section)?;
-    let first = first_or_one(section)?;
-    let forward = reference(section, "forward", clients)?;
-    let back = reference(section, "back", clients)?;
-    let gas = needed_gas(section)?;
-    if source == destination {
-        return Err(section.fault(FaultName::SameChain));
-    }
-    if !connects(clients, forward, destination, source)
-        || !connects(clients, back, source, destination)
-    {
-        return Err(section.fault(FaultName::WrongClient));
-    }
-    Ok(PathConfig {
-        id: PathId::new(id).unwrap(),
-        source,
-        destination,
-        order,
-        first,
-        forward,
-        back,
-        gas,
-    })
+    let path = read_path_config(section, chains, clients, before)?;
+    judge_path(section, clients, &path)?;
+    Ok(path)
 }
 
 #[tactic(auto, using(rb_script_toml::proofs::Steps::steps))]
@@ -144,7 +186,9 @@ fn read_path_at(
     read_path(&section, chains, clients, before)
 }
 
-/// Reads the paths between these chains by these clients, each beside those before it.
+/// Reads the tables of the array `path`, in their order: keys that no path has are refused, then each is
+/// read as by `read_path_config` and judged as by `judge_path`. `Fault` is the first of the first table
+/// that is refused; `NoMemory` comes where a growth is refused.
 pub fn read_paths(
     alloc: Global,
     items: &[Value],

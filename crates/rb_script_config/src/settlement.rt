@@ -52,7 +52,11 @@ fn read_settlement_at<T: Named>(
     read_settlement(&section, clients, before)
 }
 
-/// Reads the settlements of a turn for these clients.
+/// Reads the tables of an array of settlements, whose path this is, in their order: `client`, the
+/// identifier of one of these, `batch`, from 1, and `done`, from 0 to 2^63 - 1. `Fault` is the first of
+/// the first table that is refused: no table (`WrongType`), another key (`UnknownKey`), then of its keys
+/// in this order that it is missing, has another type or range, or names no client. `NoMemory` comes
+/// where a growth is refused.
 pub fn read_settlements<T: Named>(
     alloc: Global,
     path: &str,

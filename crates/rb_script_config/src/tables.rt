@@ -24,15 +24,20 @@ pub struct Tables<'a> {
     pub turns: &'a [Value],
 }
 
-/// Refuses other keys than those of a script.
+/// Refuses other keys than those of a script: `version`, `chain`, `client`, `path` and `turn`. `Fault` is
+/// `UnknownKey` at the first other one, in the order of their bytes; `NoMemory` where its path finds no
+/// room.
 pub fn only_top_keys(section: &Section<'_>) -> Result<(), RunError>
     ensures { Gives (λ u. u) result (only top_keys (section_view section.now)) }
 {
     section.only(&["version", "chain", "client", "path", "turn"])
 }
 
-/// Reads what the keys of the whole text hold: no other keys, a version that is known, and no more
-/// chains, clients, paths and turns than a script may have.
+/// Reads what the keys of the whole text hold: a version, 1 or 2, and the elements of the four arrays, none
+/// where an array isn't there. `Fault` is the first of: another key (`UnknownKey`), no version
+/// (`MissingKey`, `WrongType`, `BadVersion`), then of `chain`, `client`, `path` and `turn`, in this order,
+/// that it is no array (`WrongType`) or has more than 64, 256, 256 and 500 elements (`TooManyObjects`).
+/// `NoMemory` comes where a growth is refused.
 #[tactic(auto, using(rb_script_toml::proofs::Steps::steps), unfolding(crate::specs::Tables::tables))]
 pub fn read_tables<'a>(section: Section<'a>) -> Result<Tables<'a>, RunError>
     ensures { Gives tables_view result (tables (section_view section.entry)) }
@@ -52,8 +57,9 @@ pub fn read_tables<'a>(section: Section<'a>) -> Result<Tables<'a>, RunError>
     })
 }
 
-/// Reads what a script is set up with: the chains, the clients and the paths, each beside those before
-/// it, and how many records a book may have.
+/// Reads what a script is set up with: the chains, the clients and the paths, in this order, each array as
+/// its function tells (`read_chains`, `read_clients`, `read_paths`), and how many records a book may have
+/// in this version. `Fault` is the first of these; `NoMemory` comes where a growth is refused.
 #[tactic(auto, using(rb_script_toml::proofs::Steps::steps), unfolding(crate::specs::Tables::config))]
 pub fn read_setup(alloc: Global, tables: Tables<'_>) -> Result<Setup, RunError>
     ensures { Gives setup_view result (config (tables_view tables.entry)) }

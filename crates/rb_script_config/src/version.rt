@@ -16,7 +16,7 @@ pub enum Version {
 }
 
 impl Version {
-    /// How many records a book may have.
+    /// How many records a book may have: 1,024 in version 1, 4,096 in version 2.
     pub fn max_records(self) -> usize
         ensures { result ≡ max_records self }
     {
@@ -39,7 +39,9 @@ fn read_version(field: &Field<'_>) -> Result<Version, RunError>
     }
 }
 
-/// The version of a text.
+/// The version of a text, which the key `version` holds. `Fault` is `MissingKey` where the key isn't there,
+/// `WrongType` where it holds no integer, `BadVersion` where that is neither 1 nor 2; `NoMemory` where the
+/// path finds no room.
 #[tactic(auto, using(rb_script_toml::proofs::Steps::steps))]
 pub fn needed_version(section: &Section<'_>) -> Result<Version, RunError>
     ensures { Gives (λ v. v) result (needs (codes "version") version (section_view section.now)) }

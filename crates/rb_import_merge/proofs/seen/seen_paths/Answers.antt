@@ -1,13 +1,11 @@
-use Rattle.std.proofs.Common.{ℕ, Vec, List, length, arith, rules, refl, sym, subst, All}
+use Rattle.std.proofs.Common.{ℕ, Vec, List, rules, sym, subst, All}
 use Rattle.std.specs.Global.{Global}
-use Rattle.std.proofs.lemmas.Grind.{common_steps}
-use Rattle.std.proofs.lemmas.Option.{gets, slice_get_read}
 use Rattle.rb_import_setup.specs.declared.setup.PathSetup.{PathSetup}
 use Rattle.rb_import_merge.specs.declared.packets.SeenPacket.{SeenPacket}
 use Rattle.rb_import_merge.specs.Packets.{Expires}
 use Rattle.rb_import_merge.specs.Seen.{IsSeenPath, answers_at}
-use Rattle.rb_import_merge.proofs.Rooms.{AtEachBefore, at_none, at_one_more}
-use Rattle.rb_import_merge.proofs.Watched.{of_tracked, paths_all, paths_some}
+use Rattle.rb_import_merge.proofs.Rooms.{AtEachBefore, at_all, at_none, at_one_more}
+use Rattle.rb_import_merge.proofs.Watched.{of_tracked, path_within}
 use Rattle.rb_import_merge.proofs.seen.seen_paths.Goals as goal
 
 pub loop-place-init : goal.loop-place-init
@@ -20,11 +18,12 @@ loop-place-preserved c =
     let Holds : ℕ → PathSetup → Vec SeenPacket Global → Type 0 = λ i x packets. IsSeenPath c.args.setup.now.chains.items x (answers_at c.args.answers.now.paths.items i) packets.items in
     let Received : List ℕ → Type 0 = λ dest. All (Expires dest) c.in_ok-seen.seen.items in
     at_one_more Holds c.args.setup.now.paths.items c.loop-place.place c.path-item.result c.in_ok-seen.seen c.loop-place.paths.items _ (search rules) (search rules)
-    (subst (λ saved. IsSeenPath c.args.setup.now.chains.items c.path-item.result saved c.in_ok-seen.seen.items) c.answers_at-saved.ensures (c.in_ok-seen.ensures.events, of_tracked Received c.args.setup.now.chains.items c.path-item.result.dest {tracked = c.in-Some.dest.now} c.in_ok-seen.ensures.expiry (slice_get_read c.args.setup.now.chains.items (length c.args.setup.now.chains.items) c.path-item.result.dest c.in-Some.dest.now refl (search rules) (search rules)))) c.in_ok-push.ensures.items c.loop-place.invariant
+    (subst (λ saved. IsSeenPath c.args.setup.now.chains.items c.path-item.result saved c.in_ok-seen.seen.items) c.answers_at-saved.ensures (c.in_ok-seen.ensures.events, of_tracked Received c.args.setup.now.chains.items c.path-item.result.config.destination {tracked = c.chain_at-dest.result.now} c.in_ok-seen.ensures.expiry c.chain_at-dest.ensures)) c.in_ok-push.ensures.items c.loop-place.invariant
+
+pub chain_at-dest-requires : goal.chain_at-dest-requires
+chain_at-dest-requires c = path_within c.args.setup.now c.path-item.result c.loop-place.place (search rules) (search rules)
 
 pub returns-clause-seen : goal.returns-clause-seen
-returns-clause-seen c = paths_all c.args.setup.now c.args.answers.now.paths.items c.loop-place.paths.items c.loop-place.place (search rules) c.loop-place.invariant
-
-pub returns-in_default-clause-seen : goal.returns-in_default-clause-seen
-returns-in_default-clause-seen c =
-    paths_some c.args.setup.now c.args.answers.now.paths.items c.loop-place.paths.items c.loop-place.place c.path-item.result (search rules) (search rules) (grind (arith, common_steps, gets)) c.loop-place.invariant
+returns-clause-seen c =
+    let Holds : ℕ → PathSetup → Vec SeenPacket Global → Type 0 = λ i x packets. IsSeenPath c.args.setup.now.chains.items x (answers_at c.args.answers.now.paths.items i) packets.items in
+    at_all Holds c.args.setup.now.paths.items c.loop-place.place c.loop-place.paths.items (search rules) c.loop-place.invariant

@@ -10,7 +10,7 @@ use Rattle.rb_import_notices.proofs.stale.stale_at.Goals as goal
 
 pub returns : goal.returns
 returns c =
-    let refresh = c.args.client.now.refresh in
+    let refresh = c.args.client.now.terms.refresh in
     let turn = c.in_ok-turn.turn.now in
     let chain = c.in_ok-chain.chain.now in
     let records = c.in_ok-records.records.now in
