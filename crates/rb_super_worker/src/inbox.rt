@@ -1,4 +1,4 @@
-//! Findings that are inbox until they are asked for.
+//! The findings of workers, which wait until they are asked for.
 ghost use Rattle.std.specs.Prelude.{◌≡◌, IfSome};
 ghost use Rattle.rb_plan_client.specs.Draft.{IsDraft};
 

@@ -51,7 +51,7 @@ where
 }
 
 impl<G: Gate> Team<G> {
-    /// Takes what was found into what is inbox, looking at each worker once; whether there was
+    /// Takes what was found into the inbox, looking at each worker once; whether there was
     /// something.
     fn collect(&mut self, inbox: &mut Inbox) -> bool {
         let mut is_found = false;
@@ -61,7 +61,7 @@ impl<G: Gate> Team<G> {
         is_found
     }
 
-    /// Takes what was found into what is inbox; where nothing was, sleeps until something may be.
+    /// Takes what was found into the inbox; where nothing was, sleeps until something may be.
     fn wait<R: Wait>(&mut self, rt: &R, inbox: &mut Inbox) {
         if !self.collect(inbox) {
             self.home.park(rt);

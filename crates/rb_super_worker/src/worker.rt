@@ -83,7 +83,7 @@ impl Worker {
         Ok(())
     }
 
-    /// Takes what was found into what is inbox, and tells the gate of each client's; whether there was
+    /// Takes what was found into the inbox, and tells the gate of each client's; whether there was
     /// something.
     pub(crate) fn collect<G: Gate>(&mut self, inbox: &mut Inbox, gate: &G) -> bool {
         let mut is_found = false;
