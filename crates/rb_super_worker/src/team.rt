@@ -90,8 +90,8 @@ impl<G: Gate> Team<G> {
         }
     }
 
-    /// Gives out an order, but for one that ends a worker; what is found while there is no room for it is
-    /// inbox. Where there is no worker, nothing is ordered. An error comes only where a growth is refused;
+    /// Gives out an order, but for one that ends a worker; what is found while there is no room for it goes
+    /// into the inbox. Where there is no worker, nothing is ordered. An error comes only where a growth is refused;
     /// it is not ordered then.
     pub fn order<R: Wait>(
         &mut self,
