@@ -1,8 +1,9 @@
-//! The gate test: a turn of a script with two workers, and a second turn over kept tables, pass it; what does one job
-//! after the other fails it.
+//! The gate test: with 1, 2 and 8 workers each scan and each plan of two turns begins once, in a worker's thread, and the
+//! second turn's tables are the first one's; what one thread does, job after job, fails it.
 ghost use Rattle.std.specs.Prelude.{◌≤◌};
 
-use rb_base::{Counted, Gate, WorkItem};
+use crate::script::{REPORT, SCRIPT};
+use rb_base::{Counted, Gate, Part, WorkItem};
 use rb_text::run_over;
 use std::alloc::Global;
 use std::sync::atomic::{AtomicU64, Ordering};
@@ -12,167 +13,216 @@ use std::thread;
 use std::thread::Threads;
 use std::time::{Clock, Duration};
 
-/// Two chains, and a client of each that tracks the other; in the one turn nothing happens.
-const QUIET: &str = "version = 1
-chain = [{ id = 'a' }, { id = 'b' }]
-[[client]]
-id = 'c0'
-host = 'b'
-of = 'a'
-period_ns = 1000000000000
-drift_ns = 10000000000
-fee = [100, 1, 1]
-gas = [100, 1, 1]
-limits = [100000, 100, 0]
-[[client]]
-id = 'c1'
-host = 'a'
-of = 'b'
-period_ns = 1000000000000
-drift_ns = 10000000000
-fee = [100, 1, 1]
-gas = [100, 1, 1]
-limits = [100000, 100, 0]
-[[turn]]
-from = '1970-01-01T00:03:20Z'
-until = '1970-01-01T00:03:20Z'
-";
+/// The turns of the script.
+const TURNS: u64 = 2;
 
-/// In the same turn a set and a header of the first chain are seen, and in a second one another header, which is added to
-/// the table that the first turn made.
-const SEEN: &str = "event = [
-  { kind = 'set', chain = 'a', name = 'A', validators = [
-    ['a1a1a1a1a1a1a1a1a1a1a1a1a1a1a1a1a1a1a1a1a1a1a1a1a1a1a1a1a1a1a1a1', 10],
-  ] },
-  { kind = 'header', chain = 'a', height = 7, time = '1970-01-01T00:01:10Z', set = 'A', next = 'A', votes = 'C' },
-]
-[[turn]]
-from = '1970-01-01T00:03:20Z'
-until = '1970-01-01T00:03:20Z'
-event = [
-  { kind = 'header', chain = 'a', height = 8, time = '1970-01-01T00:01:20Z', set = 'A', next = 'A', votes = 'C' },
-]
-";
+/// The headers that are seen in its first turn.
+const FIRST_HEADERS: u64 = 3;
 
-const ONE_TURN: &str = "ibcplan 1
-turn 1
-client c0 idle
-client c1 idle
-end
-";
-
-const TWO_TURNS: &str = "ibcplan 1
-turn 1
-client c0 idle
-client c1 idle
-turn 2
-client c0 idle
-client c1 idle
-end
-";
-
-/// Holds the plan that begins first after so many earlier ones, which were taken by then, until one
-/// more client's finding was taken, for so many looks at most.
+/// How often something began or ended, for each of two objects.
 #[derive(Drop)]
-struct HoldFirst<R: Clock> {
-    rt: R,
-    looks: u32,
-    earlier: u64,
-    begun: AtomicU64,
-    taken: AtomicU64,
-    given_up: AtomicU64,
+struct Pair {
+    first: AtomicU64,
+    second: AtomicU64,
 }
 
-impl<R: Clock> HoldFirst<R> {
-    fn new(rt: R, looks: u32, earlier: u64) -> HoldFirst<R> {
-        HoldFirst {
-            rt,
-            looks,
-            earlier,
-            begun: AtomicU64::new(0),
-            taken: AtomicU64::new(0),
-            given_up: AtomicU64::new(0),
+impl Pair {
+    fn new() -> Pair {
+        Pair {
+            first: AtomicU64::new(0),
+            second: AtomicU64::new(0),
         }
     }
 
-    /// Each of two plans after the earlier ones began once, both findings were taken, and the plan that
-    /// was held ended after the other's was.
-    fn is_passed(&self) -> bool {
-        let all = Some(self.begun.load(Ordering::SeqCst));
-        all == self.earlier.checked_add(2)
-            && all == Some(self.taken.load(Ordering::SeqCst))
-            && self.given_up.load(Ordering::SeqCst) == 0
+    /// Counts one more for an object; tells how many these are, and shows the other object's count.
+    fn count(&self, object: usize) -> (u64, &AtomicU64) {
+        let (own, other) = if object == 0 {
+            (&self.first, &self.second)
+        } else {
+            (&self.second, &self.first)
+        };
+        let earlier = own.fetch_add(1, Ordering::SeqCst);
+        (earlier.saturating_add(1), other)
+    }
+
+    fn is_once_a_turn(&self) -> bool {
+        self.first.load(Ordering::SeqCst) == TURNS && self.second.load(Ordering::SeqCst) == TURNS
     }
 }
 
-impl<R: Clock> Gate for HoldFirst<R> {
-    fn before(&self, item: WorkItem) {
-        let WorkItem::Plan(_) = item else {
-            return;
-        };
-        if self.begun.fetch_add(1, Ordering::SeqCst) != self.earlier {
+/// Counts the jobs that begin, and holds them so that a run ends well only where workers do them.
+///
+/// Several workers: a scan is held until the same scan of the other path has begun, and the first client's plan until the
+/// second one's was taken in. One worker: each scan and plan takes a while, in which no other may be begun. Then, and with several
+/// workers, the thread that takes the first client's plan is held until the second one's has begun.
+#[derive(Drop)]
+struct Watch<R: Clock> {
+    rt: R,
+    looks: u32,
+    are_several: bool,
+    packets: Pair,
+    channels: Pair,
+    plans: Pair,
+    taken: Pair,
+    open: AtomicU64,
+    rows: AtomicU64,
+    faults: AtomicU64,
+}
+
+impl<R: Clock> Watch<R> {
+    fn new(rt: R, looks: u32, workers: usize) -> Watch<R> {
+        Watch {
+            rt,
+            looks,
+            are_several: workers != 1,
+            packets: Pair::new(),
+            channels: Pair::new(),
+            plans: Pair::new(),
+            taken: Pair::new(),
+            open: AtomicU64::new(0),
+            rows: AtomicU64::new(0),
+            faults: AtomicU64::new(0),
+        }
+    }
+
+    /// Notes that something went wrong.
+    fn fail(&self) {
+        self.faults.fetch_add(1, Ordering::SeqCst);
+    }
+
+    /// Holds the calling thread until so many are counted, for so many looks at most, and never after a fault.
+    fn hold(&self, count: &AtomicU64, wanted: u64) {
+        if self.faults.load(Ordering::SeqCst) != 0 {
             return;
         }
         for _ in 0..self.looks {
-            if self.taken.load(Ordering::SeqCst) > self.earlier {
+            if count.load(Ordering::SeqCst) >= wanted {
                 return;
             }
             thread::sleep(&self.rt, Duration::from_micros(20));
         }
-        self.given_up.store(1, Ordering::SeqCst);
+        self.fail();
+    }
+
+    /// Lets a job take a while, in which no other one may be begun.
+    fn take_a_while(&self) {
+        let others = self.open.fetch_add(1, Ordering::SeqCst);
+        thread::sleep(&self.rt, Duration::from_millis(2));
+        if others != 0 || self.open.load(Ordering::SeqCst) != 1 {
+            self.fail();
+        }
+    }
+
+    fn begin_scan(&self, path: usize, part: Part) {
+        let (number, other) = match part {
+            Part::Packets => self.packets.count(path),
+            Part::Channel => self.channels.count(path),
+        };
+        if self.are_several {
+            self.hold(other, number);
+        } else {
+            self.take_a_while();
+        }
+    }
+
+    fn begin_plan(&self, client: usize) {
+        let (number, _) = self.plans.count(client);
+        if !self.are_several {
+            self.take_a_while();
+        } else if client == 0 {
+            self.hold(&self.taken.second, number);
+        }
+    }
+
+    fn take(&self, client: usize) {
+        let (number, _) = self.taken.count(client);
+        if client == 0 {
+            self.hold(&self.plans.second, number);
+        }
+    }
+
+    /// Each scan and plan began once a turn, by workers, and was taken in; and so many rows were made.
+    fn is_passed(&self, rows: u64) -> bool {
+        self.packets.is_once_a_turn()
+            && self.channels.is_once_a_turn()
+            && self.plans.is_once_a_turn()
+            && self.taken.is_once_a_turn()
+            && self.rows.load(Ordering::SeqCst) == rows
+            && self.faults.load(Ordering::SeqCst) == 0
+    }
+}
+
+impl<R: Clock> Gate for Watch<R> {
+    fn before(&self, item: WorkItem) {
+        match item {
+            WorkItem::Row(_) => {
+                self.rows.fetch_add(1, Ordering::SeqCst);
+            }
+            WorkItem::Scan(path, part) => self.begin_scan(path, part),
+            WorkItem::Plan(client) => self.begin_plan(client),
+            WorkItem::Taken(_) => {}
+        }
     }
 
     fn after(&self, item: WorkItem) {
-        if let WorkItem::Taken(_) = item {
-            self.taken.fetch_add(1, Ordering::SeqCst);
+        match item {
+            WorkItem::Scan(..) | WorkItem::Plan(_) => {
+                self.open.fetch_sub(1, Ordering::SeqCst);
+            }
+            WorkItem::Taken(client) => self.take(client),
+            WorkItem::Row(_) => {}
         }
     }
 }
 
-/// The report of a script, by so many workers.
+/// The report of the script, by so many workers.
 fn report_by<R: Clock + Threads + Wait + Copy + Send + Sync + 'static>(
     rt: &R,
     alloc: Global,
-    script: &str,
     workers: usize,
-    gate: &Arc<HoldFirst<R>, Global>,
+    gate: &Arc<Watch<R>, Global>,
 ) -> Result<String, Fail>
     requires { workers ≤ 64 }
 {
     let mut writer = Counted::new(Vec::new(alloc));
-    let ran = run_over(rt, alloc, script.as_bytes(), &mut writer, workers, gate);
+    let ran = run_over(rt, alloc, SCRIPT.as_bytes(), &mut writer, workers, gate);
     ran.map_err(|_| Fail::from("run"))?;
     Ok(String::from_utf8_lossy(alloc, writer.into_inner().as_slice())?)
 }
 
-/// Each plan of the turn begins once, and the one that begins first ends after what was planned for the
-/// other client was taken. It would fail after a million looks.
+/// Whether the script's report is the right one by so many workers, and whether the gate is passed, with so many rows.
+fn run<R: Clock + Threads + Wait + Copy + Send + Sync + 'static>(
+    rt: &R,
+    alloc: Global,
+    workers: usize,
+    looks: u32,
+    rows: u64,
+) -> Result<(bool, bool), Fail>
+    requires { workers ≤ 64 }
+{
+    let gate = Arc::new(alloc, Watch::new(*rt, looks, workers))?;
+    let report = report_by(rt, alloc, workers, &gate)?;
+    Ok((report.as_str() == REPORT, gate.is_passed(rows)))
+}
+
+/// One worker makes no rows: the calling thread makes the tables. Several make a row of each header of the first turn,
+/// and none in the second turn, where the new header is added to the table. It fails after a million looks.
 #[test]
-fn both_workers_plan_in_a_turn(rt: HostRuntime) -> Result<(), Fail> {
+fn workers_do_each_job_once(rt: HostRuntime) -> Result<(), Fail> {
     let alloc = rt.alloc();
-    let gate = Arc::new(alloc, HoldFirst::new(rt, 1_000_000, 0))?;
-    let report = report_by(&rt, alloc, QUIET, 2, &gate)?;
-    assert!(rt; report.as_str() == ONE_TURN && gate.is_passed());
+    let given = [
+        run(&rt, alloc, 1, 1_000_000, 0)?,
+        run(&rt, alloc, 2, 1_000_000, FIRST_HEADERS)?,
+        run(&rt, alloc, 8, 1_000_000, FIRST_HEADERS)?,
+    ];
+    assert!(rt; given == [(true, true); 3], "{given:?}");
     Ok(())
 }
 
-/// The same in a second turn, over the tables that were kept from the first.
+/// Without workers the report is the same, and the gate isn't passed.
 #[test]
-fn both_workers_plan_over_kept_tables(rt: HostRuntime) -> Result<(), Fail> {
-    let alloc = rt.alloc();
-    let gate = Arc::new(alloc, HoldFirst::new(rt, 1_000_000, 2))?;
-    let script = format!(in alloc; "{QUIET}{SEEN}")?;
-    let report = report_by(&rt, alloc, script.as_str(), 2, &gate)?;
-    assert!(rt; report.as_str() == TWO_TURNS && gate.is_passed());
-    Ok(())
-}
-
-/// Without workers the same turn fails the gate test.
-#[test]
-fn gate_test_fails_without_workers(rt: HostRuntime) -> Result<(), Fail> {
-    let alloc = rt.alloc();
-    let gate = Arc::new(alloc, HoldFirst::new(rt, 100, 0))?;
-    let report = report_by(&rt, alloc, QUIET, 0, &gate)?;
-    assert!(rt; report.as_str() == ONE_TURN && !gate.is_passed());
+fn calling_thread_is_found_out(rt: HostRuntime) -> Result<(), Fail> {
+    let given = run(&rt, rt.alloc(), 0, 100, 0)?;
+    assert!(rt; given == (true, false), "{given:?}");
     Ok(())
 }
