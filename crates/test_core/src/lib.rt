@@ -1,7 +1,9 @@
 //! What no contract of the relayer machine says, by its public calls: runs of the machine, as tables of cases with values
-//! from outside.
+//! from outside, and a board over it whose pen and desks work at once.
 #![tactic(auto)]
 
+#[cfg(test)]
+mod board;
 #[cfg(test)]
 mod make;
 #[cfg(test)]

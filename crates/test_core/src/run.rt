@@ -128,7 +128,7 @@ fn path_observation(deed: Deed) -> Option<Observation> {
 }
 
 /// An observation, a question or a settlement.
-fn event_of(alloc: Global, deed: Deed) -> Option<Event> {
+pub fn event_of(alloc: Global, deed: Deed) -> Option<Event> {
     match deed {
         Deed::Window(from, until) => Some(Event::Window(Window::new(
             second(from)?,

@@ -1,0 +1,135 @@
+//! A board whose pen writes while desks look: what a desk shows never gets shorter, and is a beginning of what was written.
+use crate::run::{Deed, event_of, start};
+use rb_board::{Desk, DeskError, Note, Pen, open};
+use rb_scan::Packet;
+use std::alloc::Global;
+use std::sync::atomic::{AtomicU64, Ordering};
+use std::sync::{Arc, Wait};
+use std::test::Fail;
+use std::thread;
+use std::thread::{JoinHandle, Threads};
+use std::time::{Clock, Duration};
+
+/// The packets that are sent on the first path: each is an event, and is published by itself.
+const PACKETS: u64 = 1_000;
+
+/// How often a desk looks until it gives up.
+const LOOKS: u32 = 1_000_000;
+
+/// What the pen tells the desks where it can't go on.
+const NEVER: u64 = u64::MAX;
+
+/// Whether these are the packets from the first one on.
+fn is_beginning(packets: &[Packet]) -> bool {
+    let mut number = 0;
+    for packet in packets {
+        number += 1;
+        if packet.sequence().get() != number {
+            return false;
+        }
+    }
+    true
+}
+
+/// How many events a desk shows, and how many packets after that; none where it shows nothing, or no beginning.
+fn look(desk: &mut Desk) -> Option<(usize, usize)> {
+    let front = desk.front().ok()?;
+    let view = desk.view_path(0).ok()?;
+    let packets = view.packets();
+    if packets.len() < front || !is_beginning(packets) {
+        return None;
+    }
+    Some((front, packets.len()))
+}
+
+/// Looks until all packets are shown; gives the desk back, if it has shown beginnings that never got shorter and had all
+/// that it was told of.
+fn watch<R: Clock>(rt: &R, desk: Desk, told: &AtomicU64) -> Option<Desk> {
+    let mut desk = desk;
+    let mut shown = 0;
+    for _ in 0..LOOKS {
+        let note = Note {
+            front: told.load(Ordering::SeqCst) as usize,
+        };
+        desk.learn(note);
+        let (front, packets) = look(&mut desk)?;
+        if front < shown || front < note.front {
+            return None;
+        }
+        shown = packets;
+        if shown as u64 == PACKETS {
+            return Some(desk);
+        }
+        thread::sleep(rt, Duration::from_micros(20));
+    }
+    None
+}
+
+/// Sends one packet more; tells whether that was noted.
+fn is_sent(alloc: Global, pen: &mut Pen, number: u64) -> bool {
+    match event_of(alloc, Deed::Sent(0, number, 5, 0)) {
+        Some(event) => pen.append(event).is_ok(),
+        None => false,
+    }
+}
+
+/// Sends the packets, publishes each, and tells the desks so.
+fn write_all<R: Wait>(rt: &R, alloc: Global, pen: Pen, told: &AtomicU64) -> Pen {
+    let mut pen = pen;
+    for number in 1..=PACKETS {
+        let is_sent = is_sent(alloc, &mut pen, number);
+        let (next, published) = pen.publish(rt);
+        let front = if is_sent && published.is_ok() {
+            next.tell().front as u64
+        } else {
+            NEVER
+        };
+        told.store(front, Ordering::SeqCst);
+        pen = next;
+    }
+    pen
+}
+
+/// Lets a desk look in a thread of its own; none where no thread can be made.
+fn start_watch<R: Clock + Threads + Copy + Send + 'static>(
+    rt: &R,
+    desk: Desk,
+    told: &Arc<AtomicU64, Global>,
+) -> Option<JoinHandle<Option<Desk>>> {
+    let told = Arc::try_clone(told).ok()?;
+    let runtime = *rt;
+    thread::spawn(rt, move || watch(&runtime, desk, &told)).ok()
+}
+
+/// The desk, once it has looked.
+fn end_watch<R: Threads>(rt: &R, thread: Option<JoinHandle<Option<Desk>>>) -> Option<Desk> {
+    thread?.join(rt)
+}
+
+/// Two desks look in threads of their own. Once the pen is gone they show nothing more.
+#[test]
+fn desks_show_beginnings_while_the_pen_writes(rt: HostRuntime) -> Result<(), Fail> {
+    let alloc = rt.alloc();
+    let told = Arc::new(alloc, AtomicU64::new(0))?;
+    let core = start(alloc, 12, &[]).ok_or("core")?;
+    let (pen, mut desks) = open(&rt, alloc, core, 2)?;
+    let (Some(one), Some(other)) = (desks.pop(), desks.pop()) else {
+        pen.close(&rt);
+        return Err(Fail::from("desks"));
+    };
+    let one = start_watch(&rt, one, &told);
+    let other = start_watch(&rt, other, &told);
+    let pen = write_all(&rt, alloc, pen, &told);
+    let one = end_watch(&rt, one);
+    let other = end_watch(&rt, other);
+    let core = pen.close(&rt);
+    let (Some(mut one), Some(mut other)) = (one, other) else {
+        return Err(Fail::from("a desk showed no beginning, or not all"));
+    };
+    let ends = (core.front() as u64, one.front(), other.front());
+    assert!(rt;
+        ends == (PACKETS, Err(DeskError::Closed), Err(DeskError::Closed)),
+        "{ends:?}"
+    );
+    Ok(())
+}
