@@ -21,9 +21,9 @@ const NEVER: u64 = u64::MAX;
 
 /// Whether these are the packets from the first one on.
 fn is_beginning(packets: &[Packet]) -> bool {
-    let mut number = 0;
+    let mut number: u64 = 0;
     for packet in packets {
-        number += 1;
+        number = number.saturating_add(1);
         if packet.sequence().get() != number {
             return false;
         }
@@ -106,30 +106,50 @@ fn end_watch<R: Threads>(rt: &R, thread: Option<JoinHandle<Option<Desk>>>) -> Op
     thread?.join(rt)
 }
 
-/// Two desks look in threads of their own. Once the pen is gone they show nothing more.
+/// A board of a machine that knows nothing, with two desks.
+fn open_two<R: Wait>(rt: &R, alloc: Global) -> Option<(Pen, Desk, Desk)> {
+    let core = start(alloc, 12, &[])?;
+    let (pen, mut desks) = open(rt, alloc, core, 2).ok()?;
+    match (desks.pop(), desks.pop()) {
+        (Some(one), Some(other)) => Some((pen, one, other)),
+        _ => {
+            pen.close(rt);
+            None
+        }
+    }
+}
+
+/// Writes all while two desks look in threads of their own, and ends the board; gives what it has taken in, and the desks.
+fn write_and_watch<R: Clock + Threads + Wait + Copy + Send + 'static>(
+    rt: &R,
+    alloc: Global,
+    (pen, one, other): (Pen, Desk, Desk),
+    told: &Arc<AtomicU64, Global>,
+) -> (usize, Option<Desk>, Option<Desk>) {
+    let one = start_watch(rt, one, told);
+    let other = start_watch(rt, other, told);
+    let pen = write_all(rt, alloc, pen, told);
+    let one = end_watch(rt, one);
+    let other = end_watch(rt, other);
+    let core = pen.close(rt);
+    (core.front(), one, other)
+}
+
+/// What a desk shows first.
+fn front_of(desk: Option<Desk>) -> Option<Result<usize, DeskError>> {
+    let mut desk = desk?;
+    Some(desk.front())
+}
+
+/// Once the pen is gone desks show nothing more.
 #[test]
 fn desks_show_beginnings_while_the_pen_writes(rt: HostRuntime) -> Result<(), Fail> {
     let alloc = rt.alloc();
     let told = Arc::new(alloc, AtomicU64::new(0))?;
-    let core = start(alloc, 12, &[]).ok_or("core")?;
-    let (pen, mut desks) = open(&rt, alloc, core, 2)?;
-    let (Some(one), Some(other)) = (desks.pop(), desks.pop()) else {
-        pen.close(&rt);
-        return Err(Fail::from("desks"));
-    };
-    let one = start_watch(&rt, one, &told);
-    let other = start_watch(&rt, other, &told);
-    let pen = write_all(&rt, alloc, pen, &told);
-    let one = end_watch(&rt, one);
-    let other = end_watch(&rt, other);
-    let core = pen.close(&rt);
-    let (Some(mut one), Some(mut other)) = (one, other) else {
-        return Err(Fail::from("a desk showed no beginning, or not all"));
-    };
-    let ends = (core.front() as u64, one.front(), other.front());
-    assert!(rt;
-        ends == (PACKETS, Err(DeskError::Closed), Err(DeskError::Closed)),
-        "{ends:?}"
-    );
+    let board = open_two(&rt, alloc).ok_or("board")?;
+    let (written, one, other) = write_and_watch(&rt, alloc, board, &told);
+    let ends = (written as u64, front_of(one), front_of(other));
+    let closed = Some(Err(DeskError::Closed));
+    assert!(rt; ends == (PACKETS, closed, closed), "{ends:?}");
     Ok(())
 }
