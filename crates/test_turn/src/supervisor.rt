@@ -1,0 +1,209 @@
+//! A supervisor's own calls: what it takes in and what it refuses, with the numbers that are due, and that what is refused
+//! changes nothing.
+use rb_core::Core;
+use rb_core_model::{CoreError, Event};
+use rb_script_read::read_script;
+use rb_script_types::{Script, Turn};
+use rb_super::Supervisor;
+use std::alloc::Global;
+use std::process::Abort;
+use std::test::Fail;
+
+/// Two turns of which much is refused: in the first one headers (of an unknown set, too; with too few votes, too; with a
+/// vote that doesn't verify; at another time, and out of the order of times, too; out of that order alone), and what is seen
+/// of a packet early or twice; in the second one the window and a settlement.
+const EVENTS: &str = "version = 1
+chain = [{ id = 'a' }, { id = 'b' }]
+[[client]]
+id = 'c0'
+host = 'b'
+of = 'a'
+period_ns = 1000000000000
+drift_ns = 10000000000
+fee = [100, 1, 1]
+gas = [100, 1, 1]
+limits = [100000, 100, 0]
+[[client]]
+id = 'c1'
+host = 'a'
+of = 'b'
+period_ns = 1000000000000
+drift_ns = 10000000000
+fee = [100, 1, 1]
+gas = [100, 1, 1]
+limits = [100000, 100, 0]
+[[path]]
+id = 'p0'
+source = 'a'
+dest = 'b'
+order = 'unordered'
+forward = 'c0'
+back = 'c1'
+gas = [5, 5, 5]
+[[path]]
+id = 'p1'
+source = 'b'
+dest = 'a'
+order = 'unordered'
+forward = 'c1'
+back = 'c0'
+gas = [5, 5, 5]
+[[turn]]
+from = '1970-01-01T00:03:20Z'
+until = '1970-01-01T00:03:20Z'
+event = [
+  { kind = 'set', chain = 'a', name = 'A', validators = [
+    ['a1a1a1a1a1a1a1a1a1a1a1a1a1a1a1a1a1a1a1a1a1a1a1a1a1a1a1a1a1a1a1a1', 10],
+    ['a2a2a2a2a2a2a2a2a2a2a2a2a2a2a2a2a2a2a2a2a2a2a2a2a2a2a2a2a2a2a2a2', 10],
+  ] },
+  { kind = 'header', chain = 'a', height = 5, time = '1970-01-01T00:00:50Z', set = 'A', next = 'A', votes = 'CC' },
+  { kind = 'header', chain = 'a', height = 8, time = '1970-01-01T00:01:20Z', set = 'A', next = 'A', votes = 'CC' },
+  { kind = 'header', chain = 'a', height = 5, time = '1970-01-01T00:01:30Z', set = 'cccccccccccccccccccccccccccccccccccccccccccccccccccccccccccccccc', next = 'A', votes = 'B' },
+  { kind = 'header', chain = 'a', height = 5, time = '1970-01-01T00:01:30Z', set = 'A', next = 'A', votes = 'B' },
+  { kind = 'header', chain = 'a', height = 5, time = '1970-01-01T00:01:30Z', set = 'A', next = 'A', votes = 'CB' },
+  { kind = 'header', chain = 'a', height = 5, time = '1970-01-01T00:01:30Z', set = 'A', next = 'A', votes = 'CC' },
+  { kind = 'header', chain = 'a', height = 6, time = '1970-01-01T00:01:30Z', set = 'A', next = 'A', votes = 'CC' },
+  { kind = 'received', path = 'p0', seq = 1, height = 6 },
+  { kind = 'sent', path = 'p0', seq = 1, height = 5 },
+  { kind = 'sent', path = 'p0', seq = 1, height = 5 },
+  { kind = 'ack', path = 'p0', seq = 1, height = 6 },
+  { kind = 'received', path = 'p0', seq = 1, height = 6 },
+  { kind = 'received', path = 'p0', seq = 1, height = 6 },
+  { kind = 'ack', path = 'p0', seq = 1, height = 6 },
+  { kind = 'cleared', path = 'p0', seq = 1 },
+  { kind = 'cleared', path = 'p0', seq = 1 },
+  { kind = 'closed', path = 'p0' },
+  { kind = 'closed', path = 'p0' },
+]
+[[turn]]
+from = '1970-01-01T00:03:19Z'
+until = '1970-01-01T00:03:30Z'
+settle = [{ client = 'c0', batch = 1, done = 1 }]
+";
+
+/// The lines of its report that tell of refusals.
+const REFUSED: &str = "turn 1
+refused event 3 401 UnknownSet
+refused event 4 402 WrongVerdictCount
+refused event 5 403 BadVote
+refused event 6 404 Conflict
+refused event 7 405 TimeOrder
+refused event 8 805 OutOfOrder
+refused event 10 804 Repeat
+refused event 11 805 OutOfOrder
+refused event 13 804 Repeat
+refused event 16 804 Repeat
+refused event 18 804 Repeat
+turn 2
+refused window 806 WindowBack
+refused settle 0 805 OutOfOrder
+";
+
+/// A window, a set, two headers, and what was seen of a packet and of the end of its path.
+const TAKEN_IN: usize = 9;
+
+/// How many events a core has taken in, headers the first client's chain has, and packets the first path.
+fn shown(core: &Core) -> (usize, usize, usize) {
+    let headers = match core.client_view(0) {
+        Ok(job) => job.view().book().headers().len(),
+        Err(_) => 0,
+    };
+    let packets = match core.path_view(0) {
+        Ok(view) => view.packets().len(),
+        Err(_) => 0,
+    };
+    (core.front(), headers, packets)
+}
+
+/// A supervisor, and the refusals so far.
+#[derive(Drop)]
+struct Run {
+    alloc: Global,
+    supervisor: Supervisor,
+    refused: String,
+}
+
+impl Run {
+    fn tell(&mut self, line: &str) -> Result<(), Fail> {
+        self.refused.push_str(line)?;
+        Ok(())
+    }
+
+    /// Takes an event in. Where it is refused nothing has changed, and that is told.
+    fn enter(
+        &mut self,
+        rt: &impl Abort,
+        what: &str,
+        number: usize,
+        event: Event,
+    ) -> Result<(), Fail> {
+        let before = shown(self.supervisor.core());
+        match self.supervisor.take_in(event) {
+            Ok(_) => {
+                let front = before.0.saturating_add(1);
+                assert!(rt; shown(self.supervisor.core()).0 == front, "{what}");
+                Ok(())
+            }
+            Err(CoreError::Refused(refusal)) => {
+                assert!(rt; shown(self.supervisor.core()) == before, "{what}");
+                let line = if what == "window" {
+                    format!(in self.alloc; "refused window {refusal}\n")?
+                } else {
+                    format!(in self.alloc; "refused {what} {number} {refusal}\n")?
+                };
+                self.tell(line.as_str())
+            }
+            Err(CoreError::NoMemory) => Err(Fail::from("no memory")),
+        }
+    }
+
+    fn enter_turn(&mut self, rt: &impl Abort, turn: Turn) -> Result<(), Fail> {
+        let Turn {
+            window,
+            events,
+            settlements,
+            ..
+        } = turn;
+        self.enter(rt, "window", 0, Event::Window(window))?;
+        let mut number: usize = 0;
+        for event in events {
+            self.enter(rt, "event", number, Event::Observed(event))?;
+            number = number.saturating_add(1);
+        }
+        let mut number: usize = 0;
+        for settlement in settlements {
+            self.enter(rt, "settle", number, Event::Settled(settlement))?;
+            number = number.saturating_add(1);
+        }
+        Ok(())
+    }
+}
+
+#[test]
+fn supervisor_refuses_in_order(rt: HostRuntime) -> Result<(), Fail> {
+    let alloc = rt.alloc();
+    let Script { config, turns } = read_script(alloc, EVENTS.as_bytes())?;
+    let mut run = Run {
+        alloc,
+        supervisor: Supervisor::new(alloc, config)?,
+        refused: String::new(alloc),
+    };
+    let mut number: usize = 0;
+    for turn in turns {
+        number = number.saturating_add(1);
+        run.tell(format!(in alloc; "turn {number}\n")?.as_str())?;
+        run.enter_turn(&rt, turn)?;
+    }
+    let Run {
+        supervisor,
+        refused,
+        ..
+    } = run;
+    let taken_in = supervisor.stop().front();
+    assert!(rt;
+        refused.as_str() == REFUSED && taken_in == TAKEN_IN,
+        "{taken_in} {}",
+        refused.as_str()
+    );
+    Ok(())
+}
