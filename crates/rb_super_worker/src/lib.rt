@@ -16,4 +16,5 @@ pub use finding::{Finding, Findings};
 pub use inbox::Inbox;
 pub use order::{Order, Orders};
 pub use team::Team;
+pub use worker::Worker;
 pub use working::{work, worker_loop};

@@ -51,6 +51,22 @@ where
 }
 
 impl<G: Gate> Team<G> {
+    /// These workers, which wake the one that parks on `home` when they have found something. The gate is
+    /// told of each plan that is taken from them.
+    pub fn over(
+        alloc: Global,
+        workers: Vec<Worker>,
+        gate: Arc<G, Global>,
+        home: Parker,
+    ) -> Team<G> {
+        Team {
+            alloc,
+            workers,
+            gate,
+            home,
+        }
+    }
+
     /// Takes what was found into the inbox, looking at each worker once; whether there was
     /// something.
     fn collect(&mut self, inbox: &mut Inbox) -> bool {
@@ -143,12 +159,7 @@ impl<G: Gate + Send + Sync + Drop + 'static> Team<G> {
         let gate = Arc::try_clone(gate)?;
         let home = Parker::new(alloc)?;
         let workers = start_workers(rt, alloc, desks, &gate, &home)?;
-        Ok(Team {
-            alloc,
-            workers,
-            gate,
-            home,
-        })
+        Ok(Team::over(alloc, workers, gate, home))
     }
 
     /// Tells the workers to end, and waits for that.

@@ -21,7 +21,7 @@ const FINDINGS: usize = 512;
 
 /// The supervisor's ends of the lanes to a worker, what wakes it, and its thread.
 #[derive(Drop)]
-pub(crate) struct Worker {
+pub struct Worker {
     orders: Tx<Order>,
     findings: Rx<Finding>,
     unparker: Unparker,
@@ -29,6 +29,22 @@ pub(crate) struct Worker {
 }
 
 impl Worker {
+    /// A worker in this thread, at the other ends of these lanes, which is woken so. What it does is the
+    /// caller's matter; it has to end when it is told to.
+    pub fn over(
+        orders: Tx<Order>,
+        findings: Rx<Finding>,
+        unparker: Unparker,
+        thread: JoinHandle<()>,
+    ) -> Worker {
+        Worker {
+            orders,
+            findings,
+            unparker,
+            thread,
+        }
+    }
+
     /// Starts a worker, which wakes the one that parks on `home` when it has found something; none
     /// where no thread can be made or a growth is refused.
     pub(crate) fn start<R, G>(
@@ -68,12 +84,7 @@ impl Worker {
             ),
         )
         .ok()?;
-        Some(Worker {
-            orders,
-            findings,
-            unparker,
-            thread,
-        })
+        Some(Worker::over(orders, findings, unparker, thread))
     }
 
     /// Sends an order, where there is room for it, and wakes the worker.

@@ -166,7 +166,7 @@ fn enter(core: &mut Core, event: Event) -> Result<Reply, CoreError> {
 }
 
 /// Enters an event; none where it is refused.
-fn learn(core: &mut Core, event: Event) -> Option<()> {
+pub fn learn(core: &mut Core, event: Event) -> Option<()> {
     match enter(core, event) {
         Ok(_) => Some(()),
         Err(_) => None,
@@ -174,7 +174,7 @@ fn learn(core: &mut Core, event: Event) -> Option<()> {
 }
 
 /// Enters an event. A refusal for an old view tells the present front.
-fn offer(rt: &impl Abort, core: &mut Core, event: Event) -> Option<Result<Reply, Refusal>> {
+pub fn offer(rt: &impl Abort, core: &mut Core, event: Event) -> Option<Result<Reply, Refusal>> {
     let front = core.front();
     let answer = answered(enter(core, event))?;
     if let Err(Refusal::Stale { front: named }) = answer {
@@ -184,7 +184,7 @@ fn offer(rt: &impl Abort, core: &mut Core, event: Event) -> Option<Result<Reply,
 }
 
 /// The table of a book.
-fn table_of(alloc: Global, book: &ChainBook) -> Result<Graph, AllocError>
+pub fn table_of(alloc: Global, book: &ChainBook) -> Result<Graph, AllocError>
     ensures { IfOk result (λ graph. graph ≡ book.now) }
 {
     let copy = book.copy()?;
@@ -193,7 +193,7 @@ fn table_of(alloc: Global, book: &ChainBook) -> Result<Graph, AllocError>
 }
 
 /// What is planned for a job.
-fn draft_of(alloc: Global, job: JobView) -> Result<Draft, AllocError> {
+pub fn draft_of(alloc: Global, job: JobView) -> Result<Draft, AllocError> {
     let graph = table_of(alloc, job.view().book())?;
     let draft = draft(job, &graph)?;
     Ok(draft)
