@@ -1,4 +1,7 @@
 //! The text of a script.
+ghost use Rattle.std.specs.Prelude.{◌<◌, All, length};
+ghost use Rattle.rb_import_setup.specs.Places.{IsClientOf, IsPathOf, IsTurnOf};
+
 use crate::event_text::{push_closing, push_header, push_packet, push_set, push_stored};
 use jiff::Timestamp;
 use rb_base::{FeeTable, Moment};
@@ -27,28 +30,26 @@ pub fn push_script(text: &mut String, setup: &Setup, seen: &Seen<'_>) -> Result<
     for path in &setup.paths {
         push_path(text, setup, &path.config)?;
     }
-    let last = setup.turns.len().saturating_sub(1);
-    for (place, turn) in setup.turns.iter().enumerate() {
-        let is_last = place == last;
-        push_turn(text, setup, turn, if is_last { Some(seen) } else { None })?;
+    let mut left = setup.turns.len();
+    for turn in &setup.turns {
+        left = left.saturating_sub(1);
+        push_turn(text, setup, turn, (left == 0).then_some(seen))?;
     }
     Ok(())
 }
 
 /// The identifier of the chain at a place.
-fn chain_at(setup: &Setup, place: usize) -> &str {
-    match setup.chains.get(place) {
-        Some(chain) => chain.as_str(),
-        None => "",
-    }
+fn chain_at(setup: &Setup, place: usize) -> &str
+    requires { place < length setup.now.chains.items }
+{
+    setup.chains[place].as_str()
 }
 
 /// The identifier of the client at a place.
-fn client_at(setup: &Setup, place: usize) -> &str {
-    match setup.clients.get(place) {
-        Some(client) => client.id.as_str(),
-        None => "",
-    }
+fn client_at(setup: &Setup, place: usize) -> &str
+    requires { place < length setup.now.clients.items }
+{
+    setup.clients[place].id.as_str()
 }
 
 fn push_numbers(text: &mut String, key: &str, numbers: [u64; 3]) -> Result<(), AllocError> {
@@ -69,7 +70,9 @@ fn push_client(
     setup: &Setup,
     client: &ClientSetup,
     seen: &SeenClient<'_>,
-) -> Result<(), AllocError> {
+) -> Result<(), AllocError>
+    requires { IsClientOf (length setup.now.chains.items) client.now }
+{
     let id = client.id.as_str();
     let host = chain_at(setup, client.host);
     let tracks = chain_at(setup, client.tracks);
@@ -98,7 +101,9 @@ fn push_client(
     writeln!(text, "trust = [{numerator}, {denominator}]")
 }
 
-fn push_path(text: &mut String, setup: &Setup, path: &PathConfig) -> Result<(), AllocError> {
+fn push_path(text: &mut String, setup: &Setup, path: &PathConfig) -> Result<(), AllocError>
+    requires { IsPathOf (length setup.now.chains.items) (length setup.now.clients.items) path.now }
+{
     let id = path.id.as_str();
     let source = chain_at(setup, path.source);
     let dest = chain_at(setup, path.destination);
@@ -128,7 +133,9 @@ fn push_turn(
     setup: &Setup,
     turn: &TurnSetup,
     seen: Option<&Seen<'_>>,
-) -> Result<(), AllocError> {
+) -> Result<(), AllocError>
+    requires { IsTurnOf (length setup.now.clients.items) turn.now }
+{
     text.push_str("\n[[turn]]\nfrom = \"")?;
     push_time(text, turn.window.from())?;
     text.push_str("\"\nuntil = \"")?;
@@ -144,7 +151,9 @@ fn push_turn(
     push_settlements(text, setup, turn.settlements.as_slice())
 }
 
-fn push_goal(text: &mut String, setup: &Setup, asked: &Asked) -> Result<(), AllocError> {
+fn push_goal(text: &mut String, setup: &Setup, asked: &Asked) -> Result<(), AllocError>
+    requires { asked.now.client < length setup.now.clients.items }
+{
     let client = client_at(setup, asked.client);
     let (key, height) = match asked.goal {
         Goal::Exactly(height) => ("exactly", height),
@@ -157,7 +166,9 @@ fn push_settlements(
     text: &mut String,
     setup: &Setup,
     settlements: &[Settlement],
-) -> Result<(), AllocError> {
+) -> Result<(), AllocError>
+    requires { All (λ s. s.client < length setup.now.clients.items) settlements.now }
+{
     if settlements.is_empty() {
         return Ok(());
     }
@@ -178,8 +189,8 @@ fn push_settlements(
 /// there is room for, of each path its packets, and that it is closed where a packet's timeout closed it.
 fn push_events(text: &mut String, setup: &Setup, seen: &Seen<'_>) -> Result<(), AllocError> {
     text.push_str("event = [\n")?;
-    for (place, chain) in seen.chains.iter().enumerate() {
-        push_chain(text, setup, seen, place, chain)?;
+    for (place, (id, chain)) in setup.chains.iter().zip(&seen.chains).enumerate() {
+        push_chain(text, id.as_str(), seen, place, chain)?;
     }
     for (client, records) in setup.clients.iter().zip(&seen.records) {
         push_records(text, seen, client, records.as_slice())?;
@@ -197,12 +208,11 @@ fn push_events(text: &mut String, setup: &Setup, seen: &Seen<'_>) -> Result<(), 
 /// a set.
 fn push_chain(
     text: &mut String,
-    setup: &Setup,
+    id: &str,
     seen: &Seen<'_>,
     place: usize,
     chain: &SeenChain<'_>,
 ) -> Result<(), AllocError> {
-    let id = chain_at(setup, place);
     if let Some(kept) = seen.sets.get(place) {
         for number in kept.places.iter().rev() {
             if let Some(set) = chain.sets.sets.get(*number) {
