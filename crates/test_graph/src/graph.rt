@@ -166,14 +166,26 @@ const LEVELS: &[(u64, &[Step])] = &[
     (100, ADJACENT),
 ];
 
+/// The table and the verifier tell these steps at a trust level.
+fn check_level(
+    rt: &impl Abort,
+    alloc: Global,
+    graph: &Graph,
+    level: u64,
+    wanted: &[Step],
+) -> Result<(), Fail> {
+    let told = steps_of(alloc, graph, level)?;
+    assert_same(rt, &level, &told.as_slice(), &wanted);
+    let judged = judged_steps(rt, alloc, graph.book(), level)?;
+    assert_same(rt, &level, &judged.as_slice(), &wanted);
+    Ok(())
+}
+
 #[test]
 fn tells_steps(rt: HostRuntime) -> Result<(), Fail> {
     let graph = make_graph(rt.alloc())?;
     for (level, wanted) in LEVELS {
-        let told = steps_of(rt.alloc(), &graph, *level)?;
-        assert_same(&rt, level, &told.as_slice(), wanted);
-        let judged = judged_steps(&rt, rt.alloc(), graph.book(), *level)?;
-        assert_same(&rt, level, &judged.as_slice(), wanted);
+        check_level(&rt, rt.alloc(), &graph, *level, wanted)?;
     }
     Ok(())
 }
