@@ -3,16 +3,16 @@ use Rattle.std.specs.Prelude.{ℕ, map}
 use Rattle.std.specs.Option.{option_map}
 use Rattle.rb_core_model.specs.Machine.{Reply, Noted, Opened}
 use Rattle.rb_super_turn.specs.Report.{RefusedEvent, PricedUpdate, BatchReport, SendingReport, nothing, too_big, batched, PlanReport, PlannedReport, Outcome, held, idle, planned, ClientReport, SettlementReport, TurnReport, Report}
-use Rattle.rb_super_turn.specs.declared.report.BatchReport.{Batch as CodeBatch}
+use Rattle.rb_super_turn.specs.declared.report.BatchReport.{BatchReport as CodeBatch}
 use Rattle.rb_super_turn.specs.declared.report.ClientReport.{ClientReport as CodeClientReport}
 use Rattle.rb_super_turn.specs.declared.report.Outcome.{Outcome as CodeOutcome}
 use Rattle.rb_super_turn.specs.declared.report.Outcome.TheVariants as outcome
-use Rattle.rb_super_turn.specs.declared.report.PlanReport.{Plan as CodePlan}
-use Rattle.rb_super_turn.specs.declared.report.PlannedReport.{Planned as CodePlanned}
+use Rattle.rb_super_turn.specs.declared.report.PlanReport.{PlanReport as CodePlan}
+use Rattle.rb_super_turn.specs.declared.report.PlannedReport.{PlannedReport as CodePlanned}
 use Rattle.rb_super_turn.specs.declared.report.PricedUpdate.{PricedUpdate as CodePricedUpdate}
 use Rattle.rb_super_turn.specs.declared.report.RefusedEvent.{RefusedEvent as CodeRefusedEvent}
 use Rattle.rb_super_turn.specs.declared.report.Report.{Report as CodeReport}
-use Rattle.rb_super_turn.specs.declared.report.SendingReport.{Sending as CodeSending}
+use Rattle.rb_super_turn.specs.declared.report.SendingReport.{SendingReport as CodeSending}
 use Rattle.rb_super_turn.specs.declared.report.SendingReport.TheVariants as sending
 use Rattle.rb_super_turn.specs.declared.report.SettlementReport.{SettlementReport as CodeSettlementReport}
 use Rattle.rb_super_turn.specs.declared.report.TurnReport.{TurnReport as CodeTurnReport}
