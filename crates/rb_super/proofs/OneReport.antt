@@ -70,11 +70,11 @@ length-gases t us ms = omega (arith, length-append (map (gas_of t) us) (map (λ 
 -- how messages are sent goes by the messages alone
 moved : (t : Task) (p q : Plan) → p.updates ≡ q.updates → p.messages ≡ q.messages → (x : Sending) → IsSending t p x → IsSending t q x
 moved t p q us ms nothing h = (sym us ∙ h.0, sym ms ∙ h.1)
-moved t p q us ms (too_big index) h = subst (λ (y : List Update × List Message). IsFirstTooBig t.limits (gases t y.0 y.1) index) (λ i. (us i, ms i)) h
+moved t p q us ms (too_big index) h = subst (λ (y : List Update × List Message). IsFirstTooBig t.config.limits (gases t y.0 y.1) index) (λ i. (us i, ms i)) h
 moved t p q us ms (batched b) h = record {
   some = subst (λ (y : List Update × List Message). 0 < length y.0 + length y.1) (λ i. (us i, ms i)) h.some;
   proof = subst (λ (y : List Update). IsProofHeight (client_of (view_of t)) y (Some b.proof)) us h.proof;
-  transactions = subst (λ (y : List Update × List Message). IsLeastCut t.limits (gases t y.0 y.1) b.transactions) (λ i. (us i, ms i)) h.transactions;
+  transactions = subst (λ (y : List Update × List Message). IsLeastCut t.config.limits (gases t y.0 y.1) b.transactions) (λ i. (us i, ms i)) h.transactions;
 }
 
 -- unreachable, or the plan
@@ -82,7 +82,7 @@ abbrev IsPlanOr : Task → Option ℕ → Goal → Option Plan → Type 0
 IsPlanOr t reach goal plan = MatchOption plan (IsUnreachable (client_of (view_of t)) goal) (IsPlan t goal (messages_of t reach))
 
 module _ (one : AnswersAreOne) (cuts : LeastCutIsOne) where
-  nothing_is_small : (t : Task) (p : Plan) (index : ℕ) → IsSending t p nothing → IsFirstTooBig t.limits (gases t p.updates p.messages) index → ⊥
+  nothing_is_small : (t : Task) (p : Plan) (index : ℕ) → IsSending t p nothing → IsFirstTooBig t.config.limits (gases t p.updates p.messages) index → ⊥
   nothing_is_small t p index empty big = omega (arith, big.place, length-gases t p.updates p.messages, ap length empty.0, ap length empty.1)
 
   nothing_is_none : (t : Task) (p : Plan) (b : Batch) → IsSending t p nothing → IsBatch t p b → ⊥
@@ -93,13 +93,13 @@ module _ (one : AnswersAreOne) (cuts : LeastCutIsOne) where
   one_sending t p nothing (too_big j) x y = absurd (nothing_is_small t p j x y)
   one_sending t p nothing (batched b) x y = absurd (nothing_is_none t p b x y)
   one_sending t p (too_big i) nothing x y = absurd (nothing_is_small t p i y x)
-  one_sending t p (too_big i) (too_big j) x y = ap (λ n. too_big n) (one_index t.limits (gases t p.updates p.messages) i j x y)
-  one_sending t p (too_big i) (batched b) x y = absurd (cut_or_too_big t.limits (gases t p.updates p.messages) b.transactions i y.transactions x)
+  one_sending t p (too_big i) (too_big j) x y = ap (λ n. too_big n) (one_index t.config.limits (gases t p.updates p.messages) i j x y)
+  one_sending t p (too_big i) (batched b) x y = absurd (cut_or_too_big t.config.limits (gases t p.updates p.messages) b.transactions i y.transactions x)
   one_sending t p (batched a) nothing x y = absurd (nothing_is_none t p a y x)
-  one_sending t p (batched a) (too_big j) x y = absurd (cut_or_too_big t.limits (gases t p.updates p.messages) a.transactions j x.transactions y)
+  one_sending t p (batched a) (too_big j) x y = absurd (cut_or_too_big t.config.limits (gases t p.updates p.messages) a.transactions j x.transactions y)
   one_sending t p (batched a) (batched b) x y =
       let proofs : a.proof ≡ b.proof = omega (arith, y.proof.greatest a.proof x.proof.left, x.proof.greatest b.proof y.proof.left) in
-      let transactions = cuts t.limits (gases t p.updates p.messages) a.transactions b.transactions x.transactions y.transactions in
+      let transactions = cuts t.config.limits (gases t p.updates p.messages) a.transactions b.transactions x.transactions y.transactions in
       λ i. batched (record { proof = proofs i; transactions = transactions i })
 
   one_plan : (t : Task) (reach : Option ℕ) (goal : Goal) (p q : Plan) → IsPlan t goal (messages_of t reach) p → IsPlan t goal (messages_of t reach) q → p ≡ q
