@@ -2,6 +2,7 @@
 import hashlib
 import re
 import tomllib
+import unicodedata
 from collections import namedtuple
 from datetime import datetime, timezone
 
@@ -19,6 +20,9 @@ FAULTS = {
     1024: "BadLimit", 1025: "BadFee", 1026: "NoSuchTurn", 1027: "BadAnswer", 1028: "NoGoal", 1029: "LabelOrder",
     1030: "InputTooBig", 1031: "BadTrust",
 }
+
+# characters that turn the direction of a text
+TURNING = {chr(c) for c in (0x61C, 0x200E, 0x200F, *range(0x202A, 0x202F), *range(0x2066, 0x206A))}
 
 # how many records a book has; by id, in their order, what clients of a chain share, the clients and the paths; and the turns
 Script = namedtuple("Script", "limit chains clients paths turns")
@@ -38,12 +42,17 @@ def child(path, key):
     return f"{path}.{key}" if path else key
 
 
+def is_plain(character):
+    """Whether a character does nothing to a terminal: it is no control character, ends no line and doesn't turn the direction of a text."""
+    return unicodedata.category(character) not in ("Cc", "Zl", "Zp") and character not in TURNING
+
+
 def shown(key):
-    """A key as a path shows it: control characters by their numbers, and of a long key its length alone."""
+    """A key as a path shows it: quotes for an empty one, characters that aren't plain by their numbers, and of a long key its length alone."""
     length = len(key.encode())
     if length > 64:
         return f"<{length} bytes>"
-    return "".join(f"\\u{{{ord(c):x}}}" if ord(c) < 32 or 127 <= ord(c) < 160 else c for c in key)
+    return "".join(c if is_plain(c) else f"\\u{{{ord(c):x}}}" for c in key) or '""'
 
 
 def need(test, number, path):

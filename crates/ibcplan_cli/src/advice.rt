@@ -77,7 +77,7 @@ fn keys_at(path: &str) -> &'static str {
     let (table, _) = table_and_key(path);
     match key_of(table) {
         "" => {
-            "there is no such key here; a script has version, chain, client, path and turn, a certificate version, turn, client, answer, updates and labels; goal, event and settle belong into a turn, as [[turn.goal]]"
+            "there is no such key here; a script or a setup has version, chain, client, path and turn, a certificate version, turn, client, answer, updates and labels; goal, event and settle belong into a turn, as [[turn.goal]]"
         }
         "chain" => {
             "a chain has id and, in version 2, defaults; TOML puts a key that stands after [[chain]] into that chain"

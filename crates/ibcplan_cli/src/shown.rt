@@ -1,9 +1,10 @@
 //! Names of files as messages show them.
+use rb_script_toml::is_active;
 use std::alloc::{AllocError, Global};
 use std::fmt;
 
-/// A name of which control characters are written `\u{..}` with their number in hexadecimal digits, so
-/// that it is one line and does nothing to a terminal.
+/// A name of which characters that would do something to a terminal are written `\u{..}` with their number in
+/// hexadecimal digits, so that it is one line.
 #[derive(Clone, Copy, Debug)]
 pub struct Shown<'a> {
     pub name: &'a str,
@@ -12,7 +13,7 @@ pub struct Shown<'a> {
 impl fmt::Display for Shown<'_> {
     fn fmt<W: fmt::Write>(&self, f: &mut fmt::Formatter<W>) -> fmt::Result {
         for character in self.name.chars() {
-            if character.is_control() {
+            if is_active(character) {
                 let code = u32::from(character);
                 write!(f, "\\u{{{code:x}}}")?;
             } else {

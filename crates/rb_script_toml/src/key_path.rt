@@ -2,7 +2,7 @@
 ghost use Rattle.std.specs.Prelude.{◌≡◌, ◌++◌, IfOk, OnOk, flat_map, string_bytes};
 ghost use Rattle.std.specs.Str.{chars};
 ghost use Rattle.rb_script_toml.specs.Faults.{IsFault};
-ghost use Rattle.rb_script_toml.specs.KeyPaths.{child, element, below, place_path, shown, shown_key};
+ghost use Rattle.rb_script_toml.specs.KeyPaths.{child, element, below, place_path, shown, shown_key, is_active};
 
 use crate::fault::{Fault, FaultName, RunError};
 use std::alloc::{AllocError, Global};
@@ -75,19 +75,23 @@ pub fn element_path(alloc: Global, array: &str, index: usize) -> Result<String, 
     format!(in alloc; "{array}[{index}]")
 }
 
-/// A key as a path shows it, so that a path is one line of no great length: control characters are
-/// written `\u{..}`, and of a key of more than 64 bytes its length stands there, as `<70 bytes>`.
+/// A key as a path shows it, so that a path is one line of no great length: quotes stand for an empty key,
+/// and for one of more than 64 bytes its length, as `<70 bytes>`; of others characters that would do
+/// something to a terminal are written `\u{..}`.
 pub fn shown_key(alloc: Global, key: &str) -> Result<String, AllocError>
     ensures { IfOk result (λ text. string_bytes text ≡ shown_key key.now) }
 {
     let length = key.len();
+    if length == 0 {
+        return String::from_str(alloc, "\"\"");
+    }
     if length > MAX_SHOWN {
         return format!(in alloc; "<{length} bytes>");
     }
     shown(alloc, key)
 }
 
-/// A text whose control characters are written `\u{..}`.
+/// A text of which characters that would do something to a terminal are written `\u{..}`.
 fn shown(alloc: Global, key: &str) -> Result<String, AllocError>
     ensures { IfOk result (λ text. string_bytes text ≡ flat_map shown (chars key.now)) }
 {
@@ -98,10 +102,25 @@ fn shown(alloc: Global, key: &str) -> Result<String, AllocError>
     Ok(text)
 }
 
+/// Whether a character does something to a terminal: a control character, one that ends a line or a
+/// paragraph, or one that turns the direction of a text (Unicode: Cc, Zl, Zp, Bidi_Control).
+pub fn is_active(character: char) -> bool
+    ensures { result ≡ is_active character }
+{
+    character.is_control()
+        || matches!(
+            character,
+            '\u{61c}'
+                | '\u{200e}'..='\u{200f}'
+                | '\u{2028}'..='\u{202e}'
+                | '\u{2066}'..='\u{2069}'
+        )
+}
+
 fn push_shown(text: &mut String, character: char) -> Result<(), AllocError>
     ensures { OnOk result (string_bytes text.new ≡ string_bytes text.old ++ shown character) }
 {
-    if character.is_control() {
+    if is_active(character) {
         let code = u32::from(character);
         write!(text, "\\u{{{code:x}}}")
     } else {

@@ -11,5 +11,5 @@ mod section;
 pub use document::{MAX_BYTES, read_table};
 pub use fault::{Fault, FaultName, RunError};
 pub use field::{Field, MAX_NUMBER, is_identifier};
-pub use key_path::{KeyPath, child_path, element_path};
+pub use key_path::{KeyPath, child_path, element_path, is_active};
 pub use section::{Section, fault_at, section_at};
