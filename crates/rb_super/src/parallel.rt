@@ -12,7 +12,7 @@ use crate::found::FoundByWorkers;
 use crate::head::{Head, close, publish, relayer_over};
 use crate::orders::{order_plans, order_scans};
 use rb_base::{Gate, Window};
-use rb_board::open;
+use rb_board::{Desk, open};
 use rb_core::Core;
 use rb_script_types::{Asked, Config, Observation, Turn};
 use rb_super_turn::{
@@ -22,7 +22,7 @@ use rb_super_turn::{
 use rb_super_worker::{Inbox, Team};
 use std::alloc::{AllocError, Global};
 use std::marker::Model;
-use std::sync::{Arc, Wait};
+use std::sync::Wait;
 use std::thread::Threads;
 
 /// A relayer that is led through turns, with workers that scan its paths and plan for its clients in
@@ -201,26 +201,29 @@ fn plan<R: Threads + Sync + Wait, G: Gate + Send + Sync + Drop + 'static>(
 }
 
 impl<G: Gate + Send + Sync + Drop + 'static> ParallelSupervisor<G> {
-    /// A supervisor whose relayer has taken in nothing, with so many workers; fewer where no thread can
-    /// be made, or a growth is refused for one. The gate is called round each of their jobs. The
-    /// configuration is given up where another growth is refused.
-    pub fn new<R: Threads + Wait + Copy + Send + 'static>(
+    /// A supervisor whose relayer has taken in nothing, with the team that is started for so many desks of
+    /// its board, fewer where a place for one is refused. The configuration is given up where a growth is refused.
+    pub fn new<R, F>(
         rt: &R,
         alloc: Global,
         config: Config,
-        workers: usize,
-        gate: &Arc<G, Global>,
+        desks: usize,
+        start: F,
     ) -> Result<ParallelSupervisor<G>, AllocError>
+    where
+        R: Wait,
+        F: FnOnce(Vec<Desk>) -> Result<Team<G>, AllocError> + Drop,
         requires config { IsConfig (config_view config) }
-        requires workers { workers ≤ 64 }
+        requires desks { desks ≤ 64 }
+        requires start { F.IsAlwaysCallable start }
         ensures config { IfOk result (λ w. w.config ≡ config_view config) }
         ensures log { IfOk result (λ w. w.log ≡ []) }
     {
         let tables = no_tables(alloc, config.chains.len())?;
         let core = Core::new(alloc, config)?;
-        let (pen, desks) = open(rt, alloc, core, workers)?;
+        let (pen, desks) = open(rt, alloc, core, desks)?;
         let relayer = relayer_over(pen, tables);
-        match Team::start(rt, alloc, desks, gate) {
+        match start(desks) {
             Ok(team) => Ok(ParallelSupervisor {
                 alloc,
                 relayer,
@@ -235,7 +238,7 @@ impl<G: Gate + Send + Sync + Drop + 'static> ParallelSupervisor<G> {
 
     /// Leads the relayer through a turn: the window, the asked goals, what was observed, the scans of
     /// both parts of each path that has no valid one, the plans of the clients that have no open
-    /// batch, and the settlements. ParallelSupervisor scan and plan; what they don't find, and what is refused of
+    /// batch, and the settlements. Workers scan and plan; what they don't find, and what is refused of
     /// it, is done here. What is refused of the turn is reported and changes nothing. An error comes
     /// only where a growth is refused, also to a worker; all workers have then ended.
     pub fn turn<R: Threads + Sync + Wait>(

@@ -12,8 +12,10 @@ ghost use Rattle.rb_super.specs.AsEvents.{code_turn_as_events, as_events, IsTurn
 use crate::parallel::ParallelSupervisor;
 use crate::supervisor::Supervisor;
 use rb_base::{Gate, PathId};
+use rb_board::Desk;
 use rb_script_types::{PathConfig, Script, Turn};
 use rb_super_turn::{Crew, Report, TurnReport};
+use rb_super_worker::Team;
 use std::alloc::{AllocError, Allocator, Global};
 use std::sync::{Arc, Wait};
 use std::thread::Threads;
@@ -126,6 +128,35 @@ fn turns_by_workers<R: Threads + Sync + Wait, G: Gate + Send + Sync + Drop + 'st
     Ok(reports)
 }
 
+/// Runs a script, turn by turn, its scans and plans by the team that is started for so many desks, at most 64; what the
+/// team doesn't find the calling thread does. The report doesn't go by what is found. The crew's gate is called as each
+/// job begins and ends that the calling thread does. An error comes only where a growth is refused, to whichever thread;
+/// the team has then ended.
+pub fn run_by_team<R, G, F>(
+    crew: &Crew<R, G>,
+    alloc: Global,
+    script: Script,
+    desks: usize,
+    start: F,
+) -> Result<Report, AllocError>
+where
+    R: Threads + Sync + Wait,
+    G: Gate + Send + Sync + Drop + 'static,
+    F: FnOnce(Vec<Desk>) -> Result<Team<G>, AllocError> + Drop,
+    requires script { IsReadScript (script_view script) }
+    requires desks { desks ≤ 64 }
+    requires start { F.IsAlwaysCallable start }
+    ensures paths { IfOk result (λ report. report.paths.items ≡ map (λ (p : PathConfig). p.id) script.config.paths.items) }
+    ensures turns { IfOk result (λ report. IsReportOf (as_events (script_view script)) (report_view report)) }
+{
+    let Script { config, turns } = script;
+    let paths = path_ids(alloc, config.paths.as_slice())?;
+    let reports = Vec::with_capacity(alloc, turns.len())?;
+    let team = ParallelSupervisor::new(crew.rt(), alloc, config, desks, start)?;
+    let turns = turns_by_workers(crew, reports, team, turns)?;
+    Ok(Report { paths, turns })
+}
+
 /// Runs a script, turn by turn, its scans and plans by so many workers in threads of their own, at most
 /// 64, by fewer where no thread can be made, and by the calling thread alone where none can; with 2 or
 /// more the rows of tables, too, are made by so many threads. The report doesn't go by how many there
@@ -147,10 +178,7 @@ pub fn run_by_workers<
     ensures turns { IfOk result (λ report. IsReportOf (as_events (script_view script)) (report_view report)) }
 {
     let crew = Crew::new(rt, workers, &**gate);
-    let Script { config, turns } = script;
-    let paths = path_ids(alloc, config.paths.as_slice())?;
-    let reports = Vec::with_capacity(alloc, turns.len())?;
-    let team = ParallelSupervisor::new(rt, alloc, config, workers, gate)?;
-    let turns = turns_by_workers(&crew, reports, team, turns)?;
-    Ok(Report { paths, turns })
+    run_by_team(&crew, alloc, script, workers, |desks| {
+        Team::start(rt, alloc, desks, gate)
+    })
 }

@@ -22,11 +22,18 @@ pub enum Finding<A: Allocator = Global> {
     Unseen(WorkItem),
 }
 
-/// The lane on which findings go, and what wakes the one that takes them.
-#[derive(Drop)]
+/// The lane on which findings go, and what wakes the one that takes them; also once the lane was let go.
 pub struct Findings<A: Allocator = Global> {
     pub lane: Tx<Finding<A>, A>,
     pub unparker: Unparker<A>,
+}
+
+impl<A: Allocator> Drop for Findings<A> {
+    fn drop(self) {
+        let Findings { lane, unparker } = self;
+        drop(lane);
+        unparker.unpark();
+    }
 }
 
 impl<A: Allocator> Findings<A> {

@@ -65,6 +65,16 @@ impl<A: Allocator> Inbox<A> {
         }
     }
 
+    /// The jobs of one of so many workers that haven't come to an end were not done; tells whether there was one.
+    pub(crate) fn give_up_jobs(&mut self, worker: usize, workers: usize) -> bool {
+        let scans = self.packets.give_up(worker, workers);
+        let channels = self.channels.give_up(worker, workers);
+        let plans = self.plans.give_up(worker, workers);
+        let count = scans.saturating_add(channels).saturating_add(plans);
+        self.missing = self.missing.saturating_sub(count);
+        count > 0
+    }
+
     /// Holds what was found.
     pub(crate) fn put(&mut self, finding: Finding<A>) {
         let was_ordered = match finding {

@@ -68,6 +68,18 @@ impl<T: Drop, A: Allocator> Slots<T, A> {
         }
     }
 
+    /// The jobs of each `workers`th place from `worker` on that haven't come to an end were not done; tells how
+    /// many they are.
+    pub(crate) fn give_up(&mut self, worker: usize, workers: usize) -> usize {
+        let mut count: usize = 0;
+        for place in 0..self.slots.len() {
+            if place.checked_rem(workers) == Some(worker) && self.fill(place, None) {
+                count = count.saturating_add(1);
+            }
+        }
+        count
+    }
+
     /// Takes what was found at a place, if something was.
     pub(crate) fn take(&mut self, place: usize) -> Option<T> {
         let slot = self.slots.get_mut(place)?;

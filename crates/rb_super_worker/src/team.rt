@@ -67,12 +67,16 @@ impl<G: Gate> Team<G> {
         }
     }
 
-    /// Takes what was found into the inbox, looking at each worker once; whether there was
-    /// something.
+    /// Takes what was found into the inbox, looking at each worker once, and gives up the jobs of those that are
+    /// gone and left nothing to be taken; whether a job may have come to an end.
     fn collect(&mut self, inbox: &mut Inbox) -> bool {
+        let count = self.workers.len();
         let mut is_found = false;
-        for worker in self.workers.iter_mut() {
-            is_found = worker.collect(inbox, &*self.gate) || is_found;
+        for (place, worker) in self.workers.iter_mut().enumerate() {
+            let is_gone = worker.is_gone();
+            let is_new = worker.collect(inbox, &*self.gate)
+                || is_gone && inbox.give_up_jobs(place, count);
+            is_found = is_new || is_found;
         }
         is_found
     }
@@ -85,7 +89,7 @@ impl<G: Gate> Team<G> {
     }
 
     /// Sends an order to the worker whose job it is, if there is room for it: object k is the work of
-    /// worker k modulo the number of workers. One that ends a worker is dropped.
+    /// worker k modulo the number of workers. One that ends a worker, and one for a worker that is gone, is dropped.
     fn try_send(&mut self, order: Order) -> Result<(), LaneFull<Order>> {
         let count = self.workers.len();
         match order.object() {
@@ -122,7 +126,8 @@ impl<G: Gate> Team<G> {
         Ok(())
     }
 
-    /// Waits until the job of this name has come to an end. One that was not ordered is not waited for.
+    /// Waits until the job of this name has come to an end, or its worker is gone. One that was not ordered is not waited
+    /// for.
     pub fn wait_for<R: Wait>(&mut self, rt: &R, inbox: &mut Inbox, item: WorkItem) {
         for _ in rt.forever() {
             if !inbox.is_missing(item) {
@@ -132,8 +137,8 @@ impl<G: Gate> Team<G> {
         }
     }
 
-    /// Waits until each job that was ordered has come to an end. An error comes only where a growth was
-    /// refused to a worker in one of them.
+    /// Waits until each job that was ordered has come to an end, or its worker is gone. An error comes only where a growth
+    /// was refused to a worker in one of them.
     pub fn finish<R: Wait>(&mut self, rt: &R, inbox: &mut Inbox) -> Result<(), AllocError> {
         for _ in rt.forever() {
             if inbox.is_whole() {

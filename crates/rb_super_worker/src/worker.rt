@@ -30,7 +30,8 @@ pub struct Worker {
 
 impl Worker {
     /// A worker in this thread, at the other ends of these lanes, which is woken so. What it does is the
-    /// caller's matter; it has to end when it is told to.
+    /// caller's matter; it has to end when it is told to. Where it ends before, it lets its ends go and wakes
+    /// its team, as `Findings` does.
     pub fn over(
         orders: Tx<Order>,
         findings: Rx<Finding>,
@@ -87,8 +88,16 @@ impl Worker {
         Some(Worker::over(orders, findings, unparker, thread))
     }
 
-    /// Sends an order, where there is room for it, and wakes the worker.
+    /// Whether it has let its end of the findings' lane go: it finds nothing more.
+    pub(crate) fn is_gone(&mut self) -> bool {
+        self.findings.is_abandoned()
+    }
+
+    /// Sends an order, where there is room for it, and wakes the worker. One for a worker that is gone is dropped.
     pub(crate) fn order(&mut self, order: Order) -> Result<(), LaneFull<Order>> {
+        if self.is_gone() {
+            return Ok(());
+        }
         self.orders.push(order)?;
         self.unparker.unpark();
         Ok(())

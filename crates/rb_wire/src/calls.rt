@@ -70,6 +70,16 @@ impl<T: Drop, A: Allocator + Copy> Rx<T, A> {
         self.consumer.pop().ok()
     }
 
+    /// Whether the other end is gone: what it sent before may still be there, and nothing more comes.
+    /// No contract speaks of the answer. Takes no memory, and doesn't wait.
+    pub fn is_abandoned(&mut self) -> bool
+        ensures lane { SameRx self.old self.new }
+        ensures taken { taken_on self.new ≡ taken_on self.old }
+        ensures seen { IsPrefix (seen_on self.old) (seen_on self.new) }
+    {
+        self.consumer.is_abandoned()
+    }
+
     /// What is left once the other end has finished, as its token shows: what was taken before,
     /// followed by this, is what was sent, in its order, whole and once. NoMemory hands the end and
     /// the token back, as they were.

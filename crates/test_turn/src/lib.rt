@@ -5,6 +5,8 @@
 #[cfg(test)]
 mod gate;
 #[cfg(test)]
+mod players;
+#[cfg(test)]
 mod script;
 #[cfg(test)]
 mod supervisor;

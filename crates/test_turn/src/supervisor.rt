@@ -1,13 +1,18 @@
-//! A supervisor's own calls: what it takes in and what it refuses, with the numbers that are due, and that what is refused
-//! changes nothing.
+//! A supervisor's own calls: what it takes in and what it refuses, with the numbers that are due, that what is refused
+//! changes nothing, what its log tells, and what it plans where nothing is taken in.
+use crate::script::BATCHES;
+use rb_base::{OpenGate, Window};
 use rb_core::Core;
-use rb_core_model::{CoreError, Event};
+use rb_core_model::{CoreError, Entry, Event};
+use rb_plan_client::Draft;
 use rb_script_read::read_script;
-use rb_script_types::{Script, Turn};
+use rb_script_types::{Goal, Observation, Script, Turn};
 use rb_super::Supervisor;
+use rb_super_turn::Crew;
 use std::alloc::Global;
 use std::process::Abort;
 use std::test::Fail;
+use std::thread::Threads;
 
 /// Two turns of which much is refused: in the first one headers (of an unknown set, too; with too few votes, too; with a
 /// vote that doesn't verify; at another time, and out of the order of times, too; out of that order alone), and what is seen
@@ -99,8 +104,36 @@ refused window 806 WindowBack
 refused settle 0 805 OutOfOrder
 ";
 
-/// A window, a set, two headers, and what was seen of a packet and of the end of its path.
-const TAKEN_IN: usize = 9;
+/// What its log tells then.
+const LOG: &str = "window, set, header, header, sent, received, ack, cleared, closed, ";
+
+/// What an entry of a log tells of.
+fn word(entry: &Entry) -> &'static str {
+    match entry {
+        Entry::Window(_) => "window, ",
+        Entry::Asked(_) => "asked, ",
+        Entry::Observed(Observation::SetSeen { .. }) => "set, ",
+        Entry::Observed(Observation::HeaderSeen { .. }) => "header, ",
+        Entry::Observed(Observation::StoredSeen { .. }) => "stored, ",
+        Entry::Observed(Observation::Sent { .. }) => "sent, ",
+        Entry::Observed(Observation::Received { .. }) => "received, ",
+        Entry::Observed(Observation::AckWritten { .. }) => "ack, ",
+        Entry::Observed(Observation::Cleared { .. }) => "cleared, ",
+        Entry::Observed(Observation::Closed { .. }) => "closed, ",
+        Entry::Scan { .. } => "scan, ",
+        Entry::Plan { .. } => "plan, ",
+        Entry::Settled(_) => "settled, ",
+    }
+}
+
+/// What the log of a core tells of.
+fn log_of(alloc: Global, core: &Core) -> Result<String, Fail> {
+    let mut words = String::new(alloc);
+    for entry in core.log() {
+        words.push_str(word(entry.entry()))?;
+    }
+    Ok(words)
+}
 
 /// How many events a core has taken in, headers the first client's chain has, and packets the first path.
 fn shown(core: &Core) -> (usize, usize, usize) {
@@ -199,11 +232,73 @@ fn supervisor_refuses_in_order(rt: HostRuntime) -> Result<(), Fail> {
         refused,
         ..
     } = run;
-    let taken_in = supervisor.stop().front();
+    let log = log_of(alloc, &supervisor.stop())?;
     assert!(rt;
-        refused.as_str() == REFUSED && taken_in == TAKEN_IN,
-        "{taken_in} {}",
+        refused.as_str() == REFUSED && log.as_str() == LOG,
+        "{} {}",
+        log.as_str(),
         refused.as_str()
     );
+    Ok(())
+}
+
+/// What is planned for the clients in a turn of this window that tells of nothing.
+fn drafts_in<R: Threads + Sync>(
+    rt: &R,
+    alloc: Global,
+    supervisor: Supervisor,
+    window: Window,
+) -> Result<Vec<Draft>, Fail> {
+    let core = supervisor.core();
+    let config = core.config();
+    if core.front() > 1_000 || config.paths.len() > 256 || config.clients.len() > 256 {
+        return Err(Fail::from("too much"));
+    }
+    let turn = Turn {
+        window,
+        goals: Vec::new(alloc),
+        events: Vec::new(alloc),
+        settlements: Vec::new(alloc),
+    };
+    let crew = Crew::new(rt, 0, &OpenGate);
+    Ok(supervisor.drafts(&crew, turn)?)
+}
+
+/// A client, the height that it is to be brought to at least, and how many updates and messages are planned.
+fn told(draft: &Draft) -> Option<(usize, u64, usize, usize)> {
+    let planned = draft.answer()?;
+    let plan = planned.plan()?;
+    match planned.goal() {
+        Goal::AtLeast(height) => Some((
+            draft.job().client(),
+            height.get(),
+            plan.updates().len(),
+            plan.messages().len(),
+        )),
+        Goal::Exactly(_) => None,
+    }
+}
+
+/// The first turn's plans, by one turn that tells of nothing after all was taken in that the first turn tells of.
+#[test]
+fn drafts_are_the_plans(rt: HostRuntime) -> Result<(), Fail> {
+    let alloc = rt.alloc();
+    let Script { config, mut turns } = read_script(alloc, BATCHES.as_bytes())?;
+    turns.truncate(1);
+    let Turn { window, events, .. } = turns.pop().ok_or("turn")?;
+    let mut supervisor = Supervisor::new(alloc, config)?;
+    supervisor
+        .take_in(Event::Window(window))
+        .map_err(|_| Fail::from("window"))?;
+    for event in events {
+        supervisor
+            .take_in(Event::Observed(event))
+            .map_err(|_| Fail::from("event"))?;
+    }
+    let drafts = drafts_in(&rt, alloc, supervisor, window)?;
+    let mut given = drafts.iter().map(told);
+    assert!(rt; given.next() == Some(Some((0, 5, 1, 1))), "first");
+    assert!(rt; given.next() == Some(Some((1, 6, 1, 1))), "second");
+    assert!(rt; given.next().is_none(), "third");
     Ok(())
 }
