@@ -77,23 +77,30 @@ pub fn commands_of_script<
         Err(error) => return Err(ProgramError::of_run(error, input)),
     };
     let count = script.turns.len();
-    let turn = match turns {
-        WantedTurns::Every => None,
-        WantedTurns::Last => Some(count as u64),
-        WantedTurns::Numbered(turn) => Some(turn),
-    };
-    match turn {
-        Some(turn) if turn > count as u64 => {
-            let file = input.name();
-            Err(ProgramError::NoSuchTurn {
-                turn,
-                turns: Turns { file, count },
-            })
-        }
-        _ => match commands_by(rt, alloc, script, turn, gate) {
+    match number_of(turns, count) {
+        Some(turn) if turn > count as u64 => Err(no_such_turn(turn, input, count)),
+        turn => match commands_by(rt, alloc, script, turn, gate) {
             Ok(text) => Ok(text),
             Err(_) => Err(ProgramError::NoMemory),
         },
+    }
+}
+
+/// The number of the turn that is wanted, from 1, of so many; none where all are.
+fn number_of(turns: WantedTurns, count: usize) -> Option<u64> {
+    match turns {
+        WantedTurns::Every => None,
+        WantedTurns::Last => Some(count as u64),
+        WantedTurns::Numbered(turn) => Some(turn),
+    }
+}
+
+/// What is wrong where the script of a file, of so many turns, doesn't have a turn.
+fn no_such_turn<'a>(turn: u64, input: &Input<'a>, count: usize) -> ProgramError<'a> {
+    let file = input.name();
+    ProgramError::NoSuchTurn {
+        turn,
+        turns: Turns { file, count },
     }
 }
 

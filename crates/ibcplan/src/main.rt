@@ -10,7 +10,7 @@ mod perform;
 mod progress;
 mod reporting;
 
-use ibcplan_cli::{Host, read_request, status};
+use ibcplan_cli::{Host, no_memory, request_of, status};
 use std::io::IsTerminal;
 use std::process::ExitCode;
 use std::{env, io};
@@ -24,9 +24,9 @@ For more information, try '--help'.";
 /// what goes to standard error, it says there how far a long run is, and how many events were refused.
 fn run<R: Host>(rt: &R, is_watched: bool) -> io::Result<u8> {
     let words: Vec<String> = env::args(rt)?.collect(rt.alloc())?;
-    Ok(match read_request(rt.alloc(), words.as_slice()) {
+    Ok(match request_of(rt, words.as_slice()) {
         Ok(request) => perform::perform(rt, request, is_watched),
-        Err(message) => perform::show(rt, &message),
+        Err(status) => status,
     })
 }
 
@@ -37,7 +37,7 @@ fn main(rt: HostRuntime) -> ExitCode {
             let _ = eprintln!(rt; "{NOT_UTF_8}");
             status::COMMAND_LINE
         }
-        Err(_) => perform::no_memory(&rt),
+        Err(_) => no_memory(&rt),
     };
     ExitCode::from(status)
 }

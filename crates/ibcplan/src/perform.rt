@@ -10,9 +10,8 @@ use crate::explained::Explained;
 use crate::forms::{commands_of_script, json_of_script};
 use crate::progress::Progress;
 use crate::reporting::{plan_status, refused_events};
-use clap::error::ErrorKind;
 use ibcplan_cli::{
-    Host, ImportedText, Input, ProgramError, Request, WorkerCount, imported, status,
+    Host, ImportedText, Input, ProgramError, Request, WantedTurns, WorkerCount, imported, status,
 };
 use rb_base::{Counted, Gate, Sink, write_whole};
 use rb_text::{Source, certify_texts, report_over};
@@ -34,27 +33,6 @@ pub fn perform<R: Host>(rt: &R, request: Request<'_>, is_watched: bool) -> u8 {
     }
 }
 
-/// Shows the help that was asked for, or what is wrong with the command line.
-pub fn show<R: Print + Eprint>(rt: &R, message: &clap::Error) -> u8 {
-    if message.kind() == ErrorKind::OutOfMemory {
-        return no_memory(rt);
-    }
-    match message.print(rt) {
-        Ok(()) if message.use_stderr() => status::COMMAND_LINE,
-        Ok(()) => status::DONE,
-        Err(error) => {
-            let _ = eprintln!(rt; "{}", ProgramError::Unwritten { error });
-            status::FAILED
-        }
-    }
-}
-
-/// Ends for want of memory.
-pub fn no_memory<R: Eprint>(rt: &R) -> u8 {
-    let _ = eprintln!(rt; "{}", ProgramError::NoMemory);
-    status::FAILED
-}
-
 /// Does a request, and sends on what the writer may still hold; then what is to be told of the results stands
 /// on standard error.
 fn outcome_of<'a, R: Host>(
@@ -63,11 +41,18 @@ fn outcome_of<'a, R: Host>(
     is_watched: bool,
 ) -> Result<u8, ProgramError<'a>> {
     let mut output = Explained::new(Counted::new(io::writer(rt)));
-    let done = match done_of(rt, request, is_watched, &mut output) {
-        Ok(done) => done,
-        Err(failure) => return Err(failure.because_of(output.error())),
-    };
-    flush(output.into_inner())?;
+    match done_of(rt, request, is_watched, &mut output) {
+        Ok(done) => {
+            flush(output.into_inner())?;
+            tell(rt, is_watched, &done);
+            Ok(done.status)
+        }
+        Err(failure) => Err(failure.because_of(output.error())),
+    }
+}
+
+/// Tells of results that were written what there is to tell.
+fn tell<R: Eprint>(rt: &R, is_watched: bool, done: &Done) {
     let refused = done.refused_events;
     if is_watched && refused > 0 {
         let _ = eprintln!(rt;
@@ -77,7 +62,6 @@ fn outcome_of<'a, R: Host>(
     if let Some(notices) = &done.notices {
         let _ = eprint!(rt; "{notices}");
     }
-    Ok(done.status)
 }
 
 /// The status to end with, and what to tell where the results were written.
@@ -115,57 +99,107 @@ fn done_of<'a, R: Host, W: Sink>(
             script,
             workers,
             is_strict,
-        } => {
-            let script = Input::read(rt, script)?;
-            let progress = Progress::new(*rt, is_watched);
-            plan(
-                rt,
-                rt.alloc(),
-                &script,
-                workers,
-                is_strict,
-                progress,
-                output,
-            )
-        }
+        } => plan_file(rt, script, workers, is_strict, is_watched, output),
         Request::PlanJson {
             script,
             workers,
             is_strict,
-        } => {
-            let script = Input::read(rt, script)?;
-            let progress = Progress::new(*rt, is_watched);
-            let json = json_of_script(rt, rt.alloc(), &script, workers, is_strict, progress)?;
-            write(json.text.as_str(), output)?;
-            Ok(Done::quietly(json.status))
-        }
-        Request::Commands { script, turns } => {
-            let script = Input::read(rt, script)?;
-            let progress = Progress::new(*rt, is_watched);
-            let text = commands_of_script(rt, rt.alloc(), &script, turns, progress)?;
-            write(text.as_str(), output)?;
-            Ok(Done::quietly(status::DONE))
-        }
-        Request::Import { setup, folder } => {
-            let setup = Input::read(rt, setup)?;
-            let ImportedText { script, notices } = imported(rt, &setup, folder)?;
-            write(script.as_str(), output)?;
-            Ok(Done {
-                status: status::DONE,
-                refused_events: 0,
-                notices: Some(notices),
-            })
-        }
+        } => json_file(rt, script, workers, is_strict, is_watched, output),
+        Request::Commands { script, turns } => commands_file(rt, script, turns, is_watched, output),
+        Request::Import { setup, folder } => import_files(rt, setup, folder, output),
         Request::Certify {
             script,
             certificate,
-        } => {
-            let script = Input::read(rt, script)?;
-            let certificate = Input::read(rt, certificate)?;
-            let status = certify(rt, rt.alloc(), &script, &certificate, output)?;
-            Ok(Done::quietly(status))
-        }
+        } => certify_files(rt, script, certificate, output),
     }
+}
+
+fn plan_file<'a, R: Host, W: Sink>(
+    rt: &R,
+    script: &'a str,
+    workers: WorkerCount,
+    is_strict: bool,
+    is_watched: bool,
+    output: &mut W,
+) -> Result<Done, ProgramError<'a>>
+    requires { W.is_broken output.old ≡ false }
+{
+    let script = Input::read(rt, script)?;
+    let progress = Progress::new(*rt, is_watched);
+    plan(
+        rt,
+        rt.alloc(),
+        &script,
+        workers,
+        is_strict,
+        progress,
+        output,
+    )
+}
+
+fn json_file<'a, R: Host, W: Sink>(
+    rt: &R,
+    script: &'a str,
+    workers: WorkerCount,
+    is_strict: bool,
+    is_watched: bool,
+    output: &mut W,
+) -> Result<Done, ProgramError<'a>>
+    requires { W.is_broken output.old ≡ false }
+{
+    let script = Input::read(rt, script)?;
+    let progress = Progress::new(*rt, is_watched);
+    let json = json_of_script(rt, rt.alloc(), &script, workers, is_strict, progress)?;
+    write(json.text.as_str(), output)?;
+    Ok(Done::quietly(json.status))
+}
+
+fn commands_file<'a, R: Host, W: Sink>(
+    rt: &R,
+    script: &'a str,
+    turns: WantedTurns,
+    is_watched: bool,
+    output: &mut W,
+) -> Result<Done, ProgramError<'a>>
+    requires { W.is_broken output.old ≡ false }
+{
+    let script = Input::read(rt, script)?;
+    let progress = Progress::new(*rt, is_watched);
+    let text = commands_of_script(rt, rt.alloc(), &script, turns, progress)?;
+    write(text.as_str(), output)?;
+    Ok(Done::quietly(status::DONE))
+}
+
+fn import_files<'a, R: Host, W: Sink>(
+    rt: &R,
+    setup: &'a str,
+    folder: &str,
+    output: &mut W,
+) -> Result<Done, ProgramError<'a>>
+    requires { W.is_broken output.old ≡ false }
+{
+    let setup = Input::read(rt, setup)?;
+    let ImportedText { script, notices } = imported(rt, &setup, folder)?;
+    write(script.as_str(), output)?;
+    Ok(Done {
+        status: status::DONE,
+        refused_events: 0,
+        notices: Some(notices),
+    })
+}
+
+fn certify_files<'a, R: Host, W: Sink>(
+    rt: &R,
+    script: &'a str,
+    certificate: &'a str,
+    output: &mut W,
+) -> Result<Done, ProgramError<'a>>
+    requires { W.is_broken output.old ≡ false }
+{
+    let script = Input::read(rt, script)?;
+    let certificate = Input::read(rt, certificate)?;
+    let status = certify(rt, rt.alloc(), &script, &certificate, output)?;
+    Ok(Done::quietly(status))
 }
 
 /// Writes the report of the script that a file holds, by so many workers, through a gate; of a strict

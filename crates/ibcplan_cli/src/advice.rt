@@ -7,6 +7,12 @@ use rb_script_toml::FaultName;
 const KINDS: &str =
     "an event's kind is 'set', 'header', 'stored', 'sent', 'received', 'ack', 'cleared' or 'closed'";
 
+/// A text.
+const TEXT: &str = "a text in quotes belongs here";
+
+/// A whole number.
+const WHOLE: &str = "a whole number without quotes belongs here";
+
 /// Which orders of a path there are.
 const ORDERS: &str = "an order is 'ordered' or 'unordered'";
 
@@ -122,9 +128,14 @@ fn hex_at(path: &str) -> &'static str {
 /// Which numbers may stand at a path.
 fn range_at(path: &str) -> &'static str {
     let key = key_of(path);
-    if let Some(entry) = client_key(key) {
-        return entry.range;
+    match client_key(key) {
+        Some(entry) => entry.range,
+        None => range_of(key),
     }
+}
+
+/// Which numbers a key may have that no client has.
+fn range_of(key: &str) -> &'static str {
     match key {
         "height" => "a height is from 1 to 2^63 - 1, in an event of a packet to 2^63 - 2",
         "at_least" | "exactly" | "updates" => "a height is from 1 to 2^63 - 1",
@@ -153,17 +164,35 @@ fn wanted_at(path: &str) -> &'static str {
 
 /// What belongs where an element of an array, or of one of its elements, has another type.
 fn element_type(array: &str, is_inner: bool) -> &'static str {
-    if let Some(entry) = client_key(array) {
-        return entry.element;
+    match client_key(array) {
+        Some(entry) => entry.element,
+        None if is_inner => inner_type(array),
+        None => outer_type(array),
     }
+}
+
+/// What belongs into an element of an array that no client has.
+fn inner_type(array: &str) -> &'static str {
     match array {
-        "validators" if is_inner => {
-            "a key in quotes, 64 hexadecimal digits, and a power without belong here"
-        }
-        "validators" => { "a key and a power belong here, as ['64 hexadecimal digits', 10]" }
-        "updates" if !is_inner => "a height and a trusted height belong here, as [3, 1]",
-        "labels" if !is_inner => "a height, a fee and a count belong here, as [3, 112, 1]",
+        "validators" => "a key in quotes, 64 hexadecimal digits, and a power without belong here",
         "updates" | "labels" => "a whole number belongs here",
+        _ => table_type(array),
+    }
+}
+
+/// What belongs into an array that no client has.
+fn outer_type(array: &str) -> &'static str {
+    match array {
+        "validators" => "a key and a power belong here, as ['64 hexadecimal digits', 10]",
+        "updates" => "a height and a trusted height belong here, as [3, 1]",
+        "labels" => "a height, a fee and a count belong here, as [3, 112, 1]",
+        _ => table_type(array),
+    }
+}
+
+/// What belongs into an array whose elements are tables, if it is one.
+fn table_type(array: &str) -> &'static str {
+    match array {
         "chain" | "client" | "path" | "turn" | "goal" | "event" | "settle" => {
             "a table belongs here"
         }
@@ -190,56 +219,56 @@ fn type_at(path: &str) -> &'static str {
     if let Some((array, indices)) = key.split_once('[') {
         return element_type(array, indices.contains("]["));
     }
-    if let Some(entry) = client_key(key) {
-        return entry.kind;
+    match client_key(key) {
+        Some(entry) => entry.kind,
+        None if table.is_empty() => top_type(key),
+        None => type_of(key),
     }
+}
+
+/// What belongs at a key that stands above the tables.
+fn top_type(key: &str) -> &'static str {
+    match key {
+        "version" => {
+            "a whole number without quotes belongs here, above the first [[..]]: TOML puts a key that stands after [[chain]] into that chain"
+        }
+        "chain" => "an array of tables belongs here, as [[chain]]",
+        "path" => "an array of tables belongs here, as [[path]]",
+        "client" => {
+            "an array of tables belongs here, as [[client]]; in a certificate an identifier in quotes"
+        }
+        _ => type_of(key),
+    }
+}
+
+/// What belongs at a key that no client has.
+fn type_of(key: &str) -> &'static str {
+    match key {
+        "version" | "at_least" | "exactly" | "height" | "seq" | "timeout_height" => WHOLE,
+        "first" | "batch" | "done" => WHOLE,
+        "source" | "dest" | "order" | "forward" | "back" | "kind" | "name" => TEXT,
+        "set" | "next" | "root" | "votes" | "answer" => TEXT,
+        "port" | "channel" | "counterparty_port" | "counterparty_channel" => TEXT,
+        "chain" | "client" | "path" => TEXT,
+        _ => array_type(key),
+    }
+}
+
+/// What belongs at a key of a time, of an array or of a table that no client has.
+fn array_type(key: &str) -> &'static str {
     match key {
         "from" | "until" | "time" | "timeout_time" => {
             "a time in quotes belongs here, as '2026-11-22T10:00:00Z'"
         }
-        "version" if table.is_empty() => {
-            "a whole number without quotes belongs here, above the first [[..]]: TOML puts a key that stands after [[chain]] into that chain"
-        }
-        "version"
-        | "at_least"
-        | "exactly"
-        | "height"
-        | "seq"
-        | "timeout_height"
-        | "first"
-        | "batch"
-        | "done" => { "a whole number without quotes belongs here" }
         "validators" =>
             "pairs of a key and a power belong here, as [['64 hexadecimal digits', 10]]",
         "goal" => "an array of tables belongs here, as [[turn.goal]]",
         "event" => "an array of tables belongs here, as [[turn.event]]",
         "settle" => "an array of tables belongs here, as [[turn.settle]]",
-        "chain" if table.is_empty() => "an array of tables belongs here, as [[chain]]",
-        "path" if table.is_empty() => "an array of tables belongs here, as [[path]]",
-        "client" if table.is_empty() => {
-            "an array of tables belongs here, as [[client]]; in a certificate an identifier in quotes"
-        }
         "turn" => "an array of tables belongs here, as [[turn]]; in a certificate a turn's number",
-        "source"
-        | "dest"
-        | "order"
-        | "forward"
-        | "back"
-        | "kind"
-        | "name"
-        | "set"
-        | "next"
-        | "root"
-        | "votes"
-        | "port"
-        | "channel"
-        | "counterparty_port"
-        | "counterparty_channel"
-        | "answer" => "a text in quotes belongs here",
         "defaults" => "a table belongs here, as [chain.defaults]",
         "updates" => "pairs of a height and a trusted height belong here, as [[3, 1]]",
         "labels" => "a height, a fee and a count belong here, as [[3, 112, 1]]",
-        "chain" | "client" | "path" => "a text in quotes belongs here",
         _ => "a value of another type, or an array of another length, belongs here",
     }
 }

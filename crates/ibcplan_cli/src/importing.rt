@@ -23,21 +23,38 @@ pub fn imported<'a, R: Host>(
     input: &Input<'a>,
     folder: &str,
 ) -> Result<ImportedText, ProgramError<'a>> {
-    let alloc = rt.alloc();
-    let setup = match read_setup(alloc, input.bytes()) {
+    let setup = match read_setup(rt.alloc(), input.bytes()) {
         Ok(setup) => setup,
         Err(error) => return Err(ProgramError::of_run(error, input)),
     };
     let answers = read_answers(rt, &setup, folder)?;
-    match compose(alloc, &setup, &answers) {
-        Ok(Composed { text, notices }) => match format!(in alloc; "{notices}") {
-            Ok(notices) => Ok(ImportedText {
-                script: text,
-                notices,
-            }),
-            Err(_) => Err(ProgramError::NoMemory),
-        },
+    composed(rt.alloc(), &setup, &answers)
+}
+
+/// The script that a setup and answers make.
+fn composed<'a>(
+    alloc: Global,
+    setup: &Setup,
+    answers: &SavedAnswers,
+) -> Result<ImportedText, ProgramError<'a>> {
+    match compose(alloc, setup, answers) {
+        Ok(composed) => imported_text(alloc, composed),
         Err(error) => Err(refusal(alloc, &error)),
+    }
+}
+
+/// A script, with what is told of its answers as a text of its own.
+fn imported_text<'a>(
+    alloc: Global,
+    composed: Composed<'_>,
+) -> Result<ImportedText, ProgramError<'a>> {
+    let Composed { text, notices } = composed;
+    match format!(in alloc; "{notices}") {
+        Ok(notices) => Ok(ImportedText {
+            script: text,
+            notices,
+        }),
+        Err(_) => Err(ProgramError::NoMemory),
     }
 }
 
@@ -63,26 +80,9 @@ fn read_answers<'a, R: Host>(
     setup: &Setup,
     folder: &str,
 ) -> Result<SavedAnswers, ProgramError<'a>> {
-    let alloc = rt.alloc();
-    let mut chains = Vec::new(alloc);
-    for (place, chain) in setup.chains.iter().enumerate() {
-        let is_tracked = setup.clients.iter().any(|client| client.tracks == place);
-        let id = chain.as_str();
-        add_folder(
-            rt,
-            folder,
-            if is_tracked { Some(id) } else { None },
-            &mut chains,
-        )?;
-    }
-    let mut clients = Vec::new(alloc);
-    for client in &setup.clients {
-        add_folder(rt, folder, Some(client.id.as_str()), &mut clients)?;
-    }
-    let mut paths = Vec::new(alloc);
-    for path in &setup.paths {
-        add_folder(rt, folder, Some(path.config.id.as_str()), &mut paths)?;
-    }
+    let chains = chain_answers(rt, setup, folder)?;
+    let clients = client_answers(rt, setup, folder)?;
+    let paths = path_answers(rt, setup, folder)?;
     Ok(SavedAnswers {
         chains,
         clients,
@@ -90,18 +90,57 @@ fn read_answers<'a, R: Host>(
     })
 }
 
-/// Adds the answers in the folder of an identifier, or none where there is no identifier.
-fn add_folder<'a, R: Host>(
+/// The answers of the chains, none of one that no client tracks.
+fn chain_answers<'a, R: Host>(
     rt: &R,
+    setup: &Setup,
     folder: &str,
-    id: Option<&str>,
-    answers: &mut Vec<Vec<Saved>>,
-) -> Result<(), ProgramError<'a>> {
-    let saved = match id {
-        Some(id) => read_folder(rt, folder, id)?,
-        None => Vec::new(rt.alloc()),
-    };
-    match answers.push(saved) {
+) -> Result<Vec<Vec<Saved>>, ProgramError<'a>> {
+    let mut answers = Vec::new(rt.alloc());
+    for (place, chain) in setup.chains.iter().enumerate() {
+        let saved = if is_tracked(setup, place) {
+            read_folder(rt, folder, chain.as_str())?
+        } else {
+            Vec::new(rt.alloc())
+        };
+        add(&mut answers, saved)?;
+    }
+    Ok(answers)
+}
+
+/// Whether a client tracks the chain at a place.
+fn is_tracked(setup: &Setup, chain: usize) -> bool {
+    setup.clients.iter().any(|client| client.tracks == chain)
+}
+
+fn client_answers<'a, R: Host>(
+    rt: &R,
+    setup: &Setup,
+    folder: &str,
+) -> Result<Vec<Vec<Saved>>, ProgramError<'a>> {
+    let mut answers = Vec::new(rt.alloc());
+    for client in &setup.clients {
+        let saved = read_folder(rt, folder, client.id.as_str())?;
+        add(&mut answers, saved)?;
+    }
+    Ok(answers)
+}
+
+fn path_answers<'a, R: Host>(
+    rt: &R,
+    setup: &Setup,
+    folder: &str,
+) -> Result<Vec<Vec<Saved>>, ProgramError<'a>> {
+    let mut answers = Vec::new(rt.alloc());
+    for path in &setup.paths {
+        let saved = read_folder(rt, folder, path.config.id.as_str())?;
+        add(&mut answers, saved)?;
+    }
+    Ok(answers)
+}
+
+fn add<'a, T: Drop>(items: &mut Vec<T>, item: T) -> Result<(), ProgramError<'a>> {
+    match items.push(item) {
         Ok(()) => Ok(()),
         Err(_) => Err(ProgramError::NoMemory),
     }
@@ -113,21 +152,20 @@ fn read_folder<'a, R: Host>(
     folder: &str,
     id: &str,
 ) -> Result<Vec<Saved>, ProgramError<'a>> {
-    let Ok(path) = format!(in rt.alloc(); "{folder}/{id}") else {
-        return Err(ProgramError::NoMemory);
-    };
+    let path = path_in(rt.alloc(), folder, id)?;
     let names = match names_in(rt, path.as_str()) {
         Ok(names) => names,
         Err(error) => return Err(ProgramError::of_file(rt.alloc(), path.as_str(), error)),
     };
-    let mut answers = Vec::new(rt.alloc());
-    for name in &names {
-        let saved = read_file(rt, path.as_str(), name.as_str())?;
-        if answers.push(saved).is_err() {
-            return Err(ProgramError::NoMemory);
-        }
+    read_files(rt, path.as_str(), names.as_slice())
+}
+
+/// The path of what a folder has under a name.
+fn path_in<'a>(alloc: Global, folder: &str, name: &str) -> Result<String, ProgramError<'a>> {
+    match format!(in alloc; "{folder}/{name}") {
+        Ok(path) => Ok(path),
+        Err(_) => Err(ProgramError::NoMemory),
     }
-    Ok(answers)
 }
 
 /// The names of a folder's files `*.json`, in the order of their bytes.
@@ -143,30 +181,60 @@ fn names_in<R: Host>(rt: &R, path: &str) -> io::Result<Vec<String>> {
     Ok(names)
 }
 
+/// Reads the answers in files of a folder.
+fn read_files<'a, R: Host>(
+    rt: &R,
+    folder: &str,
+    names: &[String],
+) -> Result<Vec<Saved>, ProgramError<'a>> {
+    let mut answers = Vec::new(rt.alloc());
+    for name in names {
+        let saved = read_file(rt, folder, name.as_str())?;
+        add(&mut answers, saved)?;
+    }
+    Ok(answers)
+}
+
 /// Reads the answer in a file.
 fn read_file<'a, R: Host>(rt: &R, folder: &str, name: &str) -> Result<Saved, ProgramError<'a>> {
-    let alloc = rt.alloc();
-    let Ok(file) = format!(in alloc; "{folder}/{name}") else {
+    let file = path_in(rt.alloc(), folder, name)?;
+    match read_bytes(rt, file.as_str()) {
+        Ok(bytes) => saved_of(rt.alloc(), file.as_str(), bytes.as_slice()),
+        Err(error) => Err(ProgramError::of_file(rt.alloc(), file.as_str(), error)),
+    }
+}
+
+/// The answer that the bytes of a file hold.
+fn saved_of<'a>(alloc: Global, file: &str, bytes: &[u8]) -> Result<Saved, ProgramError<'a>> {
+    let Ok(name) = shown_text(alloc, file) else {
         return Err(ProgramError::NoMemory);
     };
-    let bytes = match read_bytes(rt, file.as_str()) {
-        Ok(bytes) => bytes,
-        Err(error) => return Err(ProgramError::of_file(alloc, file.as_str(), error)),
-    };
-    let Ok(name) = shown_text(alloc, file.as_str()) else {
-        return Err(ProgramError::NoMemory);
-    };
-    match read_saved(alloc, name, bytes.as_slice()) {
+    match read_saved(alloc, name, bytes) {
         Ok(saved) => Ok(saved),
-        Err(SavedError::Invalid { file, flaw, said }) => {
+        Err(error) => Err(refused_file(alloc, &error)),
+    }
+}
+
+/// Why a file holds no answer.
+fn refused_file<'a>(alloc: Global, error: &SavedError) -> ProgramError<'a> {
+    match error {
+        SavedError::NoMemory => ProgramError::NoMemory,
+        SavedError::Invalid { file, flaw, said } => {
+            let Ok(said) = said_words(alloc, said.as_str()) else {
+                return ProgramError::NoMemory;
+            };
             let advice = flaw.name.advice();
-            Err(refused(if said.is_empty() {
-                format!(in alloc; "refused {flaw}\n{file}: {advice}")
-            } else {
-                format!(in alloc; "refused {flaw}\n{file}: {advice}; it said \"{said}\"")
-            }))
+            refused(format!(in alloc; "refused {flaw}\n{file}: {advice}{said}"))
         }
-        Err(SavedError::NoMemory) => Err(ProgramError::NoMemory),
+    }
+}
+
+/// What a node said in the place of an answer, if it said something, as an end of the line that refuses it.
+fn said_words(alloc: Global, said: &str) -> Result<String, AllocError> {
+    if said.is_empty() {
+        Ok(String::new(alloc))
+    } else {
+        format!(in alloc; "; it said \"{said}\"")
     }
 }
 

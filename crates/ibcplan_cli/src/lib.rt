@@ -3,6 +3,7 @@
 #![tactic(auto)]
 
 mod advice;
+mod command_line;
 mod error;
 mod host;
 mod importing;
@@ -13,11 +14,12 @@ mod shown;
 pub mod status;
 mod worker_count;
 
+pub use command_line::{no_memory, request_of};
 pub use error::{ProgramError, Turns};
 pub use host::Host;
 pub use importing::{ImportedText, imported};
 pub use input::Input;
 pub use input_error::InputError;
-pub use request::{Request, WantedTurns, read_request};
+pub use request::{Request, WantedTurns};
 pub use shown::Shown;
 pub use worker_count::WorkerCount;

@@ -133,113 +133,113 @@ const AFTER_CERTIFY: &str = "Examples (in the folder of the repository):
 
 It writes yes (exit status 0), or no and the reason (exit status 3).";
 
-fn file<'a>(alloc: Global, name: &'a str, help: &'a str) -> Arg<'a> {
+/// A word that has to be given: the path of a file or of a folder.
+fn path(alloc: Global, name: &'static str, help: &'static str) -> Arg<'static> {
+    Arg::new(alloc, name).required(true).help(help)
+}
+
+/// An option without a value.
+fn flag(alloc: Global, name: &'static str, help: &'static str) -> Arg<'static> {
     Arg::new(alloc, name)
-        .required(true)
-        .action(ArgAction::Set)
+        .long(name)
+        .action(ArgAction::SetTrue)
         .help(help)
 }
 
-fn script_file<'a>(alloc: Global) -> Arg<'a> {
-    file(alloc, SCRIPT, "The script's file; - for standard input")
-}
-
-fn strict<'a>(alloc: Global) -> Arg<'a> {
-    Arg::new(alloc, STRICT)
-        .long("strict")
-        .action(ArgAction::SetTrue)
-        .help("Ends with status 6 where an event, a window or a settlement is refused")
-}
-
-fn json<'a>(alloc: Global) -> Arg<'a> {
-    Arg::new(alloc, JSON)
-        .long("json")
-        .action(ArgAction::SetTrue)
-        .help("Writes the report as JSON")
-}
-
-fn plan_command<'a>(alloc: Global) -> Result<Command<'a>, AllocError> {
-    Command::new(alloc, PLAN)
-        .about(
-            "Writes the report of a script: for each turn and client the cheapest list of updates",
-        )
-        .after_help(AFTER_PLAN)
-        .arg(script_file(alloc))?
-        .arg(json(alloc))?
-        .arg(strict(alloc))
-}
-
-fn run_command<'a>(alloc: Global) -> Result<Command<'a>, AllocError> {
-    let workers = Arg::new(alloc, WORKERS)
-        .long("workers")
+fn workers(alloc: Global) -> Arg<'static> {
+    Arg::new(alloc, WORKERS)
+        .long(WORKERS)
         .value_name("K")
         .value_parser(value_parser!(usize).range(1..=64))
         .default_value("1")
-        .help(
-            "How many threads make step tables, scan the paths and plan for the clients, 1 to 64",
-        );
-    Command::new(alloc, RUN)
-        .about("Writes the report of a script as plan does, by several threads")
-        .after_help(AFTER_RUN)
-        .arg(script_file(alloc))?
-        .arg(workers)?
-        .arg(json(alloc))?
-        .arg(strict(alloc))
+        .help("How many threads make step tables, scan the paths and plan for the clients, 1 to 64")
 }
 
-fn commands_command<'a>(alloc: Global) -> Result<Command<'a>, AllocError> {
-    let turn = Arg::new(alloc, TURN)
-        .long("turn")
+fn turn(alloc: Global) -> Arg<'static> {
+    Arg::new(alloc, TURN)
+        .long(TURN)
         .value_name("N")
         .value_parser(value_parser!(u64).range(1..=MAX_TURNS as i64))
-        .help("Writes those of this turn alone, from 1");
-    let last = Arg::new(alloc, LAST)
-        .long("last")
-        .action(ArgAction::SetTrue)
-        .conflicts_with(TURN)?
-        .help("Writes those of the last turn alone");
-    Command::new(alloc, COMMANDS)
-        .about("Writes the commands (of Hermes) that submit the updates of a script's plans")
-        .after_help(AFTER_COMMANDS)
-        .arg(script_file(alloc))?
-        .arg(turn)?
-        .arg(last)
+        .help("Writes those of this turn alone, from 1")
 }
 
-fn certify_command<'a>(alloc: Global) -> Result<Command<'a>, AllocError> {
-    let certificate = file(
-        alloc,
-        CERT,
-        "The certificate's file: a plan that anybody made; - for standard input",
-    );
-    Command::new(alloc, CERTIFY)
-        .about("Judges whether a plan is the cheapest for a script, or whether there is none")
-        .after_help(AFTER_CERTIFY)
-        .arg(script_file(alloc))?
-        .arg(certificate)
+fn last(alloc: Global) -> Result<Arg<'static>, AllocError> {
+    flag(alloc, LAST, "Writes those of the last turn alone").conflicts_with(TURN)
 }
 
-fn import_command<'a>(alloc: Global) -> Result<Command<'a>, AllocError> {
-    let setup = file(
-        alloc,
-        SETUP,
-        "A script without events; - for standard input",
-    );
-    let folder = file(alloc, FOLDER, "The folder of the answers of nodes");
+/// A command that takes a script first.
+fn script_command(
+    alloc: Global,
+    name: &'static str,
+    about: &'static str,
+    examples: &'static str,
+) -> Result<Command<'static>, AllocError> {
+    Command::new(alloc, name)
+        .about(about)
+        .after_help(examples)
+        .arg(path(alloc, SCRIPT, "The script's file; - for standard input"))
+}
+
+/// Adds how a report is written, and the status that it ends with.
+fn with_flags(alloc: Global, command: Command<'static>) -> Result<Command<'static>, AllocError> {
+    command
+        .arg(flag(alloc, JSON, "Writes the report as JSON"))?
+        .arg(flag(
+            alloc,
+            STRICT,
+            "Ends with status 6 where an event, a window or a settlement is refused",
+        ))
+}
+
+fn plan_command(alloc: Global) -> Result<Command<'static>, AllocError> {
+    let about =
+        "Writes the report of a script: for each turn and client the cheapest list of updates";
+    with_flags(alloc, script_command(alloc, PLAN, about, AFTER_PLAN)?)
+}
+
+fn run_command(alloc: Global) -> Result<Command<'static>, AllocError> {
+    let about = "Writes the report of a script as plan does, by several threads";
+    let command = script_command(alloc, RUN, about, AFTER_RUN)?;
+    with_flags(alloc, command.arg(workers(alloc))?)
+}
+
+fn commands_command(alloc: Global) -> Result<Command<'static>, AllocError> {
+    let about = "Writes the commands (of Hermes) that submit the updates of a script's plans";
+    script_command(alloc, COMMANDS, about, AFTER_COMMANDS)?
+        .arg(turn(alloc))?
+        .arg(last(alloc)?)
+}
+
+fn certify_command(alloc: Global) -> Result<Command<'static>, AllocError> {
+    let about = "Judges whether a plan is the cheapest for a script, or whether there is none";
+    let help = "The certificate's file: a plan that anybody made; - for standard input";
+    script_command(alloc, CERTIFY, about, AFTER_CERTIFY)?.arg(path(alloc, CERT, help))
+}
+
+fn import_command(alloc: Global) -> Result<Command<'static>, AllocError> {
     Command::new(alloc, IMPORT)
         .about("Writes the script that the saved answers of nodes make")
         .after_help(AFTER_IMPORT)
-        .arg(setup)?
-        .arg(folder)
+        .arg(path(
+            alloc,
+            SETUP,
+            "A script without events; - for standard input",
+        ))?
+        .arg(path(alloc, FOLDER, "The folder of the answers of nodes"))
 }
 
-fn command_line<'a>(alloc: Global) -> Result<Command<'a>, AllocError> {
+/// The command line without its commands.
+fn program(alloc: Global) -> Command<'static> {
     Command::new(alloc, "ibcplan")
         .version("0.1.0")
         .about("Plans the cheapest light-client updates of an IBC relayer")
         .after_help(AFTER_HELP)
         .subcommand_required(true)
         .arg_required_else_help(true)
+}
+
+fn command_line(alloc: Global) -> Result<Command<'static>, AllocError> {
+    program(alloc)
         .subcommand(plan_command(alloc)?)?
         .subcommand(run_command(alloc)?)?
         .subcommand(commands_command(alloc)?)?

@@ -21,7 +21,7 @@ use std::alloc::Global;
 use std::thread::Threads;
 
 /// A script, a certificate, and the places of the certificate's turn and client in the script.
-#[derive(Debug, Drop)]
+#[derive(Drop)]
 pub struct Case {
     pub script: Script,
     pub certificate: Certificate,

@@ -1,6 +1,6 @@
 //! The line of a verdict.
 ghost use Rattle.std.specs.Prelude.{◌≡◌, ◌++◌, OnOk, string_bytes};
-ghost use Rattle.rb_text.specs.Verdicts.{verdict_line, is_yes};
+ghost use Rattle.rb_text.specs.Verdicts.{numbers_text, verdict_line, is_yes};
 
 use rb_cert::{Judgement, Reason};
 use std::alloc::AllocError;
@@ -15,22 +15,28 @@ pub(crate) fn is_yes(verdict: &Judgement) -> bool
     }
 }
 
+/// Adds the numbers of a reason, each after a blank.
+fn push_numbers(text: &mut String, reason: Reason) -> Result<(), AllocError>
+    ensures { OnOk result (string_bytes text.new ≡ string_bytes text.old ++ numbers_text reason) }
+{
+    match reason {
+        Reason::SourceLabel(height) | Reason::GoalLabelled(height) => write!(text, " {height}"),
+        Reason::LabelTooHigh { trusted, height } => write!(text, " {trusted} {height}"),
+        Reason::PlanNotAccepted(update)
+        | Reason::PlanNotTight(update)
+        | Reason::NotTheTie(update) => write!(text, " {update}"),
+        Reason::GoalMissed => Ok(()),
+    }
+}
+
 fn push_reason(text: &mut String, reason: &Reason) -> Result<(), AllocError>
     ensures { OnOk result (string_bytes text.new ≡ string_bytes text.old ++ verdict_line (Judgement.No reason.now)) }
 {
     let number = reason.number();
     let name = reason.name();
-    match *reason {
-        Reason::SourceLabel(height) => writeln!(text, "no {number} {name} {height}"),
-        Reason::LabelTooHigh { trusted, height } => {
-            writeln!(text, "no {number} {name} {trusted} {height}")
-        }
-        Reason::PlanNotAccepted(update) => writeln!(text, "no {number} {name} {update}"),
-        Reason::PlanNotTight(update) => writeln!(text, "no {number} {name} {update}"),
-        Reason::NotTheTie(update) => writeln!(text, "no {number} {name} {update}"),
-        Reason::GoalLabelled(height) => writeln!(text, "no {number} {name} {height}"),
-        Reason::GoalMissed => writeln!(text, "no {number} {name}"),
-    }
+    write!(text, "no {number} {name}")?;
+    push_numbers(text, *reason)?;
+    text.push_str("\n")
 }
 
 /// Adds the line of a verdict.

@@ -1,6 +1,7 @@
 //! The commands that a relayer (Hermes) runs for a report.
 use jiff::Timestamp;
 use rb_base::{Moment, Window};
+use rb_plan::Cost;
 use rb_script_types::{ClientConfig, Config, Refusal, Script};
 use rb_super_turn::{
     ClientReport, Outcome, PlanReport, PricedUpdate, RefusedEvent, Report, SendingReport,
@@ -10,7 +11,7 @@ use std::alloc::{AllocError, Global};
 
 /// What commands say that a script's report doesn't: where its clients are hosted, and the windows
 /// of its turns.
-#[derive(Debug, Drop)]
+#[derive(Drop)]
 pub struct Setting {
     config: Config,
     windows: Vec<Window>,
@@ -94,15 +95,37 @@ fn push_turn(
     turn: &TurnReport,
 ) -> Result<(), AllocError> {
     if turn.window_back {
-        let refusal = Refusal::WindowBack.number();
-        let name = Refusal::WindowBack.name();
-        writeln!(text, "# turn {number}: refused window {refusal} {name}")?;
+        push_refused_window(text, number)?;
     }
-    for refused in &turn.refused {
-        push_refused(text, number, refused)?;
+    push_refusals(text, number, turn.refused.as_slice())?;
+    push_clients(text, number, config, turn.clients.as_slice())
+}
+
+fn push_refused_window(text: &mut String, turn: u64) -> Result<(), AllocError> {
+    let number = Refusal::WindowBack.number();
+    let name = Refusal::WindowBack.name();
+    writeln!(text, "# turn {turn}: refused window {number} {name}")
+}
+
+fn push_refusals(
+    text: &mut String,
+    turn: u64,
+    refusals: &[RefusedEvent],
+) -> Result<(), AllocError> {
+    for refused in refusals {
+        push_refused(text, turn, refused)?;
     }
-    for (client, report) in config.clients.iter().zip(&turn.clients) {
-        push_client(text, number, host_of(config, client), report)?;
+    Ok(())
+}
+
+fn push_clients(
+    text: &mut String,
+    turn: u64,
+    config: &Config,
+    reports: &[ClientReport],
+) -> Result<(), AllocError> {
+    for (client, report) in config.clients.iter().zip(reports) {
+        push_client(text, turn, host_of(config, client), report)?;
     }
     Ok(())
 }
@@ -146,19 +169,32 @@ fn push_plan(
     id: &str,
     plan: &PlanReport,
 ) -> Result<(), AllocError> {
-    let fee = plan.total.fee;
-    let count = plan.total.count;
-    write!(
-        text,
-        "# turn {turn} client {id}: total fee {fee}, updates {count}"
-    )?;
+    push_total(text, turn, id, plan.total)?;
     push_messages(text, plan.messages.len())?;
     if let SendingReport::TooBig(message) = &plan.sending {
         return writeln!(text, ", message {message} over the gas limit: no batch");
     }
     text.push_str("\n")?;
-    for update in &plan.updates {
-        push_update(text, host, own_id(host, id), update)?;
+    push_updates(text, host, own_id(host, id), plan.updates.as_slice())
+}
+
+/// Adds the beginning of a plan's comment.
+fn push_total(text: &mut String, turn: u64, id: &str, total: Cost) -> Result<(), AllocError> {
+    let Cost { fee, count } = total;
+    write!(
+        text,
+        "# turn {turn} client {id}: total fee {fee}, updates {count}"
+    )
+}
+
+fn push_updates(
+    text: &mut String,
+    host: &str,
+    id: &str,
+    updates: &[PricedUpdate],
+) -> Result<(), AllocError> {
+    for update in updates {
+        push_update(text, host, id, update)?;
     }
     Ok(())
 }

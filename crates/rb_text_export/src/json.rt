@@ -1,7 +1,7 @@
 //! A report as JSON. Identifiers have no character that JSON escapes.
-use rb_base::PathId;
+use rb_base::{Height, PathId};
 use rb_batch::Transaction;
-use rb_plan::Label;
+use rb_plan::{Cost, Label};
 use rb_plan_client::Message;
 use rb_scan::Kind;
 use rb_script_types::{Goal, Refusal};
@@ -35,21 +35,40 @@ fn push_comma(text: &mut String, place: usize) -> Result<(), AllocError> {
 fn push_turn(text: &mut String, paths: &[PathId], turn: &TurnReport) -> Result<(), AllocError> {
     let window_back = turn.window_back;
     write!(text, "{{\"window_back\": {window_back}, \"refused\": [")?;
-    for (place, refused) in turn.refused.iter().enumerate() {
+    push_refusals(text, turn.refused.as_slice())?;
+    text.push_str("], \"clients\": [")?;
+    push_clients(text, paths, turn.clients.as_slice())?;
+    text.push_str("], \"settlements\": [")?;
+    push_settlements(text, turn.settlements.as_slice())?;
+    text.push_str("]}")
+}
+
+fn push_refusals(text: &mut String, refusals: &[RefusedEvent]) -> Result<(), AllocError> {
+    for (place, refused) in refusals.iter().enumerate() {
         push_comma(text, place)?;
         push_refused(text, refused)?;
     }
-    text.push_str("], \"clients\": [")?;
-    for (place, client) in turn.clients.iter().enumerate() {
+    Ok(())
+}
+
+fn push_clients(
+    text: &mut String,
+    paths: &[PathId],
+    clients: &[ClientReport],
+) -> Result<(), AllocError> {
+    for (place, client) in clients.iter().enumerate() {
         push_comma(text, place)?;
         push_client(text, paths, client)?;
     }
-    text.push_str("], \"settlements\": [")?;
-    for (place, settlement) in turn.settlements.iter().enumerate() {
+    Ok(())
+}
+
+fn push_settlements(text: &mut String, settlements: &[SettlementReport]) -> Result<(), AllocError> {
+    for (place, settlement) in settlements.iter().enumerate() {
         push_comma(text, place)?;
         push_settlement(text, settlement)?;
     }
-    text.push_str("]}")
+    Ok(())
 }
 
 fn push_refused(text: &mut String, refused: &RefusedEvent) -> Result<(), AllocError> {
@@ -99,22 +118,28 @@ fn push_planned(
     paths: &[PathId],
     planned: &PlannedReport,
 ) -> Result<(), AllocError> {
-    let outcome = match planned.plan {
-        Some(_) => "plan",
-        None => "unreachable",
-    };
-    write!(text, "\"outcome\": \"{outcome}\", \"goal\": ")?;
+    push_outcome(text, planned.plan.is_some())?;
     push_goal(text, planned.goal)?;
     text.push_str(", \"labels\": [")?;
-    for (place, label) in planned.labelling.labels().iter().enumerate() {
-        push_comma(text, place)?;
-        push_label(text, label)?;
-    }
+    push_labels(text, planned.labelling.labels())?;
     text.push_str("]")?;
     match &planned.plan {
         Some(plan) => push_plan(text, paths, plan),
         None => text.push_str("}"),
     }
+}
+
+fn push_outcome(text: &mut String, is_plan: bool) -> Result<(), AllocError> {
+    let outcome = if is_plan { "plan" } else { "unreachable" };
+    write!(text, "\"outcome\": \"{outcome}\", \"goal\": ")
+}
+
+fn push_labels(text: &mut String, labels: &[Label]) -> Result<(), AllocError> {
+    for (place, label) in labels.iter().enumerate() {
+        push_comma(text, place)?;
+        push_label(text, label)?;
+    }
+    Ok(())
 }
 
 fn push_goal(text: &mut String, goal: Goal) -> Result<(), AllocError> {
@@ -136,23 +161,40 @@ fn push_label(text: &mut String, label: &Label) -> Result<(), AllocError> {
 
 fn push_plan(text: &mut String, paths: &[PathId], plan: &PlanReport) -> Result<(), AllocError> {
     text.push_str(", \"updates\": [")?;
-    for (place, update) in plan.updates.iter().enumerate() {
+    push_updates(text, plan.updates.as_slice())?;
+    push_total(text, plan.total)?;
+    push_messages(text, paths, plan.messages.as_slice())?;
+    text.push_str("]")?;
+    push_sending(text, &plan.sending)
+}
+
+fn push_updates(text: &mut String, updates: &[PricedUpdate]) -> Result<(), AllocError> {
+    for (place, update) in updates.iter().enumerate() {
         push_comma(text, place)?;
         push_update(text, update)?;
     }
-    let fee = plan.total.fee;
-    let count = plan.total.count;
+    Ok(())
+}
+
+/// Adds what stands between a plan's updates and its messages.
+fn push_total(text: &mut String, total: Cost) -> Result<(), AllocError> {
+    let Cost { fee, count } = total;
     write!(
         text,
-        "], \"total\": {{\"fee\": {fee}, \"updates\": {count}}}"
-    )?;
-    text.push_str(", \"messages\": [")?;
-    for (place, message) in plan.messages.iter().enumerate() {
+        "], \"total\": {{\"fee\": {fee}, \"updates\": {count}}}, \"messages\": ["
+    )
+}
+
+fn push_messages(
+    text: &mut String,
+    paths: &[PathId],
+    messages: &[Message],
+) -> Result<(), AllocError> {
+    for (place, message) in messages.iter().enumerate() {
         push_comma(text, place)?;
         push_message(text, paths, message)?;
     }
-    text.push_str("]")?;
-    push_sending(text, &plan.sending)
+    Ok(())
 }
 
 fn push_update(text: &mut String, priced: &PricedUpdate) -> Result<(), AllocError> {
@@ -198,27 +240,32 @@ fn push_sending(text: &mut String, sending: &SendingReport) -> Result<(), AllocE
         SendingReport::Nothing => text.push_str("}"),
         SendingReport::TooBig(index) => write!(text, ", \"too_big\": {index}}}"),
         SendingReport::Batch(batch) => {
-            let number = batch.number;
-            let proof = batch.proof;
-            write!(
-                text,
-                ", \"batch\": {number}, \"proof\": {proof}, \"transactions\": ["
-            )?;
-            push_transactions(text, batch.transactions.as_slice())
+            push_batch(text, batch.number, batch.proof)?;
+            push_transactions(text, batch.transactions.as_slice())?;
+            text.push_str("]}")
         }
     }
+}
+
+fn push_batch(text: &mut String, number: u64, proof: Height) -> Result<(), AllocError> {
+    write!(
+        text,
+        ", \"batch\": {number}, \"proof\": {proof}, \"transactions\": ["
+    )
 }
 
 fn push_transactions(text: &mut String, transactions: &[Transaction]) -> Result<(), AllocError> {
     for (place, transaction) in transactions.iter().enumerate() {
         push_comma(text, place)?;
-        let first = transaction.first;
-        let count = transaction.count;
-        let gas = transaction.gas;
-        write!(
-            text,
-            "{{\"first\": {first}, \"count\": {count}, \"gas\": {gas}}}"
-        )?;
+        push_transaction(text, transaction)?;
     }
-    text.push_str("]}")
+    Ok(())
+}
+
+fn push_transaction(text: &mut String, transaction: &Transaction) -> Result<(), AllocError> {
+    let Transaction { first, count, gas } = *transaction;
+    write!(
+        text,
+        "{{\"first\": {first}, \"count\": {count}, \"gas\": {gas}}}"
+    )
 }
