@@ -134,19 +134,31 @@ const AFTER_CERTIFY: &str = "Examples (in the folder of the repository):
 It writes yes (exit status 0), or no and the reason (exit status 3).";
 
 /// A word that has to be given: the path of a file or of a folder.
-fn path(alloc: Global, name: &'static str, help: &'static str) -> Arg<'static> {
+fn path<'a>(alloc: Global, name: &'static str, help: &'static str) -> Arg<'a> {
     Arg::new(alloc, name).required(true).help(help)
 }
 
 /// An option without a value.
-fn flag(alloc: Global, name: &'static str, help: &'static str) -> Arg<'static> {
+fn flag<'a>(alloc: Global, name: &'static str, help: &'static str) -> Arg<'a> {
     Arg::new(alloc, name)
         .long(name)
         .action(ArgAction::SetTrue)
         .help(help)
 }
 
-fn workers(alloc: Global) -> Arg<'static> {
+fn json<'a>(alloc: Global) -> Arg<'a> {
+    flag(alloc, JSON, "Writes the report as JSON")
+}
+
+fn strict<'a>(alloc: Global) -> Arg<'a> {
+    flag(
+        alloc,
+        STRICT,
+        "Ends with status 6 where an event, a window or a settlement is refused",
+    )
+}
+
+fn workers<'a>(alloc: Global) -> Arg<'a> {
     Arg::new(alloc, WORKERS)
         .long(WORKERS)
         .value_name("K")
@@ -155,7 +167,7 @@ fn workers(alloc: Global) -> Arg<'static> {
         .help("How many threads make step tables, scan the paths and plan for the clients, 1 to 64")
 }
 
-fn turn(alloc: Global) -> Arg<'static> {
+fn turn<'a>(alloc: Global) -> Arg<'a> {
     Arg::new(alloc, TURN)
         .long(TURN)
         .value_name("N")
@@ -163,60 +175,53 @@ fn turn(alloc: Global) -> Arg<'static> {
         .help("Writes those of this turn alone, from 1")
 }
 
-fn last(alloc: Global) -> Result<Arg<'static>, AllocError> {
+fn last<'a>(alloc: Global) -> Result<Arg<'a>, AllocError> {
     flag(alloc, LAST, "Writes those of the last turn alone").conflicts_with(TURN)
 }
 
 /// A command that takes a script first.
-fn script_command(
+fn script_command<'a>(
     alloc: Global,
     name: &'static str,
     about: &'static str,
     examples: &'static str,
-) -> Result<Command<'static>, AllocError> {
+) -> Result<Command<'a>, AllocError> {
     Command::new(alloc, name)
         .about(about)
         .after_help(examples)
         .arg(path(alloc, SCRIPT, "The script's file; - for standard input"))
 }
 
-/// Adds how a report is written, and the status that it ends with.
-fn with_flags(alloc: Global, command: Command<'static>) -> Result<Command<'static>, AllocError> {
-    command
-        .arg(flag(alloc, JSON, "Writes the report as JSON"))?
-        .arg(flag(
-            alloc,
-            STRICT,
-            "Ends with status 6 where an event, a window or a settlement is refused",
-        ))
-}
-
-fn plan_command(alloc: Global) -> Result<Command<'static>, AllocError> {
+fn plan_command<'a>(alloc: Global) -> Result<Command<'a>, AllocError> {
     let about =
         "Writes the report of a script: for each turn and client the cheapest list of updates";
-    with_flags(alloc, script_command(alloc, PLAN, about, AFTER_PLAN)?)
+    script_command(alloc, PLAN, about, AFTER_PLAN)?
+        .arg(json(alloc))?
+        .arg(strict(alloc))
 }
 
-fn run_command(alloc: Global) -> Result<Command<'static>, AllocError> {
+fn run_command<'a>(alloc: Global) -> Result<Command<'a>, AllocError> {
     let about = "Writes the report of a script as plan does, by several threads";
-    let command = script_command(alloc, RUN, about, AFTER_RUN)?;
-    with_flags(alloc, command.arg(workers(alloc))?)
+    script_command(alloc, RUN, about, AFTER_RUN)?
+        .arg(workers(alloc))?
+        .arg(json(alloc))?
+        .arg(strict(alloc))
 }
 
-fn commands_command(alloc: Global) -> Result<Command<'static>, AllocError> {
+fn commands_command<'a>(alloc: Global) -> Result<Command<'a>, AllocError> {
     let about = "Writes the commands (of Hermes) that submit the updates of a script's plans";
     script_command(alloc, COMMANDS, about, AFTER_COMMANDS)?
         .arg(turn(alloc))?
         .arg(last(alloc)?)
 }
 
-fn certify_command(alloc: Global) -> Result<Command<'static>, AllocError> {
+fn certify_command<'a>(alloc: Global) -> Result<Command<'a>, AllocError> {
     let about = "Judges whether a plan is the cheapest for a script, or whether there is none";
     let help = "The certificate's file: a plan that anybody made; - for standard input";
     script_command(alloc, CERTIFY, about, AFTER_CERTIFY)?.arg(path(alloc, CERT, help))
 }
 
-fn import_command(alloc: Global) -> Result<Command<'static>, AllocError> {
+fn import_command<'a>(alloc: Global) -> Result<Command<'a>, AllocError> {
     Command::new(alloc, IMPORT)
         .about("Writes the script that the saved answers of nodes make")
         .after_help(AFTER_IMPORT)
@@ -228,18 +233,13 @@ fn import_command(alloc: Global) -> Result<Command<'static>, AllocError> {
         .arg(path(alloc, FOLDER, "The folder of the answers of nodes"))
 }
 
-/// The command line without its commands.
-fn program(alloc: Global) -> Command<'static> {
+fn command_line<'a>(alloc: Global) -> Result<Command<'a>, AllocError> {
     Command::new(alloc, "ibcplan")
         .version("0.1.0")
         .about("Plans the cheapest light-client updates of an IBC relayer")
         .after_help(AFTER_HELP)
         .subcommand_required(true)
         .arg_required_else_help(true)
-}
-
-fn command_line(alloc: Global) -> Result<Command<'static>, AllocError> {
-    program(alloc)
         .subcommand(plan_command(alloc)?)?
         .subcommand(run_command(alloc)?)?
         .subcommand(commands_command(alloc)?)?
