@@ -5,7 +5,7 @@ use rb_base::OpenGate;
 use rb_book::ChainBook;
 use rb_gang::build;
 use rb_graph::Graph;
-use std::alloc::Global;
+use std::alloc::{AllocError, Global};
 use std::rt::Clock;
 use std::thread::Threads;
 use std::time::Instant;
@@ -33,6 +33,19 @@ fn make<R: Threads + Sync>(rt: &R, alloc: Global, book: ChainBook, maker: Maker)
     Ok(graph)
 }
 
+/// The microseconds of a run.
+fn micros<R: Threads + Clock + Sync>(
+    rt: &R,
+    alloc: Global,
+    book: &ChainBook,
+    maker: Maker,
+) -> Result<u128> {
+    let copy = book.copy()?;
+    let start = Instant::now(rt)?;
+    let _graph = make(rt, alloc, copy, maker)?;
+    Ok(start.elapsed(rt)?.as_micros())
+}
+
 /// The least microseconds of several runs.
 fn least_micros<R: Threads + Clock + Sync>(
     rt: &R,
@@ -42,10 +55,7 @@ fn least_micros<R: Threads + Clock + Sync>(
 ) -> Result<u128> {
     let mut least = u128::MAX;
     for _ in 0..RUNS {
-        let copy = book.copy()?;
-        let start = Instant::now(rt)?;
-        let _graph = make(rt, alloc, copy, maker)?;
-        least = least.min(start.elapsed(rt)?.as_micros());
+        least = least.min(micros(rt, alloc, book, maker)?);
     }
     Ok(least)
 }
@@ -53,6 +63,32 @@ fn least_micros<R: Threads + Clock + Sync>(
 /// A hundred times the quotient.
 fn percent(part: u128, whole: u128) -> u128 {
     part.saturating_mul(100) / whole.max(1)
+}
+
+/// The microseconds of `from_book`, of one worker and of so many, with the speed-up.
+fn told(
+    alloc: Global,
+    (alone, one, many): (u128, u128, u128),
+    workers: usize,
+) -> Result<String, AllocError> {
+    let cost = percent(one, alone);
+    let speed = percent(one, many);
+    format!(in alloc;
+        "from_book {alone} us, 1 worker {one} us ({cost} %), {workers} workers {many} us, speed-up {speed} %"
+    )
+}
+
+/// What the table of a book takes by `from_book`, by one worker and by so many.
+fn compare_over<R: Threads + Clock + Sync>(
+    rt: &R,
+    alloc: Global,
+    book: &ChainBook,
+    workers: usize,
+) -> Result<String> {
+    let alone = least_micros(rt, alloc, book, Maker::Alone)?;
+    let one = least_micros(rt, alloc, book, Maker::Workers(1))?;
+    let many = least_micros(rt, alloc, book, Maker::Workers(workers))?;
+    Ok(told(alloc, (alone, one, many), workers)?)
 }
 
 /// What the table takes by `from_book`, by one worker and by so many, and the speed-up.
@@ -63,14 +99,6 @@ pub fn compare<R: Threads + Clock + AllocGlobal + Sync>(
     validators: u32,
     workers: usize,
 ) -> Result<String> {
-    let alloc = rt.alloc();
-    let book = make_book(alloc, headers, sets, validators)?;
-    let alone = least_micros(rt, alloc, &book, Maker::Alone)?;
-    let one = least_micros(rt, alloc, &book, Maker::Workers(1))?;
-    let many = least_micros(rt, alloc, &book, Maker::Workers(workers))?;
-    let cost = percent(one, alone);
-    let speed = percent(one, many);
-    Ok(format!(in alloc;
-        "from_book {alone} us, 1 worker {one} us ({cost} %), {workers} workers {many} us, speed-up {speed} %"
-    )?)
+    let book = make_book(rt.alloc(), headers, sets, validators)?;
+    compare_over(rt, rt.alloc(), &book, workers)
 }

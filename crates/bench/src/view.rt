@@ -10,6 +10,16 @@ pub fn height(number: u32) -> Result<Height> {
     Height::new(u64::from(number)).context("a height")
 }
 
+fn options() -> Result<Options> {
+    let period = Period::new(Period::MAX).context("a period")?;
+    Ok(Options::new(period, 1))
+}
+
+/// The moment of the last of so many headers.
+fn window_at(headers: u32) -> Result<Window> {
+    Ok(Window::at(Moment::new(u128::from(headers)).context("a moment")?))
+}
+
 /// The view of a client that has stored these heights, at the moment of the last of so many headers.
 pub fn view_of<'a>(
     stored: &'a [Height],
@@ -21,8 +31,7 @@ pub fn view_of<'a>(
     if !are_known(stored, book) {
         bail!("a header is wanted");
     }
-    let period = Period::new(Period::MAX).context("a period")?;
-    let window = Window::at(Moment::new(u128::from(headers)).context("a moment")?);
+    let window = window_at(headers)?;
     let fees = FeeTable::new(100, 1, 1)?;
-    Ok(ClientView::new(Options::new(period, 1), fees, stored, window, book))
+    Ok(ClientView::new(options()?, fees, stored, window, book))
 }

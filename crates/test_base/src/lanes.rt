@@ -73,20 +73,29 @@ fn sums_the_powers_whose_bit_is_set(rt: HostRuntime) -> Result<(), Fail> {
     Ok(())
 }
 
+/// The sum over a plane of one column, which is set or isn't.
+fn check_one(
+    rt: &impl Abort,
+    alloc: Global,
+    powers: &Powers,
+    step: usize,
+    wanted: u64,
+) -> Result<(), AllocError> {
+    check_sums(rt, step, powers, &make_plane(alloc, 1, step)?, wanted);
+    Ok(())
+}
+
+fn check_greatest(rt: &impl Abort, alloc: Global, powers: &mut Powers) -> Result<(), AllocError> {
+    push(powers, MAX_TOTAL)?;
+    check_one(rt, alloc, powers, 1, 1_152_921_504_606_846_975)?;
+    check_one(rt, alloc, powers, 0, 0)
+}
+
 /// The greatest power in one column, whose bit is set, or isn't.
 #[test]
 fn sums_the_greatest_power(rt: HostRuntime) -> Result<(), Fail> {
     let mut powers = Powers::zeros(rt.alloc(), 0)?;
-    push(&mut powers, MAX_TOTAL)?;
-    check_sums(
-        &rt,
-        1,
-        &powers,
-        &make_plane(rt.alloc(), 1, 1)?,
-        1_152_921_504_606_846_975,
-    );
-    check_sums(&rt, 0, &powers, &make_plane(rt.alloc(), 1, 0)?, 0);
-    Ok(())
+    Ok(check_greatest(&rt, rt.alloc(), &mut powers)?)
 }
 
 /// The address that begins with a number, the lowest byte first.
@@ -96,16 +105,24 @@ fn address(number: u32) -> [u8; 20] {
     bytes
 }
 
+fn check_address(
+    rt: &impl Abort,
+    columns: &mut Columns,
+    number: u32,
+    wanted: Result<u32, LanesError>,
+) {
+    assert_same(rt, &number, &columns.intern(&address(number)), &wanted);
+}
+
 /// As many addresses as there are columns, and then one more.
 #[test]
 fn numbers_addresses_until_all_columns_are_taken(rt: HostRuntime) -> Result<(), Fail> {
     let mut columns = Columns::new(rt.alloc());
     for number in 0..65_536 {
-        assert_same(&rt, &number, &columns.intern(&address(number)), &Ok(number));
+        check_address(&rt, &mut columns, number, Ok(number));
     }
-    let more = columns.intern(&address(65_536));
-    assert_same(&rt, &"one more", &more, &Err(LanesError::ColumnsFull));
-    assert_same(&rt, &"again", &columns.intern(&address(7)), &Ok(7));
+    check_address(&rt, &mut columns, 65_536, Err(LanesError::ColumnsFull));
+    check_address(&rt, &mut columns, 7, Ok(7));
     assert_same(&rt, &"columns", &columns.len(), &65_536);
     Ok(())
 }

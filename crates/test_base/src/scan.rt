@@ -49,7 +49,16 @@ struct Row {
 }
 
 fn second(number: u64) -> Result<Moment, Fail> {
-    Ok(Moment::new(u128::from(number) * 1_000_000_000).ok_or("moment")?)
+    let nanoseconds = u128::from(number).saturating_mul(1_000_000_000);
+    Ok(Moment::new(nanoseconds).ok_or("moment")?)
+}
+
+/// 0 stands for none.
+fn timeout_of(seconds: u64) -> Result<Option<Moment>, Fail> {
+    if seconds == 0 {
+        return Ok(None);
+    }
+    Ok(Some(second(seconds)?))
 }
 
 fn block(number: u64) -> Result<Height, Fail>
@@ -61,38 +70,73 @@ fn block(number: u64) -> Result<Height, Fail>
     Ok(Height::new(number).ok_or("block")?)
 }
 
-fn packet_of(seen: &Seen) -> Result<Packet, Fail> {
-    let sequence = Sequence::new(seen.sequence).ok_or("sequence")?;
-    let timeout_time = match seen.timeout_seconds {
-        0 => None,
-        seconds => Some(second(seconds)?),
+fn number_of(sequence: u64) -> Result<Sequence, Fail> {
+    Ok(Sequence::new(sequence).ok_or("sequence")?)
+}
+
+/// The packet as it is sent.
+fn sent_packet(seen: &Seen) -> Result<Packet, Fail> {
+    let timeout_time = timeout_of(seen.timeout_seconds)?;
+    let sent = block(seen.sent)?;
+    Ok(Packet::new(
+        number_of(seen.sequence)?,
+        sent,
+        Height::new(seen.timeout_height),
+        timeout_time,
+    ))
+}
+
+/// The packet, received at a block; 0 stands for none.
+fn with_received(packet: Packet, number: u64) -> Result<Packet, Fail> {
+    if number == 0 {
+        return Ok(packet);
+    }
+    Ok(packet.with_received(block(number)?))
+}
+
+/// The packet, its acknowledgement written at a block; 0 stands for none.
+fn with_written(packet: Packet, number: u64) -> Result<Packet, Fail> {
+    if number == 0 {
+        return Ok(packet);
+    }
+    Ok(packet.with_written(block(number)?))
+}
+
+fn with_cleared(packet: Packet, is_cleared: bool) -> Packet {
+    if is_cleared {
+        packet.with_cleared()
+    } else {
+        packet
+    }
+}
+
+fn with_settled(packet: Packet, seen: &Seen) -> Packet {
+    let packet = if seen.receive_settled {
+        packet.with_receive_settled()
+    } else {
+        packet
     };
-    let timeout_height = Height::new(seen.timeout_height);
-    let mut packet = Packet::new(sequence, block(seen.sent)?, timeout_height, timeout_time);
-    if seen.received > 0 {
-        packet = packet.with_received(block(seen.received)?);
-    }
-    if seen.written > 0 {
-        packet = packet.with_written(block(seen.written)?);
-    }
-    if seen.cleared {
-        packet = packet.with_cleared();
-    }
-    if seen.receive_settled {
-        packet = packet.with_receive_settled();
-    }
     if seen.outcome_settled {
-        packet = packet.with_outcome_settled();
+        packet.with_outcome_settled()
+    } else {
+        packet
     }
-    Ok(packet)
+}
+
+fn packet_of(seen: &Seen) -> Result<Packet, Fail> {
+    let received = with_received(sent_packet(seen)?, seen.received)?;
+    let written = with_written(received, seen.written)?;
+    Ok(with_settled(with_cleared(written, seen.cleared), seen))
 }
 
 fn message_of(message: Message) -> Result<PacketMsg, Fail> {
     let (kind, sequence, floor) = message;
+    let sequence = number_of(sequence)?;
+    let floor = Height::new(floor).ok_or("floor")?;
     Ok(PacketMsg {
         kind,
-        sequence: Sequence::new(sequence).ok_or("sequence")?,
-        floor: Height::new(floor).ok_or("floor")?,
+        sequence,
+        floor,
     })
 }
 
@@ -104,20 +148,34 @@ fn messages_of(alloc: Global, messages: &[Message]) -> Result<Vec<PacketMsg>, Fa
     Ok(list)
 }
 
-fn view_of(alloc: Global, row: &Row, closed: bool) -> Result<PathView, Fail> {
+fn packets_of(alloc: Global, row: &Row) -> Result<Vec<Packet>, Fail> {
     let mut packets = Vec::new(alloc);
     for seen in row.packets {
         packets.push(packet_of(seen)?)?;
     }
-    let mut destination = Vec::new(alloc);
-    for (height, seconds) in row.records {
-        destination.push((block(*height)?, second(*seconds)?))?;
+    Ok(packets)
+}
+
+fn record_of((height, seconds): (u64, u64)) -> Result<(Height, Moment), Fail> {
+    Ok((block(height)?, second(seconds)?))
+}
+
+fn records_of(alloc: Global, row: &Row) -> Result<Vec<(Height, Moment)>, Fail> {
+    let mut records = Vec::new(alloc);
+    for record in row.records {
+        records.push(record_of(*record)?)?;
     }
-    let first = Sequence::new(row.first).ok_or("first")?;
-    if !is_path(first, &packets, &destination) {
+    Ok(records)
+}
+
+fn view_of(alloc: Global, row: &Row, closed: bool) -> Result<PathView, Fail> {
+    let first = number_of(row.first)?;
+    let packets = packets_of(alloc, row)?;
+    let records = records_of(alloc, row)?;
+    if !is_path(first, &packets, &records) {
         return Err(Fail::from("no path"));
     }
-    Ok(PathView::new(row.order, first, packets, closed, destination))
+    Ok(PathView::new(row.order, first, packets, closed, records))
 }
 
 const ROWS: &[Row] = &[
@@ -433,7 +491,7 @@ const ROWS: &[Row] = &[
     },
 ];
 
-/// What a path owes, whole and in its two parts.
+/// What a path owes.
 fn check_owed(
     rt: &impl Abort,
     view: &PathView,
@@ -442,19 +500,47 @@ fn check_owed(
 ) -> Result<(), Fail> {
     let list = owed(view)?;
     assert_same(rt, &index, &list.as_slice(), &wanted);
+    Ok(())
+}
+
+/// What it owes in its two parts.
+fn check_parts(
+    rt: &impl Abort,
+    view: &PathView,
+    index: usize,
+    wanted: &[PacketMsg],
+) -> Result<(), Fail> {
     let mut parts = owed_part(view, Part::Packets)?;
     parts.extend_from_slice(&owed_part(view, Part::Channel)?)?;
     assert_same(rt, &index, &parts.as_slice(), &wanted);
     Ok(())
 }
 
-/// A row's path; it is equal to its copy, and once it is closed it owes nothing.
-fn check_row(rt: &impl Abort, alloc: Global, index: usize, row: &Row) -> Result<(), Fail> {
+/// A path owes this, and is equal to its copy.
+fn check_view(
+    rt: &impl Abort,
+    view: &PathView,
+    index: usize,
+    wanted: &[PacketMsg],
+) -> Result<(), Fail> {
+    check_owed(rt, view, index, wanted)?;
+    check_parts(rt, view, index, wanted)?;
+    assert!(rt; view.copy()? == *view, "row {index}");
+    Ok(())
+}
+
+fn check_path(rt: &impl Abort, alloc: Global, index: usize, row: &Row) -> Result<(), Fail> {
+    let wanted = messages_of(alloc, row.owed)?;
     let view = view_of(alloc, row, false)?;
-    check_owed(rt, &view, index, messages_of(alloc, row.owed)?.as_slice())?;
-    assert!(rt; view.copy()? == view, "row {index}");
+    check_view(rt, &view, index, wanted.as_slice())
+}
+
+/// Once a row's path is closed it owes nothing, and is another one.
+fn check_closed(rt: &impl Abort, alloc: Global, index: usize, row: &Row) -> Result<(), Fail> {
     let closed = view_of(alloc, row, true)?;
-    assert!(rt; owed(&closed)?.is_empty() && closed != view, "row {index}");
+    check_owed(rt, &closed, index, &[])?;
+    let open = view_of(alloc, row, false)?;
+    assert!(rt; closed != open, "row {index}");
     Ok(())
 }
 
@@ -464,7 +550,8 @@ fn check_row(rt: &impl Abort, alloc: Global, index: usize, row: &Row) -> Result<
 #[test]
 fn lists_what_is_owed(rt: HostRuntime) -> Result<(), Fail> {
     for (index, row) in ROWS.iter().enumerate() {
-        check_row(&rt, rt.alloc(), index, row)?;
+        check_path(&rt, rt.alloc(), index, row)?;
+        check_closed(&rt, rt.alloc(), index, row)?;
     }
     Ok(())
 }
@@ -527,22 +614,14 @@ fn keeps_what_is_ready(rt: HostRuntime) -> Result<(), Fail> {
     Ok(())
 }
 
-/// A packet that is sent at 8 and not yet received.
-fn sent_packet(sequence: u64) -> Result<Packet, Fail> {
-    packet_of(&Seen {
-        sequence,
-        sent: 8,
-        ..NOTHING
-    })
-}
-
 /// Times that do not rise, and a packet below the first, make no path.
 #[test]
 fn knows_paths(rt: HostRuntime) -> Result<(), Fail> {
-    let sequence = Sequence::new(12).ok_or("sequence")?;
-    let records = [(block(9)?, second(90)?), (block(10)?, second(90)?)];
+    let sequence = number_of(12)?;
+    let records = [record_of((9, 90))?, record_of((10, 90))?];
     assert!(rt; is_path(sequence, &[], &records[..1]));
     assert!(rt; !is_path(sequence, &[], &records));
-    assert!(rt; !is_path(sequence, &[sent_packet(11)?], &[]));
+    let below = Packet::new(number_of(11)?, block(8)?, None, None);
+    assert!(rt; !is_path(sequence, &[below], &[]));
     Ok(())
 }

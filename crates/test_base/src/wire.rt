@@ -1,30 +1,49 @@
 //! Lanes: what comes back, what is left, and a list that goes from one real thread to another.
 ghost use Rattle.std.specs.Prelude.{◌≡◌, ◌++◌, [], ◌∷◌, IfOk, IfSome};
-ghost use Rattle.rb_wire.specs.Lane.{sent_on, taken_on, SameTx, SameRx};
+ghost use Rattle.rb_wire.specs.Lane.{sent_on, taken_on, IsLane, SameTx, SameRx};
 
+use crate::same::assert_same;
 use rb_wire::{LaneFull, Rx, Tx, lane};
 use std::alloc::{AllocError, Global};
+use std::process::Abort;
 use std::sync::Wait;
 use std::test::Fail;
 use std::thread;
 use std::thread::Threads;
 
-#[test]
-fn what_is_left_follows_what_was_taken(rt: HostRuntime) -> Result<(), Fail> {
-    let (mut tx, mut rx) = lane::<u32, _>(rt.alloc(), 2)?;
+/// Two items are sent on a lane of two, and no third one.
+fn check_full(rt: &impl Abort, tx: &mut Tx<u32>) -> Result<(), Fail>
+    ensures { SameTx tx.old tx.new }
+{
     assert!(rt; tx.push(1).is_ok() && tx.push(2).is_ok());
     let Err(refusal) = tx.push(3) else {
         return Err(Fail::from("a lane of two took three"));
     };
     assert!(rt; refusal.number() == 901 && refusal.item == 3);
-    assert!(rt; rx.pop() == Some(1));
+    Ok(())
+}
+
+/// What is left on a lane once its sending end has finished; None where no token was given.
+fn left_of(tx: Tx<u32>, rx: Rx<u32>) -> Result<Option<Vec<u32>>, AllocError>
+    requires { IsLane tx rx }
+    ensures { IfOk result (λ got. IfSome got (λ left. taken_on rx ++ left.items ≡ sent_on tx)) }
+{
     let Some(token) = tx.finish() else {
-        return Err(Fail::from("the other end is there"));
+        return Ok(None);
     };
-    let Ok(left) = rx.finished(token) else {
-        return Err(Fail::from("there is memory"));
-    };
-    assert_eq!(rt; left.as_slice(), [2].as_slice());
+    match rx.finished(token) {
+        Ok(left) => Ok(Some(left)),
+        Err(_) => Err(AllocError),
+    }
+}
+
+#[test]
+fn what_is_left_follows_what_was_taken(rt: HostRuntime) -> Result<(), Fail> {
+    let (mut tx, mut rx) = lane::<u32, _>(rt.alloc(), 2)?;
+    check_full(&rt, &mut tx)?;
+    assert_same(&rt, &"taken", &rx.pop(), &Some(1));
+    let left = left_of(tx, rx)?.ok_or("the other end is there")?;
+    assert_same(&rt, &"left", &left.as_slice(), &[2].as_slice());
     Ok(())
 }
 
@@ -100,24 +119,20 @@ fn send_across<R: Threads + Wait + Sync>(
             ensures { SameRx rx result.0 × (result.1.items ≡ taken_on result.0) }
         { take_some(rx, looks, room) },
     );
-    let Some(token) = tx.finish() else {
+    let Some(left) = left_of(tx, rx)? else {
         return Ok(None);
-    };
-    let Ok(left) = rx.finished(token) else {
-        return Err(AllocError);
     };
     let mut all = taken;
     all.extend_from_slice(left.as_slice())?;
     Ok(Some(all))
 }
 
+const ITEMS: &[u32] = &[7, 8, 9, 10, 11];
+
 /// The list is longer than the lane, so that one thread's pushes and the other's pops must meet.
 #[test]
 fn lane_delivers(rt: HostRuntime) -> Result<(), Fail> {
-    let items = [7u32, 8, 9, 10, 11];
-    let Some(all) = send_across(&rt, rt.alloc(), &items, 100_000_000)? else {
-        return Err(Fail::from("the other end is there"));
-    };
-    assert_eq!(rt; all.as_slice(), items.as_slice());
+    let all = send_across(&rt, rt.alloc(), ITEMS, 100_000_000)?.ok_or("the other end is there")?;
+    assert_same(&rt, &"items", &all.as_slice(), &ITEMS);
     Ok(())
 }

@@ -1,7 +1,7 @@
 use crate::merkle::to_hex;
 use crate::same::assert_same;
 use rb_valset::{Validator, ValidatorSet, ValsetError};
-use std::alloc::Global;
+use std::alloc::{AllocError, Global};
 use std::fmt::Display;
 use std::process::Abort;
 use std::test::Fail;
@@ -34,20 +34,22 @@ const LEAVES: &[(u64, &str)] = &[
     (TOP, "10ffffffffffffffff0f"),
 ];
 
+/// The address of the key.
+const ADDRESS: &str = "52fe6094743bfd4f9be4321d98adc7e23c1ab622";
+
+/// Bytes in hexadecimal are this text.
+fn check_hex(rt: &impl Abort, alloc: Global, bytes: &[u8], wanted: &str) -> Result<(), AllocError> {
+    let text = to_hex(alloc, bytes)?;
+    assert_same(rt, &wanted, &text.as_str(), &wanted);
+    Ok(())
+}
+
 fn check_leaf(rt: &impl Abort, alloc: Global, power: u64, tail: &str) -> Result<(), Fail> {
     let validator = Validator::new([0xa1; 32], power)?;
     assert_same(rt, &"power", &validator.power(), &power);
-    let leaf = to_hex(alloc, validator.leaf().as_slice())?;
-    let wanted = format!(in alloc; "{FRAME}{tail}")?;
-    assert_same(rt, &power, &leaf.as_str(), &wanted.as_str());
-    let address = to_hex(alloc, validator.address())?;
-    assert_same(
-        rt,
-        &power,
-        &address.as_str(),
-        &"52fe6094743bfd4f9be4321d98adc7e23c1ab622",
-    );
-    Ok(())
+    check_hex(rt, alloc, validator.address(), ADDRESS)?;
+    let leaf = format!(in alloc; "{FRAME}{tail}")?;
+    Ok(check_hex(rt, alloc, validator.leaf().as_slice(), leaf.as_str())?)
 }
 
 #[test]
@@ -87,16 +89,26 @@ const SETS: &[Ordered] = &[
 /// The addresses of no set.
 const UNKNOWN: &[[u8; 20]] = &[[0; 20], [0x73; 20], [255; 20]];
 
-fn check_places(rt: &impl Abort, set: &ValidatorSet, order: &[u8]) -> Result<(), Fail> {
-    for (place, byte) in order.iter().enumerate() {
-        let member = Validator::new([*byte; 32], 1)?;
-        assert_same(rt, byte, &set.position(member.address()), &Some(place));
-        let found = set.find(member.address()).ok_or("absent")?;
-        assert_same(rt, byte, found.key(), member.key());
-    }
+/// The set has the member whose key repeats the byte at this place.
+fn check_place(rt: &impl Abort, set: &ValidatorSet, place: usize, byte: u8) -> Result<(), Fail> {
+    let member = Validator::new([byte; 32], 1)?;
+    assert_same(rt, &byte, &set.position(member.address()), &Some(place));
+    let found = set.find(member.address()).ok_or("absent")?;
+    assert_same(rt, &byte, found.key(), member.key());
+    Ok(())
+}
+
+fn check_absent(rt: &impl Abort, set: &ValidatorSet) {
     for unknown in UNKNOWN {
         assert!(rt; set.position(unknown).is_none() && set.find(unknown).is_none());
     }
+}
+
+fn check_places(rt: &impl Abort, set: &ValidatorSet, order: &[u8]) -> Result<(), Fail> {
+    for (place, byte) in order.iter().enumerate() {
+        check_place(rt, set, place, *byte)?;
+    }
+    check_absent(rt, set);
     Ok(())
 }
 
@@ -104,23 +116,56 @@ fn check_set(
     rt: &impl Abort,
     alloc: Global,
     set: &ValidatorSet,
+    (_, total, order, hash): &Ordered,
+) -> Result<(), Fail> {
+    assert_same(rt, hash, &set.total(), total);
+    assert_same(rt, hash, &set.size(), &order.len());
+    check_hex(rt, alloc, set.hash(), hash)?;
+    check_places(rt, set, order)
+}
+
+/// A set is its copy, and not another one.
+fn check_equal(
+    rt: &impl Abort,
+    set: &ValidatorSet,
+    other: &ValidatorSet,
+) -> Result<(), AllocError> {
+    let copy = set.copy()?;
+    assert!(rt; copy == *set && *set != *other);
+    Ok(())
+}
+
+fn check_both(
+    rt: &impl Abort,
+    alloc: Global,
+    set: &ValidatorSet,
+    other: &ValidatorSet,
     wanted: &Ordered,
 ) -> Result<(), Fail> {
-    let (_, total, order, hash) = *wanted;
-    assert_same(rt, &hash, &(set.total(), set.size()), &(total, order.len()));
-    assert_same(rt, &hash, &to_hex(alloc, set.hash())?.as_str(), &hash);
-    check_places(rt, set, order)
+    check_set(rt, alloc, set, wanted)?;
+    Ok(check_equal(rt, set, other)?)
+}
+
+fn check_ordered(
+    rt: &impl Abort,
+    alloc: Global,
+    other: &ValidatorSet,
+    wanted: &Ordered,
+) -> Result<(), Fail> {
+    let set = make_set(alloc, wanted.0)?;
+    check_both(rt, alloc, &set, other, wanted)
+}
+
+fn check_all(rt: &impl Abort, alloc: Global, other: &ValidatorSet) -> Result<(), Fail> {
+    for wanted in SETS {
+        check_ordered(rt, alloc, other, wanted)?;
+    }
+    Ok(())
 }
 
 #[test]
 fn orders_and_hashes(rt: HostRuntime) -> Result<(), Fail> {
-    let other = make_set(rt.alloc(), &[(1, 9)])?;
-    for wanted in SETS {
-        let set = make_set(rt.alloc(), wanted.0)?;
-        check_set(&rt, rt.alloc(), &set, wanted)?;
-        assert!(rt; set.copy()? == set && set != other);
-    }
-    Ok(())
+    check_all(&rt, rt.alloc(), &make_set(rt.alloc(), &[(1, 9)])?)
 }
 
 /// Members, and what is printed of the refusal that they get.
@@ -132,27 +177,42 @@ const REFUSED: &[(&[(u8, u64)], &str)] = &[
     (&[(1, TOP), (2, 1)], "206 TotalTooBig"),
 ];
 
+fn check_refused(
+    rt: &impl Abort,
+    alloc: Global,
+    members: &[(u8, u64)],
+    text: &str,
+) -> Result<(), Fail> {
+    let refusal = make_set(alloc, members).err().ok_or("accepted")?;
+    let printed = format!(in alloc; "{refusal}")?;
+    assert_same(rt, &"text", &printed.as_str(), &text);
+    Ok(())
+}
+
 #[test]
 fn refuses(rt: HostRuntime) -> Result<(), Fail> {
     for (members, text) in REFUSED {
-        let refusal = make_set(rt.alloc(), members).err().ok_or("accepted")?;
-        let printed = format!(in rt.alloc(); "{refusal}")?;
-        assert_same(&rt, &"text", &printed.as_str(), text);
+        check_refused(&rt, rt.alloc(), members, text)?;
     }
     Ok(())
 }
 
-/// What so many equal validators are refused for.
-fn refusal_of(alloc: Global, count: usize) -> Result<Option<ValsetError>, Fail> {
-    let members = vec![in alloc; Validator::new([1; 32], 1)?; count]?;
-    Ok(ValidatorSet::new(alloc, members).err())
+/// So many equal validators are refused for this.
+fn check_count(
+    rt: &impl Abort,
+    alloc: Global,
+    count: usize,
+    wanted: ValsetError,
+) -> Result<(), Fail> {
+    let member = Validator::new([1; 32], 1)?;
+    let members = vec![in alloc; member; count]?;
+    let refusal = ValidatorSet::new(alloc, members).err();
+    assert_same(rt, &count, &refusal, &Some(wanted));
+    Ok(())
 }
 
 #[test]
 fn refuses_too_many(rt: HostRuntime) -> Result<(), Fail> {
-    let most = refusal_of(rt.alloc(), 10_000)?;
-    assert_same(&rt, &"most", &most, &Some(ValsetError::DuplicateAddress));
-    let above = refusal_of(rt.alloc(), 10_001)?;
-    assert_same(&rt, &"above", &above, &Some(ValsetError::TooMany));
-    Ok(())
+    check_count(&rt, rt.alloc(), 10_000, ValsetError::DuplicateAddress)?;
+    check_count(&rt, rt.alloc(), 10_001, ValsetError::TooMany)
 }

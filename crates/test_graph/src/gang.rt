@@ -1,5 +1,5 @@
 //! Tables by many threads: equal for every number of workers, and by two threads at once.
-ghost use Rattle.std.specs.Prelude.{◌<◌, ◌≤◌, All, IfOk};
+ghost use Rattle.std.specs.Prelude.{◌≡◌, ◌<◌, ◌≤◌, length, All, IfOk};
 ghost use Rattle.rb_graph.specs.Frame.{IsRowOf};
 
 use crate::same::assert_same;
@@ -20,9 +20,10 @@ use test_values::{height, make_set, second};
 
 /// A header of a set of two at a height, at 10 seconds for each height; both members sign it.
 fn make_header(alloc: Global, number: u64, hash: [u8; 32]) -> Result<Header, Fail> {
+    let at = height(number)?;
     let record = Record::new(second(number.saturating_mul(10))?, [0; 32], hash);
     let votes = Vec::from_slice(alloc, &[Vote::Commit, Vote::Commit])?;
-    Ok(Header::new(height(number)?, record, hash, votes))
+    Ok(Header::new(at, record, hash, votes))
 }
 
 /// Adds headers at the heights from 1 on.
@@ -38,20 +39,24 @@ fn add_headers(
     Ok(())
 }
 
-/// A book of headers at the heights from 1 on.
-fn make_book(alloc: Global, headers: u64) -> Result<ChainBook, Fail> {
+/// Adds the set of two, and its headers at the heights from 1 on.
+fn fill_book(alloc: Global, book: &mut ChainBook, headers: u64) -> Result<(), Fail> {
     let set = make_set(alloc, &[(0xa1, 60), (0xa2, 40)])?;
     let hash = *set.hash();
-    let mut book = ChainBook::new(alloc)?;
     book.add_set(set)?;
-    add_headers(alloc, &mut book, headers, hash)?;
+    add_headers(alloc, book, headers, hash)
+}
+
+/// A book of headers at the heights from 1 on.
+fn make_book(alloc: Global, headers: u64) -> Result<ChainBook, Fail> {
+    let mut book = ChainBook::new(alloc)?;
+    fill_book(alloc, &mut book, headers)?;
     Ok(book)
 }
 
 /// The frame of a book of so many headers.
 fn make_frame(alloc: Global, headers: u64) -> Result<Frame, Fail> {
-    let book = make_book(alloc, headers)?;
-    Ok(Frame::from_book(alloc, book)?)
+    Ok(Frame::from_book(alloc, make_book(alloc, headers)?)?)
 }
 
 /// The number of steps that a table tells, and the sum of their fees.
@@ -79,6 +84,14 @@ const TABLES: &[(u64, usize, Summary)] = &[
     (10, 64, (45, 54_180)),
 ];
 
+/// The summary of a table, where it is the table of a book of so many headers.
+fn summary_of(alloc: Global, graph: &Graph, headers: u64) -> Result<Summary, Fail> {
+    if !graph.is_of(&make_book(alloc, headers)?) {
+        return Err(Fail::from("another book"));
+    }
+    summary(alloc, graph)
+}
+
 /// The summary of a table by so many workers, where it is the table of its book.
 fn built<R: Threads + Sync>(
     rt: &R,
@@ -90,11 +103,7 @@ fn built<R: Threads + Sync>(
 {
     let book = make_book(alloc, headers)?;
     let graph = build(rt, alloc, book, workers, &OpenGate)?;
-    if graph.is_of(&make_book(alloc, headers)?) {
-        summary(alloc, &graph)
-    } else {
-        Err(Fail::from("another book"))
-    }
+    summary_of(alloc, &graph, headers)
 }
 
 #[test]
@@ -109,19 +118,28 @@ fn tables_are_equal_for_all_numbers_of_workers(rt: HostRuntime) -> Result<(), Fa
     Ok(())
 }
 
-/// Ten rows and two workers: each draws one number more than there are rows.
-#[test]
-fn two_workers_draw_twelve_numbers(rt: HostRuntime) -> Result<(), Fail> {
-    let alloc = rt.alloc();
-    let frame = make_frame(alloc, 10)?;
-    if frame.rows() != 10 {
-        return Err(Fail::from("ten rows"));
-    }
+/// Two workers make the ten rows of the frame.
+fn check_drawn<R: Threads + Sync + Abort>(rt: &R, alloc: Global, frame: &Frame) -> Result<(), Fail>
+    requires { length frame.now.headers ≡ 10 }
+{
     let (table, seat) = open(alloc, 10)?;
-    let (mut seat, rows) = make_rows(&rt, alloc, &frame, &table, seat, 2, &OpenGate)?;
+    let (mut seat, rows) = make_rows(rt, alloc, frame, &table, seat, 2, &OpenGate)?;
     assert!(rt; count(&table, &mut seat) == 12);
     assert!(rt; rows.len() == 10);
     Ok(())
+}
+
+fn check_ten<R: Threads + Sync + Abort>(rt: &R, alloc: Global, frame: &Frame) -> Result<(), Fail> {
+    if frame.rows() != 10 {
+        return Err(Fail::from("ten rows"));
+    }
+    check_drawn(rt, alloc, frame)
+}
+
+/// Ten rows and two workers: each draws one number more than there are rows.
+#[test]
+fn two_workers_draw_twelve_numbers(rt: HostRuntime) -> Result<(), Fail> {
+    check_ten(&rt, rt.alloc(), &make_frame(rt.alloc(), 10)?)
 }
 
 /// Holds the row that begins first until so many others are made, for at most so many looks.
@@ -176,12 +194,25 @@ impl<'a, R: Clock> Gate for HoldFirst<'a, R> {
     }
 }
 
+/// Makes the table of ten headers by so many workers behind a gate.
+fn build_behind<R: Threads + Sync + Clock>(
+    rt: &R,
+    alloc: Global,
+    workers: usize,
+    gate: &HoldFirst<R>,
+) -> Result<(), Fail>
+    requires { (0 < workers) × (workers ≤ 64) }
+{
+    let book = make_book(alloc, 10)?;
+    let _graph = build(rt, alloc, book, workers, gate)?;
+    Ok(())
+}
+
 /// The row that begins first is held until the nine others are made, which only another worker can do.
 #[test]
 fn both_workers_build(rt: HostRuntime) -> Result<(), Fail> {
-    let alloc = rt.alloc();
     let gate = HoldFirst::new(&rt, 9, 1_000_000);
-    build(&rt, alloc, make_book(alloc, 10)?, 2, &gate)?;
+    build_behind(&rt, rt.alloc(), 2, &gate)?;
     assert!(rt; gate.made() == Some(10));
     Ok(())
 }
@@ -189,9 +220,8 @@ fn both_workers_build(rt: HostRuntime) -> Result<(), Fail> {
 /// One worker alone would wait for itself.
 #[test]
 fn a_serial_build_is_found_out(rt: HostRuntime) -> Result<(), Fail> {
-    let alloc = rt.alloc();
     let gate = HoldFirst::new(&rt, 9, 100);
-    build(&rt, alloc, make_book(alloc, 10)?, 1, &gate)?;
+    build_behind(&rt, rt.alloc(), 1, &gate)?;
     assert!(rt; gate.made().is_none());
     Ok(())
 }
@@ -208,19 +238,26 @@ fn make_share<G: Gate>(frame: &Frame, from: usize, to: usize, gate: &G) -> Resul
     Ok(())
 }
 
+/// Two workers make the ten rows of the frame, which are shared out beforehand.
+fn make_shares<R: Threads + Sync + Clock>(
+    rt: &R,
+    frame: &Frame,
+    gate: &HoldFirst<R>,
+) -> Result<(), AllocError> {
+    let (low, high) = thread::join(
+        rt,
+        || make_share(frame, 0, 5, gate),
+        || make_share(frame, 5, 10, gate),
+    );
+    low?;
+    high
+}
+
 /// Two workers whose rows were shared out beforehand: the held row's worker makes none of the others.
 #[test]
 fn rows_shared_out_beforehand_are_found_out(rt: HostRuntime) -> Result<(), Fail> {
-    let alloc = rt.alloc();
     let gate = HoldFirst::new(&rt, 9, 100);
-    let frame = make_frame(alloc, 10)?;
-    let (low, high) = thread::join(
-        &rt,
-        || make_share(&frame, 0, 5, &gate),
-        || make_share(&frame, 5, 10, &gate),
-    );
-    low?;
-    high?;
+    make_shares(&rt, &make_frame(rt.alloc(), 10)?, &gate)?;
     assert!(rt; gate.made().is_none());
     Ok(())
 }
@@ -260,6 +297,14 @@ fn rows_of(alloc: Global, frame: &Frame, numbers: &[usize]) -> Result<Vec<FrameR
     Ok(rows)
 }
 
+/// The rows handed back are so many, and each is told to be of the frame.
+fn check_back(rt: &impl Abort, frame: &Frame, rows: &[FrameRow], count: usize) {
+    assert!(rt; rows.len() == count);
+    for row in rows {
+        assert!(rt; row.is_of(frame));
+    }
+}
+
 /// What putting these rows together answers: nothing for a table, else the refusal. The rows handed
 /// back are as many as before, and each is told to be of the frame.
 fn finished(
@@ -272,8 +317,7 @@ fn finished(
     match frame.finish(rows) {
         Ok(_graph) => Ok(None),
         Err((frame, rows, cause)) => {
-            assert!(rt; rows.len() == numbers.len());
-            assert!(rt; rows.iter().all(|row| row.is_of(&frame)));
+            check_back(rt, &frame, rows.as_slice(), numbers.len());
             Ok(refusal(cause))
         }
     }
@@ -297,13 +341,20 @@ fn check_told(rt: &impl Abort, alloc: Global, rows: &[FrameRow], headers: u64) -
     Ok(())
 }
 
+fn check_all_told(rt: &impl Abort, alloc: Global, rows: &[FrameRow]) -> Result<(), Fail> {
+    for headers in [3, 2, 0] {
+        check_told(rt, alloc, rows, headers)?;
+    }
+    Ok(())
+}
+
+fn check_three(rt: &impl Abort, alloc: Global, frame: &Frame) -> Result<(), Fail> {
+    let rows = rows_of(alloc, frame, &[0, 1, 2])?;
+    check_all_told(rt, alloc, rows.as_slice())
+}
+
 /// The rows of three headers are told from those of the first two of them, and of none.
 #[test]
 fn rows_of_another_book_are_told(rt: HostRuntime) -> Result<(), Fail> {
-    let frame = make_frame(rt.alloc(), 3)?;
-    let rows = rows_of(rt.alloc(), &frame, &[0, 1, 2])?;
-    for headers in [3, 2, 0] {
-        check_told(&rt, rt.alloc(), rows.as_slice(), headers)?;
-    }
-    Ok(())
+    check_three(&rt, rt.alloc(), &make_frame(rt.alloc(), 3)?)
 }

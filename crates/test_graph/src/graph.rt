@@ -5,7 +5,6 @@ use rb_base::{Height, Options, Window};
 use rb_book::{ChainBook, Header, Record, Vote};
 use rb_graph::Graph;
 use rb_step::{ClientView, are_known};
-use rb_valset::ValidatorSet;
 use std::alloc::Global;
 use std::process::Abort;
 use std::test::Fail;
@@ -38,13 +37,21 @@ const HEADERS: &[(u64, Members, Members, &[Vote])] = &[
 fn make_header(
     alloc: Global,
     number: u64,
-    own: &ValidatorSet,
+    own: [u8; 32],
     next: [u8; 32],
     votes: &[Vote],
 ) -> Result<Header, Fail> {
+    let at = height(number)?;
     let record = Record::new(second(number.saturating_mul(10))?, [0; 32], next);
-    let votes = Vec::from_slice(alloc, votes)?;
-    Ok(Header::new(height(number)?, record, *own.hash(), votes))
+    Ok(Header::new(at, record, own, Vec::from_slice(alloc, votes)?))
+}
+
+/// Adds a set, and answers its hash.
+fn add_set(book: &mut ChainBook, alloc: Global, members: Members) -> Result<[u8; 32], Fail> {
+    let set = make_set(alloc, members)?;
+    let hash = *set.hash();
+    book.add_set(set)?;
+    Ok(hash)
 }
 
 /// Adds a header and its own set.
@@ -56,19 +63,28 @@ fn add_header(
     votes: &[Vote],
 ) -> Result<(), Fail> {
     let next = *make_set(alloc, next)?.hash();
-    let own = make_set(alloc, own)?;
-    let header = make_header(alloc, number, &own, next, votes)?;
-    book.add_set(own)?;
-    Ok(book.add_header(header)?)
+    let own = add_set(book, alloc, own)?;
+    Ok(book.add_header(make_header(alloc, number, own, next, votes)?)?)
 }
 
-/// A book of these headers, and a record at 4 that names an unknown set.
+fn add_headers(book: &mut ChainBook, alloc: Global) -> Result<(), Fail> {
+    for (number, own, next, votes) in HEADERS {
+        add_header(book, alloc, *number, (own, next), votes)?;
+    }
+    Ok(())
+}
+
+/// Adds a record at 4 that names an unknown set.
+fn add_record(book: &mut ChainBook) -> Result<(), Fail> {
+    let record = Record::new(second(40)?, [0; 32], [7; 32]);
+    Ok(book.add_record(height(4)?, record)?)
+}
+
+/// A book of these headers and that record.
 fn make_book(alloc: Global) -> Result<ChainBook, Fail> {
     let mut book = ChainBook::new(alloc)?;
-    book.add_record(height(4)?, Record::new(second(40)?, [0; 32], [7; 32]))?;
-    for (number, own, next, votes) in HEADERS {
-        add_header(&mut book, alloc, *number, (own, next), votes)?;
-    }
+    add_record(&mut book)?;
+    add_headers(&mut book, alloc)?;
     Ok(book)
 }
 
@@ -166,6 +182,10 @@ const LEVELS: &[(u64, &[Step])] = &[
     (100, ADJACENT),
 ];
 
+fn same_steps(rt: &impl Abort, row: u64, steps: &[Step], wanted: &[Step]) {
+    assert_same(rt, &row, &steps, &wanted);
+}
+
 /// The table and the verifier tell these steps at a trust level.
 fn check_level(
     rt: &impl Abort,
@@ -174,20 +194,26 @@ fn check_level(
     level: u64,
     wanted: &[Step],
 ) -> Result<(), Fail> {
-    let told = steps_of(alloc, graph, level)?;
-    assert_same(rt, &level, &told.as_slice(), &wanted);
-    let judged = judged_steps(rt, alloc, graph.book(), level)?;
-    assert_same(rt, &level, &judged.as_slice(), &wanted);
+    same_steps(rt, level, &steps_of(alloc, graph, level)?, wanted);
+    same_steps(
+        rt,
+        level,
+        &judged_steps(rt, alloc, graph.book(), level)?,
+        wanted,
+    );
+    Ok(())
+}
+
+fn check_levels(rt: &impl Abort, alloc: Global, graph: &Graph) -> Result<(), Fail> {
+    for (level, wanted) in LEVELS {
+        check_level(rt, alloc, graph, *level, wanted)?;
+    }
     Ok(())
 }
 
 #[test]
 fn tells_steps(rt: HostRuntime) -> Result<(), Fail> {
-    let graph = make_graph(rt.alloc())?;
-    for (level, wanted) in LEVELS {
-        check_level(&rt, rt.alloc(), &graph, *level, wanted)?;
-    }
-    Ok(())
+    check_levels(&rt, rt.alloc(), &make_graph(rt.alloc())?)
 }
 
 /// A height, the first and last second of a window, and the heights from which the step is accepted.
@@ -215,6 +241,35 @@ fn heights_of(alloc: Global, steps: &[Step]) -> Result<Vec<u64>, Fail> {
     Ok(heights)
 }
 
+/// The steps of the table into a height.
+fn told_steps(
+    alloc: Global,
+    graph: &Graph,
+    into: Height,
+    window: Window,
+) -> Result<Vec<Step>, Fail> {
+    let options = options()?;
+    let mut steps = Vec::new(alloc);
+    push_steps(graph, into, options, window, &mut steps)?;
+    Ok(steps)
+}
+
+/// The verifier tells the same steps.
+fn check_judged(
+    rt: &impl Abort,
+    alloc: Global,
+    book: &ChainBook,
+    into: Height,
+    window: Window,
+    told: &[Step],
+) -> Result<(), Fail> {
+    let options = options()?;
+    let mut steps = Vec::new(alloc);
+    push_judged(rt, book, into, options, window, &mut steps)?;
+    same_steps(rt, into.get(), &steps, told);
+    Ok(())
+}
+
 fn check_steps(
     rt: &impl Abort,
     alloc: Global,
@@ -223,25 +278,20 @@ fn check_steps(
 ) -> Result<(), Fail> {
     let into = height(*number)?;
     let window = Window::new(second(*from)?, second(*until)?)?;
-    let mut told = Vec::new(alloc);
-    push_steps(graph, into, options()?, window, &mut told)?;
-    assert_same(
-        rt,
-        &into,
-        &heights_of(alloc, told.as_slice())?.as_slice(),
-        trusted,
-    );
-    let mut judged = Vec::new(alloc);
-    push_judged(rt, graph.book(), into, options()?, window, &mut judged)?;
-    assert_same(rt, &into, &judged, &told);
+    let told = told_steps(alloc, graph, into, window)?;
+    let heights = heights_of(alloc, &told)?;
+    assert_same(rt, number, &heights.as_slice(), trusted);
+    check_judged(rt, alloc, graph.book(), into, window, &told)
+}
+
+fn check_all_steps(rt: &impl Abort, alloc: Global, graph: &Graph) -> Result<(), Fail> {
+    for accepted in STEPS {
+        check_steps(rt, alloc, graph, accepted)?;
+    }
     Ok(())
 }
 
 #[test]
 fn tells_steps_by_window(rt: HostRuntime) -> Result<(), Fail> {
-    let graph = make_graph(rt.alloc())?;
-    for accepted in STEPS {
-        check_steps(&rt, rt.alloc(), &graph, accepted)?;
-    }
-    Ok(())
+    check_all_steps(&rt, rt.alloc(), &make_graph(rt.alloc())?)
 }

@@ -1,10 +1,13 @@
+use crate::same::assert_same;
 use rb_base::{FeeTable, Height, Window};
 use rb_book::{ChainBook, Header, Record, Vote};
 use rb_cert::{Judgement, Reason, certify, certify_par};
 use rb_plan::{Answer, Cost, Label, Labelling, Update, are_labels};
 use rb_script_types::Goal;
 use rb_step::{ClientView, are_known};
-use std::alloc::Global;
+use std::alloc::{AllocError, Global};
+use std::fmt::Display;
+use std::process::Abort;
 use std::test::Fail;
 use std::thread::Threads;
 use test_values::{height, make_heights, make_set_with, options, second};
@@ -192,41 +195,60 @@ const LEAST_OF_TIES: Case = Case {
     ..LEAST
 };
 
+/// A record that names the set of this hash as the next.
+fn record_of(block: &Block, hash: [u8; 32]) -> Result<Record, Fail> {
+    let time = second(block.height.saturating_mul(10))?;
+    Ok(Record::new(time, [0; 32], hash))
+}
+
+/// A header that all of its set have signed.
+fn header_of(alloc: Global, block: &Block, hash: [u8; 32], size: usize) -> Result<Header, Fail> {
+    let at = height(block.height)?;
+    let record = record_of(block, hash)?;
+    Ok(Header::new(at, record, hash, vec![in alloc; Vote::Commit; size]?))
+}
+
 /// Adds a block's set, and its header or its record.
 fn add_block(book: &mut ChainBook, alloc: Global, block: &Block) -> Result<(), Fail> {
     let set = make_set_with(alloc, block.set, block.small)?;
     let (hash, size) = (*set.hash(), set.size());
     book.add_set(set)?;
-    let time = second(block.height.saturating_mul(10))?;
-    let record = Record::new(time, [0; 32], hash);
     if block.has_header {
-        let votes = vec![in alloc; Vote::Commit; size]?;
-        book.add_header(Header::new(height(block.height)?, record, hash, votes))?;
+        Ok(book.add_header(header_of(alloc, block, hash, size)?)?)
     } else {
-        book.add_record(height(block.height)?, record)?;
+        Ok(book.add_record(height(block.height)?, record_of(block, hash)?)?)
+    }
+}
+
+fn fill(alloc: Global, book: &mut ChainBook, chain: &[Block]) -> Result<(), Fail> {
+    for block in chain {
+        add_block(book, alloc, block)?;
     }
     Ok(())
 }
 
 fn make_book(alloc: Global, chain: &[Block]) -> Result<ChainBook, Fail> {
     let mut book = ChainBook::new(alloc)?;
-    for block in chain {
-        add_block(&mut book, alloc, block)?;
-    }
+    fill(alloc, &mut book, chain)?;
     Ok(book)
 }
 
-fn make_labelling(alloc: Global, rows: &[(u64, u64, u64)]) -> Result<Labelling, Fail> {
+fn make_label((number, fee, count): (u64, u64, u64)) -> Result<Label, Fail> {
+    let height = height(number)?;
+    let cost = Cost { fee, count };
+    Ok(Label { height, cost })
+}
+
+fn make_labels(alloc: Global, rows: &[(u64, u64, u64)]) -> Result<Vec<Label>, Fail> {
     let mut labels = Vec::new(alloc);
-    for (number, fee, count) in rows {
-        labels.push(Label {
-            height: height(*number)?,
-            cost: Cost {
-                fee: *fee,
-                count: *count,
-            },
-        })?;
+    for row in rows {
+        labels.push(make_label(*row)?)?;
     }
+    Ok(labels)
+}
+
+fn make_labelling(alloc: Global, rows: &[(u64, u64, u64)]) -> Result<Labelling, Fail> {
+    let labels = make_labels(alloc, rows)?;
     if !are_labels(labels.as_slice()) {
         return Err(Fail::from("labels"));
     }
@@ -252,22 +274,35 @@ fn make_answer(alloc: Global, case: &Case) -> Result<Answer, Fail> {
     }
 }
 
-/// `yes`, or `no` with the reason's number, its name and its own numbers.
-fn to_text(alloc: Global, verdict: Judgement) -> Result<String, Fail> {
-    let Judgement::No(reason) = verdict else {
-        return Ok(format!(in alloc; "yes")?);
-    };
-    let (number, name) = (reason.number(), reason.name());
-    let place = match reason {
-        Reason::SourceLabel(height) | Reason::GoalLabelled(height) => {
-            format!(in alloc; " {height}")?
+/// A number after a space.
+fn spaced(alloc: Global, number: &impl Display) -> Result<String, AllocError> {
+    format!(in alloc; " {number}")
+}
+
+/// The reason's own numbers.
+fn numbers_text(alloc: Global, reason: &Reason) -> Result<String, AllocError> {
+    match reason {
+        Reason::SourceLabel(height) | Reason::GoalLabelled(height) => spaced(alloc, height),
+        Reason::LabelTooHigh { trusted, height } => format!(in alloc; " {trusted} {height}"),
+        Reason::PlanNotAccepted(place) | Reason::PlanNotTight(place) | Reason::NotTheTie(place) => {
+            spaced(alloc, place)
         }
-        Reason::LabelTooHigh { trusted, height } => format!(in alloc; " {trusted} {height}")?,
-        Reason::PlanNotAccepted(place) | Reason::PlanNotTight(place) | Reason::NotTheTie(place) =>
-            format!(in alloc; " {place}")?,
-        Reason::GoalMissed => String::new(alloc),
-    };
-    Ok(format!(in alloc; "no {number} {name}{}", place.as_str())?)
+        Reason::GoalMissed => Ok(String::new(alloc)),
+    }
+}
+
+/// `no` with the reason's number, its name and its own numbers.
+fn refusal_text(alloc: Global, reason: &Reason) -> Result<String, AllocError> {
+    let numbers = numbers_text(alloc, reason)?;
+    let (number, name) = (reason.number(), reason.name());
+    format!(in alloc; "no {number} {name}{}", numbers.as_str())
+}
+
+fn to_text(alloc: Global, verdict: Judgement) -> Result<String, AllocError> {
+    match verdict {
+        Judgement::Yes => format!(in alloc; "yes"),
+        Judgement::No(reason) => refusal_text(alloc, &reason),
+    }
 }
 
 fn window_until(seconds: u64) -> Result<Window, Fail> {
@@ -282,31 +317,68 @@ fn goal_of(wanted: Wanted) -> Result<Goal, Fail> {
     })
 }
 
-/// What the case's certificate gets over this book, by one thread and by several.
-fn judge_over<R: Threads + Sync>(
+/// The view of a client that has stored these heights.
+fn view_of<'a>(
+    book: &'a ChainBook,
+    stored: &'a [Height],
+    until: u64,
+) -> Result<ClientView<'a>, Fail> {
+    if !are_known(stored, book) {
+        return Err(Fail::from("stored heights"));
+    }
+    let window = window_until(until)?;
+    let fees = FeeTable::new(100, 1, 1)?;
+    Ok(ClientView::new(options()?, fees, stored, window, book))
+}
+
+fn check_verdict(
+    rt: &impl Abort,
+    alloc: Global,
+    case: &Case,
+    verdict: Judgement,
+) -> Result<(), AllocError> {
+    let text = to_text(alloc, verdict)?;
+    assert_same(rt, &case.name, &text.as_str(), &case.verdict);
+    Ok(())
+}
+
+/// The case's certificate gets its verdict by one thread, and then by several.
+fn check_certificate<R: Threads + Sync + Abort>(
+    rt: &R,
+    alloc: Global,
+    view: &ClientView,
+    answer: &Answer,
+    case: &Case,
+) -> Result<(), Fail> {
+    let goal = goal_of(case.wanted)?;
+    check_verdict(rt, alloc, case, certify(view, goal, answer))?;
+    Ok(check_verdict(rt, alloc, case, certify_par(rt, view, goal, answer))?)
+}
+
+fn check_over<R: Threads + Sync + Abort>(
     rt: &R,
     alloc: Global,
     book: &ChainBook,
     stored: &[Height],
     case: &Case,
-) -> Result<[String; 2], Fail> {
-    if !are_known(stored, book) {
-        return Err(Fail::from("stored heights"));
-    }
-    let fees = FeeTable::new(100, 1, 1)?;
-    let view = ClientView::new(options()?, fees, stored, window_until(case.until)?, book);
+) -> Result<(), Fail> {
+    let view = view_of(book, stored, case.until)?;
     let answer = make_answer(alloc, case)?;
-    let goal = goal_of(case.wanted)?;
-    let alone = to_text(alloc, certify(&view, goal, &answer))?;
-    let together = to_text(alloc, certify_par(rt, &view, goal, &answer))?;
-    Ok([alone, together])
+    check_certificate(rt, alloc, &view, &answer, case)
 }
 
-/// What the case's certificate gets, by one thread and by several.
-fn judge<R: Threads + Sync>(rt: &R, alloc: Global, case: &Case) -> Result<[String; 2], Fail> {
-    let book = make_book(alloc, case.chain)?;
+fn check_book<R: Threads + Sync + Abort>(
+    rt: &R,
+    alloc: Global,
+    book: &ChainBook,
+    case: &Case,
+) -> Result<(), Fail> {
     let stored = make_heights(alloc, case.stored)?;
-    judge_over(rt, alloc, &book, stored.as_slice(), case)
+    check_over(rt, alloc, book, stored.as_slice(), case)
+}
+
+fn check_case<R: Threads + Sync + Abort>(rt: &R, alloc: Global, case: &Case) -> Result<(), Fail> {
+    check_book(rt, alloc, &make_book(alloc, case.chain)?, case)
 }
 
 /// Certificates and their verdicts.
@@ -526,14 +598,7 @@ const CASES: &[Case] = &[
 #[test]
 fn judges_certificates(rt: HostRuntime) -> Result<(), Fail> {
     for case in CASES {
-        let [alone, together] = judge(&rt, rt.alloc(), case)?;
-        assert_eq!(rt; alone.as_str(), case.verdict, "{}", case.name);
-        assert_eq!(rt;
-            together.as_str(),
-            case.verdict,
-            "{}, by threads",
-            case.name
-        );
+        check_case(&rt, rt.alloc(), case)?;
     }
     Ok(())
 }

@@ -6,3 +6,5 @@
 mod cert;
 #[cfg(test)]
 mod plan;
+#[cfg(test)]
+mod same;

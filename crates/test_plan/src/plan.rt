@@ -1,23 +1,18 @@
 ghost use Rattle.std.specs.Prelude.{◌≡◌, IfOk};
 
+use crate::same::assert_same;
 use rb_base::{FeeTable, Height, Window};
 use rb_book::{ChainBook, Header, Record, Vote};
 use rb_graph::Graph;
-use rb_plan::{Answer, Cost, Labelling, Update, gas_of, label, plan, proof_height, top_reachable};
+use rb_plan::{
+    Answer, Cost, Label, Labelling, Update, gas_of, label, plan, proof_height, top_reachable,
+};
 use rb_script_types::Goal;
 use rb_step::{ClientView, are_known};
-use rb_valset::ValidatorSet;
 use std::alloc::{AllocError, Global};
-use std::fmt::{Debug, Display};
 use std::process::Abort;
 use std::test::Fail;
 use test_values::{height, make_heights, make_set_with, options, second};
-
-/// Asserts in one place for all tests, since each `assert_eq!` makes the proof of the function around
-/// it dearer.
-fn assert_same<T: PartialEq + Debug>(rt: &impl Abort, row: &impl Display, given: &T, wanted: &T) {
-    assert!(rt; *given == *wanted, "{row}: {given:?}, not {wanted:?}");
-}
 
 /// Validators by the byte that their key repeats, with their powers, and so many others of power 1.
 #[derive(Clone, Copy)]
@@ -93,12 +88,23 @@ const ALL_EXPIRED: World = World {
     ..EXPIRED
 };
 
-/// A header that all of the set sign, which it names as the next too.
-fn make_header(alloc: Global, number: u64, set: &ValidatorSet) -> Result<Header, Fail> {
-    let time = second(number.saturating_mul(10))?;
-    let record = Record::new(time, [0; 32], *set.hash());
-    let votes = vec![in alloc; Vote::Commit; set.size()]?;
-    Ok(Header::new(height(number)?, record, *set.hash(), votes))
+/// A header that all of the set of a hash sign, which it names as the next too.
+fn make_header(alloc: Global, number: u64, hash: [u8; 32], size: usize) -> Result<Header, Fail> {
+    let at = height(number)?;
+    let record = Record::new(second(number.saturating_mul(10))?, [0; 32], hash);
+    Ok(Header::new(at, record, hash, vec![in alloc; Vote::Commit; size]?))
+}
+
+/// Adds a set, and answers its hash and size.
+fn add_set(
+    book: &mut ChainBook,
+    alloc: Global,
+    members: &Members,
+) -> Result<([u8; 32], usize), Fail> {
+    let set = make_set_with(alloc, members.named, members.others)?;
+    let added = (*set.hash(), set.size());
+    book.add_set(set)?;
+    Ok(added)
 }
 
 /// Adds a header and its set.
@@ -108,18 +114,25 @@ fn add_header(
     number: u64,
     members: &Members,
 ) -> Result<(), Fail> {
-    let set = make_set_with(alloc, members.named, members.others)?;
-    let header = make_header(alloc, number, &set)?;
-    book.add_set(set)?;
-    Ok(book.add_header(header)?)
+    let (hash, size) = add_set(book, alloc, members)?;
+    Ok(book.add_header(make_header(alloc, number, hash, size)?)?)
+}
+
+fn fill(alloc: Global, book: &mut ChainBook, world: &World) -> Result<(), Fail> {
+    for (number, members) in world.headers {
+        add_header(book, alloc, *number, members)?;
+    }
+    Ok(())
+}
+
+fn make_book(alloc: Global, world: &World) -> Result<ChainBook, Fail> {
+    let mut book = ChainBook::new(alloc)?;
+    fill(alloc, &mut book, world)?;
+    Ok(book)
 }
 
 fn make_graph(alloc: Global, world: &World) -> Result<Graph, Fail> {
-    let mut book = ChainBook::new(alloc)?;
-    for (number, members) in world.headers {
-        add_header(&mut book, alloc, *number, members)?;
-    }
-    Ok(Graph::from_book(alloc, book)?)
+    Ok(Graph::from_book(alloc, make_book(alloc, world)?)?)
 }
 
 /// The view of the world's client. An update costs 100, and 1 for each vote and validator.
@@ -138,34 +151,44 @@ fn make_view<'a>(
     Ok(ClientView::new(options()?, fees, stored, window, book))
 }
 
+fn label_text(alloc: Global, label: &Label) -> Result<String, AllocError> {
+    let Cost { fee, count } = label.cost;
+    format!(in alloc; "{}:{fee},{count} ", label.height)
+}
+
 /// The labels: `1:0,0 3:112,1 `.
 fn labels_text(alloc: Global, labelling: &Labelling) -> Result<String, AllocError> {
     let mut text = String::new(alloc);
     for label in labelling.labels() {
-        let Cost { fee, count } = label.cost;
-        text.push_str(format!(in alloc; "{}:{fee},{count} ", label.height)?.as_str())?;
+        text.push_str(label_text(alloc, label)?.as_str())?;
     }
     Ok(text)
+}
+
+fn update_text(alloc: Global, update: &Update) -> Result<String, AllocError> {
+    let (to, from) = (update.height(), update.trusted());
+    format!(in alloc; " {to}<{from}")
 }
 
 /// The updates: ` 3<1 10<3`.
 fn updates_text(alloc: Global, updates: &[Update]) -> Result<String, AllocError> {
     let mut text = String::new(alloc);
     for update in updates {
-        let (to, from) = (update.height(), update.trusted());
-        text.push_str(format!(in alloc; " {to}<{from}")?.as_str())?;
+        text.push_str(update_text(alloc, update)?.as_str())?;
     }
     Ok(text)
+}
+
+fn with_updates(alloc: Global, labels: &str, updates: &[Update]) -> Result<String, AllocError> {
+    let updates = updates_text(alloc, updates)?;
+    format!(in alloc; "{labels}|{updates}")
 }
 
 /// The labels, and then the updates: `1:0,0 3:112,1 | 3<1`.
 fn to_text(alloc: Global, answer: &Answer) -> Result<String, AllocError> {
     let labels = labels_text(alloc, answer.labelling())?;
     match answer {
-        Answer::Plan { updates, .. } => {
-            let updates = updates_text(alloc, updates)?;
-            format!(in alloc; "{labels}|{updates}")
-        }
+        Answer::Plan { updates, .. } => with_updates(alloc, labels.as_str(), updates),
         Answer::Unreachable { .. } => format!(in alloc; "{labels}| unreachable"),
     }
 }
@@ -197,6 +220,17 @@ fn goal_of(row: &Row) -> Result<Goal, Fail> {
     })
 }
 
+fn check_text(
+    rt: &impl Abort,
+    alloc: Global,
+    answer: &Answer,
+    row: &Row,
+) -> Result<(), AllocError> {
+    let text = to_text(alloc, answer)?;
+    assert_same(rt, &row.number, &text.as_str(), &row.text);
+    Ok(())
+}
+
 /// The texts of an answer and its copy, and the height at which the updates prove.
 fn check_answer(
     rt: &impl Abort,
@@ -205,10 +239,8 @@ fn check_answer(
     answer: &Answer,
     row: &Row,
 ) -> Result<(), Fail> {
-    let text = to_text(alloc, answer)?;
-    assert_same(rt, &row.number, &text.as_str(), &row.text);
-    let copied = to_text(alloc, &answer.copy()?)?;
-    assert_same(rt, &row.number, &copied.as_str(), &row.text);
+    check_text(rt, alloc, answer, row)?;
+    check_text(rt, alloc, &answer.copy()?, row)?;
     assert_same(rt, &row.text, &proof_of(view, answer), &row.proof);
     Ok(())
 }
@@ -225,10 +257,13 @@ fn check_plan(
     check_answer(rt, alloc, &view, &answer, row)
 }
 
-fn check_row(rt: &impl Abort, alloc: Global, row: &Row) -> Result<(), Fail> {
-    let graph = make_graph(alloc, &row.world)?;
+fn check_graph(rt: &impl Abort, alloc: Global, graph: &Graph, row: &Row) -> Result<(), Fail> {
     let stored = make_heights(alloc, row.world.stored)?;
-    check_plan(rt, alloc, &graph, stored.as_slice(), row)
+    check_plan(rt, alloc, graph, stored.as_slice(), row)
+}
+
+fn check_row(rt: &impl Abort, alloc: Global, row: &Row) -> Result<(), Fail> {
+    check_graph(rt, alloc, &make_graph(alloc, &row.world)?, row)
 }
 
 const ROWS: &[Row] = &[
@@ -305,6 +340,18 @@ fn plans_by_fee_then_height(rt: HostRuntime) -> Result<(), Fail> {
     Ok(())
 }
 
+fn check_label(rt: &impl Abort, labelling: &Labelling, at: Height, wanted: Option<Cost>) {
+    assert_same(rt, &at, &labelling.get(at), &wanted);
+}
+
+fn check_labelling(rt: &impl Abort, labelling: &Labelling) -> Result<(), Fail> {
+    let seven = Some(Cost { fee: 224, count: 2 });
+    check_label(rt, labelling, height(7)?, seven);
+    check_label(rt, labelling, height(4)?, None);
+    assert_same(rt, &"top", &top_reachable(labelling), &Some(height(10)?));
+    Ok(())
+}
+
 /// Labels that are looked up.
 fn check_labels(
     rt: &impl Abort,
@@ -314,12 +361,8 @@ fn check_labels(
 ) -> Result<(), Fail>
     requires { view.now.book ≡ graph.now }
 {
-    let labelling = label(alloc, view, graph)?.copy()?;
-    let found = (labelling.get(height(7)?), labelling.get(height(4)?));
-    let seven = Some(Cost { fee: 224, count: 2 });
-    assert_same(rt, &"labels", &found, &(seven, None));
-    assert_same(rt, &"top", &top_reachable(&labelling), &Some(height(10)?));
-    Ok(())
+    let labelling = label(alloc, view, graph)?;
+    check_labelling(rt, &labelling.copy()?)
 }
 
 fn check_gas(rt: &impl Abort, view: &ClientView) -> Result<(), Fail> {
@@ -340,10 +383,13 @@ fn check_view(
     check_gas(rt, &view)
 }
 
+fn check_five(rt: &impl Abort, alloc: Global, graph: &Graph) -> Result<(), Fail> {
+    let stored = make_heights(alloc, FIVE.stored)?;
+    check_view(rt, alloc, graph, stored.as_slice())
+}
+
 /// Labels that are looked up, and the gas of an update by a table of its own.
 #[test]
 fn looks_up_labels_and_gas(rt: HostRuntime) -> Result<(), Fail> {
-    let graph = make_graph(rt.alloc(), &FIVE)?;
-    let stored = make_heights(rt.alloc(), FIVE.stored)?;
-    check_view(&rt, rt.alloc(), &graph, stored.as_slice())
+    check_five(&rt, rt.alloc(), &make_graph(rt.alloc(), &FIVE)?)
 }

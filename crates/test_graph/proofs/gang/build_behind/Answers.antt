@@ -1,6 +1,6 @@
 use Rattle.std.proofs.Crossing.{frees}
-use Rattle.test_graph.proofs.gang.both_workers_build.Goals as goal
+use Rattle.test_graph.proofs.gang.build_behind.Goals as goal
 
 -- the heap frees what any thread took of it
 pub build-requires-clause-alloc : goal.build-requires-clause-alloc
-build-requires-clause-alloc g c κs = frees
+build-requires-clause-alloc g c κs within = frees

@@ -1,6 +1,6 @@
 use Rattle.std.proofs.Crossing.{frees}
-use Rattle.test_graph.proofs.gang.two_workers_draw_twelve_numbers.Goals as goal
+use Rattle.test_graph.proofs.gang.check_drawn.Goals as goal
 
 -- the heap frees what any thread took of it
 pub make_rows-requires-clause-alloc : goal.make_rows-requires-clause-alloc
-make_rows-requires-clause-alloc g c κs = frees
+make_rows-requires-clause-alloc g c κs ten = frees

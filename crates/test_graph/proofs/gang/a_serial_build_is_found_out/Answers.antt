@@ -1,6 +1,0 @@
-use Rattle.std.proofs.Crossing.{frees}
-use Rattle.test_graph.proofs.gang.a_serial_build_is_found_out.Goals as goal
-
--- the heap frees what any thread took of it
-pub build-requires-clause-alloc : goal.build-requires-clause-alloc
-build-requires-clause-alloc g c κs = frees
