@@ -1,5 +1,5 @@
-//! What no contract says of whole runs: that workers work at once, and do each job once; what a writer that fails
-//! has taken; and what a supervisor refuses.
+//! What no contract says of whole runs: that workers work at once, and do each job once; that a run ends whatever they
+//! find, or where they go; what a writer that fails has taken; what a supervisor refuses, tells and plans.
 #![tactic(auto)]
 
 #[cfg(test)]
