@@ -279,22 +279,33 @@ fn told(draft: &Draft) -> Option<(usize, u64, usize, usize)> {
     }
 }
 
+/// Takes in what has to be accepted.
+fn accept(supervisor: &mut Supervisor, event: Event) -> Result<(), Fail> {
+    match supervisor.take_in(event) {
+        Ok(_) => Ok(()),
+        Err(CoreError::Refused(_)) => Err(Fail::from("refused")),
+        Err(CoreError::NoMemory) => Err(Fail::from("no memory")),
+    }
+}
+
+/// A supervisor that has taken in the window and the observations of a script's first turn, with that window.
+fn after_first_turn(alloc: Global, text: &str) -> Result<(Supervisor, Window), Fail> {
+    let Script { config, mut turns } = read_script(alloc, text.as_bytes())?;
+    turns.truncate(1);
+    let Turn { window, events, .. } = turns.pop().ok_or("turn")?;
+    let mut supervisor = Supervisor::new(alloc, config)?;
+    accept(&mut supervisor, Event::Window(window))?;
+    for event in events {
+        accept(&mut supervisor, Event::Observed(event))?;
+    }
+    Ok((supervisor, window))
+}
+
 /// The first turn's plans, by one turn that tells of nothing after all was taken in that the first turn tells of.
 #[test]
 fn drafts_are_the_plans(rt: HostRuntime) -> Result<(), Fail> {
     let alloc = rt.alloc();
-    let Script { config, mut turns } = read_script(alloc, BATCHES.as_bytes())?;
-    turns.truncate(1);
-    let Turn { window, events, .. } = turns.pop().ok_or("turn")?;
-    let mut supervisor = Supervisor::new(alloc, config)?;
-    supervisor
-        .take_in(Event::Window(window))
-        .map_err(|_| Fail::from("window"))?;
-    for event in events {
-        supervisor
-            .take_in(Event::Observed(event))
-            .map_err(|_| Fail::from("event"))?;
-    }
+    let (supervisor, window) = after_first_turn(alloc, BATCHES)?;
     let drafts = drafts_in(&rt, alloc, supervisor, window)?;
     let mut given = drafts.iter().map(told);
     assert!(rt; given.next() == Some(Some((0, 5, 1, 1))), "first");
