@@ -5,6 +5,8 @@
 #[cfg(test)]
 mod book;
 #[cfg(test)]
+mod header;
+#[cfg(test)]
 mod merkle;
 #[cfg(test)]
 mod same;

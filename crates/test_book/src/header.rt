@@ -1,0 +1,79 @@
+use crate::merkle::to_hex;
+use rb_base::{ChainId, Height, Moment};
+use rb_header::{BlockId, Header, HeaderBytes, hash};
+use sha2::{Digest, Sha256};
+use std::test::Fail;
+
+/// The hash of a field's name.
+fn of_name(name: &str) -> [u8; 32] {
+    Sha256::digest(name.as_bytes())
+}
+
+fn bytes(slice: &[u8]) -> HeaderBytes {
+    let mut bytes = HeaderBytes::new();
+    bytes.try_extend_from_slice(slice).unwrap();
+    bytes
+}
+
+/// The header of CometBFT's own test of `Header.Hash`, whose hashes are those of the names of their fields.
+fn named() -> Header {
+    Header {
+        block_version: 1,
+        app_version: 2,
+        chain: ChainId::new("chainId").unwrap(),
+        height: Height::new(3).unwrap(),
+        time: Moment::new(1_570_983_284_000_000_000).unwrap(),
+        last_block: BlockId {
+            hash: bytes(&[0; 32]),
+            parts_total: 6,
+            parts_hash: bytes(&[0; 32]),
+        },
+        last_commit_hash: bytes(&of_name("last_commit_hash")),
+        data_hash: bytes(&of_name("data_hash")),
+        validators_hash: of_name("validators_hash"),
+        next_validators_hash: of_name("next_validators_hash"),
+        consensus_hash: bytes(&of_name("consensus_hash")),
+        app_hash: bytes(&of_name("app_hash")),
+        last_results_hash: bytes(&of_name("last_results_hash")),
+        evidence_hash: bytes(&of_name("evidence_hash")),
+        proposer_address: bytes(&of_name("proposer_address")[..20]),
+    }
+}
+
+/// The first header of a chain, which has no last block.
+fn first() -> Header {
+    let mut header = named();
+    header.block_version = 11;
+    header.app_version = 0;
+    header.chain = ChainId::new("hub-4").unwrap();
+    header.height = Height::new(1).unwrap();
+    header.time = Moment::new(1_793_541_600_000_000_005).unwrap();
+    header.last_block = BlockId {
+        hash: bytes(&[]),
+        parts_total: 0,
+        parts_hash: bytes(&[]),
+    };
+    header.last_commit_hash = bytes(&[]);
+    header.app_hash = bytes(&[]);
+    header
+}
+
+/// The hash that CometBFT's test has, and one by the same encoding written in Python.
+#[test]
+fn hash_of_a_header(rt: HostRuntime) -> Result<(), Fail> {
+    let alloc = rt.alloc();
+    for (header, expected) in [
+        (
+            named(),
+            "f740121f553b5418c3efbd343c2dbfe9e007bb67b0d020a0741374bab65242a4",
+        ),
+        (
+            first(),
+            "f99e89140a866555f19be7a27f470d4432ec58afc2ac353a962204776b5de874",
+        ),
+    ] {
+        let found = hash(alloc, &header)?;
+        assert_eq!(rt; to_hex(alloc, found.as_slice())?.as_str(), expected);
+    }
+    Ok(())
+}
