@@ -1,7 +1,7 @@
 """Made-up answers of nodes, and a plain reading of them that shares no code with the program.
 
 `make(folder, seed)` writes answers in the public shapes of CometBFT's RPC and of ibc-go's REST gateway for a pair of chains, whose
-keys, powers, set hashes, times and heights fit one another (signatures and block hashes are random); `script_of(setup, folder)`
+keys, powers, hashes of sets and headers, times and heights fit one another (signatures are random); `script_of(setup, folder)`
 is the script that they make with a setup; `serve(folder)` gives them as nodes do."""
 import base64
 import contextlib
@@ -46,6 +46,27 @@ def in_order(members):
 
 def set_hash(members):
     return root([b"\x0a\x22\x0a\x20" + key + b"\x10" + varint(power) for power, _, key in members])
+
+
+def field(tag, value):
+    """A field of a protocol buffer, bytes or a number, which is left out where it is empty or 0."""
+    if not value:
+        return b""
+    return bytes([tag]) + (varint(value) if isinstance(value, int) else varint(len(value)) + value)
+
+
+def header_hash(header):
+    """The hash of a header as nodes write it (CometBFT, `Header.Hash`)."""
+    def of(name, holder=header):
+        return bytes.fromhex(holder.get(name, ""))
+    version, last = header["version"], header["last_block_id"]
+    second, rest = divmod(nanoseconds(header["time"]), 10**9)
+    parts = field(8, last["parts"].get("total", 0)) + field(18, of("hash", last["parts"]))
+    alone = [of(name) for name in ("last_commit_hash", "data_hash", "validators_hash", "next_validators_hash", "consensus_hash", "app_hash",
+                                   "last_results_hash", "evidence_hash", "proposer_address")]
+    return root([field(8, int(version.get("block", 0))) + field(16, int(version.get("app", 0))), field(10, header["chain_id"].encode()),
+                 field(8, int(header["height"])), field(8, second) + field(16, rest),
+                 field(10, of("hash", last)) + b"\x12" + varint(len(parts)) + parts, *(field(10, value) for value in alone)])
 
 
 def stamp(time):
@@ -95,6 +116,7 @@ class Chain:
     def commit(self, height):
         header = {"version": {"block": "11"}, "chain_id": self.name, "height": str(height), "time": stamp(self.times[height]),
                   "last_block_id": {"hash": self.some_hash(), "parts": {"total": 1, "hash": self.some_hash()}},
+                  **{name: upper(sha(f"{name} {height}".encode())) for name in ("last_commit_hash", "last_results_hash", "evidence_hash")},
                   "validators_hash": upper(set_hash(self.sets[height])), "next_validators_hash": upper(set_hash(self.sets[height + 1])),
                   "consensus_hash": self.some_hash(), "app_hash": upper(self.roots[height]),
                   "proposer_address": upper(self.sets[height][0][1])}
@@ -105,7 +127,8 @@ class Chain:
                               if flag == 1 else
                               {"block_id_flag": flag, "validator_address": upper(address), "timestamp": stamp(self.times[height]),
                                "signature": base64.b64encode(self.chance.randbytes(64)).decode()})
-        commit = {"height": str(height), "round": 0, "block_id": {"hash": self.some_hash()}, "signatures": signatures}
+        header["data_hash"] = self.some_hash()
+        commit = {"height": str(height), "round": 0, "block_id": {"hash": upper(header_hash(header))}, "signatures": signatures}
         return {"jsonrpc": "2.0", "id": -1, "result": {"signed_header": {"header": header, "commit": commit}, "canonical": True}}
 
     def validators(self, height):
@@ -261,6 +284,11 @@ def answers_in(folder):
     return [json.loads(path.read_text()) for path in sorted(folder.glob("*.json"))]
 
 
+def root_of(data):
+    """The root that a script has of bytes in an answer."""
+    return (data if len(data) == 32 else sha(data)).hex()
+
+
 def chain_events(folder, name, named):
     """The sets that headers or records name, the highest first and no more than 1,024, and the headers, no more than 4,096, of them."""
     headers, pages = {}, {}
@@ -288,7 +316,7 @@ def chain_events(folder, name, named):
         if header["validators_hash"].lower() not in reference:
             continue
         events.append({"kind": "header", "chain": name, "height": height, "time": nanoseconds(header["time"]),
-                       "root": header["app_hash"].lower(), "set": reference[header["validators_hash"].lower()],
+                       "root": root_of(bytes.fromhex(header["app_hash"])), "set": reference[header["validators_hash"].lower()],
                        "next": reference.get(header["next_validators_hash"].lower(), header["next_validators_hash"].lower()),
                        "votes": "".join(LETTERS[s["block_id_flag"]] for s in commit["signatures"])})
     return events, reference
@@ -385,7 +413,7 @@ def script_of(setup, folder):
         inner = state["consensus_state"]
         following = inner["next_validators_hash"].lower()
         events.append({"kind": "stored", "client": client["id"], "height": height_of(state),
-                       "time": nanoseconds(inner["timestamp"]), "root": base64.b64decode(inner["root"]["hash"]).hex(),
+                       "time": nanoseconds(inner["timestamp"]), "root": root_of(base64.b64decode(inner["root"]["hash"])),
                        "next": references[client["of"]].get(following, following)})
     for path in script.get("path", []):
         events += packet_events(folder, path)

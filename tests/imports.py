@@ -77,7 +77,7 @@ def notice_cases(top):
         setup.write_text(text)
         answers.make(folder, 1, between=0)
         change(folder)
-        lines = [line.format(folder=folder).encode() for line in lines]
+        lines = [line.replace("{folder}", str(folder)).encode() for line in lines]
         yield Case(f"lacking answers {number}", ["import", str(setup), str(folder)], b"", answers.script_of(text, folder), b"".join(lines[:1]), 0, reader=values_of, named=(b"".join(lines),))
 
 
@@ -156,18 +156,31 @@ def put(path, new):
     return edit
 
 
+def hashed(edit):
+    """The edit of a commit's answer, after which the commit is for the block of the header's hash."""
+    def change(value):
+        edit(value)
+        signed = value["result"]["signed_header"]
+        signed["commit"]["block_id"]["hash"] = answers.upper(answers.header_hash(signed["header"]))
+    return change
+
+
 SIGNED, HEADER, COMMIT = "result.signed_header", "result.signed_header.header", "result.signed_header.commit"
 SIGNATURE, FIRST = f"{COMMIT}.signatures[0]", "result.validators[0]"
 STATE, CONSENSUS, TX, PACKET = "client_state", "consensus_states[0]", "result.txs[0]", "result.txs[0].tx_result.events[1].attributes"
 COMMIT_FILE, PAGE_FILE, STATE_FILE, STORED_FILE = "hub-4/commit-80.json", "hub-4/validators-80-1.json", "hub-on-zone/client_state.json", "hub-on-zone/consensus_states.json"
 SENT_FILE, RECEIVED_FILE, CLEARED_FILE = "transfers/sent.json", "transfers/received.json", "transfers/cleared.json"
 BIG, LONG = "9223372036854775808", "9223372037s"
+# fields of a header that only its hash needs
+HASHES = ["last_commit_hash", "data_hash", "consensus_hash", "app_hash", "last_results_hash", "evidence_hash", "proposer_address"]
 # by file the fields that are needed: where they stand, how a flaw names them (None: as they stand), and what is out of their range
 FIELDS = {
     "hub-4/commit-80.json": [
         (HEADER, None, None, None), (COMMIT, None, None, None), (f"{COMMIT}.signatures", None, None, None),
         (f"{HEADER}.chain_id", None, "hub 4", "BadIdentifier"), (f"{HEADER}.height", None, BIG, "BadNumber"),
-        (f"{HEADER}.time", None, "1969-12-31T23:59:59Z", "BadTime"), (f"{HEADER}.app_hash", None, "", "BadHex"),
+        (f"{HEADER}.time", None, "1969-12-31T23:59:59Z", "BadTime"),
+        (f"{HEADER}.version", None, None, None), (f"{HEADER}.last_block_id", None, None, None), (f"{HEADER}.last_block_id.parts", None, None, None),
+        (f"{COMMIT}.block_id", None, None, None), (f"{COMMIT}.block_id.hash", None, "00" * 33, "BadHex"),
         (f"{HEADER}.validators_hash", None, "00" * 31, "BadHex"), (f"{HEADER}.next_validators_hash", None, "0x" + "00" * 31, "BadHex"),
         (f"{COMMIT}.height", None, "0", "BadNumber"), (f"{SIGNATURE}.block_id_flag", None, 4, "BadFlag"),
         (f"{SIGNATURE}.validator_address", None, "00" * 32, "BadHex")],
@@ -177,23 +190,32 @@ FIELDS = {
         (f"{FIRST}.pub_key.value", f"{FIRST}.value", "AAAA", "BadBase64"),
         (f"{FIRST}.voting_power", None, "1152921504606846976", "BadPower")],
     "hub-on-zone/client_state.json": [
-        (f"{STATE}.trust_level", None, None, None), (f"{STATE}.frozen_height", None, None, None), (f"{STATE}.latest_height", None, None, None),
+        (f"{STATE}.trust_level", None, None, None), (f"{STATE}.latest_height", None, None, None),
         (f"{STATE}.@type", None, "/ibc.lightclients.wasm.v1.ClientState", "ForeignClient"), (f"{STATE}.chain_id", None, "a" * 65, "BadIdentifier"),
         (f"{STATE}.trust_level.numerator", None, "-1", "BadNumber"), (f"{STATE}.trust_level.denominator", None, "1.5", "BadNumber"),
-        (f"{STATE}.trusting_period", None, LONG, "BadDuration"), (f"{STATE}.max_clock_drift", None, LONG, "BadDuration"),
-        (f"{STATE}.latest_height.revision_number", None, "four", "BadNumber"), (f"{STATE}.frozen_height.revision_number", None, "", "BadNumber"),
-        (f"{STATE}.frozen_height.revision_height", None, "-0", "BadNumber")],
+        (f"{STATE}.trusting_period", None, LONG, "BadDuration"), (f"{STATE}.max_clock_drift", None, LONG, "BadDuration")],
     "hub-on-zone/consensus_states.json": [
-        (f"{CONSENSUS}.height.revision_number", f"{CONSENSUS}.revision_number", "-4", "BadNumber"),
         (f"{CONSENSUS}.height.revision_height", f"{CONSENSUS}.revision_height", "0", "BadNumber"),
         (f"{CONSENSUS}.consensus_state.timestamp", f"{CONSENSUS}.timestamp", "yesterday", "BadTime"),
         (f"{CONSENSUS}.consensus_state.root.hash", f"{CONSENSUS}.hash", "=" * 44, "BadBase64"),
-        (f"{CONSENSUS}.consensus_state.next_validators_hash", f"{CONSENSUS}.next_validators_hash", "g" * 64, "BadHex"),
-        ("pagination", None, None, None)],
+        (f"{CONSENSUS}.consensus_state.next_validators_hash", f"{CONSENSUS}.next_validators_hash", "g" * 64, "BadHex")],
     "transfers/received.json": [
         ("result.total_count", None, "many", "BadNumber"), (f"{TX}.height", None, "-1", "BadNumber"), (f"{TX}.tx_result.code", f"{TX}.code", None, None),
         (f"{TX}.tx_result.events", f"{TX}.events", None, None), (f"{TX}.tx_result.events[0].type", f"{TX}.type", None, None),
         (PACKET, f"{TX}.attributes", None, None)],
+}
+# by file the fields that may be left out: where they stand, how a flaw names them (None: as they stand), and what is out of their range
+LEFT_OUT = {
+    "hub-4/commit-80.json": [
+        (f"{HEADER}.version.block", None, "-1", "BadNumber"), (f"{HEADER}.version.app", None, "18446744073709551616", "BadNumber"),
+        (f"{HEADER}.last_block_id.hash", None, "0", "BadHex"), (f"{HEADER}.last_block_id.parts.hash", None, "00" * 65, "BadHex"),
+        (f"{HEADER}.last_block_id.parts.total", None, "1", "WrongType"),
+        *((f"{HEADER}.{name}", None, "0x", "BadHex") for name in HASHES)],
+    "hub-on-zone/client_state.json": [
+        (f"{STATE}.frozen_height", None, None, None), (f"{STATE}.latest_height.revision_number", None, "four", "BadNumber"),
+        (f"{STATE}.frozen_height.revision_number", None, "", "BadNumber"), (f"{STATE}.frozen_height.revision_height", None, "-0", "BadNumber")],
+    "hub-on-zone/consensus_states.json": [
+        (f"{CONSENSUS}.height.revision_number", f"{CONSENSUS}.revision_number", "-4", "BadNumber"), ("pagination", None, None, None)],
 }
 # file, edit of its value, and the line that tells it (None: it is taken)
 DAMAGES = [
@@ -218,7 +240,6 @@ DAMAGES = [
     (STORED_FILE, put(f"{CONSENSUS}.consensus_state", True), f"MissingField at {CONSENSUS}.timestamp"),
     (STORED_FILE, gone(f"{CONSENSUS}.consensus_state.root"), f"MissingField at {CONSENSUS}.root"),
     (STORED_FILE, put(f"{CONSENSUS}.consensus_state.root", True), f"MissingField at {CONSENSUS}.hash"),
-    (STORED_FILE, gone("pagination.next_key"), "MissingField at pagination.next_key"),
     (RECEIVED_FILE, gone("result.txs"), "UnknownShape at -"),
     (RECEIVED_FILE, put("result.txs", True), "WrongType at result.txs"),
     (RECEIVED_FILE, gone(f"{TX}.tx_result"), f"MissingField at {TX}.tx_result"),
@@ -239,7 +260,13 @@ DAMAGES = [
     ("hub-4/commit-80.json", gone(SIGNED), "UnknownShape at -"),
     ("hub-4/commit-80.json", put("error", {"code": -32603, "message": "height 80 is not available"}), "NodeError at -"),
     ("hub-4/commit-80.json", put(f"{HEADER}.height", "79"), f"OtherHeight at {COMMIT}.height"),
-    ("hub-4/commit-80.json", put(f"{HEADER}.validators_hash", "00" * 32), "OtherSet at hub-4 80"),
+    ("hub-4/commit-80.json", hashed(put(f"{HEADER}.validators_hash", "00" * 32)), "OtherSet at hub-4 80"),
+    # a header of which one field is another, or isn't there, and a commit for another block
+    *(("hub-4/commit-80.json", edit, "OtherHeader at hub-4 80") for edit in (
+        put(f"{HEADER}.version.block", "10"), put(f"{HEADER}.version.app", "1"), gone(f"{HEADER}.version.block"), put(f"{HEADER}.time", "2026-11-01T12:08:32Z"),
+        put(f"{HEADER}.last_block_id.hash", ""), put(f"{HEADER}.last_block_id.parts.total", 2), put(f"{HEADER}.last_block_id.parts.hash", "00" * 32),
+        put(f"{HEADER}.validators_hash", "00" * 32), put(f"{HEADER}.next_validators_hash", "00" * 32), put(f"{COMMIT}.block_id.hash", "00" * 32),
+        *(put(f"{HEADER}.{name}", "00" * 20) for name in HASHES), *(gone(f"{HEADER}.{name}") for name in HASHES))),
     ("hub-4/commit-80.json", put(f"{SIGNATURE}.validator_address", "00" * 20), "OtherSigner at hub-4 80"),
     ("hub-4/commit-80.json", gone(f"{COMMIT}.signatures[5]"), "SignatureCount at hub-4 80"),
     ("hub-4/validators-80-1.json", put("result.total", "5"), "OtherTotal at hub-4 80"),
@@ -304,6 +331,15 @@ def earlier(value):
     value["consensus_states"].insert(0, first)
 
 
+def many(value):
+    """The edit that adds thirty records whose next sets no answer has."""
+    for height in range(2, 32):
+        state = json.loads(json.dumps(value["consensus_states"][0]))
+        state["height"]["revision_height"] = str(height)
+        state["consensus_state"]["next_validators_hash"] = f"{height:064x}"
+        value["consensus_states"].append(state)
+
+
 def in_turn(*changes):
     return lambda folder: [change(folder) for change in changes]
 
@@ -346,7 +382,11 @@ CHANGES = [
     (edited(COMMIT_FILE, put("error", {"code": -32603, "message": "Internal error", "data": "height 80 is not available, lowest height is 100"})),
      "refused NodeError at -", 1, [f'{COMMIT_FILE}: {ADVICE}; it said "Internal error: height 80 is not available, lowest height is 100"\n']),
     (edited(COMMIT_FILE, put("error", {"message": 5, "data": "\x1b[1m \"\u00e9\\\n~" + "x" * 300})), "refused NodeError at -", 1, ['; it said "?[1m ????~' + "x" * 190 + '"\n']),
-    (edited(COMMIT_FILE, put("error", "out of order")), "refused NodeError at -", 1, [f"{COMMIT_FILE}: {ADVICE}\n"]),
+    (edited(COMMIT_FILE, put(f"{COMMIT}.block_id.hash", "0A" * 32)), "refused OtherHeader at hub-4 80", 1, [
+        f"{COMMIT_FILE}: the hash of the header's fields isn't that of the block", f", and not {'0A' * 32}); fetch /commit?height=80 again, from another node if it stays\n"]),
+    (edited(COMMIT_FILE, put("error", "out of order")), "refused NodeError at -", 1, [f'{COMMIT_FILE}: {ADVICE}; it said "out of order"\n']),
+    (edited(COMMIT_FILE, put("error", 5)), "refused NodeError at -", 1, [f"{COMMIT_FILE}: {ADVICE}\n"]),
+    (written(COMMIT_FILE, '{"message": "API rate limit exceeded"}'), "refused NodeError at -", 1, [f'{COMMIT_FILE}: {ADVICE}; it said "API rate limit exceeded"\n']),
     (moved(COMMIT_FILE, "hub-4/again.json", copy=True), "refused TwoAnswers at hub-4 80", 1, [COMMIT_FILE, "hub-4/again.json"]),
     (written("hub-4/\x1b[1m.json", "{"), "refused NotJson at -", 1, [r"hub-4/\u{1b}[1m.json: "]),
     (moved(COMMIT_FILE, "hub-4/again\n.json", copy=True), "refused TwoAnswers at hub-4 80", 1, [COMMIT_FILE, r"hub-4/again\u{a}.json"]),
@@ -407,6 +447,8 @@ NOTICES = [
     (0, str, lambda folder: [file.unlink() for file in (folder / "hub-4").glob("*.json")], [
         "notice MissingHeaders at hub-4: no answer is of /commit, so that there is nothing to update to; fetch /commit and /validators of some "
         "heights into files *.json of the folder hub-4\n", NEXT_SET % (1, 2), NEXT_SET % (80, 81)]),
+    (0, str, edited(STORED_FILE, many), [*(NEXT_SET % (height, height + 1) for height in range(2, 22)),
+                                         "notice MissingNextSet at hub-on-zone: so it is of 10 more of its stored records\n"]),
     (0, swapped("at_least = 80", "at_least = 81"), removed(), [GOAL % (81, "at or above the goal's", 81, 81)]),
     (0, swapped("at_least = 80", "exactly = 79"), removed(), [GOAL % (79, "at the goal's", 79, 79)]),
     (0, str, removed(COMMIT_FILE), []),  # height 80 is stored
@@ -440,6 +482,8 @@ NOTICES = [
     # packets that the destination's chain sent on its own channel of that name, in files before and after those of the path's; and on another one
     (1, BOTH_NAMED, saved(*packet_txs(OTHER, *FORWARDED)), []),
     (1, str, saved(*packet_txs(OTHER, *FORWARDED)), [SEVERAL % ("channel-3", "channel-7")]),
+    # a channel whose name steers a terminal, and one of a long name
+    (1, str, saved(*packet_txs(("channel-0", "\x1b[1m\x00\u202e\x7f"), *FORWARDED)), [SEVERAL % ("\\u{1b}[1m\\u{0}\\u{202e}\\u{7f}", "channel-7")]),
     (1, NAMED, written("transfers/zone.json", json.dumps(answers.search(*packet_txs(OTHER, *FORWARDED)))), [SEVERAL % ("channel-7", "channel-3")]),
     (1, NAMED, in_turn(removed(RECEIVED_FILE), saved(*packet_txs(OTHER, *FORWARDED))), [UNSEARCHED % "recv_packet", SEVERAL % ("channel-3", "channel-7")]),
     (1, NAMED, saved(*packet_txs(("channel-4", "channel-3"), *FORWARDED)), []),
@@ -478,6 +522,11 @@ def changes():
             yield edited(file, put(path, True)), f"refused WrongType at {told or path}", 1, [file]
             if name:
                 yield edited(file, put(path, bad)), f"refused {name} at {told or path}", 1, [file]
+    for file, fields in LEFT_OUT.items():
+        for path, told, bad, name in fields:
+            yield edited(file, put(path, True)), f"refused WrongType at {told or path}", 1, [file]
+            if name:
+                yield edited(file, put(path, bad)), f"refused {name} at {told or path}", 1, [file]
     for file, edit, line in DAMAGES:
         if line:
             yield edited(file, edit), f"refused {line}", 1, files_of(file, line)
@@ -508,6 +557,62 @@ def spoiled_cases(top):
         yield Case(fault.decode(), ["import", "-", str(whole)], script.encode(), b"", fault, 1)
 
 
+def bare(folder):
+    """Answers of a chain without JSON-RPC's envelope."""
+    for file in (folder / "hub-4").glob("*.json"):
+        file.write_text(json.dumps(json.loads(file.read_text())["result"]))
+
+
+def in_camel_case(folder):
+    """A client's answers as protojson writes them, which leaves out what is empty or 0, and writes bytes in base64."""
+    def camel(value, key=""):
+        if isinstance(value, dict):
+            return {re.sub("_(.)", lambda found: found[1].upper(), k): camel(v, k) for k, v in value.items() if v not in (None, "", "0")}
+        if isinstance(value, list):
+            return [camel(v) for v in value]
+        return answers.base64.b64encode(bytes.fromhex(value)).decode() if key == "next_validators_hash" else value
+    for file in (folder / "hub-on-zone").glob("*.json"):
+        file.write_text(json.dumps(camel(json.loads(file.read_text()))))
+
+
+def rooted(root, commit=True):
+    """The change that gives the header of height 80 and its record this root."""
+    changes = [edited(STORED_FILE, put("consensus_states[1].consensus_state.root.hash", answers.base64.b64encode(root).decode()))]
+    if commit:
+        changes.append(edited(COMMIT_FILE, hashed(put(f"{HEADER}.app_hash", root.hex()))))
+    return in_turn(*changes)
+
+
+# changes of the folder after which the script is the same, since nodes answer so, too
+TAKEN = [
+    bare, in_camel_case, in_turn(bare, in_camel_case),
+    edited(STORED_FILE, put("pagination.next_key", "")), edited(STORED_FILE, put("pagination", {})), edited(STORED_FILE, gone("pagination")),
+    edited(STATE_FILE, put(f"{STATE}.frozen_height", {})), edited(STATE_FILE, gone(f"{STATE}.frozen_height")),
+    edited(COMMIT_FILE, hashed(put(f"{HEADER}.version.app", "7"))), edited(COMMIT_FILE, hashed(gone(f"{HEADER}.version.block"))),
+    edited(COMMIT_FILE, hashed(put(f"{HEADER}.last_block_id", {"hash": "", "parts": {"total": 0, "hash": ""}}))),
+    *(edited(COMMIT_FILE, hashed(edit)) for name in HASHES if name != "app_hash" for edit in (put(f"{HEADER}.{name}", ""), put(f"{HEADER}.{name}", "0b" * 64), gone(f"{HEADER}.{name}"))),
+]
+# changes after which a root is another: that of an upgraded client's record where there is no header, and those of headers
+ROOTS = [
+    in_turn(removed(COMMIT_FILE), rooted(b"sentinel_root", commit=False)), rooted(b"sentinel_root"), rooted(bytes(1)), rooted(bytes(31)), rooted(bytes(33)), rooted(bytes(64)),
+    in_turn(edited(STORED_FILE, gone("consensus_states[1]")), edited(COMMIT_FILE, hashed(put(f"{HEADER}.app_hash", "")))),
+]
+
+
+def taken_cases(top):
+    """Answers in other shapes of nodes' answers."""
+    setup, text = top / "taken.toml", setups(2)[0]
+    setup.write_text(text)
+    for number, change in enumerate(TAKEN + ROOTS):
+        folder = top / f"taken-{number}"
+        answers.make(folder, 1, between=0)
+        script = answers.script_of(text, folder)
+        change(folder)
+        if change in ROOTS:
+            script = answers.script_of(text, folder)
+        yield Case(f"taken answers {number}", ["import", str(setup), str(folder)], b"", script, b"", 0, reader=values_of)
+
+
 def import_cases(top, seeds):
     """The runs of `import`; the files that they read are written below a folder."""
     for seed in range(1, seeds + 1):
@@ -517,6 +622,7 @@ def import_cases(top, seeds):
     yield from notice_cases(top)
     yield from busy_cases(top)
     yield from spoiled_cases(top)
+    yield from taken_cases(top)
 
 
 def chain_cases(top, program):

@@ -1,5 +1,5 @@
 -- What an answer tells, and the first thing that is wrong with one.
-use Rattle.std.specs.Prelude.{ℕ, List, length, nat_lt, Bool, not, ◌&&◌, if◌then◌else◌, Option, Some, None, is_some, Result, Ok, Err, codes}
+use Rattle.std.specs.Prelude.{ℕ, List, length, nat_lt, Bool, not, if◌then◌else◌, Option, Some, None, is_some, Result, Ok, Err, codes}
 use Rattle.std.specs.Str.{is_utf8}
 use Rattle.serde_json.specs.Data.{Data}
 use Rattle.serde_json.specs.Find.{get, as_null}
@@ -13,7 +13,7 @@ use Rattle.rb_import_json.specs.declared.error.FieldErrorName.TheVariants.{TooBi
 use Rattle.rb_import_json.specs.declared.field_path.Key.{Key}
 use Rattle.rb_import_json.specs.declared.field_path.Segment.{Segment}
 use Rattle.rb_import_json.specs.FieldErrors.{◌>>=◌, or_flaw}
-use Rattle.rb_import_json.specs.Fields.{Object}
+use Rattle.rb_import_json.specs.Fields.{Object, has as has_member}
 use Rattle.rb_import_answers.specs.Headers.{Signed, signed, signed_view}
 use Rattle.rb_import_answers.specs.Validators.{Page, page, page_view}
 use Rattle.rb_import_answers.specs.Clients.{client_state, States, states, states_view}
@@ -40,32 +40,28 @@ whole name = record { name = name; place = record { part = Segment.Answer; index
 abbrev pub has : List ℕ → Data → Bool
 has name d = is_some (get name d)
 
--- one of CometBFT's answers, known by a member of its `result`
-unfoldable pub result : Object → Result Told FieldError
-result o =
-    if has (codes "signed_header") o.value then (signed o >>= λ s. Ok (commit s))
-    else if has (codes "validators") o.value then (page o >>= λ p. Ok (validators p))
-    else if has (codes "txs") o.value then (found o >>= λ s. Ok (transactions s))
-    else Err (whole UnknownShape)
-
--- one of the REST gateway's answers
-unfoldable pub state : Object → Result Told FieldError
-state o =
-    if has (codes "client_state") o.value then (client_state o >>= λ s. Ok (judging s))
-    else if has (codes "consensus_states") o.value then (states o >>= λ s. Ok (stored s))
+-- an answer, known by one of its members
+unfoldable pub known : Object → Result Told FieldError
+known o =
+    if has_member Key.SignedHeader o then (signed o >>= λ s. Ok (commit s))
+    else if has_member Key.Validators o then (page o >>= λ p. Ok (validators p))
+    else if has_member Key.Txs o then (found o >>= λ s. Ok (transactions s))
+    else if has_member Key.ClientState o then (client_state o >>= λ s. Ok (judging s))
+    else if has_member Key.ConsensusStates o then (states o >>= λ s. Ok (stored s))
     else Err (whole UnknownShape)
 
 abbrev pub tells_error : Option Data → Bool → Bool
 tells_error (Some e) gateway = not (is_some (as_null e))
 tells_error None gateway = gateway
 
--- an error is a member `error` of CometBFT's, or `code` and `message` of the gateway's
+-- an error is a member `error` of CometBFT's, or `message` of the gateway's or of what stands before a node
 unfoldable pub is_error : Data → Bool
-is_error d = tells_error (get (codes "error") d) (has (codes "code") d && has (codes "message") d)
+is_error d = tells_error (get (codes "error") d) (has (codes "message") d)
 
+-- CometBFT's answers stand in a member `result` (JSON-RPC 2.0), or bare
 abbrev pub of_shape : Option Data → Data → Result Told FieldError
-of_shape (Some r) d = result (record { value = r; part = Segment.Result; index = None })
-of_shape None d = state (record { value = d; part = Segment.Answer; index = None })
+of_shape (Some r) d = known (record { value = r; part = Segment.Result; index = None })
+of_shape None d = known (record { value = d; part = Segment.Answer; index = None })
 
 unfoldable pub answer : Data → Result Told FieldError
 answer d = if is_error d then Err (whole NodeError) else of_shape (get (codes "result") d) d

@@ -1,19 +1,21 @@
 -- The answers of ibc-go's gateway on a client: `client_states/ID` and `consensus_states/ID` (ICS 2, ICS 7).
-use Rattle.std.specs.Prelude.{ℕ, ◌*◌, ◌^◌, List, [], Bool, Option, Some, None, is_some, option_and_then, Result, Ok, codes, ⊤, ◌==◌, ◌&&◌, nat_le, nat_lt, if◌then◌else◌}
+use Rattle.std.specs.Prelude.{ℕ, ◌*◌, ◌^◌, List, [], length, Bool, true, false, Option, Some, None, is_some, option_and_then, Result, Ok, Err, codes, ⊤, ◌==◌, ◌&&◌, ◌||◌, nat_le, nat_lt, if◌then◌else◌}
 use Rattle.std.specs.Str.{bytes_eq}
-use Rattle.serde_json.specs.Find.{as_null}
+use Rattle.serde_json.specs.Data.{Data}
+use Rattle.serde_json.specs.Find.{as_null, as_str}
 use Rattle.rb_import_answers.specs.declared.client.ClientState.{ClientState}
 use Rattle.rb_import_answers.specs.declared.client.ConsensusPage.{ConsensusPage}
 use Rattle.rb_import_answers.specs.declared.client.ConsensusState.{ConsensusState}
 use Rattle.rb_import_answers.specs.declared.client.TrustLevel.{TrustLevel}
 use Rattle.rb_import_json.specs.declared.error.FieldError.{FieldError}
-use Rattle.rb_import_json.specs.declared.error.FieldErrorName.TheVariants.{ForeignClient, FrozenClient, BadTrust, BadDuration}
+use Rattle.rb_import_json.specs.declared.error.FieldErrorName.TheVariants.{ForeignClient, FrozenClient, BadTrust, BadDuration, BadBase64}
 use Rattle.rb_import_json.specs.declared.field_path.Key.{Key}
 use Rattle.rb_import_json.specs.declared.field_path.Segment.{Segment}
 use Rattle.rb_import_json.specs.FieldErrors.{◌>>=◌, or_flaw, must}
-use Rattle.rb_import_json.specs.Fields.{Object, flaw_at, field, inner, object, items, text, number, height, chain, time, hex, base64, each}
+use Rattle.rb_import_json.specs.Fields.{Object, flaw_at, has, field, inner, object, items, text, number_or_zero, height, chain, time, record_hash, base64_bytes, each}
 use Rattle.rb_import_answers.specs.Durations.{nanoseconds_of}
 use Rattle.rb_import_answers.specs.Numbers.{script_number}
+use Rattle.rb_import_answers.specs.Roots.{root_of}
 
 -- only Tendermint's light clients are read
 unfoldable pub tendermint : Object → Result ⊤ FieldError
@@ -21,19 +23,22 @@ tendermint state = do
   kind ← text Key.TypeUrl state
   must (flaw_at state Key.TypeUrl ForeignClient) (bytes_eq kind (codes "/ibc.lightclients.tendermint.v1.ClientState"))
 
--- the height at which a client is frozen is 0-0 where it isn't
-unfoldable pub live : Object → Result ⊤ FieldError
-live state = do
+abbrev pub unfrozen : Object → Result ⊤ FieldError
+unfrozen state = do
   frozen ← object Key.FrozenHeight Segment.FrozenHeight state
-  revision ← number Key.RevisionNumber frozen
-  at ← number Key.RevisionHeight frozen
+  revision ← number_or_zero Key.RevisionNumber frozen
+  at ← number_or_zero Key.RevisionHeight frozen
   must (flaw_at state Key.FrozenHeight FrozenClient) (revision == 0 && at == 0)
+
+-- the height at which a client is frozen is 0-0 where it isn't, or isn't there
+unfoldable pub live : Object → Result ⊤ FieldError
+live state = if has Key.FrozenHeight state then unfrozen state else Ok tt
 
 -- the revision number of the chain that a client tracks is that of its latest height
 unfoldable pub revision : Object → Result ℕ FieldError
 revision state = do
   latest ← object Key.LatestHeight Segment.LatestHeight state
-  number Key.RevisionNumber latest
+  number_or_zero Key.RevisionNumber latest
 
 -- a trust level is from a third to one, in numbers that a script takes
 unfoldable pub trust : Object → Result TrustLevel FieldError
@@ -72,24 +77,26 @@ client_state answer = do
   skew ← drift state
   Ok (record { chain = id; revision = n; trust = level; period = long; drift = skew })
 
+-- the root of a record, of 1 to 64 bytes, as a script has it
 unfoldable pub root : Object → Result (List ℕ) FieldError
 root state = do
   r ← inner Key.Root state
-  base64 Key.Hash r
+  b ← base64_bytes Key.Hash r
+  if length b == 0 then Err (flaw_at r Key.Hash BadBase64) else Ok (root_of b)
 
 -- an entry of `consensus_states`: the revision number and the height that it is stored at, and what it holds
 unfoldable pub consensus_state : Object → Result ConsensusState FieldError
 consensus_state o = do
   at ← inner Key.Height o
   state ← inner Key.ConsensusState o
-  n ← number Key.RevisionNumber at
+  n ← number_or_zero Key.RevisionNumber at
   h ← height Key.RevisionHeight at
   moment ← time Key.Timestamp state
   bytes ← root state
-  next ← hex 32 Key.NextValidatorsHash state
+  next ← record_hash Key.NextValidatorsHash state
   Ok (record { revision = n; height = h; time = moment; root = bytes; next = next })
 
--- the states of a page, and whether no page follows: the key of the next one is null
+-- the states of a page, and whether no page follows
 pub record States : Type 0 where
   pub states : List ConsensusState
   pub is_last : Bool
@@ -97,11 +104,19 @@ pub record States : Type 0 where
 abbrev pub states_view : ConsensusPage → States
 states_view p = record { states = p.states.items; is_last = p.is_last }
 
+abbrev pub is_empty : Option (List ℕ) → Bool
+is_empty (Some t) = length t == 0
+is_empty None = false
+
+abbrev pub is_empty_text : Data → Bool
+is_empty_text d = is_empty (as_str d)
+
+-- the key of the next page isn't there, is null or is empty
+unfoldable pub ends : Object → Result Bool FieldError
+ends pagination = if has Key.NextKey pagination then (field Key.NextKey pagination >>= λ d. Ok (is_some (as_null d) || is_empty_text d)) else Ok true
+
 unfoldable pub is_last : Object → Result Bool FieldError
-is_last answer = do
-  pagination ← object Key.Pagination Segment.Pagination answer
-  next ← field Key.NextKey pagination
-  Ok (is_some (as_null next))
+is_last answer = if has Key.Pagination answer then (object Key.Pagination Segment.Pagination answer >>= ends) else Ok true
 
 unfoldable pub states : Object → Result States FieldError
 states answer = do

@@ -1,4 +1,5 @@
 pub mod Votes
+pub mod Roots
 pub mod Headers
 pub mod Validators
 pub mod Durations

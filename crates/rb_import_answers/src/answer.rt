@@ -3,7 +3,7 @@ ghost use Rattle.std.specs.Prelude.{◌≡◌};
 ghost use Rattle.serde_json.specs.View.{view};
 ghost use Rattle.rb_import_json.specs.FieldErrors.{Gives, or_flaw};
 ghost use Rattle.rb_import_json.specs.Fields.{object_view};
-ghost use Rattle.rb_import_answers.specs.Answers.{answer_view, whole, is_error, json, result as result_told, state as state_told, told};
+ghost use Rattle.rb_import_answers.specs.Answers.{answer_view, whole, is_error, json, known, told};
 
 use crate::client::{ClientState, ConsensusPage, read_client_state, read_consensus_states};
 use crate::commit::{SignedHeader, read_commit};
@@ -31,7 +31,7 @@ pub enum NodeAnswer {
     Transactions(PacketPage),
 }
 
-/// Reads an answer: JSON of at most 16,777,216 bytes, which is known by its members. What is read is what
+/// Reads an answer: JSON of at most 16,777,216 bytes, with CometBFT's envelope or without, which is known by its members. What is read is what
 /// the JSON says; `FieldError` is the first thing that is wrong, `NoMemory` comes where a growth is refused.
 #[tactic(auto, using(rb_import_json::proofs::Steps::steps), unfolding(crate::specs::Answers::told, crate::specs::Answers::answer))]
 pub fn read_answer(alloc: Global, bytes: &[u8]) -> Result<NodeAnswer, AnswerError>
@@ -45,8 +45,8 @@ pub fn read_answer(alloc: Global, bytes: &[u8]) -> Result<NodeAnswer, AnswerErro
         return Err(whole(FieldErrorName::NodeError));
     }
     match value.get("result") {
-        Some(result) => read_result(alloc, &Object::new(result, Segment::Result)),
-        None => read_state(alloc, &Object::new(&value, Segment::Answer)),
+        Some(result) => read_known(alloc, &Object::new(result, Segment::Result)),
+        None => read_known(alloc, &Object::new(&value, Segment::Answer)),
     }
 }
 
@@ -61,42 +61,32 @@ fn read_json(alloc: Global, bytes: &[u8]) -> Result<Value, AnswerError>
     }
 }
 
-/// Whether the answer tells an error: a member `error` of CometBFT's, or `code` and `message` of the
-/// REST gateway's.
+/// Whether the answer tells an error: a member `error` of CometBFT's, or `message` of the REST gateway's or of what stands
+/// before a node.
 #[tactic(auto, unfolding(crate::specs::Answers::is_error))]
 fn is_error(value: &Value) -> bool
     ensures { result ≡ is_error (view value.now) }
 {
     match value.get("error") {
         Some(error) => !error.is_null(),
-        None => value.get("code").is_some() && value.get("message").is_some(),
+        None => value.get("message").is_some(),
     }
 }
 
-/// Reads the `result` of one of CometBFT's answers.
-#[tactic(auto, using(rb_import_json::proofs::Steps::steps), unfolding(crate::specs::Answers::result))]
-fn read_result(alloc: Global, answer: &Object<'_>) -> Result<NodeAnswer, AnswerError>
-    ensures { Gives (λ a. answer_view a) result (result_told (object_view answer.now)) }
+/// Reads what an answer holds, which is known by its members.
+#[tactic(auto, using(rb_import_json::proofs::Steps::steps), unfolding(crate::specs::Answers::known))]
+fn read_known(alloc: Global, answer: &Object<'_>) -> Result<NodeAnswer, AnswerError>
+    ensures { Gives (λ a. answer_view a) result (known (object_view answer.now)) }
 {
-    if answer.value.get("signed_header").is_some() {
+    if answer.has(Key::SignedHeader) {
         Ok(NodeAnswer::Commit(read_commit(alloc, answer)?))
-    } else if answer.value.get("validators").is_some() {
+    } else if answer.has(Key::Validators) {
         Ok(NodeAnswer::Validators(read_page(alloc, answer)?))
-    } else if answer.value.get("txs").is_some() {
+    } else if answer.has(Key::Txs) {
         Ok(NodeAnswer::Transactions(read_transactions(alloc, answer)?))
-    } else {
-        Err(whole(FieldErrorName::UnknownShape))
-    }
-}
-
-/// Reads one of the REST gateway's answers.
-#[tactic(auto, using(rb_import_json::proofs::Steps::steps), unfolding(crate::specs::Answers::state))]
-fn read_state(alloc: Global, answer: &Object<'_>) -> Result<NodeAnswer, AnswerError>
-    ensures { Gives (λ a. answer_view a) result (state_told (object_view answer.now)) }
-{
-    if answer.value.get("client_state").is_some() {
+    } else if answer.has(Key::ClientState) {
         Ok(NodeAnswer::ClientState(read_client_state(answer)?))
-    } else if answer.value.get("consensus_states").is_some() {
+    } else if answer.has(Key::ConsensusStates) {
         Ok(NodeAnswer::ConsensusStates(read_consensus_states(alloc, answer)?))
     } else {
         Err(whole(FieldErrorName::UnknownShape))

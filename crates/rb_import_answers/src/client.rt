@@ -1,13 +1,14 @@
 //! The answers of ibc-go's REST gateway on a client: its state, and the consensus states that it
 //! has stored.
 ghost use Rattle.std.specs.Prelude.{◌≡◌, []};
-ghost use Rattle.serde_json.specs.View.{items_view};
+ghost use Rattle.serde_json.specs.View.{items_view, view};
 ghost use Rattle.rb_import_json.specs.FieldErrors.{Reads, Gives};
 ghost use Rattle.rb_import_json.specs.Fields.{object_view, each};
-ghost use Rattle.rb_import_answers.specs.Clients.{tendermint, live, revision, trust, period_of, period, drift_of, drift, client_state, root, consensus_state, is_last, states, states_view};
+ghost use Rattle.rb_import_answers.specs.Clients.{tendermint, live, revision, trust, period_of, period, drift_of, drift, client_state, root, consensus_state, is_last, ends, is_empty_text, states, states_view};
 
 use crate::duration::nanoseconds_of;
 use crate::number::{MAX_NUMBER, script_number};
+use crate::root::root_of;
 use rb_base::{ChainId, Fraction, Height, Moment, Period};
 use rb_import_json::{AnswerError, FieldError, FieldErrorName, Key, Object, Segment};
 use serde_json::Value;
@@ -81,14 +82,17 @@ fn judge_type(state: &Object<'_>) -> Result<(), FieldError>
     }
 }
 
-/// Refuses a client that is frozen, as its frozen height says, which is 0-0 for others.
+/// Refuses a client that is frozen, as its frozen height says, which is 0-0 for others, or isn't there.
 #[tactic(auto, using(rb_import_json::proofs::Steps::steps), unfolding(crate::specs::Clients::live))]
 fn judge_frozen(state: &Object<'_>) -> Result<(), FieldError>
     ensures { Reads (λ u. u) result (live (object_view state.now)) }
 {
+    if !state.has(Key::FrozenHeight) {
+        return Ok(());
+    }
     let frozen = state.object(Key::FrozenHeight, Segment::FrozenHeight)?;
-    let revision = frozen.number(Key::RevisionNumber)?;
-    let height = frozen.number(Key::RevisionHeight)?;
+    let revision = frozen.number_or_zero(Key::RevisionNumber)?;
+    let height = frozen.number_or_zero(Key::RevisionHeight)?;
     if revision == 0 && height == 0 {
         Ok(())
     } else {
@@ -102,7 +106,7 @@ fn read_revision(state: &Object<'_>) -> Result<u64, FieldError>
     ensures { Reads (λ n. n) result (revision (object_view state.now)) }
 {
     let latest = state.object(Key::LatestHeight, Segment::LatestHeight)?;
-    latest.number(Key::RevisionNumber)
+    latest.number_or_zero(Key::RevisionNumber)
 }
 
 #[tactic(auto, using(rb_import_json::proofs::Steps::steps), unfolding(crate::specs::Clients::trust))]
@@ -181,32 +185,54 @@ fn read_states(alloc: Global, items: &[Value]) -> Result<Vec<ConsensusState>, An
     let mut states = Vec::with_capacity(alloc, items.len())?;
     for value in items {
         let entry = Object::element(value, Segment::ConsensusStates, states.len());
-        states.push(read_consensus_state(&entry)?)?;
+        states.push(read_consensus_state(alloc, &entry)?)?;
     }
     Ok(states)
 }
 
-/// Whether no page follows, as the key of the next one says.
+/// Whether no page follows, as the key of the next one says, which is null or empty then, or isn't there.
 #[tactic(auto, using(rb_import_json::proofs::Steps::steps), unfolding(crate::specs::Clients::is_last))]
 fn read_is_last(answer: &Object<'_>) -> Result<bool, FieldError>
     ensures { Reads (λ b. b) result (is_last (object_view answer.now)) }
 {
+    if !answer.has(Key::Pagination) {
+        return Ok(true);
+    }
     let pagination = answer.object(Key::Pagination, Segment::Pagination)?;
+    read_ends(&pagination)
+}
+
+#[tactic(auto, using(rb_import_json::proofs::Steps::steps), unfolding(crate::specs::Clients::ends))]
+fn read_ends(pagination: &Object<'_>) -> Result<bool, FieldError>
+    ensures { Reads (λ b. b) result (ends (object_view pagination.now)) }
+{
+    if !pagination.has(Key::NextKey) {
+        return Ok(true);
+    }
     let next = pagination.field(Key::NextKey)?;
-    Ok(next.is_null())
+    Ok(next.is_null() || is_empty_text(next))
+}
+
+fn is_empty_text(value: &Value) -> bool
+    ensures { result ≡ is_empty_text (view value.now) }
+{
+    match value.as_str() {
+        Some(text) => text.is_empty(),
+        None => false,
+    }
 }
 
 #[tactic(auto, using(rb_import_json::proofs::Steps::steps), unfolding(crate::specs::Clients::consensus_state))]
-fn read_consensus_state(entry: &Object<'_>) -> Result<ConsensusState, FieldError>
-    ensures { Reads (λ s. s) result (consensus_state (object_view entry.now)) }
+fn read_consensus_state(alloc: Global, entry: &Object<'_>) -> Result<ConsensusState, AnswerError>
+    ensures { Gives (λ s. s) result (consensus_state (object_view entry.now)) }
 {
     let at = entry.inner(Key::Height)?;
     let state = entry.inner(Key::ConsensusState)?;
-    let revision = at.number(Key::RevisionNumber)?;
+    let revision = at.number_or_zero(Key::RevisionNumber)?;
     let height = at.height(Key::RevisionHeight)?;
     let time = state.time(Key::Timestamp)?;
-    let root = read_root(&state)?;
-    let next = state.hash(Key::NextValidatorsHash)?;
+    let root = read_root(alloc, &state)?;
+    let next = state.record_hash(Key::NextValidatorsHash)?;
     Ok(ConsensusState {
         revision,
         height,
@@ -216,10 +242,15 @@ fn read_consensus_state(entry: &Object<'_>) -> Result<ConsensusState, FieldError
     })
 }
 
+/// The root of a record, of 1 to 64 bytes.
 #[tactic(auto, using(rb_import_json::proofs::Steps::steps), unfolding(crate::specs::Clients::root))]
-fn read_root(state: &Object<'_>) -> Result<[u8; 32], FieldError>
-    ensures { Reads (λ r. r) result (root (object_view state.now)) }
+fn read_root(alloc: Global, state: &Object<'_>) -> Result<[u8; 32], AnswerError>
+    ensures { Gives (λ r. r) result (root (object_view state.now)) }
 {
     let root = state.inner(Key::Root)?;
-    root.base64(Key::Hash)
+    let bytes = root.base64_bytes(alloc, Key::Hash)?;
+    if bytes.is_empty() {
+        return Err(AnswerError::Invalid(root.flaw(Key::Hash, FieldErrorName::BadBase64)));
+    }
+    Ok(root_of(bytes.as_slice()))
 }

@@ -4,8 +4,10 @@ ghost use Rattle.serde_json.specs.View.{items_view};
 ghost use Rattle.rb_import_json.specs.FieldErrors.{Reads, Gives};
 ghost use Rattle.rb_import_json.specs.Fields.{object_view, each};
 ghost use Rattle.rb_import_answers.specs.Votes.{flag};
-ghost use Rattle.rb_import_answers.specs.Headers.{header, header_view, signature, of_height, signed, signed_view};
+ghost use Rattle.rb_import_answers.specs.Headers.{block, header, header_view, signature, of_height, signed, signed_view};
 
+use crate::header::read_fields;
+use crate::root::root_of;
 use rb_base::{ChainId, Height, Moment};
 use rb_import_json::{AnswerError, FieldError, FieldErrorName, Key, Object, Segment};
 use serde_json::Value;
@@ -57,7 +59,8 @@ pub struct Signature {
     pub address: Option<[u8; 20]>,
 }
 
-/// A header, with the hashes of its own set and of the next, and the signatures in set order.
+/// A header, with the hashes of its own set and of the next, its hash, that of the block that its commit is for, and the
+/// signatures in set order.
 #[derive(Drop)]
 pub struct SignedHeader {
     pub chain: ChainId,
@@ -66,6 +69,8 @@ pub struct SignedHeader {
     pub root: [u8; 32],
     pub set: [u8; 32],
     pub next: [u8; 32],
+    pub hash: [u8; 32],
+    pub block: [u8; 32],
     pub signatures: Vec<Signature>,
 }
 
@@ -78,30 +83,44 @@ pub(crate) fn read_commit(alloc: Global, answer: &Object<'_>) -> Result<SignedHe
     let head = both.object(Key::Header, Segment::Header)?;
     let commit = both.object(Key::Commit, Segment::Commit)?;
     let signatures = read_signatures(alloc, commit.items(Key::Signatures)?)?;
-    let told = read_header(&head, signatures)?;
+    let block = read_block(&commit)?;
+    let told = read_header(alloc, &head, block, signatures)?;
     judge_height(&commit, told.height)?;
     Ok(told)
 }
 
-/// Reads the header that these signatures belong to.
+/// The hash of the block that a commit is for.
+#[tactic(auto, using(rb_import_json::proofs::Steps::steps), unfolding(crate::specs::Headers::block))]
+fn read_block(commit: &Object<'_>) -> Result<[u8; 32], FieldError>
+    ensures { Reads (λ b. b) result (block (object_view commit.now)) }
+{
+    let id = commit.object(Key::BlockId, Segment::BlockId)?;
+    id.hash(Key::Hash)
+}
+
+/// Reads the header that a commit is for, with these signatures.
 #[tactic(auto, using(rb_import_json::proofs::Steps::steps), unfolding(crate::specs::Headers::header))]
-fn read_header(head: &Object<'_>, signatures: Vec<Signature>) -> Result<SignedHeader, FieldError>
-    ensures header { Reads (λ h. header_view h) result (header (object_view head.now)) }
+fn read_header(
+    alloc: Global,
+    head: &Object<'_>,
+    block: [u8; 32],
+    signatures: Vec<Signature>,
+) -> Result<SignedHeader, AnswerError>
+    ensures header { Gives (λ h. header_view h) result (header (object_view head.now)) }
+    ensures block { IfOk result (λ read. read.block ≡ block) }
     ensures signatures { IfOk result (λ read. read.signatures ≡ signatures) }
 {
-    let chain = head.chain(Key::ChainId)?;
-    let height = head.height(Key::Height)?;
-    let time = head.time(Key::Time)?;
-    let root = head.hash(Key::AppHash)?;
-    let set = head.hash(Key::ValidatorsHash)?;
-    let next = head.hash(Key::NextValidatorsHash)?;
+    let fields = read_fields(alloc, head)?;
+    let hash = rb_header::hash(alloc, &fields)?;
     Ok(SignedHeader {
-        chain,
-        height,
-        time,
-        root,
-        set,
-        next,
+        chain: fields.chain,
+        height: fields.height,
+        time: fields.time,
+        root: root_of(fields.app_hash.as_slice()),
+        set: fields.validators_hash,
+        next: fields.next_validators_hash,
+        hash,
+        block,
         signatures,
     })
 }

@@ -8,9 +8,11 @@ mod attributes;
 mod client;
 mod commit;
 mod duration;
+mod header;
 mod number;
 mod packets;
 mod revision;
+mod root;
 mod said;
 mod validators;
 

@@ -8,8 +8,8 @@ use std::alloc::{AllocError, Global};
 /// How many characters are kept of what a node said.
 const MAX_SAID: usize = 200;
 
-/// What the answer with an error says of it: the `message` of CometBFT's `error` with its `data`, or the REST
-/// gateway's `message`. The first 200 characters are kept, and each that isn't printable ASCII, or is `"` or `\`,
+/// What the answer with an error says of it: the `message` of CometBFT's `error` with its `data`, or that `error` where it
+/// is a text, or the REST gateway's `message`. The first 200 characters are kept, and each that isn't printable ASCII, or is `"` or `\`,
 /// is replaced by `?`. The text is empty where the answer says nothing.
 pub fn said_in(alloc: Global, bytes: &[u8]) -> Result<String, AllocError>
     ensures plain { IfOk result (λ said. All IsPlain (string_bytes said)) }
@@ -32,6 +32,9 @@ fn push_error(said: &mut String, answer: &Value) -> Result<(), AllocError>
     ensures short { OnOk result (length (string_bytes said.new) ≤ 200) }
 {
     let error = answer.get("error").unwrap_or(answer);
+    if let Some(text) = error.as_str() {
+        return push_plain(said, text);
+    }
     push_member(said, error, "message")?;
     push_member(said, error, "data")
 }

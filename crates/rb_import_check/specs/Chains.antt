@@ -32,6 +32,10 @@ HaveHeaders headers commits = IsPermutation headers (map (λ (c : Commit). c.hea
 abbrev pub IsOfChain : List ℕ → Commit → Type 0
 IsOfChain id c = c.header.now.chain ≡ id
 
+-- the commit is for the block whose hash the header has
+abbrev pub IsOfItsBlock : Commit → Type 0
+IsOfItsBlock c = c.header.now.hash ≡ c.header.now.block
+
 -- the set that the header names was seen: its hash is `validators_hash`, and it has a member for each signature
 unfoldable pub HasSet : List SeenSet → Commit → Type 0
 HasSet sets c = (s : SeenSet) × Contains sets s × (set_hash s.set ≡ c.header.now.set) × (length c.header.now.signatures.items ≡ length s.set)

@@ -4,9 +4,9 @@ ghost use Rattle.std.specs.List.Sorted.{IsNonDecreasingBy, IsStrictlyIncreasing}
 ghost use Rattle.rb_valset.specs.ValidatorSet.{set_hash, in_set_order};
 ghost use Rattle.rb_import_check.specs.Errors.{IsToldOf};
 ghost use Rattle.rb_import_check.specs.Sets.{WasSeen};
-ghost use Rattle.rb_import_check.specs.Chains.{AreAllPages, HaveHeaders, HaveSets, HasSet, IsOfChain, TakesSetOf, headers_of, pages_at, pages_of, validators_of, without_files};
+ghost use Rattle.rb_import_check.specs.Chains.{AreAllPages, HaveHeaders, HaveSets, HasSet, IsOfChain, IsOfItsBlock, TakesSetOf, headers_of, pages_at, pages_of, validators_of, without_files};
 
-use crate::error::{CheckErrorName, ImportError};
+use crate::error::{CheckErrorName, HeaderHashes, ImportError};
 use crate::repeat::repeated;
 use crate::saved::Saved;
 use crate::sets::{SeenSet, SeenSets};
@@ -47,12 +47,14 @@ pub fn seen_chain<'a>(
     ensures headers { IfOk result (λ chain. HaveHeaders (headers_of answers.entry.now) chain.commits.items) }
     ensures rising { IfOk result (λ chain. IsStrictlyIncreasing (map (λ c. c.header.now.height) chain.commits.items)) }
     ensures chain { IfOk result (λ chain. All (IsOfChain id.entry.now) chain.commits.items) }
+    ensures blocks { IfOk result (λ chain. All IsOfItsBlock chain.commits.items) }
     ensures sets { IfOk result (λ chain. All (HasSet chain.sets.sets.items) chain.commits.items) }
     ensures all_sets { IfOk result (λ chain. HaveSets answers.entry.now chain.sets.sets.items) }
     ensures told { IfErr result (IsToldOf id.entry.now) }
 {
     let commits = commits_of(alloc, id, answers)?;
     judge_chains(id, commits.as_slice())?;
+    judge_blocks(id, commits.as_slice())?;
     judge_heights(alloc, id, commits.as_slice())?;
     let sets = sets_of(alloc, id, answers, commits.as_slice())?;
     judge_signatures(id, commits.as_slice(), &sets)?;
@@ -117,6 +119,33 @@ fn judge_chain<'a>(id: &'a str, commit: &Commit<'a>) -> Result<(), ImportError<'
     } else {
         let height = commit.header.height.get();
         Err(ImportError::at(CheckErrorName::OtherChain, id, height, commit.file))
+    }
+}
+
+/// Refuses headers whose hash isn't that of the block that their commit is for.
+fn judge_blocks<'a>(id: &'a str, commits: &[Commit<'a>]) -> Result<(), ImportError<'a>>
+    ensures blocks { OnOk result (All IsOfItsBlock commits.now) }
+    ensures told { IfErr result (IsToldOf id.entry.now) }
+{
+    for commit in commits {
+        judge_block(id, commit)?;
+    }
+    Ok(())
+}
+
+/// Refuses a header whose hash isn't that of the block that its commit is for.
+fn judge_block<'a>(id: &'a str, commit: &Commit<'a>) -> Result<(), ImportError<'a>>
+    ensures block { OnOk result (IsOfItsBlock commit.now) }
+    ensures told { IfErr result (IsToldOf id.entry.now) }
+{
+    let header = commit.header.hash;
+    let block = commit.header.block;
+    if header == block {
+        Ok(())
+    } else {
+        let height = commit.header.height.get();
+        let hashes = HeaderHashes { header, block };
+        Err(ImportError::other_header(id, height, commit.file, hashes))
     }
 }
 

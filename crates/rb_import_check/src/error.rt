@@ -28,6 +28,8 @@ pub enum CheckErrorName {
     OtherSet,
     /// The validators of a header aren't there.
     MissingSet,
+    /// The header's hash isn't that of the block that the commit is for.
+    OtherHeader,
     /// There is not one signature for each validator.
     SignatureCount,
     /// A signature is of another validator than that of its place.
@@ -68,6 +70,7 @@ impl CheckErrorName {
             CheckErrorName::BadSet => "BadSet",
             CheckErrorName::OtherSet => "OtherSet",
             CheckErrorName::MissingSet => "MissingSet",
+            CheckErrorName::OtherHeader => "OtherHeader",
             CheckErrorName::SignatureCount => "SignatureCount",
             CheckErrorName::OtherSigner => "OtherSigner",
             CheckErrorName::MissingClientState => "MissingClientState",
@@ -103,6 +106,9 @@ impl CheckErrorName {
                 "the set's hash isn't the header's validators_hash; fetch /commit and /validators of this height from one node"
             }
             CheckErrorName::MissingSet => "no answer has the validators that the header names",
+            CheckErrorName::OtherHeader => {
+                "the hash of the header's fields isn't that of the block that the commit is for, so that one of them isn't the chain's"
+            }
             CheckErrorName::SignatureCount => {
                 "the commit has another number of signatures than the set has validators"
             }
@@ -116,7 +122,7 @@ impl CheckErrorName {
                 "consensus states are missing; fetch /ibc/core/client/v1/consensus_states/ID, all of its pages,"
             }
             CheckErrorName::OtherRecord => {
-                "the client's record has another time, root or next set than the chain's header of this height, so that one of the two isn't the chain's; fetch both again"
+                "the client's record has another time, root or next set than the chain's header of this height, so that one of the two isn't the chain's; fetch both again; if it stays, the client may have been given a forged header: don't update it, and submit its misbehaviour"
             }
             CheckErrorName::MissingTransactions =>
                 "transactions are missing; fetch all pages of /tx_search",
@@ -133,8 +139,15 @@ impl CheckErrorName {
     }
 }
 
+/// The hash of a header's fields, and that of the block that its commit is for.
+#[derive(Clone, Copy, Debug)]
+pub struct HeaderHashes {
+    pub header: [u8; 32],
+    pub block: [u8; 32],
+}
+
 /// What doesn't hold between answers: on which chain, client or path, at which height or sequence,
-/// and the files; no file where an answer isn't there.
+/// and the files; no file where an answer isn't there. Of a header whose hash is another both hashes.
 #[derive(Clone, Copy, Debug)]
 pub struct CheckError<'a> {
     pub name: CheckErrorName,
@@ -142,6 +155,7 @@ pub struct CheckError<'a> {
     pub number: Option<u64>,
     pub file: Option<&'a str>,
     pub other: Option<&'a str>,
+    pub hashes: Option<HeaderHashes>,
 }
 
 impl CheckError<'_> {
@@ -191,6 +205,10 @@ impl CheckError<'_> {
             CheckErrorName::SignatureCount | CheckErrorName::OtherSigner => {
                 write!(f, "; fetch /commit?height={height} again")
             }
+            CheckErrorName::OtherHeader => write!(
+                f,
+                "; fetch /commit?height={height} again, from another node if it stays"
+            ),
             CheckErrorName::OtherChain if height == 0 => f.write_str(
                 "; this client follows another chain than the setup's `of` says: is the identifier right?",
             ),
@@ -214,12 +232,27 @@ impl fmt::Display for CheckError<'_> {
             _ => {}
         }
         f.write_str(self.name.advice())?;
+        if let Some(hashes) = self.hashes {
+            f.write_str(" (")?;
+            write_hash(f, &hashes.header)?;
+            f.write_str(", and not ")?;
+            write_hash(f, &hashes.block)?;
+            f.write_str(")")?;
+        }
         if let Some(height) = self.number {
             self.write_request(f, height)?;
         }
         self.write_folder(f)?;
         self.write_other_way(f)
     }
+}
+
+/// Writes the hexadecimal digits of a hash.
+fn write_hash<W: fmt::Write>(f: &mut fmt::Formatter<W>, hash: &[u8; 32]) -> fmt::Result {
+    for byte in hash {
+        write!(f, "{byte:02X}")?;
+    }
+    Ok(())
 }
 
 /// Why answers make no script.
@@ -236,7 +269,7 @@ pub enum ImportError<'a> {
 impl<'a> ImportError<'a> {
     /// A problem of a chain, a client or a path.
     pub fn of(name: CheckErrorName, object: &'a str) -> ImportError<'a>
-        ensures { result ≡ ImportError.CheckError (record { name = name; object = object.entry; number = None; file = None; other = None }) }
+        ensures { result ≡ ImportError.CheckError (record { name = name; object = object.entry; number = None; file = None; other = None; hashes = None }) }
     {
         ImportError::CheckError(CheckError {
             name,
@@ -244,12 +277,13 @@ impl<'a> ImportError<'a> {
             number: None,
             file: None,
             other: None,
+            hashes: None,
         })
     }
 
     /// A problem in a file, at a height or a sequence.
     pub fn at(name: CheckErrorName, object: &'a str, number: u64, file: &'a str) -> ImportError<'a>
-        ensures { result ≡ ImportError.CheckError (record { name = name; object = object.entry; number = Some number; file = Some file.entry; other = None }) }
+        ensures { result ≡ ImportError.CheckError (record { name = name; object = object.entry; number = Some number; file = Some file.entry; other = None; hashes = None }) }
     {
         ImportError::CheckError(CheckError {
             name,
@@ -257,6 +291,26 @@ impl<'a> ImportError<'a> {
             number: Some(number),
             file: Some(file),
             other: None,
+            hashes: None,
+        })
+    }
+
+    /// A header whose hash isn't that of the block that its commit is for.
+    pub fn other_header(
+        object: &'a str,
+        number: u64,
+        file: &'a str,
+        hashes: HeaderHashes,
+    ) -> ImportError<'a>
+        ensures { result ≡ ImportError.CheckError (record { name = CheckErrorName.OtherHeader; object = object.entry; number = Some number; file = Some file.entry; other = None; hashes = Some hashes }) }
+    {
+        ImportError::CheckError(CheckError {
+            name: CheckErrorName::OtherHeader,
+            object,
+            number: Some(number),
+            file: Some(file),
+            other: None,
+            hashes: Some(hashes),
         })
     }
 
@@ -268,7 +322,7 @@ impl<'a> ImportError<'a> {
         file: &'a str,
         other: &'a str,
     ) -> ImportError<'a>
-        ensures { result ≡ ImportError.CheckError (record { name = name; object = object.entry; number = Some number; file = Some file.entry; other = Some other.entry }) }
+        ensures { result ≡ ImportError.CheckError (record { name = name; object = object.entry; number = Some number; file = Some file.entry; other = Some other.entry; hashes = None }) }
     {
         ImportError::CheckError(CheckError {
             name,
@@ -276,6 +330,7 @@ impl<'a> ImportError<'a> {
             number: Some(number),
             file: Some(file),
             other: Some(other),
+            hashes: None,
         })
     }
 }

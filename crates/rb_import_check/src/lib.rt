@@ -13,6 +13,6 @@ mod sets;
 pub use accord::judge_records;
 pub use chain::{Commit, SeenChain, seen_chain};
 pub use client::{SeenClient, Stored, seen_client};
-pub use error::{CheckError, CheckErrorName, ImportError};
+pub use error::{CheckError, CheckErrorName, HeaderHashes, ImportError};
 pub use saved::{Saved, SavedAnswers, SavedError, read_saved};
 pub use sets::{SeenSet, SeenSets};

@@ -4,9 +4,9 @@ use Rattle.std.specs.List.{list_all, list_any, position_or_len, before_first, af
 use Rattle.std.specs.Result.{result_ok}
 use Rattle.std.specs.Char.{digit_value, is_ascii_alphanumeric}
 use Rattle.std.specs.Str.Parse.{digits_value, without_leading_plus}
-use Rattle.hex.specs.Hex.{decode_sized}
+use Rattle.hex.specs.Hex.{decode_of as hex_decode_of, decode_sized}
 use Rattle.base64.specs.Engines.{standard}
-use Rattle.base64.specs.GeneralPurpose.{decode_slice_of, decoded_bytes_of}
+use Rattle.base64.specs.GeneralPurpose.{decode_of, decode_slice_of, decoded_bytes_of}
 use Rattle.base64.specs.declared.decode.DecodeSliceError.{DecodeSliceError}
 use Rattle.jiff.specs.Words.{parse_timestamp, Error as JiffError}
 
@@ -53,3 +53,19 @@ if_all bytes (Err e) = None
 -- 32 bytes, in base64 (RFC 4648)
 unfoldable pub key_of : List ℕ → Option (List ℕ)
 key_of text = if_all (decoded_bytes_of standard text) (decode_slice_of standard text 32)
+
+-- bytes, where they aren't too many
+abbrev pub up_to : ℕ → List ℕ → Option (List ℕ)
+up_to limit bytes = if nat_lt limit (length bytes) then None else Some bytes
+
+-- at most so many bytes, in hexadecimal digits
+unfoldable pub bytes_up_to : ℕ → List ℕ → Option (List ℕ)
+bytes_up_to limit text = option_and_then (up_to limit) (result_ok (hex_decode_of text))
+
+-- at most so many bytes, in base64
+unfoldable pub base64_up_to : ℕ → List ℕ → Option (List ℕ)
+base64_up_to limit text = option_and_then (up_to limit) (result_ok (decode_of standard text))
+
+-- 32 bytes, in hexadecimal digits as ibc-go writes a hash, or in base64 as protojson does, which is shorter
+unfoldable pub hash_of : List ℕ → Option (List ℕ)
+hash_of text = if length text == 64 then bytes_of 32 text else key_of text

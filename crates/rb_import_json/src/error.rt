@@ -97,9 +97,10 @@ impl FieldErrorName {
             FieldErrorName::BadNumber =>
                 "a text of decimal digits belongs here, of a number in range",
             FieldErrorName::BadHex => {
-                "hexadecimal digits belong here: 64 of a hash, 40 of an address"
+                "hexadecimal digits belong here: 64 of a set's hash, 40 of an address, at most 128 of another hash"
             }
-            FieldErrorName::BadBase64 => "base64 belongs here: of 32 bytes for a key or a root",
+            FieldErrorName::BadBase64 =>
+                "base64 belongs here: of 32 bytes for a key, of 1 to 64 for a root",
             FieldErrorName::BadTime => "a time as 2026-11-22T10:00:00Z belongs here, from 1970 on",
             FieldErrorName::BadDuration => "seconds as 806400s belong here, at most 2^63 - 1 ns",
             FieldErrorName::BadIdentifier => "an identifier of 1 to 64 characters belongs here",

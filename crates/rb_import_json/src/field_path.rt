@@ -9,7 +9,11 @@ pub enum Segment {
     Result,
     SignedHeader,
     Header,
+    Version,
+    LastBlockId,
+    Parts,
     Commit,
+    BlockId,
     Signatures,
     Validators,
     ClientState,
@@ -34,6 +38,10 @@ impl Segment {
             Segment::SignedHeader => "result.signed_header",
             Segment::Header => "result.signed_header.header",
             Segment::Commit => "result.signed_header.commit",
+            Segment::BlockId => "result.signed_header.commit.block_id",
+            Segment::Version => "result.signed_header.header.version",
+            Segment::LastBlockId => "result.signed_header.header.last_block_id",
+            Segment::Parts => "result.signed_header.header.last_block_id.parts",
             Segment::Signatures => "result.signed_header.commit.signatures",
             Segment::Validators => "result.validators",
             Segment::ClientState => "client_state",
@@ -51,22 +59,31 @@ impl Segment {
 /// A field of an object, an attribute of an event, or the whole answer.
 #[derive(Clone, Copy, Debug)]
 pub enum Key {
+    App,
     AppHash,
     Attributes,
+    Block,
     BlockHeight,
+    BlockId,
     BlockIdFlag,
     ChainId,
     ClientState,
     Code,
     Commit,
+    ConsensusHash,
     ConsensusState,
     ConsensusStates,
+    DataHash,
     Denominator,
     Events,
+    EvidenceHash,
     FrozenHeight,
     Hash,
     Header,
     Height,
+    LastBlockId,
+    LastCommitHash,
+    LastResultsHash,
     LatestHeight,
     MaxClockDrift,
     NextKey,
@@ -81,6 +98,8 @@ pub enum Key {
     PacketTimeoutHeight,
     PacketTimeoutTimestamp,
     Pagination,
+    Parts,
+    ProposerAddress,
     PubKey,
     RevisionHeight,
     RevisionNumber,
@@ -101,34 +120,44 @@ pub enum Key {
     Validators,
     ValidatorsHash,
     Value,
+    Version,
     VotingPower,
     Whole,
 }
 
 impl Key {
-    ghost use Rattle.rb_import_json.specs.Names.{key_name};
+    ghost use Rattle.rb_import_json.specs.Names.{key_name, camel_name};
 
     /// The name.
     pub fn name(self) -> &'static str
         ensures { result.now ≡ key_name self }
     {
         match self {
+            Key::App => "app",
             Key::AppHash => "app_hash",
             Key::Attributes => "attributes",
+            Key::Block => "block",
             Key::BlockHeight => "block_height",
+            Key::BlockId => "block_id",
             Key::BlockIdFlag => "block_id_flag",
             Key::ChainId => "chain_id",
             Key::ClientState => "client_state",
             Key::Code => "code",
             Key::Commit => "commit",
+            Key::ConsensusHash => "consensus_hash",
             Key::ConsensusState => "consensus_state",
             Key::ConsensusStates => "consensus_states",
+            Key::DataHash => "data_hash",
             Key::Denominator => "denominator",
             Key::Events => "events",
+            Key::EvidenceHash => "evidence_hash",
             Key::FrozenHeight => "frozen_height",
             Key::Hash => "hash",
             Key::Header => "header",
             Key::Height => "height",
+            Key::LastBlockId => "last_block_id",
+            Key::LastCommitHash => "last_commit_hash",
+            Key::LastResultsHash => "last_results_hash",
             Key::LatestHeight => "latest_height",
             Key::MaxClockDrift => "max_clock_drift",
             Key::NextKey => "next_key",
@@ -143,6 +172,8 @@ impl Key {
             Key::PacketTimeoutHeight => "packet_timeout_height",
             Key::PacketTimeoutTimestamp => "packet_timeout_timestamp",
             Key::Pagination => "pagination",
+            Key::Parts => "parts",
+            Key::ProposerAddress => "proposer_address",
             Key::PubKey => "pub_key",
             Key::RevisionHeight => "revision_height",
             Key::RevisionNumber => "revision_number",
@@ -163,8 +194,31 @@ impl Key {
             Key::Validators => "validators",
             Key::ValidatorsHash => "validators_hash",
             Key::Value => "value",
+            Key::Version => "version",
             Key::VotingPower => "voting_power",
             Key::Whole => "-",
+        }
+    }
+
+    /// The name in camel case, as protojson writes it, of a field of a client's answers; of others the name.
+    pub fn camel_name(self) -> &'static str
+        ensures { result.now ≡ camel_name self }
+    {
+        match self {
+            Key::ChainId => "chainId",
+            Key::ClientState => "clientState",
+            Key::ConsensusState => "consensusState",
+            Key::ConsensusStates => "consensusStates",
+            Key::FrozenHeight => "frozenHeight",
+            Key::LatestHeight => "latestHeight",
+            Key::MaxClockDrift => "maxClockDrift",
+            Key::NextKey => "nextKey",
+            Key::NextValidatorsHash => "nextValidatorsHash",
+            Key::RevisionHeight => "revisionHeight",
+            Key::RevisionNumber => "revisionNumber",
+            Key::TrustLevel => "trustLevel",
+            Key::TrustingPeriod => "trustingPeriod",
+            _ => self.name(),
         }
     }
 }

@@ -10,4 +10,4 @@ mod scalar;
 pub use error::{AnswerError, FieldError, FieldErrorName};
 pub use field_path::{FieldPath, Key, Segment};
 pub use object::Object;
-pub use scalar::number_of;
+pub use scalar::{Bytes, number_of};

@@ -1,13 +1,17 @@
 //! The fields of an object in an answer.
-ghost use Rattle.std.specs.Prelude.{◌≡◌, None, Some};
+ghost use Rattle.std.specs.Prelude.{◌≡◌, None, Some, option_map};
 ghost use Rattle.serde_json.specs.View.{view, items_view};
-ghost use Rattle.rb_import_json.specs.FieldErrors.{Reads};
+ghost use Rattle.rb_import_json.specs.FieldErrors.{Reads, Gives};
 
-use crate::error::{FieldError, FieldErrorName};
+use crate::error::{AnswerError, FieldError, FieldErrorName};
 use crate::field_path::{FieldPath, Key, Segment};
-use crate::scalar::{address_of, chain_of, hash_of, height_of, key_of, moment_of, number_of};
+use crate::scalar::{
+    Bytes, address_of, base64_of, bytes_of, chain_of, hash_of, height_of, key_of, moment_of,
+    number_of, record_hash_of,
+};
 use rb_base::{ChainId, Height, Moment};
 use serde_json::Value;
+use std::alloc::Global;
 
 /// An object of an answer, and where it stands: which part it is, or an element of which, from 0.
 #[derive(Clone, Copy)]
@@ -18,7 +22,7 @@ pub struct Object<'a> {
 }
 
 impl<'a> Object<'a> {
-    ghost use Rattle.rb_import_json.specs.Fields.{object_view, flaw_at, field, inner, object, items, text, number, height, chain, time, hex, base64};
+    ghost use Rattle.rb_import_json.specs.Fields.{object_view, flaw_at, member, has, field, inner, object, items, text, number, number_or_zero, count, height, chain, time, hex, bytes, record_hash, base64, base64_bytes};
 
     /// The object that is this part.
     pub fn new(value: &'a Value, part: Segment) -> Object<'a>
@@ -56,12 +60,31 @@ impl<'a> Object<'a> {
         }
     }
 
+    /// What a field holds, by its name or by that in camel case, if it is there.
+    #[tactic(auto, unfolding(crate::specs::Fields::member))]
+    fn member(&self, key: Key) -> Option<&'a Value>
+        ensures { option_map (λ x. view x.now) result ≡ member key (view self.now.value.now) }
+    {
+        match self.value.get(key.name()) {
+            Some(value) => Some(value),
+            None => self.value.get(key.camel_name()),
+        }
+    }
+
+    /// Whether a field is there.
+    #[tactic(auto)]
+    pub fn has(&self, key: Key) -> bool
+        ensures { result ≡ has key (object_view self.now) }
+    {
+        self.member(key).is_some()
+    }
+
     /// What a field holds: `MissingField` where it isn't there.
     #[tactic(auto, using(crate::proofs::Steps::steps), unfolding(crate::specs::Fields::field))]
     pub fn field(&self, key: Key) -> Result<&'a Value, FieldError>
         ensures { Reads (λ x. view x.now) result (field key (object_view self.now)) }
     {
-        match self.value.get(key.name()) {
+        match self.member(key) {
             Some(value) => Ok(value),
             None => Err(self.flaw(key, FieldErrorName::MissingField)),
         }
@@ -126,6 +149,33 @@ impl<'a> Object<'a> {
         }
     }
 
+    /// The number of a field as `number` reads it, and 0 where it isn't there, as protojson leaves it out.
+    #[tactic(auto, using(crate::proofs::Steps::steps), unfolding(crate::specs::Fields::number_or_zero))]
+    pub fn number_or_zero(&self, key: Key) -> Result<u64, FieldError>
+        ensures { Reads (λ x. x) result (number_or_zero key (object_view self.now)) }
+    {
+        if self.has(key) {
+            self.number(key)
+        } else {
+            Ok(0)
+        }
+    }
+
+    /// The JSON number below 2^64 that a field holds, and 0 where it isn't there: `WrongType` where it holds
+    /// something else.
+    #[tactic(auto, using(crate::proofs::Steps::steps), unfolding(crate::specs::Fields::count))]
+    pub fn count(&self, key: Key) -> Result<u64, FieldError>
+        ensures { Reads (λ x. x) result (count key (object_view self.now)) }
+    {
+        if !self.has(key) {
+            return Ok(0);
+        }
+        match self.field(key)?.as_u64() {
+            Some(count) => Ok(count),
+            None => Err(self.flaw(key, FieldErrorName::WrongType)),
+        }
+    }
+
     /// The height that a field holds as a text of decimal digits, else `BadNumber`.
     #[tactic(auto, using(crate::proofs::Steps::steps), unfolding(crate::specs::Fields::height))]
     pub fn height(&self, key: Key) -> Result<Height, FieldError>
@@ -179,6 +229,43 @@ impl<'a> Object<'a> {
         match address_of(self.text(key)?) {
             Some(read) => Ok(read),
             None => Err(self.flaw(key, FieldErrorName::BadHex)),
+        }
+    }
+
+    /// The bytes, 64 at most, that a field holds in hexadecimal digits, else `BadHex`; none where it isn't there.
+    #[tactic(auto, using(crate::proofs::Steps::steps), unfolding(crate::specs::Fields::bytes))]
+    pub fn bytes(&self, alloc: Global, key: Key) -> Result<Bytes, AnswerError>
+        ensures { Gives (λ x. x.items) result (bytes key (object_view self.now)) }
+    {
+        if !self.has(key) {
+            return Ok(Bytes::new());
+        }
+        match bytes_of(alloc, self.text(key)?)? {
+            Some(read) => Ok(read),
+            None => Err(AnswerError::Invalid(self.flaw(key, FieldErrorName::BadHex))),
+        }
+    }
+
+    /// The hash that a field of a client's record holds in hexadecimal digits, or in base64 as protojson writes it, else
+    /// `BadHex`.
+    #[tactic(auto, using(crate::proofs::Steps::steps), unfolding(crate::specs::Fields::record_hash))]
+    pub fn record_hash(&self, key: Key) -> Result<[u8; 32], FieldError>
+        ensures { Reads (λ x. x) result (record_hash key (object_view self.now)) }
+    {
+        match record_hash_of(self.text(key)?) {
+            Some(read) => Ok(read),
+            None => Err(self.flaw(key, FieldErrorName::BadHex)),
+        }
+    }
+
+    /// The bytes, 64 at most, that a field holds in base64, else `BadBase64`.
+    #[tactic(auto, using(crate::proofs::Steps::steps), unfolding(crate::specs::Fields::base64_bytes))]
+    pub fn base64_bytes(&self, alloc: Global, key: Key) -> Result<Bytes, AnswerError>
+        ensures { Gives (λ x. x.items) result (base64_bytes key (object_view self.now)) }
+    {
+        match base64_of(alloc, self.text(key)?)? {
+            Some(read) => Ok(read),
+            None => Err(AnswerError::Invalid(self.flaw(key, FieldErrorName::BadBase64))),
         }
     }
 

@@ -1,11 +1,20 @@
 //! What a text says: a number, a height, an identifier, a time, or bytes.
-ghost use Rattle.std.specs.Prelude.{◌≡◌};
-ghost use Rattle.rb_import_json.specs.Values.{number_of, height_of, identifier_of, moment_of, bytes_of, key_of};
+ghost use Rattle.std.specs.Prelude.{◌≡◌, option_map, IfOk};
+ghost use Rattle.rb_import_json.specs.Values.{number_of, height_of, identifier_of, moment_of, bytes_of, bytes_up_to, base64_up_to, hash_of, up_to, key_of};
 
+use arrayvec::ArrayVec;
+use base64::DecodeAllocError;
 use base64::engine::general_purpose::STANDARD;
-use hex::FromHex;
+use hex::{FromHex, FromHexError};
 use jiff::Timestamp;
 use rb_base::{ChainId, Height, Moment};
+use std::alloc::{AllocError, Global};
+
+/// The most bytes of a hash that has no length of its own.
+const MAX_BYTES: usize = 64;
+
+/// At most 64 bytes.
+pub type Bytes = ArrayVec<u8, MAX_BYTES>;
 
 /// The number below 2^64 that decimal digits write.
 pub fn number_of(text: &str) -> Option<u64>
@@ -66,5 +75,53 @@ pub fn key_of(text: &str) -> Option<[u8; 32]>
     match STANDARD.decode_slice(text.as_bytes(), &mut bytes) {
         Ok(32) => Some(bytes),
         _ => None,
+    }
+}
+
+/// Bytes, where they are at most 64.
+fn up_to_64(bytes: &[u8]) -> Option<Bytes>
+    ensures { option_map (λ b. b.items) result ≡ up_to 64 bytes.now }
+{
+    if bytes.len() > MAX_BYTES {
+        return None;
+    }
+    let mut copy = Bytes::new();
+    copy.try_extend_from_slice(bytes).unwrap();
+    Some(copy)
+}
+
+/// The bytes, 64 at most, that hexadecimal digits write.
+#[tactic(auto, unfolding(crate::specs::Values::bytes_up_to))]
+pub fn bytes_of(alloc: Global, text: &str) -> Result<Option<Bytes>, AllocError>
+    ensures { IfOk result (λ r. option_map (λ b. b.items) r ≡ bytes_up_to 64 text.now) }
+{
+    match hex::decode(alloc, text) {
+        Ok(bytes) => Ok(up_to_64(bytes.as_slice())),
+        Err(FromHexError::OutOfMemory) => Err(AllocError),
+        Err(_) => Ok(None),
+    }
+}
+
+/// The bytes, 64 at most, of a text in base64.
+#[tactic(auto, unfolding(crate::specs::Values::base64_up_to))]
+pub fn base64_of(alloc: Global, text: &str) -> Result<Option<Bytes>, AllocError>
+    ensures { IfOk result (λ r. option_map (λ b. b.items) r ≡ base64_up_to 64 text.now) }
+{
+    match STANDARD.decode(alloc, text.as_bytes()) {
+        Ok(bytes) => Ok(up_to_64(bytes.as_slice())),
+        Err(DecodeAllocError::OutOfMemory) => Err(AllocError),
+        Err(DecodeAllocError::DecodeError(_)) => Ok(None),
+    }
+}
+
+/// The 32 bytes that hexadecimal digits write, or base64.
+#[tactic(auto, unfolding(crate::specs::Values::hash_of))]
+pub fn record_hash_of(text: &str) -> Option<[u8; 32]>
+    ensures { result ≡ hash_of text.now }
+{
+    if text.len() == 64 {
+        hash_of(text)
+    } else {
+        key_of(text)
     }
 }

@@ -2,6 +2,7 @@
 ghost use Rattle.std.specs.Prelude.{IfOk, MatchOption};
 ghost use Rattle.rb_import_notices.specs.Channels.{IsOfOthers, SaysChannels, TellChannels};
 
+use crate::shown::Shown;
 use rb_import_check::SavedAnswers;
 use rb_import_merge::{OtherSource, answers_at, other_source};
 use rb_import_setup::{PathSetup, Setup};
@@ -18,7 +19,12 @@ pub struct OtherChannel<'a> {
 impl fmt::Display for OtherChannel<'_> {
     fn fmt<W: fmt::Write>(&self, f: &mut fmt::Formatter<W>) -> fmt::Result {
         let path = self.path;
-        let OtherSource { named, told } = self.sources;
+        let named = Shown {
+            text: self.sources.named,
+        };
+        let told = Shown {
+            text: self.sources.told,
+        };
         write!(
             f,
             "notice OtherChannel at {path}: the answers tell of packets of {told}, none of {named}; see the path's port and channel"

@@ -2,6 +2,7 @@
 ghost use Rattle.std.specs.Prelude.{IfOk, MatchOption};
 ghost use Rattle.rb_import_notices.specs.Counterparties.{SaysCounterparties, SentToSeveral, TellCounterparties};
 
+use crate::shown::Shown;
 use rb_import_check::SavedAnswers;
 use rb_import_merge::{Counterparties, answers_at, several_counterparties};
 use rb_import_setup::{PathSetup, Setup};
@@ -19,7 +20,12 @@ pub struct SeveralCounterparties<'a> {
 impl fmt::Display for SeveralCounterparties<'_> {
     fn fmt<W: fmt::Write>(&self, f: &mut fmt::Formatter<W>) -> fmt::Result {
         let path = self.path;
-        let Counterparties { taken, other } = self.counterparties;
+        let taken = Shown {
+            text: self.counterparties.taken,
+        };
+        let other = Shown {
+            text: self.counterparties.other,
+        };
         write!(
             f,
             "notice SeveralCounterparties at {path}: packets were sent from its source to several destinations: those to {taken} are taken, those to others, as {other}, are passed over; write counterparty_port and counterparty_channel, beside port and channel, into the setup's path, so that they decide"

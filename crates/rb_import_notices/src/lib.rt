@@ -7,6 +7,7 @@ mod counterparties;
 mod excess;
 mod missing;
 mod notice;
+mod shown;
 mod stale;
 mod unsearched;
 mod unusable;

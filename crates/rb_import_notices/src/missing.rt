@@ -57,6 +57,42 @@ impl fmt::Display for MissingNextSet<'_> {
     }
 }
 
+/// The most lines of one client on records without their next set.
+const MAX_LINES: usize = 20;
+
+/// Writes a line for each of these, which stand client by client: at most 20 of a client, and one that counts its others.
+pub fn write_next_sets<W: fmt::Write>(
+    f: &mut fmt::Formatter<W>,
+    notices: &[MissingNextSet<'_>],
+) -> fmt::Result {
+    let mut client = "";
+    let mut count: usize = 0;
+    for notice in notices {
+        if notice.client != client {
+            write_rest(f, client, count)?;
+            client = notice.client;
+            count = 0;
+        }
+        if count < MAX_LINES {
+            writeln!(f, "{notice}")?;
+        }
+        count = count.saturating_add(1);
+    }
+    write_rest(f, client, count)
+}
+
+/// Writes how many of a client's records without their next set have no line of their own, if there are such.
+fn write_rest<W: fmt::Write>(f: &mut fmt::Formatter<W>, client: &str, count: usize) -> fmt::Result {
+    let rest = count.saturating_sub(MAX_LINES);
+    if rest == 0 {
+        return Ok(());
+    }
+    writeln!(
+        f,
+        "notice MissingNextSet at {client}: so it is of {rest} more of its stored records"
+    )
+}
+
 /// The chains that are tracked, of which there is no header.
 pub fn missing_headers<'a>(
     alloc: Global,

@@ -9,7 +9,9 @@ use crate::excess::{
     TooManyHeaders, TooManyPackets, TooManyRecords, TooManySets, too_many_headers,
     too_many_packets, too_many_records, too_many_sets,
 };
-use crate::missing::{MissingHeaders, MissingNextSet, missing_headers, missing_next_sets};
+use crate::missing::{
+    MissingHeaders, MissingNextSet, missing_headers, missing_next_sets, write_next_sets,
+};
 use crate::stale::{NothingFresh, nothing_fresh};
 use crate::unsearched::{MissingSearches, missing_searches};
 use crate::unusable::{
@@ -22,7 +24,8 @@ use std::alloc::{AllocError, Global};
 use std::fmt;
 
 /// What isn't among the answers, isn't written, can't be used or isn't sure, each kind in the setup's order, of one client's
-/// written records by rising height. Shown as a line each.
+/// written records by rising height. Shown as a line each, but of a client's records without their next set at most 20
+/// lines and one that counts the others.
 #[derive(Drop)]
 pub struct Notices<'a> {
     pub headers: Vec<MissingHeaders<'a>>,
@@ -51,7 +54,7 @@ impl fmt::Display for Notices<'_> {
         write_lines(f, self.future.as_slice())?;
         write_lines(f, self.goals.as_slice())?;
         write_lines(f, self.stale.as_slice())?;
-        write_lines(f, self.next_sets.as_slice())?;
+        write_next_sets(f, self.next_sets.as_slice())?;
         write_lines(f, self.searches.as_slice())?;
         write_lines(f, self.counterparties.as_slice())?;
         write_lines(f, self.channels.as_slice())
