@@ -122,5 +122,5 @@ base64 key o = do
 
 -- the elements of the array that is this part, each read so, after those before them
 abbrev pub each : {A : Type 0} → (Object → Result A FieldError) → Segment → List A → Items → Result (List A) FieldError
-each read part before no_items = Ok before
-each read part before (item d ds) = read (record { value = d; part = part; index = Some (length before) }) >>= λ x. each read part (before ++ x ∷ []) ds
+each read place before no_items = Ok before
+each read place before (item d ds) = read (record { value = d; part = place; index = Some (length before) }) >>= λ x. each read place (before ++ x ∷ []) ds
