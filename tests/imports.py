@@ -235,7 +235,7 @@ DAMAGES = [
     (STORED_FILE, gone("consensus_states"), "UnknownShape at -"),
     (STORED_FILE, put("consensus_states", True), "WrongType at consensus_states"),
     (STORED_FILE, gone(f"{CONSENSUS}.height"), f"MissingField at {CONSENSUS}.height"),
-    (STORED_FILE, put(f"{CONSENSUS}.height", True), f"MissingField at {CONSENSUS}.revision_number"),
+    (STORED_FILE, put(f"{CONSENSUS}.height", True), f"MissingField at {CONSENSUS}.revision_height"),
     (STORED_FILE, gone(f"{CONSENSUS}.consensus_state"), f"MissingField at {CONSENSUS}.consensus_state"),
     (STORED_FILE, put(f"{CONSENSUS}.consensus_state", True), f"MissingField at {CONSENSUS}.timestamp"),
     (STORED_FILE, gone(f"{CONSENSUS}.consensus_state.root"), f"MissingField at {CONSENSUS}.root"),
