@@ -9,9 +9,10 @@ fn of_name(name: &str) -> [u8; 32] {
     Sha256::digest(name.as_bytes())
 }
 
+/// The bytes of a field; none where they don't fit, which the hash tells.
 fn bytes(slice: &[u8]) -> HeaderBytes {
     let mut bytes = HeaderBytes::new();
-    bytes.try_extend_from_slice(slice).unwrap();
+    let _ = bytes.try_extend_from_slice(slice);
     bytes
 }
 
