@@ -3,6 +3,7 @@
 A function for each kind takes a size, whose default is that of the script at the limits; what else the script has of chains, sets,
 clients and turns is in proportion to it where the function doesn't say otherwise. It answers the script and how many lines of
 its report begin with these words."""
+import collections
 import dataclasses
 import functools
 import hashlib
@@ -93,25 +94,21 @@ def tables(size=1024, chains=28, late="", full_rows=3):
     return text, lines(len(turns), client=plans, label=plans * (size + heads - 1), unreachable=plans, update=0)
 
 
-def like(own, count):
-    """Keys whose addresses begin with the same two bytes as one of these keys' addresses."""
-    sha = hashlib.sha256
-    begins = {sha(bytes.fromhex(k)).digest()[:2] for k in own}
-    number = 0
-    while count:
-        number += 1
-        made = b"m%031d" % number
-        if sha(made).digest()[:2] in begins:
-            count -= 1
-            yield made.hex()
+def alike(count, tries):
+    """So many keys whose addresses begin with different pairs of bytes, and of the first so many keys all others whose addresses begin so, too."""
+    numbers = [b"m%031d" % number for number in range(tries)]
+    begins = [hashlib.sha256(number).digest()[:2] for number in numbers]
+    common = {begin for begin, _ in collections.Counter(begins).most_common(count)}
+    found = [(begin, number.hex()) for begin, number in zip(begins, numbers) if begin in common]
+    first = {begin: k for begin, k in reversed(found)}
+    return [*first.values()], [k for begin, k in found if first[begin] != k]
 
 
 def collide_late(size=4077):
     """Eighteen sets come after the headers were planned. None of their members is in the headers' own set, but each member's address begins with
     the same two bytes as one there. They are sets of 10,000 in the script at the limits, and the own set has 500 members."""
     chance, own, sets = random.Random(5), share(500, size, 4077, least=3), 18
-    mine = [key(n) for n in range(own)]
-    others = [*like(mine, own * share(120, size, 4077, least=2))]
+    mine, others = alike(own, share(1_000_000, size, 4077, least=50_000))
     large = min(share(10_000, size, 4077), len(others))
     of_keys = lambda keys, power: "[%s]" % ",".join(f'["{k}",{power()}]' for k in keys)
     first = [a_set("o", of_keys(mine, lambda: 1), "a")]
