@@ -1,8 +1,8 @@
 """Valid scripts that cost a planner the most, each kind from a small one up to the limits of the format.
 
-A function for each kind takes a size, whose default is that of the script at the limits; what else the script has of chains, sets,
-clients and turns is in proportion to it where the function doesn't say otherwise. It answers the script and how many lines of
-its report begin with these words."""
+There is a function for each kind. Its first argument is a size, by default that of the script at the limits. Sets, clients and turns grow
+with the size, unless the function says otherwise; the number of chains doesn't. Its value is the script's text, and how many lines of
+the report begin with which word."""
 import collections
 import dataclasses
 import functools
@@ -25,7 +25,7 @@ VERSION = "version = 2\n"
 
 
 def share(whole, size, full, least=1):
-    """So much of what the script at the limits has."""
+    """What a script of this size has, where the one at the limits has the whole."""
     return max(least, whole * size // full)
 
 
@@ -46,9 +46,9 @@ def power_of(number):
     return 7 * number + 1
 
 
-def single(number, chain, power=power_of):
+def single(number, chain):
     """A set of one member, whose power tells it from the others of its chain."""
-    return a_set(f"s{number}", members([0], lambda _: power(number)), chain)
+    return a_set(f"s{number}", members([0], lambda _: power_of(number)), chain)
 
 
 # ---- tables of steps
@@ -75,10 +75,10 @@ def set_hash(number):
     return ValidatorSet([(bytes.fromhex(key(0)), power_of(number))]).hash.hex()
 
 
-def tables(size=1024, chains=28, late="", full_rows=3):
-    """Each chain has so many sets and records that name them, and three times as many headers, each of which all the sets signed.
+def tables(size=1024, chains=28, late=""):
+    """Each chain has so many sets and records that name them, and three times as many headers, each signed by the member of all sets.
     The sets come first; or in a second turn, by `falling` or `rising` hash, when the table has been made."""
-    ids, heads = names(chains), full_rows * size
+    ids, heads = names(chains), 3 * size
     hashes = [set_hash(n) for n in range(size)]
     first, second = [], []
     for c in ids:
@@ -95,7 +95,7 @@ def tables(size=1024, chains=28, late="", full_rows=3):
 
 
 def alike(count, tries):
-    """So many keys whose addresses begin with different pairs of bytes, and of the first so many keys all others whose addresses begin so, too."""
+    """So many keys whose addresses begin with different pairs of bytes, and more keys with these beginnings, all from so many tries."""
     numbers = [b"m%031d" % number for number in range(tries)]
     begins = [hashlib.sha256(number).digest()[:2] for number in numbers]
     common = {begin for begin, _ in collections.Counter(begins).most_common(count)}
@@ -121,7 +121,7 @@ def collide_late(size=4077):
 
 
 def reverse_headers(size=4096, chains=40, late=False):
-    """Headers of each chain from the highest down, in one turn; late: when the clients were planned once."""
+    """Headers of each chain from the highest down; late: in a second turn, when each chain has a table."""
     ids = names(chains)
     events = [a_set("s", members([0]), c) for c in ids]
     events += [header(h, "C", chain=c) for h in range(size, 0, -1) for c in ids]
@@ -146,8 +146,8 @@ def growing(size=500, chains=40):
 
 
 def ladder(size=4095, clients=256, turns=500):
-    """Each header is accepted on the word of the record before it (or of one that is a multiple of the number of sets below), so that
-    a list has as many updates as there are sets. It is over the gas limit: no batch is opened, and it is asked for again each turn."""
+    """Each header is accepted on the word of the record before it (or of one lower by a multiple of the number of sets), so that a list
+    has nearly as many updates as there are sets. Each update is over the gas limit: no batch is opened, and each turn asks for it again."""
     ids, turns = names(share(clients, size, 4095), "c"), share(turns, size, 4095, least=2)
     sets = share(1024, size, 4095, least=2)
     events = [a_set(f"s{n}", members([n]), "a") for n in range(sets)] + [stored(c, 1, "s0") for c in ids]
