@@ -441,7 +441,7 @@ NAMED, BOTH_NAMED, MISNAMED = (swapped(PATH_GAS, PATH_GAS + ends) for ends in (S
 NO_RECORD = edited(STORED_FILE, put("consensus_states", []))
 NOTHING_FOUND = written(RECEIVED_FILE, '{"result": {"txs": [], "total_count": "0"}}')
 # the setup by its number, its change and that of the folder, after which the script is written all the same, and the lines that tell why updates
-# may be missed; header 80 is of 12:08:32.3
+# may be missed; header 80 is of 12:08:32.803238123
 NOTICES = [
     (0, str, in_turn(removed("hub-4/commit-1.json"), edited(STORED_FILE, put(f"{CONSENSUS}.consensus_state.next_validators_hash", "00" * 32))), [NEXT_SET % (1, 2)]),
     (0, str, lambda folder: [file.unlink() for file in (folder / "hub-4").glob("*.json")], [
@@ -459,13 +459,16 @@ NOTICES = [
         edited(f"hub-4/validators-90-{page}.json", put("result.block_height", "90"))))), []),
     (0, str, in_turn(removed(COMMIT_FILE), edited(STORED_FILE, gone("consensus_states[1]"))), [GOAL % (80, "at or above the goal's", 80, 80)]),
     (0, swapped(SETTING, SETTING + "period_ns = 1\n"), removed(), [EXPIRED % "all 2 stored records have expired at the window's end"]),
-    (0, swapped(SETTING, SETTING + "period_ns = 563_000_000_000\n"), removed(), []),  # record 80 is trusted until 12:17:55.3
+    (0, swapped(SETTING, SETTING + "period_ns = 563_000_000_000\n"), removed(), []),  # record 80 is trusted until 12:17:55.8
+    # record 80 is trusted to the window's end, and a nanosecond longer
+    (0, swapped(SETTING, SETTING + "period_ns = 57_196_761_877\n"), removed(), [EXPIRED % "all 2 stored records have expired at the window's end"]),
+    (0, swapped(SETTING, SETTING + "period_ns = 57_196_761_878\n"), removed(), []),
     (0, swapped(SETTING, SETTING + "period_ns = 1\n"), edited(STORED_FILE, gone("consensus_states[0]")), [EXPIRED % "its stored record has expired at the window's end"]),
     (0, str, NO_RECORD, [EXPIRED % "it has stored no record"]),
     (0, swapped(FROM, "12:08:32Z"), removed(), [FUTURE % (80, 1)]),
     (0, swapped(FROM, "12:00:01Z"), removed(), [FUTURE % (1, 2)]),
     (0, swapped(FROM, "12:08:33Z"), removed(), []),
-    # at the window's end header 80 is 57.7 seconds old
+    # at the window's end header 80 is 57.2 seconds old
     (0, swapped(SETTING, SETTING + "refresh_ns = 57_000_000_000\n"), removed(), [FRESH]),
     (0, swapped(SETTING, SETTING + "refresh_ns = 58_000_000_000\n"), removed(), []),
     (0, swapped(SETTING, SETTING + "refresh_ns = 1\n"), NO_RECORD, [EXPIRED % "it has stored no record"]),

@@ -1,4 +1,5 @@
-//! A board whose pen writes while desks look: what a desk shows never gets shorter, and is a beginning of what was written.
+//! A board whose pen writes while desks look: what a desk shows never gets shorter, and is a beginning of what was written. A desk that
+//! was told of more than is published shows nothing, and each mark of a packet is on its own path.
 use crate::run::{Deed, event_of, start};
 use rb_board::{Desk, DeskError, Note, Pen, open};
 use rb_scan::Packet;
@@ -152,5 +153,59 @@ fn desks_show_beginnings_while_the_pen_writes(rt: HostRuntime) -> Result<(), Fai
     let (written, one, other) = write_and_watch(&rt, alloc, board, &told);
     let ends = (written as u64, is_closed(one), is_closed(other));
     assert!(rt; ends == (PACKETS, true, true), "{ends:?}");
+    Ok(())
+}
+
+/// Whether a desk that was told of an event that isn't published yet is behind, also when it is told of fewer events after that.
+fn stays_behind(desk: &mut Desk) -> bool {
+    desk.learn(Note { front: 1 });
+    desk.learn(Note { front: 0 });
+    matches!(desk.front(), Err(DeskError::Behind))
+}
+
+/// Takes in what happens to a packet; tells whether that was noted.
+fn is_noted(alloc: Global, pen: &mut Pen, deed: Deed) -> bool {
+    match event_of(alloc, deed) {
+        Some(event) => pen.append(event).is_ok(),
+        None => false,
+    }
+}
+
+/// Sends a packet on the second path, clears it, and publishes both; tells whether all that was done.
+fn clear_on_second_path<R: Wait>(rt: &R, alloc: Global, pen: Pen) -> (Pen, bool) {
+    let mut pen = pen;
+    let is_sent = is_noted(alloc, &mut pen, Deed::Sent(1, 3, 5, 0));
+    let is_cleared = is_noted(alloc, &mut pen, Deed::Cleared(1, 3));
+    let (pen, published) = pen.publish(rt);
+    (pen, is_sent && is_cleared && published.is_ok())
+}
+
+/// Whether a desk shows the one packet of the second path as cleared.
+fn shows_cleared(desk: &mut Desk) -> bool {
+    match desk.view_path(1) {
+        Ok(view) => view
+            .packets()
+            .iter()
+            .filter(|packet| packet.is_cleared())
+            .count()
+            == 1,
+        Err(_) => false,
+    }
+}
+
+#[test]
+fn desks_show_what_they_were_told_of(rt: HostRuntime) -> Result<(), Fail> {
+    let alloc = rt.alloc();
+    let (pen, mut one, mut other) = open_two(&rt, alloc).ok_or("board")?;
+    let is_behind = stays_behind(&mut one);
+    let (pen, is_done) = clear_on_second_path(&rt, alloc, pen);
+    let shown = (
+        is_behind,
+        is_done,
+        shows_cleared(&mut one),
+        shows_cleared(&mut other),
+    );
+    pen.close(&rt);
+    assert!(rt; shown == (true, true, true, true), "{shown:?}");
     Ok(())
 }

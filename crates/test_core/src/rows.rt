@@ -23,6 +23,7 @@ const ORDER: &[Row] = &[
     // a client isn't there, or no window yet
     (Deed::Draft(2), "801 UnknownObject"),
     (Deed::Draft(0), "805 OutOfOrder"),
+    (Deed::Draft(1), "805 OutOfOrder"),
     (Deed::Last, "801 UnknownObject"),
     // windows and goals
     (Deed::Window(50, 60), "Noted"),
@@ -200,6 +201,7 @@ const RECEIVES: &[Row] = &[
     (Deed::Made(7), "802 Stale"),
     (Deed::Draft(0), SECOND_PLAN),
     (Deed::Last, "Opened(2)"),
+    (Deed::Made(6), "804 Repeat"),
     (Deed::Settled(0, 1, 0), "804 Repeat"),
     // nothing is taken
     (Deed::Settled(0, 2, 0), "Noted"),
