@@ -1,5 +1,5 @@
 use crate::make::assert_same;
-use crate::run::{Deed, Row, Run, start};
+use crate::run::{Deed, Row, Run, start, start_dear};
 use rb_base::Part;
 use rb_book::Vote;
 use std::test::Fail;
@@ -23,7 +23,6 @@ const ORDER: &[Row] = &[
     // a client isn't there, or no window yet
     (Deed::Draft(2), "801 UnknownObject"),
     (Deed::Draft(0), "805 OutOfOrder"),
-    (Deed::Draft(1), "805 OutOfOrder"),
     (Deed::Last, "801 UnknownObject"),
     // windows and goals
     (Deed::Window(50, 60), "Noted"),
@@ -114,6 +113,27 @@ fn refuses_in_order(rt: HostRuntime) -> Result<(), Fail> {
     run.go(&rt, alloc, FOREIGN)?;
     run.core = start(alloc, 3, &[]).ok_or("start")?;
     run.go(&rt, alloc, ORDER)
+}
+
+/// A plan of a client, made on another machine, where the client's updates cost more.
+const ELSEWHERE: &[Row] = &[(Deed::Window(50, 60), "Noted"), (Deed::Draft(2), "idle")];
+
+/// It is offered before the first window and in the same window, and then a plan of this machine.
+const OF_ANOTHER: &[Row] = &[
+    (Deed::Last, "805 OutOfOrder"),
+    (Deed::Window(50, 60), "Noted"),
+    (Deed::Last, "802 Stale"),
+    (Deed::Draft(2), "idle"),
+    (Deed::Last, "Noted"),
+];
+
+#[test]
+fn refuses_plans_of_another_machine(rt: HostRuntime) -> Result<(), Fail> {
+    let alloc = rt.alloc();
+    let mut run = Run::new(alloc, start_dear(alloc).ok_or("start")?);
+    run.go(&rt, alloc, ELSEWHERE)?;
+    run.core = start(alloc, 3, &["third"]).ok_or("start")?;
+    run.go(&rt, alloc, OF_ANOTHER)
 }
 
 /// Sets and headers of both chains, of which each client has stored height 1, and can be brought to

@@ -5,7 +5,7 @@ use crate::make::{
     assert_same, make_config, make_header, make_lone_set, make_record, make_set, second,
 };
 use crate::tell::{answer_text, reply_text, scan_text};
-use rb_base::{Height, Part, Window};
+use rb_base::{FeeTable, Height, Part, Window};
 use rb_book::{ChainBook, Vote};
 use rb_core::Core;
 use rb_core_model::{CoreError, Event, Reply, scan};
@@ -68,6 +68,18 @@ pub struct Run {
 /// clients.
 pub fn start(alloc: Global, limit: usize, more: &[&'static str]) -> Option<Core> {
     let config = make_config(alloc, limit, more)?;
+    if !is_config(&config) {
+        return None;
+    }
+    Core::new(alloc, config).ok()
+}
+
+/// A machine with a third client, whose updates cost more than those of the others.
+pub fn start_dear(alloc: Global) -> Option<Core> {
+    let mut config = make_config(alloc, 3, &["third"])?;
+    let fees = FeeTable::new(200, 1, 1).ok()?;
+    let client = config.clients.get_mut(2)?;
+    client.fees = fees;
     if !is_config(&config) {
         return None;
     }
