@@ -284,6 +284,26 @@ def answers_in(folder):
     return [json.loads(path.read_text()) for path in sorted(folder.glob("*.json"))]
 
 
+def is_needed(answer):
+    """Whether an answer on a chain is to one of the two queries that are needed."""
+    return any(name in answer.get("result", answer) for name in ("signed_header", "validators"))
+
+
+def bad_votes(folder):
+    """The places of bad votes of the commits of a chain's folder that verdicts tell of, by height."""
+    found = {}
+    for verdict in [v for answer in answers_in(folder) for v in answer.get("verdicts", {}).get("commits", [])]:
+        for path in folder.glob("*.json"):
+            if sha(path.read_bytes()).hex() == verdict["sha256"]:
+                found[int(json.loads(path.read_text())["result"]["signed_header"]["header"]["height"])] = verdict["bad"]
+    return found
+
+
+def votes_of(signatures, bad):
+    """The letters of a commit's votes, of which those at these places are bad: a bad one for the block is B."""
+    return "".join("B" if place in bad and s["block_id_flag"] == 2 else LETTERS[s["block_id_flag"]] for place, s in enumerate(signatures))
+
+
 def root_of(data):
     """The root that a script has of bytes in an answer."""
     return (data if len(data) == 32 else sha(data)).hex()
@@ -291,8 +311,8 @@ def root_of(data):
 
 def chain_events(folder, name, named):
     """The sets that headers or records name, the highest first and no more than 1,024, and the headers, no more than 4,096, of them."""
-    headers, pages = {}, {}
-    for answer in answers_in(folder / name):
+    headers, pages, bad = {}, {}, bad_votes(folder / name)
+    for answer in filter(is_needed, answers_in(folder / name)):
         result = answer["result"]
         if "signed_header" in result:
             signed = result["signed_header"]
@@ -318,7 +338,7 @@ def chain_events(folder, name, named):
         events.append({"kind": "header", "chain": name, "height": height, "time": nanoseconds(header["time"]),
                        "root": root_of(bytes.fromhex(header["app_hash"])), "set": reference[header["validators_hash"].lower()],
                        "next": reference.get(header["next_validators_hash"].lower(), header["next_validators_hash"].lower()),
-                       "votes": "".join(LETTERS[s["block_id_flag"]] for s in commit["signatures"])})
+                       "votes": votes_of(commit["signatures"], bad.get(height, []))})
     return events, reference
 
 
@@ -334,7 +354,7 @@ def packet_events(folder, path):
     and that the path is closed, if it is ordered and one of them timed out."""
     found, dest_revision = [], int(path["dest"].rsplit("-", 1)[1])
     for answer in answers_in(folder / path["id"]):
-        for tx in answer["result"]["txs"]:
+        for tx in answer.get("result", {}).get("txs", []):
             for event in tx["tx_result"]["events"] if tx["tx_result"]["code"] == 0 else []:
                 values = {a["key"]: a["value"] for a in event["attributes"]}
                 if "cGFja2V0X3NlcXVlbmNl" in values:
@@ -378,7 +398,7 @@ def height_of(state):
 def kept(records, folder):
     """The records that a book of 4,096 has room for beside its chain's headers: the highest, and those of a header's height."""
     for chain in {client["of"] for client, _ in records}:
-        headers = {int(a["result"]["signed_header"]["header"]["height"]) for a in answers_in(folder / chain) if "signed_header" in a["result"]}
+        headers = {int(a["result"]["signed_header"]["header"]["height"]) for a in answers_in(folder / chain) if "signed_header" in a.get("result", {})}
         headers = set(sorted(headers)[-4096:])
         bare = sorted({height_of(state) for client, state in records if client["of"] == chain} - headers)
         gone = set(bare[:max(len(bare) + len(headers) - 4096, 0)])

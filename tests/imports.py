@@ -3,6 +3,8 @@
 For each seed the script that `import` writes has the values of the plain reading, for one client, and for two clients, a path
 and two turns; `plan` of that script is what the reference planner says. Where headers or next sets are missing, the script is written,
 and a line tells each. Then each answer that is spoiled in one place has its error, which names the file, and nothing is written."""
+import gzip
+import hashlib
 import json
 import random
 import re
@@ -14,7 +16,7 @@ import tomllib
 from datetime import timedelta
 
 import answers
-from program import TOP, Case
+from program import TOP, Case, SafeCase
 
 sys.path.insert(0, str(TOP / "tests" / "reference"))
 import reference
@@ -169,6 +171,7 @@ SIGNED, HEADER, COMMIT = "result.signed_header", "result.signed_header.header", 
 SIGNATURE, FIRST = f"{COMMIT}.signatures[0]", "result.validators[0]"
 STATE, CONSENSUS, TX, PACKET = "client_state", "consensus_states[0]", "result.txs[0]", "result.txs[0].tx_result.events[1].attributes"
 COMMIT_FILE, PAGE_FILE, STATE_FILE, STORED_FILE = "hub-4/commit-80.json", "hub-4/validators-80-1.json", "hub-on-zone/client_state.json", "hub-on-zone/consensus_states.json"
+VERDICTS = "hub-4/verdicts.json"
 SENT_FILE, RECEIVED_FILE, CLEARED_FILE = "transfers/sent.json", "transfers/received.json", "transfers/cleared.json"
 BIG, LONG = "9223372036854775808", "9223372037s"
 # fields of a header that only its hash needs
@@ -340,6 +343,23 @@ def many(value):
         value["consensus_states"].append(state)
 
 
+def judged(*verdicts, chain="hub-4", lists=None, **more):
+    """The change that adds verdicts on the commits of hub-4 at some heights, with the places of bad and unchecked votes and the number of good ones."""
+    def change(folder):
+        commits = []
+        for height, bad, unchecked, good in verdicts:
+            data = (folder / f"hub-4/commit-{height}.json").read_bytes()
+            count = len(json.loads(data)["result"]["signed_header"]["commit"]["signatures"])
+            commits.append({"height": str(height), "block": "00" * 32, "answer": f"commit-{height}.json", "sha256": hashlib.sha256(data).hexdigest(),
+                            "votes": count, "good": good, "bad": bad, "unchecked": unchecked})
+        head = {"version": 1, "verifier": "verify_commits 1 (made up)", "checked": "nothing", "chain": chain}
+        edit = lists or (lambda value: None)
+        value = {"verdicts": head | {"commits": commits} | more}
+        edit(value)
+        answers.write(folder / "hub-4" / "verdicts.json", value)
+    return change
+
+
 def in_turn(*changes):
     return lambda folder: [change(folder) for change in changes]
 
@@ -375,7 +395,17 @@ INTO = " into files *.json of the folder "
 
 # changes of the folder, the line that tells them, the status, and the files that are named
 CHANGES = [
-    (written(COMMIT_FILE, "{"), "refused NotJson at -", 1, [COMMIT_FILE]),
+    (written(COMMIT_FILE, '{"result": true]'), "refused CutShort at -", 1, [f"{COMMIT_FILE}: it begins with '{{' and doesn't end with '}}': was it cut short? ask the node again\n"]),
+    (written(COMMIT_FILE, ' {"result": {"signed_header": '), "refused CutShort at -", 1, [COMMIT_FILE]),
+    (written(COMMIT_FILE, '{"result": true,}'), "refused NotJson at -", 1, [f"{COMMIT_FILE}: this is no JSON in UTF-8; save the node's answer as it came\n"]),
+    (written(COMMIT_FILE, "too many requests"), "refused NotJson at -", 1, [COMMIT_FILE]),
+    (written(COMMIT_FILE, ""), "refused Empty at -", 1, [f"{COMMIT_FILE}: it is empty; ask the node again\n"]),
+    (written(COMMIT_FILE, " \t\r\n"), "refused Empty at -", 1, [COMMIT_FILE]),
+    (written(COMMIT_FILE, "\n<html><head><title>502 Bad Gateway</title></head></html>\n"), "refused ErrorPage at -", 1, [
+        f"{COMMIT_FILE}: it begins with '<': an error page? what stands before the node may answer so; ask it again, or another node\n"]),
+    (lambda folder: (folder / COMMIT_FILE).write_bytes(gzip.compress((folder / COMMIT_FILE).read_bytes())), "refused Compressed at -", 1, [
+        f"{COMMIT_FILE}: it is compressed with gzip; unpack it (gunzip), or save it as `curl --compressed` does\n"]),
+    (lambda folder: (folder / COMMIT_FILE).write_bytes(b"\x1f"), "refused NotJson at -", 1, [COMMIT_FILE]),
     (padded(COMMIT_FILE, 2**24 + 1), "refused TooBig at -", 1, [f"{COMMIT_FILE}: an answer has at most 16,777,216 bytes; ask for fewer of them on a page (per_page=20)\n"]),
     (written("hub-4/status.json", "{}"), "refused UnknownShape at -", 1, ["hub-4/status.json"]),
     (written("hub-on-zone/gateway.json", '{"code": 5, "message": "client not found", "details": []}'), "refused NodeError at -", 1, [f'gateway.json: {ADVICE}; it said "client not found"\n']),
@@ -388,13 +418,13 @@ CHANGES = [
     (edited(COMMIT_FILE, put("error", 5)), "refused NodeError at -", 1, [f"{COMMIT_FILE}: {ADVICE}\n"]),
     (written(COMMIT_FILE, '{"message": "API rate limit exceeded"}'), "refused NodeError at -", 1, [f'{COMMIT_FILE}: {ADVICE}; it said "API rate limit exceeded"\n']),
     (moved(COMMIT_FILE, "hub-4/again.json", copy=True), "refused TwoAnswers at hub-4 80", 1, [COMMIT_FILE, "hub-4/again.json"]),
-    (written("hub-4/\x1b[1m.json", "{"), "refused NotJson at -", 1, [r"hub-4/\u{1b}[1m.json: "]),
+    (written("hub-4/\x1b[1m.json", "{"), "refused CutShort at -", 1, [r"hub-4/\u{1b}[1m.json: "]),
     (moved(COMMIT_FILE, "hub-4/again\n.json", copy=True), "refused TwoAnswers at hub-4 80", 1, [COMMIT_FILE, r"hub-4/again\u{a}.json"]),
     (moved(PAGE_FILE, "hub-4/again.json", copy=True), "refused TooManyValidators at hub-4 80", 1, ["hub-4/again.json", "one is there twice, perhaps under another name; keep each page once\n"]),
     (removed("hub-4/validators-80-2.json"), "refused MissingPage at hub-4 80", 1, [COMMIT_FILE, PAGE_FILE]),
     (removed(PAGE_FILE, "hub-4/validators-80-2.json"), "refused MissingSet at hub-4 80", 1, [COMMIT_FILE, "/validators?height=80&per_page=100 into files *.json of the folder hub-4\n"]),
-    (edited(COMMIT_FILE, put(f"{HEADER}.chain_id", "hub-5")), "refused OtherChain at hub-4 80", 1, [f"{COMMIT_FILE}: the answer is on another chain; fetch it"]),
-    (edited(STATE_FILE, put(f"{STATE}.chain_id", "hub-5")), "refused OtherChain at hub-on-zone 0", 1, [f"{STATE_FILE}: ", "follows another chain than the setup's `of` says"]),
+    (edited(COMMIT_FILE, put(f"{HEADER}.chain_id", "hub-5")), "refused OtherChain at hub-4 80", 1, [f"{COMMIT_FILE}: the answer is on another chain, hub-5; fetch it"]),
+    (edited(STATE_FILE, put(f"{STATE}.chain_id", "hub-5")), "refused OtherChain at hub-on-zone 0", 1, [f"{STATE_FILE}: the answer is on another chain, hub-5; this client follows, or"]),
     (edited(PAGE_FILE, put("result.block_height", "79")), "refused MissingPage at hub-4 80", 1, [COMMIT_FILE, "hub-4/validators-80-2.json"]),
     (removed(STATE_FILE), "refused MissingClientState at hub-on-zone", 1, [f"client_states/ID{INTO}hub-on-zone\n"]),
     (moved(STATE_FILE, "hub-on-zone/again.json", copy=True), "refused TwoAnswers at hub-on-zone 0", 1, [STATE_FILE, "again.json"]),
@@ -410,6 +440,21 @@ CHANGES = [
     (saved(answers.transaction(33, answers.packet_event("send_packet", 3, 0, limit="1-7"))), "refused TwoAnswers at transfers 3", 1, ["more.json", "sent.json"]),
     (saved(answers.transaction(33, answers.packet_event("send_packet", 3, LATER))), "refused TwoAnswers at transfers 3", 1, ["more.json", "sent.json"]),
     (saved(answers.transaction(36, answers.packet_event("recv_packet", 9, 0))), "refused MissingSend at transfers 9", 1, ["more.json"]),
+    # verdicts that don't fit, or are none
+    (in_turn(judged((80, [0], [], 3)), moved(VERDICTS, "hub-4/again.json", copy=True)), "refused TwoAnswers at hub-4 0", 1, ["hub-4/again.json and ", VERDICTS]),
+    (in_turn(judged((80, [0], [], 3)), moved(VERDICTS, "hub-on-zone/verdicts.json", copy=True)), "refused WrongFolder at hub-on-zone 0", 1, ["hub-on-zone/verdicts.json"]),
+    (in_turn(judged((80, [0], [], 3)), moved(VERDICTS, "transfers/verdicts.json", copy=True)), "refused WrongFolder at transfers 0", 1, ["transfers/verdicts.json"]),
+    (judged((80, [0], [], 3), chain="hub-5"), "refused OtherChain at hub-4 0", 1, [f"{VERDICTS}: the answer is on another chain, hub-5; "]),
+    (judged(version=2), "refused BadVersion at verdicts.version", 1, [VERDICTS]),
+    (judged(lists=gone("verdicts.version")), "refused BadVersion at verdicts.version", 1, [VERDICTS]),
+    (judged(lists=gone("verdicts.verifier")), "refused MissingField at verdicts.verifier", 1, [VERDICTS]),
+    (judged(lists=gone("verdicts.chain")), "refused MissingField at verdicts.chain", 1, [VERDICTS]),
+    (judged(lists=put("verdicts.commits", {})), "refused WrongType at verdicts.commits", 1, [VERDICTS]),
+    (judged(lists=put("verdicts", [])), "refused WrongType at verdicts", 1, [VERDICTS]),
+    *((judged((1, [], [], 6), (80, bad, unchecked, 3)), f"refused BadPlace at verdicts.commits[1].{name}", 1, [VERDICTS])
+      for bad, unchecked, name in (([6], [], "bad"), ([1, 1], [], "bad"), ([2, 1], [], "bad"), ([-1], [], "bad"), (["0"], [], "bad"), ([0], [4, 2**64], "unchecked"))),
+    (judged((80, [], [], 6), lists=put("verdicts.commits[0].sha256", "00")), "refused BadHex at verdicts.commits[0].sha256", 1, [VERDICTS]),
+    (judged((80, [], [], 6), lists=put("verdicts.commits[0].votes", 7)), "refused OtherVerdict at hub-4 80", 1, [f"{COMMIT_FILE}: the verdict on this commit tells of another"]),
     (removed_folder("hub-4"), "device", 4, ["hub-4"]),
     (removed_folder("transfers"), "device", 4, ["transfers"]),
 ]
@@ -435,6 +480,7 @@ FRESH = ("notice NothingFresh at hub-on-zone: its records are due for a refresh 
 PACKETS = ("notice TooManyPackets at transfers: %d packets were sent, and a path holds 4,096, so that the later ones are refused; if all packets before %d are "
            "finished, give the path first = %d in the setup\n")
 CHANNEL = "notice OtherChannel at transfers: the answers tell of packets of transfer/channel-0, none of transfer/channel-9; see the path's port and channel\n"
+WARNING = "# Signatures were not verified: headers and votes stand as the nodes gave them.\n"
 SETTING, FROM, UNTIL = "drift_ns = 7\n", "12:09:20Z", "12:09:30Z"
 PATH_GAS = "gas = [5, 5, 5]\n"
 NAMED, BOTH_NAMED, MISNAMED = (swapped(PATH_GAS, PATH_GAS + ends) for ends in (SOURCE, ENDS, SOURCE.replace("channel-0", "channel-9")))
@@ -504,6 +550,58 @@ NOTICES = [
     (1, str, in_turn(removed(SENT_FILE, CLEARED_FILE), NOTHING_FOUND), [UNSEARCHED % "send_packet, recv_packet, acknowledge_packet or timeout_packet"]),
     (1, str, NOTHING_FOUND, []),
 ]
+
+
+UNVERIFIED = ("notice NotVerified at hub-4: verdicts.json has no verdict on the commits of %d headers, so that their signatures were not verified; "
+              "run tools/verify_commits again\n")
+PASSED = "notice PassedOver at %s: answers that aren't needed: %s\n"
+CHAIN_QUERIES = {"/status": {"node_info": {}, "sync_info": {"latest_block_height": "81"}}, "/block_results": {"height": "80", "txs_results": None},
+                 "/blockchain": {"last_height": "80", "block_metas": []}, "/block": {"block_id": {}, "block": {"header": {}}}, "/header": {"header": {}},
+                 "/tx": {"hash": "00", "height": "7", "tx_result": {"code": 0}}}
+CLIENT_QUERIES = {"consensus_states/ID/heights": {"consensus_state_heights": [], "pagination": {}}, "client_status/ID": {"status": "Active"},
+                  "consensus_states/ID/revision/R/height/H": {"consensus_state": {}, "proof": None, "proof_height": {}}}
+PATH_QUERIES = {"packet_commitments": {"commitments": [], "pagination": {}}, "unreceived_packets": {"sequences": ["7"], "height": {}}}
+
+
+def beside(queries, folder, copies=1, wrap=lambda answer: answer):
+    """The change that adds so many answers to each of these queries."""
+    return in_turn(*(written(f"{folder}/beside-{number}-{copy}.json", json.dumps(wrap(answer)))
+                     for number, answer in enumerate(queries.values()) for copy in range(copies)))
+
+
+def in_result(answer):
+    return {"jsonrpc": "2.0", "id": -1, "result": answer}
+
+
+# as NOTICES: verdicts, with the line that the script begins with; and answers that aren't needed
+OPENINGS = [
+    (judged((1, [], [], 6), (80, [], [], 6)), "# signatures: 2 of 2 commits verified: 12 good, 0 bad, 0 not checkable; by verify_commits 1 (made up)\n", []),
+    (judged((1, [0, 3], [5], 2), (80, [0, 1, 2, 3, 4, 5], [], 0)), "# signatures: 2 of 2 commits verified: 2 good, 8 bad, 1 not checkable; by verify_commits 1 (made up)\n", []),
+    (judged((80, [2], [], 5)), "# signatures: 1 of 2 commits verified: 5 good, 1 bad, 0 not checkable; by verify_commits 1 (made up)\n", [UNVERIFIED % 1]),
+    (judged((80, [2], [], 5), lists=put("verdicts.commits[0].sha256", "00" * 32)), "# signatures: 0 of 2 commits verified: 0 good, 0 bad, 0 not checkable; by verify_commits 1 (made up)\n", [UNVERIFIED % 2]),
+    (in_turn(judged((80, [2], [], 5)), edited(COMMIT_FILE, put("id", 7))), "# signatures: 0 of 2 commits verified: 0 good, 0 bad, 0 not checkable; by verify_commits 1 (made up)\n", [UNVERIFIED % 2]),
+    (judged((1, [], [], 6), (80, [], [], 6), verifier="\n[[turn]]\n\x1b[1m\u202e\"" + "x" * 300),
+     "# signatures: 2 of 2 commits verified: 12 good, 0 bad, 0 not checkable; by ?[[turn]]??[1m??" + "x" * 300, []),
+    (beside(CHAIN_QUERIES, "hub-4", wrap=in_result), WARNING, [PASSED % ("hub-4", ", ".join(f"1 of {name}" for name in CHAIN_QUERIES))]),
+    (beside(CHAIN_QUERIES, "hub-4", copies=2), WARNING, [PASSED % ("hub-4", ", ".join(f"2 of {name}" for name in CHAIN_QUERIES))]),
+    (in_turn(beside(CLIENT_QUERIES, "hub-on-zone"), beside(PATH_QUERIES, "hub-4")), WARNING, [
+        PASSED % ("hub-4", "1 of packet_commitments, 1 of unreceived_packets"),
+        PASSED % ("hub-on-zone", "1 of consensus_states/ID/heights, 1 of consensus_states/ID/revision/R/height/H, 1 of client_status/ID")]),
+]
+
+
+def opening_cases(top):
+    """Verdicts on signatures, and answers that aren't needed: the script, the line that it begins with, and the notices."""
+    for number, (change, opening, lines) in enumerate(OPENINGS):
+        folder, setup, text = top / f"opening-{number}", top / f"opening-{number}.toml", setups(2)[0]
+        setup.write_text(text)
+        answers.make(folder, 1, between=0)
+        change(folder)
+        # 200 characters of words stand behind the line's beginning
+        first = (opening[:len("# signatures: ") + 200].rstrip("\n") + "\n").encode()
+        lines = [line.encode() for line in lines]
+        yield Case(f"opening {number}", ["import", str(setup), str(folder)], b"", (first, answers.script_of(text, folder)), b"".join(lines[:1]), 0,
+                   reader=lambda output: (output.splitlines(keepends=True)[0], values_of(output)), named=(b"".join(lines),))
 
 
 def files_of(file, line):
@@ -616,6 +714,52 @@ def taken_cases(top):
         yield Case(f"taken answers {number}", ["import", str(setup), str(folder)], b"", script, b"", 0, reader=values_of)
 
 
+STEERING = "\x1b]0;title\x07\x1b[31m\x9b2J\u202e"
+
+
+def places_in(value, path=()):
+    """The places of the members and texts of a value, of arrays those of the first element."""
+    if isinstance(value, dict):
+        for key, inner in value.items():
+            yield (*path, key), True
+            yield from places_in(inner, (*path, key))
+    elif isinstance(value, list):
+        yield from places_in(value[0], (*path, 0)) if value else ()
+    else:
+        yield path, False
+
+
+def steered(value, path, is_key):
+    """A value with control characters in the member or before the text at a place."""
+    value = json.loads(json.dumps(value))
+    holder = value
+    for step in path[:-1]:
+        holder = holder[step]
+    if is_key:
+        holder[STEERING + path[-1]] = holder.pop(path[-1])
+    else:
+        holder[path[-1]] = STEERING + str(holder[path[-1]])
+    return value
+
+
+def steering_cases(top):
+    """Answers with control characters in each member's name and in each value: none of them comes to an output. The setup names a counterparty in half of them."""
+    whole, texts = top / "steering", [mend(setups(2)[1]) for mend in (str, BOTH_NAMED)]
+    answers.make(whole, 1, between=0)
+    judged((1, [1], [2], 4), (80, [], [], 6))(whole)
+    for number, text in enumerate(texts):
+        (top / f"steering-{number}.toml").write_text(text)
+    found = {file: json.loads((whole / file).read_text()) for file in (COMMIT_FILE, PAGE_FILE, STATE_FILE, STORED_FILE, SENT_FILE, RECEIVED_FILE, CLEARED_FILE, VERDICTS)}
+    errors = {"error": {"code": -32603, "message": "Internal error", "data": "height 80 is not available"}}, {"error": "out of order"}, {"code": 5, "message": "not found", "details": []}
+    values = [(file, steered(value, *place)) for file, value in found.items() for place in places_in(value)]
+    values += [(COMMIT_FILE, steered(value, *place)) for value in (*errors, *map(in_result, CHAIN_QUERIES.values())) for place in places_in(value)]
+    for number, (file, value) in enumerate(values):
+        folder = top / "steered" / str(number)
+        shutil.copytree(whole, folder)
+        answers.write(folder / file, value)
+        yield SafeCase(f"control characters {number} in {file}", ["import", str(top / f"steering-{number % 2}.toml"), str(folder)], b"", b"", b"", 0)
+
+
 def import_cases(top, seeds):
     """The runs of `import`; the files that they read are written below a folder."""
     for seed in range(1, seeds + 1):
@@ -626,6 +770,8 @@ def import_cases(top, seeds):
     yield from busy_cases(top)
     yield from spoiled_cases(top)
     yield from taken_cases(top)
+    yield from opening_cases(top)
+    yield from steering_cases(top)
 
 
 def chain_cases(top, program):

@@ -1,14 +1,14 @@
 -- The text of a script that was made of answers.
-use Rattle.std.specs.Prelude.{ℕ, List, [], ◌∷◌, ◌++◌, codes, Bool, true, false, ◌&&◌, if◌then◌else◌}
+use Rattle.std.specs.Prelude.{ℕ, List, [], ◌∷◌, ◌+◌, ◌++◌, codes, Bool, true, false, ◌&&◌, if◌then◌else◌, Option, Some, None, Bor}
 use Rattle.rb_scan.specs.declared.path.Order.{Order}
 use Rattle.rb_scan.specs.declared.path.Order.TheVariants.{Ordered, Unordered}
 use Rattle.rb_import_setup.specs.declared.setup.PathSetup.{PathSetup}
 use Rattle.rb_import_merge.specs.declared.packets.SeenPacket.{SeenPacket}
 use Rattle.rb_import_merge.specs.Packets.{some_timed_out}
-
--- the line that it begins with
-abbrev pub warning : List ℕ
-warning = codes "# Signatures were not verified: headers and votes stand as the nodes gave them." ++ 10 ∷ []
+use Rattle.rb_import_answers.specs.declared.commit.Signature.{Signature}
+use Rattle.rb_import_answers.specs.declared.verdicts.Verdict.{Verdict}
+use Rattle.rb_import_check.specs.declared.chain.Commit.{Commit}
+use Rattle.rb_import_check.specs.Verdicts.{vote_letter}
 
 abbrev pub is_ordered : Order → Bool
 is_ordered Ordered = true
@@ -25,3 +25,19 @@ closed id = codes "  { kind = \"closed\", path = \"" ++ id ++ (codes "\" }," ++ 
 -- the event of a path's closing; nothing of a path that isn't closed
 abbrev pub closing : PathSetup → List SeenPacket → List ℕ
 closing path packets = if is_closed path packets then closed path.config.id else []
+
+-- ---- votes
+
+-- the places of a commit's bad votes, which its verdict tells
+abbrev pub bad_in : Option (Bor Verdict) → List ℕ
+bad_in (Some verdict) = verdict.now.bad.items
+bad_in None = []
+
+-- the letters of votes in set order from a place on, of which these are bad
+abbrev pub letters_from : List ℕ → ℕ → List Signature → List ℕ
+letters_from bad place [] = []
+letters_from bad place (s ∷ rest) = vote_letter bad place s.flag ∷ letters_from bad (place + 1) rest
+
+-- the letters of a commit's votes: a bad vote for the block is B
+abbrev pub letters_of : Commit → List ℕ
+letters_of c = letters_from (bad_in c.verdict) 0 c.header.now.signatures.items

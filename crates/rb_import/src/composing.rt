@@ -1,11 +1,12 @@
 //! The script of a setup and of answers.
-ghost use Rattle.std.specs.Prelude.{◌≡◌, ◌≤◌, ◌++◌, ℕ, List, length, IfOk, IfErr, string_bytes};
+ghost use Rattle.std.specs.Prelude.{◌≡◌, ◌≤◌, ◌++◌, length, IfOk, IfErr, string_bytes};
 ghost use Rattle.rb_import_setup.specs.Documents.{max_bytes};
 ghost use Rattle.rb_import_merge.specs.Errors.{IsToldIn};
 ghost use Rattle.rb_import_merge.specs.Seen.{HoldsOfSeen};
 ghost use Rattle.rb_import_notices.specs.Whole.{AreNoticesOf};
-ghost use Rattle.rb_import.specs.Texts.{warning};
+ghost use Rattle.rb_import.specs.Openings.{Opens, hold_verdicts};
 
+use crate::opening::opening_of;
 use crate::text::push_script;
 use rb_import_check::{CheckErrorName, ImportError, SavedAnswers};
 use rb_import_merge::seen_in;
@@ -13,10 +14,6 @@ use rb_import_notices::{Notices, notices_of};
 use rb_import_setup::Setup;
 use rb_script_toml::MAX_BYTES;
 use std::alloc::{AllocError, Global};
-
-/// The line that a script of answers begins with.
-const WARNING: &str =
-    "# Signatures were not verified: headers and votes stand as the nodes gave them.\n";
 
 /// A script's text, and what isn't among the answers that it was made of or isn't written of them.
 #[derive(Drop)]
@@ -26,7 +23,7 @@ pub struct Composed<'a> {
 }
 
 /// The text of the script that a setup and the answers of its chains, clients and paths make, which
-/// begins with the line that says that signatures were not verified; and what isn't among the answers,
+/// begins with a line that says who verified signatures, or that nobody did; and what isn't among the answers,
 /// though the script stands without it, or isn't written, since no book has room for it. The first
 /// problem is answered: of the chains, of the clients, then of the paths, each in order. `NoMemory` comes
 /// where a growth is refused.
@@ -36,14 +33,15 @@ pub fn compose<'a>(
     answers: &'a SavedAnswers,
 ) -> Result<Composed<'a>, ImportError<'a>>
     ensures size { IfOk result (λ script. length (string_bytes script.text) ≤ max_bytes) }
-    ensures warning { IfOk result (λ script. (rest : List ℕ) × (string_bytes script.text ≡ warning ++ rest)) }
+    ensures opening { IfOk result (λ script. Opens (hold_verdicts answers.entry.now) (string_bytes script.text)) }
     ensures notices { IfOk result (λ script. HoldsOfSeen setup.entry.now answers.entry.now (λ seen. AreNoticesOf setup.entry.now answers.entry.now seen script.notices)) }
     ensures told { IfErr result (IsToldIn setup.entry.now) }
 {
     let seen = seen_in(alloc, setup, answers)?;
     let mut body = String::new(alloc);
     push_script(&mut body, setup, &seen)?;
-    let text = with_warning(alloc, body.as_str())?;
+    let opening = opening_of(alloc, answers, &seen)?;
+    let text = with_opening(opening, body.as_str())?;
     if text.len() > MAX_BYTES {
         return Err(ImportError::of(CheckErrorName::ScriptTooBig, "-"));
     }
@@ -52,10 +50,10 @@ pub fn compose<'a>(
 }
 
 /// The text that a script goes on with, behind the line that it begins with.
-fn with_warning(alloc: Global, body: &str) -> Result<String, AllocError>
-    ensures { IfOk result (λ text. string_bytes text ≡ warning ++ body.now) }
+fn with_opening(opening: String, body: &str) -> Result<String, AllocError>
+    ensures { IfOk result (λ text. string_bytes text ≡ string_bytes opening ++ body.now) }
 {
-    let mut text = String::from_str(alloc, WARNING)?;
+    let mut text = opening;
     text.push_str(body)?;
     Ok(text)
 }

@@ -1,12 +1,11 @@
 //! The text of what was seen.
-ghost use Rattle.std.specs.Prelude.{◌≡◌, ◌++◌, map, OnOk, string_bytes};
-ghost use Rattle.rb_import_answers.specs.Votes.{letter_of};
-ghost use Rattle.rb_import.specs.Texts.{closed, closing, is_closed};
+ghost use Rattle.std.specs.Prelude.{◌≡◌, ◌++◌, OnOk, string_bytes};
+ghost use Rattle.rb_import.specs.Texts.{bad_in, closed, closing, is_closed, letters_from, letters_of};
 
 use crate::text::push_time;
 use jiff::Timestamp;
-use rb_import_answers::{PacketKind, Signature};
-use rb_import_check::{Commit, Stored};
+use rb_import_answers::{PacketKind, Signature, Verdict};
+use rb_import_check::{Commit, Stored, vote_letter};
 use rb_import_merge::{SeenPacket, some_timed_out};
 use rb_import_setup::PathSetup;
 use rb_scan::Order;
@@ -81,16 +80,37 @@ pub fn push_header(
     text.push_str("\", next = \"")?;
     push_set_reference(text, &header.next, is_next_known)?;
     text.push_str("\", votes = \"")?;
-    push_votes(text, header.signatures.as_slice())?;
+    push_votes(text, commit)?;
     text.push_str("\" },\n")
 }
 
-/// Adds a letter for each signature, in set order.
-fn push_votes(text: &mut String, signatures: &[Signature]) -> Result<(), AllocError>
-    ensures { OnOk result (string_bytes text.new ≡ string_bytes text.old ++ map (λ s. letter_of s.flag) signatures.now) }
+/// Adds a letter for each signature of a commit, in set order; `B` for a bad vote.
+fn push_votes(text: &mut String, commit: &Commit<'_>) -> Result<(), AllocError>
+    ensures { OnOk result (string_bytes text.new ≡ string_bytes text.old ++ letters_of commit.now) }
 {
-    for signature in signatures {
-        text.push(signature.flag.letter())?;
+    push_letters(
+        text,
+        bad_in(commit.verdict),
+        commit.header.signatures.as_slice(),
+    )
+}
+
+/// The places of a commit's bad votes.
+fn bad_in<'a>(verdict: Option<&'a Verdict>) -> &'a [u64]
+    ensures { result.now ≡ bad_in verdict.entry }
+{
+    match verdict {
+        Some(verdict) => verdict.bad.as_slice(),
+        None => &[],
+    }
+}
+
+/// Adds a letter for each signature, of which those at some places are bad.
+fn push_letters(text: &mut String, bad: &[u64], signatures: &[Signature]) -> Result<(), AllocError>
+    ensures { OnOk result (string_bytes text.new ≡ string_bytes text.old ++ letters_from bad.now 0 signatures.now) }
+{
+    for (place, signature) in signatures.iter().enumerate() {
+        text.push(vote_letter(bad, place as u64, signature.flag))?;
     }
     Ok(())
 }

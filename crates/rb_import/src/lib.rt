@@ -4,6 +4,7 @@
 
 mod composing;
 mod event_text;
+mod opening;
 mod text;
 
 pub use composing::{Composed, compose};

@@ -9,7 +9,7 @@ use Rattle.rb_import_answers.specs.declared.answer.NodeAnswer.TheVariants as ans
 use Rattle.rb_import_answers.specs.declared.client.ClientState.{ClientState}
 use Rattle.rb_import_json.specs.declared.error.FieldError.{FieldError}
 use Rattle.rb_import_json.specs.declared.error.FieldErrorName.{FieldErrorName}
-use Rattle.rb_import_json.specs.declared.error.FieldErrorName.TheVariants.{TooBig, NotJson, UnknownShape, NodeError}
+use Rattle.rb_import_json.specs.declared.error.FieldErrorName.TheVariants.{TooBig, UnknownShape, NodeError}
 use Rattle.rb_import_json.specs.declared.field_path.Key.{Key}
 use Rattle.rb_import_json.specs.declared.field_path.Segment.{Segment}
 use Rattle.rb_import_json.specs.FieldErrors.{◌>>=◌, or_flaw}
@@ -18,6 +18,10 @@ use Rattle.rb_import_answers.specs.Headers.{Signed, signed, signed_view}
 use Rattle.rb_import_answers.specs.Validators.{Page, page, page_view}
 use Rattle.rb_import_answers.specs.Clients.{client_state, States, states, states_view}
 use Rattle.rb_import_answers.specs.Packets.{Search, found, search_view}
+use Rattle.rb_import_answers.specs.Queries.{query_of}
+use Rattle.rb_import_answers.specs.Unread.{unread}
+use Rattle.rb_import_answers.specs.Verdicts.{Verdicts, verdicts, verdicts_view}
+use Rattle.rb_import_answers.specs.declared.query.Query.{Query}
 
 pub data Told : Type 0 where
   commit : Signed → Told
@@ -25,6 +29,8 @@ pub data Told : Type 0 where
   judging : ClientState → Told
   stored : States → Told
   transactions : Search → Told
+  verified : Verdicts → Told
+  other : Query → Told
 
 abbrev pub answer_view : NodeAnswer → Told
 answer_view (answers.Commit header) = commit (signed_view header)
@@ -32,6 +38,8 @@ answer_view (answers.Validators page) = validators (page_view page)
 answer_view (answers.ClientState state) = judging state
 answer_view (answers.ConsensusStates page) = stored (states_view page)
 answer_view (answers.Transactions page) = transactions (search_view page)
+answer_view (answers.Verdicts v) = verified (verdicts_view v)
+answer_view (answers.Other query) = other query
 
 -- the flaw of this name at the whole answer
 abbrev pub whole : FieldErrorName → FieldError
@@ -39,6 +47,11 @@ whole name = record { name = name; place = record { part = Segment.Answer; index
 
 abbrev pub has : List ℕ → Data → Bool
 has name d = is_some (get name d)
+
+-- an answer to another query, which isn't needed
+abbrev pub if_query : Option Query → Result Told FieldError
+if_query (Some query) = Ok (other query)
+if_query None = Err (whole UnknownShape)
 
 -- an answer, known by one of its members
 unfoldable pub known : Object → Result Told FieldError
@@ -48,7 +61,8 @@ known o =
     else if has_member Key.Txs o then (found o >>= λ s. Ok (transactions s))
     else if has_member Key.ClientState o then (client_state o >>= λ s. Ok (judging s))
     else if has_member Key.ConsensusStates o then (states o >>= λ s. Ok (stored s))
-    else Err (whole UnknownShape)
+    else if has_member Key.Verdicts o then (verdicts o >>= λ v. Ok (verified v))
+    else if_query (query_of o)
 
 abbrev pub tells_error : Option Data → Bool → Bool
 tells_error (Some e) gateway = not (is_some (as_null e))
@@ -78,4 +92,4 @@ max_bytes = 16777216
 unfoldable pub told : List ℕ → Result Told FieldError
 told bytes =
     if nat_lt max_bytes (length bytes) then Err (whole TooBig)
-    else (or_flaw (whole NotJson) (json bytes) >>= λ d. answer d)
+    else (or_flaw (whole (unread bytes)) (json bytes) >>= λ d. answer d)

@@ -7,5 +7,8 @@ pub mod Numbers
 pub mod Clients
 pub mod Revisions
 pub mod Packets
+pub mod Verdicts
+pub mod Queries
+pub mod Unread
 pub mod Answers
 pub mod Said

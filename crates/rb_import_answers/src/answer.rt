@@ -4,11 +4,15 @@ ghost use Rattle.serde_json.specs.View.{view};
 ghost use Rattle.rb_import_json.specs.FieldErrors.{Gives, or_flaw};
 ghost use Rattle.rb_import_json.specs.Fields.{object_view};
 ghost use Rattle.rb_import_answers.specs.Answers.{answer_view, whole, is_error, json, known, told};
+ghost use Rattle.rb_import_answers.specs.Unread.{unread};
 
 use crate::client::{ClientState, ConsensusPage, read_client_state, read_consensus_states};
 use crate::commit::{SignedHeader, read_commit};
 use crate::packets::{PacketPage, read_transactions};
+use crate::query::{Query, query_of};
+use crate::unread::unread;
 use crate::validators::{ValidatorsPage, read_page};
+use crate::verdicts::{Verdicts, read_verdicts};
 use rb_import_json::{AnswerError, FieldError, FieldErrorName, FieldPath, Key, Object, Segment};
 use serde_json::Value;
 use std::alloc::Global;
@@ -29,6 +33,10 @@ pub enum NodeAnswer {
     ConsensusStates(ConsensusPage),
     /// To `/tx_search`.
     Transactions(PacketPage),
+    /// No node's answer: verdicts on the signatures of commits.
+    Verdicts(Verdicts),
+    /// To another query, which isn't needed.
+    Other(Query),
 }
 
 /// Reads an answer: JSON of at most 16,777,216 bytes, with CometBFT's envelope or without, which is known by its members. What is read is what
@@ -52,12 +60,12 @@ pub fn read_answer(alloc: Global, bytes: &[u8]) -> Result<NodeAnswer, AnswerErro
 
 #[tactic(auto, unfolding(crate::specs::Answers::json))]
 fn read_json(alloc: Global, bytes: &[u8]) -> Result<Value, AnswerError>
-    ensures { Gives (λ v. view v) result (or_flaw (whole FieldErrorName.NotJson) (json bytes.now)) }
+    ensures { Gives (λ v. view v) result (or_flaw (whole (unread bytes.now)) (json bytes.now)) }
 {
     match Value::from_slice(alloc, bytes) {
         Ok(value) => Ok(value),
         Err(error) if error.is_memory() => Err(AnswerError::NoMemory),
-        Err(_) => Err(whole(FieldErrorName::NotJson)),
+        Err(_) => Err(whole(unread(bytes))),
     }
 }
 
@@ -88,8 +96,13 @@ fn read_known(alloc: Global, answer: &Object<'_>) -> Result<NodeAnswer, AnswerEr
         Ok(NodeAnswer::ClientState(read_client_state(answer)?))
     } else if answer.has(Key::ConsensusStates) {
         Ok(NodeAnswer::ConsensusStates(read_consensus_states(alloc, answer)?))
+    } else if answer.has(Key::Verdicts) {
+        Ok(NodeAnswer::Verdicts(read_verdicts(alloc, answer)?))
     } else {
-        Err(whole(FieldErrorName::UnknownShape))
+        match query_of(answer) {
+            Some(query) => Ok(NodeAnswer::Other(query)),
+            None => Err(whole(FieldErrorName::UnknownShape)),
+        }
     }
 }
 

@@ -1,6 +1,6 @@
 //! Answers of nodes, as CometBFT's RPC and ibc-go's REST gateway give them: signed headers, pages
-//! of validators, client states, consensus states and the events of packets; or what is wrong with
-//! an answer, and where.
+//! of validators, client states, consensus states and the events of packets; verdicts on signatures; or
+//! what is wrong with an answer, and where.
 #![tactic(auto)]
 
 mod answer;
@@ -11,15 +11,20 @@ mod duration;
 mod header;
 mod number;
 mod packets;
+mod query;
 mod revision;
 mod root;
 mod said;
+mod unread;
 mod validators;
+mod verdicts;
 
 pub use answer::{MAX_ANSWER_BYTES, NodeAnswer, read_answer};
 pub use client::{ClientState, ConsensusPage, ConsensusState, TrustLevel};
 pub use commit::{BlockIdFlag, Signature, SignedHeader};
 pub use packets::{PacketEvent, PacketKind, PacketPage, RevisionHeight};
+pub use query::Query;
 pub use revision::revision_of;
-pub use said::said_in;
+pub use said::{plain_text, said_in};
 pub use validators::ValidatorsPage;
+pub use verdicts::{Verdict, Verdicts};

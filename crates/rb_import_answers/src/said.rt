@@ -24,6 +24,16 @@ pub fn said_in(alloc: Global, bytes: &[u8]) -> Result<String, AllocError>
     Ok(said)
 }
 
+/// The first 200 characters of a text, of which each that isn't printable ASCII, or is `"` or `\`, is replaced by `?`.
+pub fn plain_text(alloc: Global, text: &str) -> Result<String, AllocError>
+    ensures plain { IfOk result (λ plain. All IsPlain (string_bytes plain)) }
+    ensures short { IfOk result (λ plain. length (string_bytes plain) ≤ 200) }
+{
+    let mut plain = String::new(alloc);
+    push_plain(&mut plain, text)?;
+    Ok(plain)
+}
+
 /// Adds what an answer says of its error.
 fn push_error(said: &mut String, answer: &Value) -> Result<(), AllocError>
     requires plain { All IsPlain (string_bytes said.old) }

@@ -14,6 +14,7 @@ use Rattle.rb_import_answers.specs.declared.answer.NodeAnswer.TheVariants as ans
 use Rattle.rb_import_answers.specs.declared.client.ClientState.{ClientState}
 use Rattle.rb_import_answers.specs.declared.client.ConsensusPage.{ConsensusPage}
 use Rattle.rb_import_answers.specs.declared.client.ConsensusState.{ConsensusState}
+use Rattle.rb_import_answers.specs.declared.query.Query.{Query}
 use Rattle.rb_import_setup.specs.declared.setup.ClientSetup.{ClientSetup}
 use Rattle.rb_import_check.specs.declared.client.Stored.{Stored}
 use Rattle.rb_import_check.specs.declared.error.CheckErrorName.{CheckErrorName}
@@ -63,12 +64,15 @@ any_one P f xs i x a small is there p = any_in P f xs i x small (sym is) (subst 
 
 -- ---- what belongs elsewhere
 
-pub is_foreign : (a : NodeAnswer) → ((state : ClientState) → a ≡ answers.ClientState state → ⊥) → ((page : ConsensusPage) → a ≡ answers.ConsensusStates page → ⊥) → is_of_client a ≡ false
-is_foreign (answers.Commit header) first second = refl
-is_foreign (answers.Validators page) first second = refl
-is_foreign (answers.ClientState state) first second = absurd (first state refl)
-is_foreign (answers.ConsensusStates page) first second = absurd (second page refl)
-is_foreign (answers.Transactions page) first second = refl
+pub is_foreign : (a : NodeAnswer) → ((state : ClientState) → a ≡ answers.ClientState state → ⊥) → ((page : ConsensusPage) → a ≡ answers.ConsensusStates page → ⊥)
+    → ((query : Query) → a ≡ answers.Other query → ⊥) → is_of_client a ≡ false
+is_foreign (answers.Commit header) first second third = refl
+is_foreign (answers.Validators page) first second third = refl
+is_foreign (answers.ClientState state) first second third = absurd (first state refl)
+is_foreign (answers.ConsensusStates page) first second third = absurd (second page refl)
+is_foreign (answers.Transactions page) first second third = refl
+is_foreign (answers.Verdicts v) first second third = refl
+is_foreign (answers.Other query) first second third = absurd (third query refl)
 
 -- ---- what the client's states have
 

@@ -1,5 +1,5 @@
 -- What was seen of a chain (CometBFT's `/commit` and `/validators`).
-use Rattle.std.specs.Prelude.{◌≡◌, ◌⊎◌, ◌<◌, ◌==◌, ◌++◌, ℕ, List, [], ◌∷◌, All, Contains, length, map, filter}
+use Rattle.std.specs.Prelude.{◌≡◌, ◌⊎◌, ◌<◌, ◌==◌, ◌++◌, ℕ, List, [], ◌∷◌, All, Contains, length, map, filter, option_map}
 use Rattle.std.specs.List.{AllZip, flat_map}
 use Rattle.std.specs.List.Sorted.{IsPermutation, IsStrictlyIncreasing}
 use Rattle.rb_valset.specs.Validator.{Member}
@@ -8,11 +8,13 @@ use Rattle.rb_import_answers.specs.declared.answer.NodeAnswer.{NodeAnswer}
 use Rattle.rb_import_answers.specs.declared.answer.NodeAnswer.TheVariants as answers
 use Rattle.rb_import_answers.specs.declared.commit.SignedHeader.{SignedHeader}
 use Rattle.rb_import_answers.specs.declared.validators.ValidatorsPage.{ValidatorsPage}
+use Rattle.rb_import_answers.specs.declared.verdicts.Verdicts.{Verdicts}
 use Rattle.rb_import_check.specs.declared.saved.Saved.{Saved}
 use Rattle.rb_import_check.specs.declared.chain.Commit.{Commit}
 use Rattle.rb_import_check.specs.declared.chain.Page.{Page}
 use Rattle.rb_import_check.specs.declared.sets.SeenSet.{SeenSet}
 use Rattle.rb_import_check.specs.Sets.{WasSeen}
+use Rattle.rb_import_check.specs.Verdicts.{IsVerdictOn, HasVotes, verdict_list, verdicts_of}
 
 abbrev pub headers_in : NodeAnswer → List SignedHeader
 headers_in (answers.Commit header) = header ∷ []
@@ -20,6 +22,8 @@ headers_in (answers.Validators page) = []
 headers_in (answers.ClientState state) = []
 headers_in (answers.ConsensusStates page) = []
 headers_in (answers.Transactions page) = []
+headers_in (answers.Verdicts v) = []
+headers_in (answers.Other query) = []
 
 -- the headers that a chain's answers tell of, in their order
 abbrev pub headers_of : List Saved → List SignedHeader
@@ -28,6 +32,31 @@ headers_of saved = flat_map (λ s. headers_in s.answer) saved
 -- the commits have these headers, each once
 abbrev pub HaveHeaders : List SignedHeader → List Commit → Type 0
 HaveHeaders headers commits = IsPermutation headers (map (λ (c : Commit). c.header.now) commits)
+
+-- a header, and the SHA-256 of its file
+abbrev pub Filed : Type 0
+Filed = SignedHeader × List ℕ
+
+-- the headers that a chain's answers tell of, each with the SHA-256 of its file
+abbrev pub filed_of : List Saved → List Filed
+filed_of saved = flat_map (λ s. map (λ h. (h, s.digest)) (headers_in s.answer)) saved
+
+abbrev pub filed : Commit → Filed
+filed c = (c.header.now, c.digest)
+
+-- the commits are those of these files
+abbrev pub AreOfFiles : List Filed → List Commit → Type 0
+AreOfFiles files commits = IsPermutation files (map filed commits)
+
+-- the commit has a verdict on its file that is among these, and none only where none is on it; and it tells of as many votes as the commit has
+abbrev pub IsJudgedBy : List Verdicts → Commit → Type 0
+IsJudgedBy verdicts c =
+    IsVerdictOn (verdict_list verdicts) c.digest (option_map (λ v. v.now) c.verdict)
+    × HasVotes (length c.header.now.signatures.items) (option_map (λ v. v.now) c.verdict)
+
+-- the commit has the verdict on its file that the chain's answers hold
+abbrev pub IsJudged : List Saved → Commit → Type 0
+IsJudged saved c = IsJudgedBy (verdicts_of saved) c
 
 abbrev pub IsOfChain : List ℕ → Commit → Type 0
 IsOfChain id c = c.header.now.chain ≡ id
@@ -64,6 +93,8 @@ pages_in (answers.Validators page) = page ∷ []
 pages_in (answers.ClientState state) = []
 pages_in (answers.ConsensusStates page) = []
 pages_in (answers.Transactions page) = []
+pages_in (answers.Verdicts v) = []
+pages_in (answers.Other query) = []
 
 -- the pages of validators that a chain's answers tell of, in their order
 abbrev pub pages_of : List Saved → List ValidatorsPage

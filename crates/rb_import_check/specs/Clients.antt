@@ -27,6 +27,8 @@ client_states_in (answers.Validators page) = []
 client_states_in (answers.ClientState state) = state ∷ []
 client_states_in (answers.ConsensusStates page) = []
 client_states_in (answers.Transactions page) = []
+client_states_in (answers.Verdicts v) = []
+client_states_in (answers.Other query) = []
 
 -- the client states that a client's answers tell of
 abbrev pub client_states_of : List Saved → List ClientState
@@ -54,6 +56,8 @@ stored_in (answers.Validators page) = []
 stored_in (answers.ClientState state) = []
 stored_in (answers.ConsensusStates page) = page.states.items
 stored_in (answers.Transactions page) = []
+stored_in (answers.Verdicts v) = []
+stored_in (answers.Other query) = []
 
 -- the records that a client's answers tell of, in their order
 abbrev pub stored_of : List Saved → List ConsensusState
@@ -77,6 +81,8 @@ is_last_in (answers.Validators page) = false
 is_last_in (answers.ClientState state) = false
 is_last_in (answers.ConsensusStates page) = page.is_last
 is_last_in (answers.Transactions page) = false
+is_last_in (answers.Verdicts v) = false
+is_last_in (answers.Other query) = false
 
 -- the last page of records is among a client's answers
 abbrev pub has_last : List Saved → Bool
@@ -91,6 +97,8 @@ is_of_client (answers.Validators page) = false
 is_of_client (answers.ClientState state) = true
 is_of_client (answers.ConsensusStates page) = true
 is_of_client (answers.Transactions page) = false
+is_of_client (answers.Verdicts v) = false
+is_of_client (answers.Other query) = true
 
 -- a client state is of another revision than the tracked chain's, or a record of a later one
 abbrev pub HasOtherRevision : List ℕ → List Saved → Type 0

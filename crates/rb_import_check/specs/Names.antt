@@ -23,4 +23,5 @@ check_error_name CheckErrorName.MissingTransactions = codes "MissingTransactions
 check_error_name CheckErrorName.TwoChannels = codes "TwoChannels"
 check_error_name CheckErrorName.MissingSend = codes "MissingSend"
 check_error_name CheckErrorName.MissingReceive = codes "MissingReceive"
+check_error_name CheckErrorName.OtherVerdict = codes "OtherVerdict"
 check_error_name CheckErrorName.ScriptTooBig = codes "ScriptTooBig"

@@ -1,25 +1,28 @@
 //! The sets and headers of a chain: each height once, rising, and each header with its set.
-ghost use Rattle.std.specs.Prelude.{◌≡◌, ◌≤◌, ◌==◌, ℕ, List, length, map, filter, All, IfOk, IfErr, OnOk, IfSome, IfNone};
+ghost use Rattle.std.specs.Prelude.{◌≡◌, ◌≤◌, ◌==◌, ℕ, List, length, map, filter, All, IfOk, IfErr, OnOk, IfSome, IfNone, option_map, option_to_list};
 ghost use Rattle.std.specs.List.Sorted.{IsNonDecreasingBy, IsStrictlyIncreasing};
 ghost use Rattle.rb_valset.specs.ValidatorSet.{set_hash, in_set_order};
 ghost use Rattle.rb_import_check.specs.Errors.{IsToldOf};
 ghost use Rattle.rb_import_check.specs.Sets.{WasSeen};
-ghost use Rattle.rb_import_check.specs.Chains.{AreAllPages, HaveHeaders, HaveSets, HasSet, IsOfChain, IsOfItsBlock, TakesSetOf, headers_of, pages_at, pages_of, validators_of, without_files};
+ghost use Rattle.rb_import_check.specs.Chains.{AreAllPages, AreOfFiles, HaveHeaders, HaveSets, HasSet, IsJudged, IsJudgedBy, IsOfChain, IsOfItsBlock, TakesSetOf, filed, filed_of, headers_of, pages_at, pages_of, validators_of, without_files};
 
 use crate::error::{CheckErrorName, HeaderHashes, ImportError};
 use crate::repeat::repeated;
 use crate::saved::Saved;
 use crate::sets::{SeenSet, SeenSets};
+use crate::verdicts::{verdict_on, verdicts_in};
 use rb_base::Height;
-use rb_import_answers::{NodeAnswer, Signature, SignedHeader, ValidatorsPage};
+use rb_import_answers::{NodeAnswer, Signature, SignedHeader, ValidatorsPage, Verdict, Verdicts};
 use rb_valset::{Validator, ValidatorSet};
 use std::alloc::{AllocError, Global};
 
-/// An answer of `/commit` and its file.
+/// An answer of `/commit`, its file with the SHA-256 of that, and the verdict on it, if there is one.
 #[derive(Clone, Copy)]
 pub struct Commit<'a> {
     pub file: &'a str,
+    pub digest: [u8; 32],
     pub header: &'a SignedHeader,
+    pub verdict: Option<&'a Verdict>,
 }
 
 /// An answer of `/validators` and its file.
@@ -37,14 +40,16 @@ pub struct SeenChain<'a> {
     ghost rising: { IsStrictlyIncreasing (map (λ c. c.header.now.height) commits.items) },
 }
 
-/// What the answers of a chain tell, by its identifier: each header once, by rising heights, the set of
-/// each, and that of each other height whose validators are all there.
+/// What the answers of a chain tell, by its identifier: each header once, by rising heights, with the verdict on the
+/// signatures of its commit, the set of each, and that of each other height whose validators are all there.
 pub fn seen_chain<'a>(
     alloc: Global,
     id: &'a str,
     answers: &'a [Saved],
 ) -> Result<SeenChain<'a>, ImportError<'a>>
     ensures headers { IfOk result (λ chain. HaveHeaders (headers_of answers.entry.now) chain.commits.items) }
+    ensures files { IfOk result (λ chain. AreOfFiles (filed_of answers.entry.now) chain.commits.items) }
+    ensures verdicts { IfOk result (λ chain. All (IsJudged answers.entry.now) chain.commits.items) }
     ensures rising { IfOk result (λ chain. IsStrictlyIncreasing (map (λ c. c.header.now.height) chain.commits.items)) }
     ensures chain { IfOk result (λ chain. All (IsOfChain id.entry.now) chain.commits.items) }
     ensures blocks { IfOk result (λ chain. All IsOfItsBlock chain.commits.items) }
@@ -69,6 +74,8 @@ fn commits_of<'a>(
     answers: &'a [Saved],
 ) -> Result<Vec<Commit<'a>>, ImportError<'a>>
     ensures headers { IfOk result (λ commits. HaveHeaders (headers_of answers.entry.now) commits.items) }
+    ensures files { IfOk result (λ commits. AreOfFiles (filed_of answers.entry.now) commits.items) }
+    ensures verdicts { IfOk result (λ commits. All (IsJudged answers.entry.now) commits.items) }
     ensures told { IfErr result (IsToldOf id.entry.now) }
 {
     let mut commits = all_commits(alloc, id, answers)?;
@@ -84,18 +91,47 @@ fn all_commits<'a>(
     answers: &'a [Saved],
 ) -> Result<Vec<Commit<'a>>, ImportError<'a>>
     ensures headers { IfOk result (λ commits. map (λ c. c.header.now) commits.items ≡ headers_of answers.entry.now) }
+    ensures files { IfOk result (λ commits. map filed commits.items ≡ filed_of answers.entry.now) }
+    ensures verdicts { IfOk result (λ commits. All (IsJudged answers.entry.now) commits.items) }
     ensures told { IfErr result (IsToldOf id.entry.now) }
 {
+    let verdicts = verdicts_in(id, answers)?;
     let mut commits = Vec::new(alloc);
     for saved in answers {
-        let file = saved.file.as_str();
         match &saved.answer {
-            NodeAnswer::Commit(header) => commits.push(Commit { file, header })?,
-            NodeAnswer::Validators(_) => {}
-            _ => return Err(ImportError::at(CheckErrorName::WrongFolder, id, 0, file)),
+            NodeAnswer::Commit(header) => {
+                let commit = commit_in(id, verdicts, saved, header)?;
+                commits.push(commit)?;
+            }
+            NodeAnswer::Validators(_) | NodeAnswer::Verdicts(_) | NodeAnswer::Other(_) => {}
+            _ => {
+                let file = saved.file.as_str();
+                return Err(ImportError::at(CheckErrorName::WrongFolder, id, 0, file));
+            }
         }
     }
     Ok(commits)
+}
+
+/// The commit of a header in a file, with the verdict on it.
+fn commit_in<'a>(
+    id: &'a str,
+    verdicts: Option<&'a Verdicts>,
+    saved: &'a Saved,
+    header: &'a SignedHeader,
+) -> Result<Commit<'a>, ImportError<'a>>
+    ensures header { IfOk result (λ commit. commit.header.now ≡ header.entry.now) }
+    ensures digest { IfOk result (λ commit. commit.digest ≡ saved.entry.now.digest) }
+    ensures verdict { IfOk result (IsJudgedBy (option_to_list (option_map (λ v. v.now) verdicts.entry))) }
+    ensures told { IfErr result (IsToldOf id.entry.now) }
+{
+    let verdict = verdict_on(id, verdicts, saved, header)?;
+    Ok(Commit {
+        file: saved.file.as_str(),
+        digest: saved.digest,
+        header,
+        verdict,
+    })
 }
 
 /// Refuses commits of another chain.
@@ -118,7 +154,8 @@ fn judge_chain<'a>(id: &'a str, commit: &Commit<'a>) -> Result<(), ImportError<'
         Ok(())
     } else {
         let height = commit.header.height.get();
-        Err(ImportError::at(CheckErrorName::OtherChain, id, height, commit.file))
+        let found = commit.header.chain.as_str();
+        Err(ImportError::of_other_chain(id, height, commit.file, found))
     }
 }
 

@@ -89,7 +89,7 @@ fn state_of<'a>(
         if let NodeAnswer::ClientState(state) = &saved.answer {
             let file = saved.file.as_str();
             if !is_of_chain(state, tracked) {
-                return Err(ImportError::at(CheckErrorName::OtherChain, id, 0, file));
+                return Err(ImportError::of_other_chain(id, 0, file, state.chain.as_str()));
             }
             if state.revision != revision {
                 return Err(ImportError::at(CheckErrorName::OtherRevision, id, 0, file));
@@ -190,7 +190,7 @@ fn current_of<'a>(
             NodeAnswer::ConsensusStates(page) => {
                 add_states(file, revision, page.states.as_slice(), &mut stored)?;
             }
-            NodeAnswer::ClientState(_) => {}
+            NodeAnswer::ClientState(_) | NodeAnswer::Other(_) => {}
             _ => return Err(ImportError::at(CheckErrorName::WrongFolder, id, 0, file)),
         }
     }

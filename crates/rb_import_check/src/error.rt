@@ -48,6 +48,8 @@ pub enum CheckErrorName {
     MissingSend,
     /// The receiving of a packet that was acknowledged isn't there.
     MissingReceive,
+    /// A verdict tells of another number of votes than the commit has.
+    OtherVerdict,
     /// The script is longer than is read.
     ScriptTooBig,
 }
@@ -80,6 +82,7 @@ impl CheckErrorName {
             CheckErrorName::TwoChannels => "TwoChannels",
             CheckErrorName::MissingSend => "MissingSend",
             CheckErrorName::MissingReceive => "MissingReceive",
+            CheckErrorName::OtherVerdict => "OtherVerdict",
             CheckErrorName::ScriptTooBig => "ScriptTooBig",
         }
     }
@@ -133,6 +136,9 @@ impl CheckErrorName {
                 "no answer has the packet's send_packet; fetch /tx_search with it",
             CheckErrorName::MissingReceive =>
                 "no answer has the packet's recv_packet; fetch /tx_search with it",
+            CheckErrorName::OtherVerdict => {
+                "the verdict on this commit tells of another number of votes than it has; run tools/verify_commits again"
+            }
             CheckErrorName::ScriptTooBig =>
                 "the script would have more than 16,777,216 bytes; take fewer answers",
         }
@@ -147,7 +153,8 @@ pub struct HeaderHashes {
 }
 
 /// What doesn't hold between answers: on which chain, client or path, at which height or sequence,
-/// and the files; no file where an answer isn't there. Of a header whose hash is another both hashes.
+/// and the files; no file where an answer isn't there. Of a header whose hash is another both hashes, and of an answer on
+/// another chain that one.
 #[derive(Clone, Copy, Debug)]
 pub struct CheckError<'a> {
     pub name: CheckErrorName,
@@ -156,6 +163,7 @@ pub struct CheckError<'a> {
     pub file: Option<&'a str>,
     pub other: Option<&'a str>,
     pub hashes: Option<HeaderHashes>,
+    pub chain: Option<&'a str>,
 }
 
 impl CheckError<'_> {
@@ -210,9 +218,11 @@ impl CheckError<'_> {
                 "; fetch /commit?height={height} again, from another node if it stays"
             ),
             CheckErrorName::OtherChain if height == 0 => f.write_str(
-                "; this client follows another chain than the setup's `of` says: is the identifier right?",
+                "; this client follows, or these verdicts are on, another chain than the setup says: is the identifier right? if the chain was upgraded, write its new identifier into the setup",
             ),
-            CheckErrorName::OtherChain => f.write_str("; fetch it from this chain's node"),
+            CheckErrorName::OtherChain => f.write_str(
+                "; fetch it from this chain's node, or, if the chain was upgraded, write its new identifier into the setup",
+            ),
             _ => Ok(()),
         }
     }
@@ -232,6 +242,9 @@ impl fmt::Display for CheckError<'_> {
             _ => {}
         }
         f.write_str(self.name.advice())?;
+        if let Some(chain) = self.chain {
+            write!(f, ", {chain}")?;
+        }
         if let Some(hashes) = self.hashes {
             f.write_str(" (")?;
             write_hash(f, &hashes.header)?;
@@ -269,7 +282,7 @@ pub enum ImportError<'a> {
 impl<'a> ImportError<'a> {
     /// A problem of a chain, a client or a path.
     pub fn of(name: CheckErrorName, object: &'a str) -> ImportError<'a>
-        ensures { result ≡ ImportError.CheckError (record { name = name; object = object.entry; number = None; file = None; other = None; hashes = None }) }
+        ensures { result ≡ ImportError.CheckError (record { name = name; object = object.entry; number = None; file = None; other = None; hashes = None; chain = None }) }
     {
         ImportError::CheckError(CheckError {
             name,
@@ -278,12 +291,13 @@ impl<'a> ImportError<'a> {
             file: None,
             other: None,
             hashes: None,
+            chain: None,
         })
     }
 
     /// A problem in a file, at a height or a sequence.
     pub fn at(name: CheckErrorName, object: &'a str, number: u64, file: &'a str) -> ImportError<'a>
-        ensures { result ≡ ImportError.CheckError (record { name = name; object = object.entry; number = Some number; file = Some file.entry; other = None; hashes = None }) }
+        ensures { result ≡ ImportError.CheckError (record { name = name; object = object.entry; number = Some number; file = Some file.entry; other = None; hashes = None; chain = None }) }
     {
         ImportError::CheckError(CheckError {
             name,
@@ -292,6 +306,7 @@ impl<'a> ImportError<'a> {
             file: Some(file),
             other: None,
             hashes: None,
+            chain: None,
         })
     }
 
@@ -302,7 +317,7 @@ impl<'a> ImportError<'a> {
         file: &'a str,
         hashes: HeaderHashes,
     ) -> ImportError<'a>
-        ensures { result ≡ ImportError.CheckError (record { name = CheckErrorName.OtherHeader; object = object.entry; number = Some number; file = Some file.entry; other = None; hashes = Some hashes }) }
+        ensures { result ≡ ImportError.CheckError (record { name = CheckErrorName.OtherHeader; object = object.entry; number = Some number; file = Some file.entry; other = None; hashes = Some hashes; chain = None }) }
     {
         ImportError::CheckError(CheckError {
             name: CheckErrorName::OtherHeader,
@@ -311,6 +326,27 @@ impl<'a> ImportError<'a> {
             file: Some(file),
             other: None,
             hashes: Some(hashes),
+            chain: None,
+        })
+    }
+
+    /// An answer on another chain.
+    pub fn of_other_chain(
+        object: &'a str,
+        number: u64,
+        file: &'a str,
+        chain: &'a str,
+    ) -> ImportError<'a>
+        ensures { result ≡ ImportError.CheckError (record { name = CheckErrorName.OtherChain; object = object.entry; number = Some number; file = Some file.entry; other = None; hashes = None; chain = Some chain.entry }) }
+    {
+        ImportError::CheckError(CheckError {
+            name: CheckErrorName::OtherChain,
+            object,
+            number: Some(number),
+            file: Some(file),
+            other: None,
+            hashes: None,
+            chain: Some(chain),
         })
     }
 
@@ -322,7 +358,7 @@ impl<'a> ImportError<'a> {
         file: &'a str,
         other: &'a str,
     ) -> ImportError<'a>
-        ensures { result ≡ ImportError.CheckError (record { name = name; object = object.entry; number = Some number; file = Some file.entry; other = Some other.entry; hashes = None }) }
+        ensures { result ≡ ImportError.CheckError (record { name = name; object = object.entry; number = Some number; file = Some file.entry; other = Some other.entry; hashes = None; chain = None }) }
     {
         ImportError::CheckError(CheckError {
             name,
@@ -331,6 +367,7 @@ impl<'a> ImportError<'a> {
             file: Some(file),
             other: Some(other),
             hashes: None,
+            chain: None,
         })
     }
 }

@@ -9,6 +9,7 @@ mod error;
 mod repeat;
 mod saved;
 mod sets;
+mod verdicts;
 
 pub use accord::judge_records;
 pub use chain::{Commit, SeenChain, seen_chain};
@@ -16,3 +17,4 @@ pub use client::{SeenClient, Stored, seen_client};
 pub use error::{CheckError, CheckErrorName, HeaderHashes, ImportError};
 pub use saved::{Saved, SavedAnswers, SavedError, read_saved};
 pub use sets::{SeenSet, SeenSets};
+pub use verdicts::{has_verdicts, vote_letter};

@@ -1,17 +1,20 @@
 //! The answers that were saved, by what they are of.
 ghost use Rattle.std.specs.Prelude.{◌≡◌, ◌≤◌, Ok, Err, length, All, IfOk, IfErr, string_bytes};
+ghost use Rattle.sha2.specs.Sha256.{sha256};
 ghost use Rattle.rb_import_answers.specs.Answers.{answer_view, told};
 ghost use Rattle.rb_import_answers.specs.Said.{IsPlain};
 ghost use Rattle.rb_import_check.specs.Saved.{IsFlawOf};
 
 use rb_import_answers::{NodeAnswer, read_answer, said_in};
 use rb_import_json::{AnswerError, FieldError, FieldErrorName};
+use sha2::{Digest, Sha256};
 use std::alloc::{AllocError, Global};
 
-/// An answer, and the name of the file that it was saved in.
+/// An answer, the name of the file that it was saved in, and the SHA-256 of that file's content.
 #[derive(Drop)]
 pub struct Saved {
     pub file: String,
+    pub digest: [u8; 32],
     pub answer: NodeAnswer,
 }
 
@@ -39,11 +42,16 @@ pub enum SavedError {
 /// Reads the answer that a file holds; its flaw is the first one that its content has.
 pub fn read_saved(alloc: Global, file: String, bytes: &[u8]) -> Result<Saved, SavedError>
     ensures file { IfOk result (λ saved. saved.file ≡ file) }
+    ensures digest { IfOk result (λ saved. saved.digest ≡ sha256 bytes.now) }
     ensures answer { IfOk result (λ saved. told bytes.now ≡ Ok (answer_view saved.answer)) }
     ensures flaw { IfErr result (IsFlawOf file bytes.now) }
 {
     match read_answer(alloc, bytes) {
-        Ok(answer) => Ok(Saved { file, answer }),
+        Ok(answer) => Ok(Saved {
+            file,
+            digest: Sha256::digest(bytes),
+            answer,
+        }),
         Err(AnswerError::Invalid(flaw)) => Err(flawed(alloc, file, bytes, flaw)),
         Err(AnswerError::NoMemory) => Err(SavedError::NoMemory),
     }

@@ -13,6 +13,14 @@ pub enum FieldErrorName {
     TooBig,
     /// Not UTF-8, or not JSON.
     NotJson,
+    /// Nothing but white space.
+    Empty,
+    /// It begins as a page in HTML does.
+    ErrorPage,
+    /// It begins as gzip does.
+    Compressed,
+    /// It begins as an object of JSON does, and doesn't end as one.
+    CutShort,
     /// JSON, and no answer that is known.
     UnknownShape,
     /// The node answered that it has an error.
@@ -47,6 +55,10 @@ pub enum FieldErrorName {
     FrozenClient,
     /// The commit is of another height than the header.
     OtherHeight,
+    /// Verdicts of another version than is read.
+    BadVersion,
+    /// Places of votes that don't rise, or are no places of votes.
+    BadPlace,
 }
 
 impl FieldErrorName {
@@ -59,6 +71,10 @@ impl FieldErrorName {
         match self {
             FieldErrorName::TooBig => "TooBig",
             FieldErrorName::NotJson => "NotJson",
+            FieldErrorName::Empty => "Empty",
+            FieldErrorName::ErrorPage => "ErrorPage",
+            FieldErrorName::Compressed => "Compressed",
+            FieldErrorName::CutShort => "CutShort",
             FieldErrorName::UnknownShape => "UnknownShape",
             FieldErrorName::NodeError => "NodeError",
             FieldErrorName::MissingField => "MissingField",
@@ -76,6 +92,8 @@ impl FieldErrorName {
             FieldErrorName::ForeignClient => "ForeignClient",
             FieldErrorName::FrozenClient => "FrozenClient",
             FieldErrorName::OtherHeight => "OtherHeight",
+            FieldErrorName::BadVersion => "BadVersion",
+            FieldErrorName::BadPlace => "BadPlace",
         }
     }
 
@@ -87,6 +105,16 @@ impl FieldErrorName {
             }
             FieldErrorName::NotJson =>
                 "this is no JSON in UTF-8; save the node's answer as it came",
+            FieldErrorName::Empty => "it is empty; ask the node again",
+            FieldErrorName::ErrorPage => {
+                "it begins with '<': an error page? what stands before the node may answer so; ask it again, or another node"
+            }
+            FieldErrorName::Compressed => {
+                "it is compressed with gzip; unpack it (gunzip), or save it as `curl --compressed` does"
+            }
+            FieldErrorName::CutShort => {
+                "it begins with '{' and doesn't end with '}': was it cut short? ask the node again"
+            }
             FieldErrorName::UnknownShape => {
                 "this is no answer of /commit, /validators, /tx_search, client_states or consensus_states; take the file away"
             }
@@ -111,6 +139,12 @@ impl FieldErrorName {
             FieldErrorName::ForeignClient => "only Tendermint light clients are supported",
             FieldErrorName::FrozenClient => "the client is frozen, so that no update helps it",
             FieldErrorName::OtherHeight => "the commit has to be of the header's height",
+            FieldErrorName::BadVersion => {
+                "only verdicts of version 1 are read; make them again with this release's tools/verify_commits"
+            }
+            FieldErrorName::BadPlace => {
+                "places of votes rise from 0 on, and are below the number of votes; make the verdicts again with tools/verify_commits"
+            }
         }
     }
 }

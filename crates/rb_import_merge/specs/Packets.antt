@@ -69,6 +69,8 @@ events_in (answers.Validators page) = []
 events_in (answers.ClientState state) = []
 events_in (answers.ConsensusStates page) = []
 events_in (answers.Transactions page) = page.events.items
+events_in (answers.Verdicts v) = []
+events_in (answers.Other query) = []
 
 -- the events that a path's answers tell of, in their order
 abbrev pub events_of : List Saved → List PacketEvent
@@ -148,6 +150,8 @@ tells_of kind (answers.Validators page) = false
 tells_of kind (answers.ClientState state) = false
 tells_of kind (answers.ConsensusStates page) = false
 tells_of kind (answers.Transactions page) = list_any (λ (e : PacketEvent). counts_as e.kind kind) page.events.items
+tells_of kind (answers.Verdicts v) = false
+tells_of kind (answers.Other query) = false
 
 -- whether none of a path's answers tells of an event of this kind
 abbrev pub lacks : PacketKind → List Saved → Bool
@@ -160,6 +164,8 @@ is_empty (answers.Validators page) = false
 is_empty (answers.ClientState state) = false
 is_empty (answers.ConsensusStates page) = false
 is_empty (answers.Transactions page) = length page.events.items == 0
+is_empty (answers.Verdicts v) = false
+is_empty (answers.Other query) = false
 
 abbrev pub one_if : Bool → ℕ
 one_if holds = if holds then 1 else 0

@@ -12,7 +12,7 @@ use Rattle.rb_import_check.specs.declared.client.Stored.{Stored}
 use Rattle.rb_import_check.specs.declared.saved.Saved.{Saved}
 use Rattle.rb_import_check.specs.declared.saved.SavedAnswers.{SavedAnswers}
 use Rattle.rb_import_check.specs.Accord.{AgreesWith}
-use Rattle.rb_import_check.specs.Chains.{HaveHeaders, HaveSets, headers_of}
+use Rattle.rb_import_check.specs.Chains.{AreOfFiles, HaveHeaders, HaveSets, IsJudged, filed_of, headers_of}
 use Rattle.rb_import_check.specs.Clients.{AtRevision, HaveStates, JudgesAs, client_states_of, current_of}
 use Rattle.rb_import_check.specs.Sets.{IsPlaceOf, WasSeen}
 use Rattle.rb_import_merge.specs.declared.kept.KeptSets.{KeptSets}
@@ -30,10 +30,12 @@ items_of None = []
 abbrev pub answers_at : List (Vec Saved Global) → ℕ → List Saved
 answers_at answers place = items_of (slice_get answers place)
 
--- of the headers that a chain's answers tell of, each once and rising, these are the highest, as many as a book has room for
+-- of the headers that a chain's answers tell of, each once and rising, with the verdict on its file, these are the highest, as many as a
+-- book has room for
 abbrev pub AreHighestHeaders : List Saved → List Commit → Type 0
 AreHighestHeaders saved kept =
-    (commits : List Commit) × HaveHeaders (headers_of saved) commits × IsStrictlyIncreasing (map (λ (c : Commit). c.header.now.height) commits)
+    (commits : List Commit) × HaveHeaders (headers_of saved) commits × AreOfFiles (filed_of saved) commits × All (IsJudged saved) commits
+    × IsStrictlyIncreasing (map (λ (c : Commit). c.header.now.height) commits)
     × FitsHeaders commits kept
 
 -- of what a chain's answers tell of, these are the highest headers, and all sets

@@ -223,6 +223,7 @@ fn pages_of<'a>(
         let file = saved.file.as_str();
         match &saved.answer {
             NodeAnswer::Transactions(page) => pages.push(Page { file, page })?,
+            NodeAnswer::Other(_) => {}
             _ => return Err(ImportError::at(CheckErrorName::WrongFolder, id, 0, file)),
         }
     }

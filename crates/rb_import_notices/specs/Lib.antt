@@ -6,4 +6,6 @@ pub mod Notices
 pub mod Stale
 pub mod Unsearched
 pub mod Unusable
+pub mod Verified
+pub mod Passed
 pub mod Whole

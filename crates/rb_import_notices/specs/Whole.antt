@@ -7,9 +7,11 @@ use Rattle.rb_import_notices.specs.Channels.{TellChannels}
 use Rattle.rb_import_notices.specs.Counterparties.{TellCounterparties}
 use Rattle.rb_import_notices.specs.Excess.{TellExcessHeaders, TellExcessPackets, TellExcessRecords, TellExcessSets}
 use Rattle.rb_import_notices.specs.Missing.{TellHeaders, TellNextSets}
+use Rattle.rb_import_notices.specs.Passed.{TellOthersOfChains, TellOthersOfClients, TellOthersOfPaths}
 use Rattle.rb_import_notices.specs.Stale.{TellFresh}
 use Rattle.rb_import_notices.specs.Unsearched.{TellSearches}
 use Rattle.rb_import_notices.specs.Unusable.{TellFuture, TellGoals, TellUntrusted}
+use Rattle.rb_import_notices.specs.Verified.{TellUnverified}
 
 -- they tell what isn't among the answers: headers, next sets, searches
 abbrev pub TellMissing : Setup → SavedAnswers → Seen → Notices → Type 0
@@ -32,7 +34,18 @@ abbrev pub TellUnsure : Setup → SavedAnswers → Notices → Type 0
 TellUnsure setup answers n =
     TellCounterparties setup answers.paths.items n.counterparties.items × TellChannels setup answers.paths.items n.channels.items
 
+-- they tell of answers that aren't needed
+abbrev pub TellPassed : Setup → SavedAnswers → Notices → Type 0
+TellPassed setup answers n =
+    TellOthersOfChains setup answers.chains.items n.others_of_chains.items × TellOthersOfClients setup answers.clients.items n.others_of_clients.items
+    × TellOthersOfPaths setup answers.paths.items n.others_of_paths.items
+
+-- they tell of commits without a verdict, where their chain has some
+abbrev pub TellNotVerified : Setup → SavedAnswers → Seen → Notices → Type 0
+TellNotVerified setup answers seen n = TellUnverified setup answers.chains.items seen n.not_verified.items
+
 -- these are all notices of a setup, its answers and what was seen in them
 abbrev pub AreNoticesOf : Setup → SavedAnswers → Seen → Notices → Type 0
 AreNoticesOf setup answers seen n =
     TellMissing setup answers seen n × TellExcess setup seen n × TellUnusable setup seen n × TellUnsure setup answers n
+    × TellPassed setup answers n × TellNotVerified setup answers seen n

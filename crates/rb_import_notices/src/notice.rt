@@ -1,7 +1,7 @@
 //! What isn't among answers that make a script, what isn't written of them, and what can't be used or isn't sure: the
 //! script is written all the same, but updates may be missed.
 ghost use Rattle.std.specs.Prelude.{IfOk};
-ghost use Rattle.rb_import_notices.specs.Whole.{TellExcess, TellMissing, TellUnsure, TellUnusable};
+ghost use Rattle.rb_import_notices.specs.Whole.{TellExcess, TellMissing, TellNotVerified, TellPassed, TellUnsure, TellUnusable};
 
 use crate::channels::{OtherChannel, of_other_channels};
 use crate::counterparties::{SeveralCounterparties, sent_to_several};
@@ -12,11 +12,13 @@ use crate::excess::{
 use crate::missing::{
     MissingHeaders, MissingNextSet, missing_headers, missing_next_sets, write_next_sets,
 };
+use crate::passed::{PassedOver, others_of_chains, others_of_clients, others_of_paths};
 use crate::stale::{NothingFresh, nothing_fresh};
 use crate::unsearched::{MissingSearches, missing_searches};
 use crate::unusable::{
     FutureHeaders, NothingTrusted, UnseenGoal, future_headers, nothing_trusted, unseen_goals,
 };
+use crate::verified::{NotVerified, not_verified};
 use rb_import_check::SavedAnswers;
 use rb_import_merge::Seen;
 use rb_import_setup::Setup;
@@ -41,6 +43,10 @@ pub struct Notices<'a> {
     pub searches: Vec<MissingSearches<'a>>,
     pub counterparties: Vec<SeveralCounterparties<'a>>,
     pub channels: Vec<OtherChannel<'a>>,
+    pub not_verified: Vec<NotVerified<'a>>,
+    pub others_of_chains: Vec<PassedOver<'a>>,
+    pub others_of_clients: Vec<PassedOver<'a>>,
+    pub others_of_paths: Vec<PassedOver<'a>>,
 }
 
 impl fmt::Display for Notices<'_> {
@@ -57,7 +63,11 @@ impl fmt::Display for Notices<'_> {
         write_next_sets(f, self.next_sets.as_slice())?;
         write_lines(f, self.searches.as_slice())?;
         write_lines(f, self.counterparties.as_slice())?;
-        write_lines(f, self.channels.as_slice())
+        write_lines(f, self.channels.as_slice())?;
+        write_lines(f, self.not_verified.as_slice())?;
+        write_lines(f, self.others_of_chains.as_slice())?;
+        write_lines(f, self.others_of_clients.as_slice())?;
+        write_lines(f, self.others_of_paths.as_slice())
     }
 }
 
@@ -84,6 +94,8 @@ pub fn notices_of<'a>(
     ensures excess { IfOk result (TellExcess setup.entry.now seen.now) }
     ensures unusable { IfOk result (TellUnusable setup.entry.now seen.now) }
     ensures unsure { IfOk result (TellUnsure setup.entry.now answers.entry.now) }
+    ensures passed { IfOk result (TellPassed setup.entry.now answers.entry.now) }
+    ensures unverified { IfOk result (TellNotVerified setup.entry.now answers.entry.now seen.now) }
 {
     let headers = missing_headers(alloc, setup, seen)?;
     let too_many_headers = too_many_headers(alloc, setup, seen)?;
@@ -98,6 +110,10 @@ pub fn notices_of<'a>(
     let searches = missing_searches(alloc, setup, answers.paths.as_slice())?;
     let counterparties = sent_to_several(alloc, setup, answers)?;
     let channels = of_other_channels(alloc, setup, answers)?;
+    let not_verified = not_verified(alloc, setup, answers, seen)?;
+    let others_of_chains = others_of_chains(alloc, setup, answers)?;
+    let others_of_clients = others_of_clients(alloc, setup, answers)?;
+    let others_of_paths = others_of_paths(alloc, setup, answers)?;
     Ok(Notices {
         headers,
         too_many_headers,
@@ -112,5 +128,9 @@ pub fn notices_of<'a>(
         searches,
         counterparties,
         channels,
+        not_verified,
+        others_of_chains,
+        others_of_clients,
+        others_of_paths,
     })
 }

@@ -11,7 +11,7 @@ returns-then-not-is_of_chain-clause-reason c =
     let is : c.saved-item.result ≡ get_or c.args.answers.now c.loop-saved.saved-index c.saved-item.result = search rules in
     let unlike : c.is_of_chain.result ≡ false = search rules in
     let other : c.in-ClientState.state.chain ≢ c.args.tracked.now = (λ same. true≢false (sym (c.is_of_chain.ensures.1 same) ∙ unlike)) in
-    subst (HasReason c.args.setup.now c.args.tracked.now c.args.answers.now) (sym c.at.ensures)
+    subst (HasReason c.args.setup.now c.args.tracked.now c.args.answers.now) (sym c.of_other_chain.ensures)
     (other_chain c.args.tracked.now c.args.answers.now c.loop-saved.saved-index c.saved-item.result c.in-ClientState.state small is (ap client_states_in c.in-ClientState.is) other)
 
 pub returns-then-state-revision-clause-reason : goal.returns-then-state-revision-clause-reason
@@ -19,7 +19,7 @@ returns-then-state-revision-clause-reason c =
     let small : c.loop-saved.saved-index < length c.args.answers.now = search rules in
     let is : c.saved-item.result ≡ get_or c.args.answers.now c.loop-saved.saved-index c.saved-item.result = search rules in
     let other : c.in-ClientState.state.revision ≢ c.revision_of-revision.result = grind (arith, common_steps) in
-    subst (HasReason c.args.setup.now c.args.tracked.now c.args.answers.now) (sym c.at-then-state-revision.ensures)
+    subst (HasReason c.args.setup.now c.args.tracked.now c.args.answers.now) (sym c.at.ensures)
     (other_state c.args.tracked.now c.args.answers.now c.loop-saved.saved-index c.saved-item.result c.in-ClientState.state c.revision_of-revision.result small is (ap client_states_in c.in-ClientState.is) (search rules) other)
 
 pub returns-in-Some-clause-reason : goal.returns-in-Some-clause-reason

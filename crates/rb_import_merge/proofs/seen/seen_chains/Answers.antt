@@ -26,7 +26,7 @@ loop-place-preserved c =
     All-push Fits c.loop-place.chains.items c.in_ok-fitting.fitting c.loop-place.invariant.0 c.in_ok-fitting.ensures.fits.0 in (
       subst (All Fits) (sym c.in_ok-push-2.ensures.items) more,
       at_one_more Holds c.args.setup.now.chains.items c.loop-place.place c.id-item.result c.in_ok-fitting.fitting c.loop-place.chains.items _ (search rules) (search rules)
-          (subst (λ saved. IsSeenChain saved c.in_ok-fitting.fitting) c.answers_at.ensures ((c.in_ok-chain.chain.commits.items, c.in_ok-chain.ensures.headers, c.in_ok-chain.ensures.rising, c.in_ok-fitting.ensures.fits), subst (HaveSets c.answers_at.result.now) (sym c.in_ok-fitting.ensures.sets) c.in_ok-chain.ensures.all_sets)) c.in_ok-push-2.ensures.items c.loop-place.invariant.1,
+          (subst (λ saved. IsSeenChain saved c.in_ok-fitting.fitting) c.answers_at.ensures ((c.in_ok-chain.chain.commits.items, c.in_ok-chain.ensures.headers, c.in_ok-chain.ensures.files, c.in_ok-chain.ensures.verdicts, c.in_ok-chain.ensures.rising, c.in_ok-fitting.ensures.fits), subst (HaveSets c.answers_at.result.now) (sym c.in_ok-fitting.ensures.sets) c.in_ok-chain.ensures.all_sets)) c.in_ok-push-2.ensures.items c.loop-place.invariant.1,
       at_one_more Leaves c.args.setup.now.chains.items c.loop-place.place c.id-item.result c.surplus_of.result c.loop-place.surplus.items _ (search rules) (search rules)
           (surplus_is c.answers_at.result.now c.in_ok-chain.chain.commits.items c.surplus_of.result c.in_ok-chain.ensures.headers c.surplus_of.ensures ∙ ap surplus_of c.answers_at.ensures) c.in_ok-push.ensures.items c.loop-place.invariant.2,
     )

@@ -1,0 +1,27 @@
+-- The line that a script of answers begins with.
+use Rattle.std.specs.Prelude.{◌≡◌, ℕ, List, [], ◌∷◌, ◌++◌, All, Bool, true, false, codes}
+use Rattle.std.specs.List.{list_any}
+use Rattle.rb_import_answers.specs.Said.{IsPlain}
+use Rattle.rb_import_check.specs.declared.saved.SavedAnswers.{SavedAnswers}
+use Rattle.rb_import_check.specs.Verdicts.{has_verdicts}
+
+-- the line where no answer holds verdicts
+abbrev pub warning : List ℕ
+warning = codes "# Signatures were not verified: headers and votes stand as the nodes gave them." ++ 10 ∷ []
+
+-- the line with these words on who verified signatures
+abbrev pub credit : List ℕ → List ℕ
+credit words = codes "# signatures: " ++ words ++ 10 ∷ []
+
+-- whether answers on a chain hold verdicts
+abbrev pub hold_verdicts : SavedAnswers → Bool
+hold_verdicts answers = list_any (λ saved. has_verdicts saved.items) answers.chains.items
+
+-- the warning, or where there are verdicts one line of printable words
+abbrev pub IsOpening : Bool → List ℕ → Type 0
+IsOpening true line = (words : List ℕ) × All IsPlain words × (line ≡ credit words)
+IsOpening false line = line ≡ warning
+
+-- the text begins so
+abbrev pub Opens : Bool → List ℕ → Type 0
+Opens verified text = (line : List ℕ) × (rest : List ℕ) × IsOpening verified line × (text ≡ line ++ rest)

@@ -1,0 +1,61 @@
+-- Verdicts on the signatures of a chain's commits.
+use Rattle.std.specs.Prelude.{◌≡◌, ◌≢◌, ⊤, ℕ, List, [], ◌∷◌, Bool, true, false, Option, Some, None, All, Contains, if◌then◌else◌, ◌==◌}
+use Rattle.std.specs.List.{flat_map, list_any}
+use Rattle.rb_import_answers.specs.declared.answer.NodeAnswer.{NodeAnswer}
+use Rattle.rb_import_answers.specs.declared.answer.NodeAnswer.TheVariants as answers
+use Rattle.rb_import_answers.specs.declared.commit.BlockIdFlag.{BlockIdFlag}
+use Rattle.rb_import_answers.specs.declared.commit.BlockIdFlag.TheVariants.{Absent, Commit, Nil}
+use Rattle.rb_import_answers.specs.declared.verdicts.Verdict.{Verdict}
+use Rattle.rb_import_answers.specs.declared.verdicts.Verdicts.{Verdicts}
+use Rattle.rb_import_answers.specs.Votes.{letter_of}
+use Rattle.rb_import_check.specs.declared.saved.Saved.{Saved}
+
+abbrev pub verdicts_in : NodeAnswer → List Verdicts
+verdicts_in (answers.Commit header) = []
+verdicts_in (answers.Validators page) = []
+verdicts_in (answers.ClientState state) = []
+verdicts_in (answers.ConsensusStates page) = []
+verdicts_in (answers.Transactions page) = []
+verdicts_in (answers.Verdicts v) = v ∷ []
+verdicts_in (answers.Other query) = []
+
+-- the verdicts that a chain's answers hold
+abbrev pub verdicts_of : List Saved → List Verdicts
+verdicts_of saved = flat_map (λ s. verdicts_in s.answer) saved
+
+abbrev pub verdict_list : List Verdicts → List Verdict
+verdict_list verdicts = flat_map (λ v. v.commits.items) verdicts
+
+-- it is one of these verdicts, on the file of this SHA-256; none where none of them is on it
+abbrev pub IsVerdictOn : List Verdict → List ℕ → Option Verdict → Type 0
+IsVerdictOn verdicts digest (Some v) = Contains verdicts v × (v.digest ≡ digest)
+IsVerdictOn verdicts digest None = All (λ v. v.digest ≢ digest) verdicts
+
+-- it tells of so many votes
+abbrev pub HasVotes : ℕ → Option Verdict → Type 0
+HasVotes count (Some v) = v.votes ≡ count
+HasVotes count None = ⊤
+
+abbrev pub is_verdicts : NodeAnswer → Bool
+is_verdicts (answers.Commit header) = false
+is_verdicts (answers.Validators page) = false
+is_verdicts (answers.ClientState state) = false
+is_verdicts (answers.ConsensusStates page) = false
+is_verdicts (answers.Transactions page) = false
+is_verdicts (answers.Verdicts v) = true
+is_verdicts (answers.Other query) = false
+
+-- whether a chain's answers hold verdicts
+abbrev pub has_verdicts : List Saved → Bool
+has_verdicts saved = list_any (λ s. is_verdicts s.answer) saved
+
+-- ---- letters of votes
+
+abbrev pub is_among : List ℕ → ℕ → Bool
+is_among places place = list_any (λ other. other == place) places
+
+-- the letter of a vote at a place, of which these are bad: B (66) of a bad vote for the block
+abbrev pub vote_letter : List ℕ → ℕ → BlockIdFlag → ℕ
+vote_letter bad place Commit = if is_among bad place then 66 else letter_of Commit
+vote_letter bad place Absent = letter_of Absent
+vote_letter bad place Nil = letter_of Nil

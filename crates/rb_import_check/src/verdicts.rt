@@ -1,0 +1,102 @@
+//! The verdicts on the signatures of a chain's commits.
+ghost use Rattle.std.specs.Prelude.{◌≡◌, ◌<◌, length, IfOk, IfErr, option_map, option_to_list};
+ghost use Rattle.rb_import_answers.specs.Votes.{letter_of};
+ghost use Rattle.rb_import_check.specs.Errors.{IsToldOf};
+ghost use Rattle.rb_import_check.specs.Verdicts.{IsVerdictOn, HasVotes, has_verdicts, is_among, is_verdicts, verdict_list, verdicts_of, vote_letter};
+
+use crate::error::{CheckErrorName, ImportError};
+use crate::saved::Saved;
+use rb_import_answers::{BlockIdFlag, NodeAnswer, SignedHeader, Verdict, Verdicts};
+
+/// The verdicts of a chain's answers, by its identifier, where there are some: one file at most has them, and they are
+/// on this chain.
+pub fn verdicts_in<'a>(
+    id: &'a str,
+    answers: &'a [Saved],
+) -> Result<Option<&'a Verdicts>, ImportError<'a>>
+    ensures verdicts { IfOk result (λ found. option_to_list (option_map (λ v. v.now) found) ≡ verdicts_of answers.entry.now) }
+    ensures told { IfErr result (IsToldOf id.entry.now) }
+{
+    let mut found: Option<(&'a str, &'a Verdicts)> = None;
+    for saved in answers {
+        if let NodeAnswer::Verdicts(verdicts) = &saved.answer {
+            let file = saved.file.as_str();
+            if verdicts.chain.as_str() != id {
+                return Err(ImportError::of_other_chain(id, 0, file, verdicts.chain.as_str()));
+            }
+            if let Some((earlier, _)) = found {
+                let name = CheckErrorName::TwoAnswers;
+                return Err(ImportError::between(name, id, 0, earlier, file));
+            }
+            found = Some((file, verdicts));
+        }
+    }
+    Ok(found.map(|(_, verdicts)| verdicts))
+}
+
+/// Whether answers hold verdicts.
+pub fn has_verdicts(answers: &[Saved]) -> bool
+    ensures { result ≡ has_verdicts answers.now }
+{
+    answers.iter().any(|saved| is_verdicts(&saved.answer))
+}
+
+fn is_verdicts(answer: &NodeAnswer) -> bool
+    ensures { result ≡ is_verdicts answer.now }
+{
+    matches!(answer, NodeAnswer::Verdicts(_))
+}
+
+/// The verdict on a header's commit, whose file has this SHA-256, if there is one: it has to tell of as many votes as the
+/// commit has.
+pub fn verdict_on<'a>(
+    id: &'a str,
+    verdicts: Option<&'a Verdicts>,
+    saved: &'a Saved,
+    header: &SignedHeader,
+) -> Result<Option<&'a Verdict>, ImportError<'a>>
+    ensures verdict { IfOk result (λ verdict. IsVerdictOn (verdict_list (option_to_list (option_map (λ v. v.now) verdicts.entry))) saved.entry.now.digest (option_map (λ v. v.now) verdict)) }
+    ensures votes { IfOk result (λ verdict. HasVotes (length header.now.signatures.items) (option_map (λ v. v.now) verdict)) }
+    ensures told { IfErr result (IsToldOf id.entry.now) }
+{
+    let Some(verdicts) = verdicts else {
+        return Ok(None);
+    };
+    match with_digest(verdicts.commits.as_slice(), &saved.digest) {
+        Some(verdict) if verdict.votes != header.signatures.len() as u64 => {
+            let name = CheckErrorName::OtherVerdict;
+            Err(ImportError::at(name, id, header.height.get(), saved.file.as_str()))
+        }
+        verdict => Ok(verdict),
+    }
+}
+
+/// A verdict on the file of this SHA-256.
+fn with_digest<'a>(verdicts: &'a [Verdict], digest: &[u8; 32]) -> Option<&'a Verdict>
+    ensures { IsVerdictOn verdicts.entry.now digest.now (option_map (λ v. v.now) result) }
+{
+    for verdict in verdicts {
+        if verdict.digest == *digest {
+            return Some(verdict);
+        }
+    }
+    None
+}
+
+/// The letter in a script of the vote at a place, of which these are bad: `B` of a bad vote for the block.
+pub fn vote_letter(bad: &[u64], place: u64, flag: BlockIdFlag) -> char
+    ensures letter { result ≡ vote_letter bad.now place flag }
+    ensures ascii { result < 128 }
+{
+    match flag {
+        BlockIdFlag::Commit if is_among(bad, place) => 'B',
+        flag => flag.letter(),
+    }
+}
+
+/// Whether a place is one of these.
+fn is_among(places: &[u64], place: u64) -> bool
+    ensures { result ≡ is_among places.now place }
+{
+    places.iter().any(|&other| other == place)
+}

@@ -1,0 +1,89 @@
+//! Notices of chains of which some commits have no verdict on their signatures.
+ghost use Rattle.std.specs.Prelude.{◌≡◌, IfOk, MatchOption};
+ghost use Rattle.rb_import_notices.specs.Verified.{LacksVerdicts, SaysUnverified, TellUnverified, is_unverified, unverified_at, unverified_in};
+
+use rb_import_check::{Commit, SavedAnswers, has_verdicts};
+use rb_import_merge::{Seen, answers_at};
+use rb_import_setup::Setup;
+use std::alloc::{AllocError, Global};
+use std::fmt;
+
+/// A chain whose answers hold verdicts, and of how many of its headers they have none.
+#[derive(Clone, Copy, Debug)]
+pub struct NotVerified<'a> {
+    pub chain: &'a str,
+    pub unverified: usize,
+}
+
+impl fmt::Display for NotVerified<'_> {
+    fn fmt<W: fmt::Write>(&self, f: &mut fmt::Formatter<W>) -> fmt::Result {
+        let chain = self.chain;
+        let unverified = self.unverified;
+        write!(
+            f,
+            "notice NotVerified at {chain}: verdicts.json has no verdict on the commits of {unverified} headers, so that their signatures were not verified; run tools/verify_commits again"
+        )
+    }
+}
+
+/// The chains whose answers hold verdicts, but none on some commit.
+pub fn not_verified<'a>(
+    alloc: Global,
+    setup: &'a Setup,
+    answers: &'a SavedAnswers,
+    seen: &Seen<'a>,
+) -> Result<Vec<NotVerified<'a>>, AllocError>
+    ensures { IfOk result (λ found. TellUnverified setup.entry.now answers.entry.now.chains.items seen.now found.items) }
+{
+    let mut found = Vec::new(alloc);
+    for (place, id) in setup.chains.iter().enumerate() {
+        if let Some(lacking) = unverified_of(answers, seen, place, id.as_str()) {
+            found.push(lacking)?;
+        }
+    }
+    Ok(found)
+}
+
+/// The chain at a place, where its answers hold verdicts, but none on some commit.
+fn unverified_of<'a>(
+    answers: &SavedAnswers,
+    seen: &Seen<'_>,
+    place: usize,
+    chain: &'a str,
+) -> Option<NotVerified<'a>>
+    ensures { MatchOption result (¬ LacksVerdicts answers.now.chains.items seen.now place) (λ n. LacksVerdicts answers.now.chains.items seen.now place × SaysUnverified seen.now place chain.entry.now n) }
+{
+    if !has_verdicts(answers_at(&answers.chains, place)) {
+        return None;
+    }
+    match unverified_at(seen, place) {
+        0 => None,
+        unverified => Some(NotVerified { chain, unverified }),
+    }
+}
+
+/// How many headers of the chain at a place have no verdict on their commits.
+fn unverified_at(seen: &Seen<'_>, place: usize) -> usize
+    ensures { result ≡ unverified_at seen.now place }
+{
+    match seen.chains.get(place) {
+        Some(chain) => unverified_in(chain.commits.as_slice()),
+        None => 0,
+    }
+}
+
+/// How many of these commits have no verdict.
+fn unverified_in(commits: &[Commit<'_>]) -> usize
+    ensures { result ≡ unverified_in commits.now }
+{
+    commits
+        .iter()
+        .filter(|commit| is_unverified(commit))
+        .count()
+}
+
+fn is_unverified(commit: &Commit<'_>) -> bool
+    ensures { result ≡ is_unverified commit.now }
+{
+    commit.verdict.is_none()
+}
