@@ -10,4 +10,4 @@ returns-in-Ok c = rw (json-some c.args.bytes.now _ c.in-Ok.ensures.ok) refl
 pub returns-in-Err-2 : goal.returns-in-Err-2
 returns-in-Err-2 c =
     let other : ¬ IsMemory c.in-Err.error = λ m. true≢false (sym (c.is_memory.ensures.1 m) ∙ c.if-is_memory.false) in
-    rw (c.whole.ensures, json-none c.args.bytes.now (c.in-Err.ensures.err other)) refl
+    rw (c.whole.ensures, c.unread.ensures, json-none c.args.bytes.now (c.in-Err.ensures.err other)) refl
