@@ -49,7 +49,7 @@ abbrev pub AreOfFiles : List Filed → List Commit → Type 0
 AreOfFiles files commits = IsPermutation files (map filed commits)
 
 -- the commit has a verdict on its file that is among these, and none only where none is on it; and it tells of as many votes as the commit has
-abbrev pub IsJudgedBy : List Verdicts → Commit → Type 0
+unfoldable pub IsJudgedBy : List Verdicts → Commit → Type 0
 IsJudgedBy verdicts c =
     IsVerdictOn (verdict_list verdicts) c.digest (option_map (λ v. v.now) c.verdict)
     × HasVotes (length c.header.now.signatures.items) (option_map (λ v. v.now) c.verdict)

@@ -23,13 +23,19 @@ verdicts_in (answers.Other query) = []
 abbrev pub verdicts_of : List Saved → List Verdicts
 verdicts_of saved = flat_map (λ s. verdicts_in s.answer) saved
 
+-- the verdicts of the first file that has some; two such files are refused
 abbrev pub verdict_list : List Verdicts → List Verdict
-verdict_list verdicts = flat_map (λ v. v.commits.items) verdicts
+verdict_list [] = []
+verdict_list (v ∷ others) = v.commits.items
+
+-- a verdict is on another file than that of this SHA-256
+unfoldable pub IsOnOther : List ℕ → Verdict → Type 0
+IsOnOther digest v = v.digest ≢ digest
 
 -- it is one of these verdicts, on the file of this SHA-256; none where none of them is on it
 abbrev pub IsVerdictOn : List Verdict → List ℕ → Option Verdict → Type 0
 IsVerdictOn verdicts digest (Some v) = Contains verdicts v × (v.digest ≡ digest)
-IsVerdictOn verdicts digest None = All (λ v. v.digest ≢ digest) verdicts
+IsVerdictOn verdicts digest None = All (IsOnOther digest) verdicts
 
 -- it tells of so many votes
 abbrev pub HasVotes : ℕ → Option Verdict → Type 0

@@ -114,6 +114,7 @@ fn all_commits<'a>(
 }
 
 /// The commit of a header in a file, with the verdict on it.
+#[tactic(auto, unfolding(crate::specs::Chains::IsJudgedBy))]
 fn commit_in<'a>(
     id: &'a str,
     verdicts: Option<&'a Verdicts>,

@@ -1,8 +1,8 @@
 //! The verdicts on the signatures of a chain's commits.
-ghost use Rattle.std.specs.Prelude.{◌≡◌, ◌<◌, length, IfOk, IfErr, option_map, option_to_list};
+ghost use Rattle.std.specs.Prelude.{◌≡◌, ◌<◌, IsTrue, false, length, IfOk, IfErr, option_map, option_to_list};
 ghost use Rattle.rb_import_answers.specs.Votes.{letter_of};
 ghost use Rattle.rb_import_check.specs.Errors.{IsToldOf};
-ghost use Rattle.rb_import_check.specs.Verdicts.{IsVerdictOn, HasVotes, has_verdicts, is_among, is_verdicts, verdict_list, verdicts_of, vote_letter};
+ghost use Rattle.rb_import_check.specs.Verdicts.{IsOnOther, IsVerdictOn, HasVotes, has_verdicts, is_among, is_verdicts, verdict_list, verdicts_of, vote_letter};
 
 use crate::error::{CheckErrorName, ImportError};
 use crate::saved::Saved;
@@ -59,15 +59,33 @@ pub fn verdict_on<'a>(
     ensures votes { IfOk result (λ verdict. HasVotes (length header.now.signatures.items) (option_map (λ v. v.now) verdict)) }
     ensures told { IfErr result (IsToldOf id.entry.now) }
 {
-    let Some(verdicts) = verdicts else {
-        return Ok(None);
-    };
-    match with_digest(verdicts.commits.as_slice(), &saved.digest) {
-        Some(verdict) if verdict.votes != header.signatures.len() as u64 => {
-            let name = CheckErrorName::OtherVerdict;
-            Err(ImportError::at(name, id, header.height.get(), saved.file.as_str()))
-        }
-        verdict => Ok(verdict),
+    let verdict = with_digest(commits_of(verdicts), &saved.digest);
+    if has_votes(verdict, header.signatures.len() as u64) {
+        Ok(verdict)
+    } else {
+        let name = CheckErrorName::OtherVerdict;
+        let file = saved.file.as_str();
+        Err(ImportError::at(name, id, header.height.get(), file))
+    }
+}
+
+/// The verdicts on commits, none where there are none.
+fn commits_of<'a>(verdicts: Option<&'a Verdicts>) -> &'a [Verdict]
+    ensures { result.now ≡ verdict_list (option_to_list (option_map (λ v. v.now) verdicts.entry)) }
+{
+    match verdicts {
+        Some(verdicts) => verdicts.commits.as_slice(),
+        None => &[],
+    }
+}
+
+/// Whether a verdict, if there is one, tells of so many votes.
+fn has_votes(verdict: Option<&Verdict>, votes: u64) -> bool
+    ensures { IsTrue result → HasVotes votes (option_map (λ v. v.now) verdict.entry) }
+{
+    match verdict {
+        Some(verdict) => verdict.votes == votes,
+        None => true,
     }
 }
 
@@ -76,11 +94,20 @@ fn with_digest<'a>(verdicts: &'a [Verdict], digest: &[u8; 32]) -> Option<&'a Ver
     ensures { IsVerdictOn verdicts.entry.now digest.now (option_map (λ v. v.now) result) }
 {
     for verdict in verdicts {
-        if verdict.digest == *digest {
+        if is_on(verdict, digest) {
             return Some(verdict);
         }
     }
     None
+}
+
+/// Whether a verdict is on the file of this SHA-256.
+#[tactic(auto, unfolding(crate::specs::Verdicts::IsOnOther))]
+fn is_on(verdict: &Verdict, digest: &[u8; 32]) -> bool
+    ensures this { IsTrue result → verdict.now.digest ≡ digest.now }
+    ensures other { result ≡ false → IsOnOther digest.now verdict.now }
+{
+    verdict.digest == *digest
 }
 
 /// The letter in a script of the vote at a place, of which these are bad: `B` of a bad vote for the block.
