@@ -7,3 +7,4 @@ pub mod Seeing
 pub mod Sendings
 pub mod Told
 pub mod Watched
+pub mod Counts

@@ -167,6 +167,10 @@ is_empty (answers.Transactions page) = length page.events.items == 0
 is_empty (answers.Verdicts v) = false
 is_empty (answers.Other query) = false
 
+-- whether a file has an answer of `/tx_search` that tells of no packet
+unfoldable pub is_silent : Saved → Bool
+is_silent s = is_empty s.answer
+
 abbrev pub one_if : Bool → ℕ
 one_if holds = if holds then 1 else 0
 

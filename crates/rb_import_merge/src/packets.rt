@@ -3,7 +3,7 @@ ghost use Rattle.std.specs.Prelude.{◌≡◌, [], ◌∷◌, ◌++◌, if◌the
 ghost use Rattle.std.specs.List.{flat_map, list_any};
 ghost use Rattle.std.specs.List.Sorted.{IsPermutation};
 ghost use Rattle.rb_import_check.specs.Errors.{IsToldOf};
-ghost use Rattle.rb_import_merge.specs.Packets.{IsOfPath, HaveEvents, Expires, ExpiresAt, counterparty, expiry_at, within_heights, is_source, is_dest, is_wanted, counts_as, is_empty, lacks, one_if, some_timed_out, tells_of, events_of, seen_events};
+ghost use Rattle.rb_import_merge.specs.Packets.{IsOfPath, HaveEvents, Expires, ExpiresAt, counterparty, expiry_at, within_heights, is_source, is_dest, is_wanted, counts_as, is_silent, lacks, one_if, some_timed_out, tells_of, events_of, seen_events};
 
 use crate::counterparties::counterparty;
 use crate::lowest::lowest_of;
@@ -131,17 +131,28 @@ pub fn searches_of(answers: &[Saved]) -> Searches
     ensures sent { result.lacks_sent ≡ lacks PacketKind.Sent answers.now }
     ensures received { result.lacks_received ≡ lacks PacketKind.Received answers.now }
     ensures cleared { result.lacks_cleared ≡ lacks PacketKind.Cleared answers.now }
-    ensures empty { result.empty ≡ count_by (λ s. is_empty s.answer) answers.now }
+    ensures empty { result.empty ≡ count_by is_silent answers.now }
 {
     Searches {
         lacks_sent: lacks(answers, PacketKind::Sent),
         lacks_received: lacks(answers, PacketKind::Received),
         lacks_cleared: lacks(answers, PacketKind::Cleared),
-        empty: answers
-            .iter()
-            .filter(|saved| is_empty(&saved.answer))
-            .count(),
+        empty: count_empty(answers),
     }
+}
+
+/// How many answers tell of no packet.
+#[tactic(auto, using(crate::proofs::Counts::counting))]
+fn count_empty(answers: &[Saved]) -> usize
+    ensures { result ≡ count_by is_silent answers.now }
+{
+    let mut count: usize = 0;
+    for saved in answers {
+        if is_silent(saved) {
+            count += 1;
+        }
+    }
+    count
 }
 
 /// Whether no answer tells of an event of this kind.
@@ -200,10 +211,11 @@ pub fn some_timed_out(packets: &[SeenPacket<'_>]) -> bool
 }
 
 /// Whether an answer tells of no packet.
-fn is_empty(answer: &NodeAnswer) -> bool
-    ensures { result ≡ is_empty answer.now }
+#[tactic(auto, unfolding(crate::specs::Packets::is_silent))]
+fn is_silent(saved: &Saved) -> bool
+    ensures { result ≡ is_silent saved.now }
 {
-    match answer {
+    match &saved.answer {
         NodeAnswer::Transactions(page) => page.events.is_empty(),
         _ => false,
     }

@@ -6,13 +6,13 @@ use Rattle.rb_import_setup.specs.declared.setup.PathSetup.{PathSetup}
 use Rattle.rb_import_setup.specs.declared.setup.Setup.{Setup}
 use Rattle.rb_import_check.specs.declared.saved.Saved.{Saved}
 use Rattle.rb_import_merge.specs.declared.packets.Searches.{Searches}
-use Rattle.rb_import_merge.specs.Packets.{is_empty, lacks, one_if}
+use Rattle.rb_import_merge.specs.Packets.{is_silent, lacks, one_if}
 use Rattle.rb_import_notices.specs.declared.unsearched.MissingSearches.{MissingSearches}
 use Rattle.rb_import_notices.specs.Notices.{AreNotices}
 
 -- how many of a path's answers tell of no packet
 abbrev pub empty_in : List Saved → ℕ
-empty_in saved = count_by (λ (s : Saved). is_empty s.answer) saved
+empty_in saved = count_by is_silent saved
 
 -- of how many of the three kinds that are searched for a path's answers don't tell
 abbrev pub lacking_in : List Saved → ℕ
