@@ -1,5 +1,5 @@
 -- The line that a script of answers begins with.
-use Rattle.std.specs.Prelude.{◌≡◌, ℕ, List, [], ◌∷◌, ◌++◌, All, Bool, true, false, codes}
+use Rattle.std.specs.Prelude.{◌≡◌, ◌⊎◌, ℕ, List, [], ◌∷◌, ◌++◌, All, Bool, true, false, codes}
 use Rattle.std.specs.List.{list_any}
 use Rattle.rb_import_answers.specs.Said.{IsPlain}
 use Rattle.rb_import_check.specs.declared.saved.SavedAnswers.{SavedAnswers}
@@ -17,10 +17,13 @@ credit words = codes "# signatures: " ++ words ++ 10 ∷ []
 abbrev pub hold_verdicts : SavedAnswers → Bool
 hold_verdicts answers = list_any (λ saved. has_verdicts saved.items) answers.chains.items
 
--- the warning, or where there are verdicts one line of printable words
+-- the line has printable words
+abbrev pub IsCredit : List ℕ → Type 0
+IsCredit line = (words : List ℕ) × All IsPlain words × (line ≡ credit words)
+
+-- the line that says who verified signatures where there are verdicts, and the warning where there are none
 abbrev pub IsOpening : Bool → List ℕ → Type 0
-IsOpening true line = (words : List ℕ) × All IsPlain words × (line ≡ credit words)
-IsOpening false line = line ≡ warning
+IsOpening verified line = ((verified ≡ true) × IsCredit line) ⊎ ((verified ≡ false) × (line ≡ warning))
 
 -- the text begins so
 abbrev pub Opens : Bool → List ℕ → Type 0

@@ -1,7 +1,7 @@
 //! The line that a script of answers begins with: who verified signatures.
 ghost use Rattle.std.specs.Prelude.{◌≡◌, IfOk, All, string_bytes};
 ghost use Rattle.rb_import_answers.specs.Said.{IsPlain};
-ghost use Rattle.rb_import.specs.Openings.{IsOpening, credit, hold_verdicts};
+ghost use Rattle.rb_import.specs.Openings.{IsCredit, IsOpening, credit, hold_verdicts};
 
 use rb_import_answers::{NodeAnswer, plain_text};
 use rb_import_check::{Commit, SavedAnswers, has_verdicts};
@@ -21,10 +21,21 @@ pub fn opening_of(
     ensures { IfOk result (λ line. IsOpening (hold_verdicts answers.now) (string_bytes line)) }
 {
     if hold_verdicts(answers) {
-        credit(alloc, words_of(alloc, answers, seen)?.as_str())
+        let line = credited(alloc, answers, seen)?;
+        Ok(line)
     } else {
-        String::from_str(alloc, WARNING)
+        let line = String::from_str(alloc, WARNING)?;
+        Ok(line)
     }
+}
+
+/// The line that says who verified signatures.
+fn credited(alloc: Global, answers: &SavedAnswers, seen: &Seen<'_>) -> Result<String, AllocError>
+    ensures { IfOk result (λ line. IsCredit (string_bytes line)) }
+{
+    let words = words_of(alloc, answers, seen)?;
+    let line = credit(alloc, &words)?;
+    Ok(line)
 }
 
 /// Whether answers on a chain hold verdicts.
@@ -38,11 +49,11 @@ fn hold_verdicts(answers: &SavedAnswers) -> bool
 }
 
 /// The line with these words.
-fn credit(alloc: Global, words: &str) -> Result<String, AllocError>
-    ensures { IfOk result (λ line. string_bytes line ≡ credit words.now) }
+fn credit(alloc: Global, words: &String) -> Result<String, AllocError>
+    ensures { IfOk result (λ line. string_bytes line ≡ credit (string_bytes words.now)) }
 {
     let mut line = String::from_str(alloc, "# signatures: ")?;
-    line.push_str(words)?;
+    line.push_str(words.as_str())?;
     line.push_str("\n")?;
     Ok(line)
 }

@@ -1,5 +1,6 @@
 //! Notices of answers to queries that aren't needed.
 ghost use Rattle.std.specs.Prelude.{◌≡◌, IfOk, MatchOption};
+ghost use Rattle.rb_import_merge.specs.Seen.{answers_at};
 ghost use Rattle.rb_import_notices.specs.Passed.{HasOthers, SaysOthers, TellOthersOfChains, TellOthersOfClients, TellOthersOfPaths, has_others, is_other};
 
 use rb_import_answers::{NodeAnswer, Query};
@@ -76,12 +77,19 @@ fn others_at<'a>(
 ) -> Option<PassedOver<'a>>
     ensures { MatchOption result (¬ HasOthers answers.entry.now.items place) (λ n. HasOthers answers.entry.now.items place × SaysOthers answers.entry.now.items place object.entry.now n) }
 {
-    let answers = answers_at(answers, place);
-    if has_others(answers) {
+    if hold_others(answers, place) {
+        let answers = answers_at(answers, place);
         Some(PassedOver { object, answers })
     } else {
         None
     }
+}
+
+/// Whether some of the answers at a place aren't needed.
+fn hold_others(answers: &Vec<Vec<Saved>>, place: usize) -> bool
+    ensures { result ≡ has_others (answers_at answers.now.items place) }
+{
+    has_others(answers_at(answers, place))
 }
 
 /// The chains of whose answers some aren't needed.

@@ -1,5 +1,7 @@
 //! Notices of chains of which some commits have no verdict on their signatures.
 ghost use Rattle.std.specs.Prelude.{◌≡◌, IfOk, MatchOption};
+ghost use Rattle.rb_import_check.specs.Verdicts.{has_verdicts};
+ghost use Rattle.rb_import_merge.specs.Seen.{answers_at};
 ghost use Rattle.rb_import_notices.specs.Verified.{LacksVerdicts, SaysUnverified, TellUnverified, is_unverified, unverified_at, unverified_in};
 
 use rb_import_check::{Commit, SavedAnswers, has_verdicts};
@@ -53,13 +55,20 @@ fn unverified_of<'a>(
 ) -> Option<NotVerified<'a>>
     ensures { MatchOption result (¬ LacksVerdicts answers.now.chains.items seen.now place) (λ n. LacksVerdicts answers.now.chains.items seen.now place × SaysUnverified seen.now place chain.entry.now n) }
 {
-    if !has_verdicts(answers_at(&answers.chains, place)) {
+    if !hold_verdicts(answers, place) {
         return None;
     }
     match unverified_at(seen, place) {
         0 => None,
         unverified => Some(NotVerified { chain, unverified }),
     }
+}
+
+/// Whether the answers on the chain at a place hold verdicts.
+fn hold_verdicts(answers: &SavedAnswers, place: usize) -> bool
+    ensures { result ≡ has_verdicts (answers_at answers.now.chains.items place) }
+{
+    has_verdicts(answers_at(&answers.chains, place))
 }
 
 /// How many headers of the chain at a place have no verdict on their commits.
