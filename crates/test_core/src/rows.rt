@@ -118,9 +118,8 @@ fn refuses_in_order(rt: HostRuntime) -> Result<(), Fail> {
 /// A plan of a client, made on another machine, where the client's updates cost more.
 const ELSEWHERE: &[Row] = &[(Deed::Window(50, 60), "Noted"), (Deed::Draft(2), "idle")];
 
-/// It is offered before the first window and in the same window, and then a plan of this machine.
+/// It is offered in the same window, and then a plan of this machine.
 const OF_ANOTHER: &[Row] = &[
-    (Deed::Last, "805 OutOfOrder"),
     (Deed::Window(50, 60), "Noted"),
     (Deed::Last, "802 Stale"),
     (Deed::Draft(2), "idle"),
