@@ -11,3 +11,5 @@ letters_more bad votes i s text after whole small is now was =
     let rest = letters_from bad (i + 1) (drop (i + 1) votes) in
     let left : drop i votes ≡ s ∷ drop (i + 1) votes = drop_more votes i s small ∙ ap (λ x. x ∷ drop (i + 1) votes) (sym is) in
     ap (λ l. l ++ rest) now ∙ append_assoc text (vote_letter bad i s.flag ∷ []) rest ∙ ap (λ l. text ++ letters_from bad i l) (sym left) ∙ was
+
+pub ruleset lettering = (letters_more)

@@ -1,5 +1,5 @@
 -- The text of a script that was made of answers.
-use Rattle.std.specs.Prelude.{ℕ, List, [], ◌∷◌, ◌+◌, ◌++◌, codes, Bool, true, false, ◌&&◌, if◌then◌else◌, Option, Some, None, Bor}
+use Rattle.std.specs.Prelude.{ℕ, List, [], ◌∷◌, ◌+◌, ◌++◌, codes, Bool, true, false, ◌&&◌, if◌then◌else◌, Option, Some, None, option_map}
 use Rattle.rb_scan.specs.declared.path.Order.{Order}
 use Rattle.rb_scan.specs.declared.path.Order.TheVariants.{Ordered, Unordered}
 use Rattle.rb_import_setup.specs.declared.setup.PathSetup.{PathSetup}
@@ -29,8 +29,8 @@ closing path packets = if is_closed path packets then closed path.config.id else
 -- ---- votes
 
 -- the places of a commit's bad votes, which its verdict tells
-abbrev pub bad_in : Option (Bor Verdict) → List ℕ
-bad_in (Some verdict) = verdict.now.bad.items
+abbrev pub bad_in : Option Verdict → List ℕ
+bad_in (Some verdict) = verdict.bad.items
 bad_in None = []
 
 -- the letters of votes in set order from a place on, of which these are bad
@@ -40,4 +40,4 @@ letters_from bad place (s ∷ rest) = vote_letter bad place s.flag ∷ letters_f
 
 -- the letters of a commit's votes: a bad vote for the block is B
 abbrev pub letters_of : Commit → List ℕ
-letters_of c = letters_from (bad_in c.verdict) 0 c.header.now.signatures.items
+letters_of c = letters_from (bad_in (option_map (λ v. v.now) c.verdict)) 0 c.header.now.signatures.items

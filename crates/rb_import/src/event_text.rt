@@ -1,10 +1,11 @@
 //! The text of what was seen.
-ghost use Rattle.std.specs.Prelude.{◌≡◌, ◌++◌, OnOk, string_bytes};
+ghost use Rattle.std.specs.Prelude.{◌≡◌, ◌++◌, ◌∷◌, [], OnOk, option_map, string_bytes};
+ghost use Rattle.rb_import_check.specs.Verdicts.{vote_letter};
 ghost use Rattle.rb_import.specs.Texts.{bad_in, closed, closing, is_closed, letters_from, letters_of};
 
 use crate::text::push_time;
 use jiff::Timestamp;
-use rb_import_answers::{PacketKind, Signature, Verdict};
+use rb_import_answers::{BlockIdFlag, PacketKind, Signature, Verdict};
 use rb_import_check::{Commit, Stored, vote_letter};
 use rb_import_merge::{SeenPacket, some_timed_out};
 use rb_import_setup::PathSetup;
@@ -97,7 +98,7 @@ fn push_votes(text: &mut String, commit: &Commit<'_>) -> Result<(), AllocError>
 
 /// The places of a commit's bad votes.
 fn bad_in<'a>(verdict: Option<&'a Verdict>) -> &'a [u64]
-    ensures { result.now ≡ bad_in verdict.entry }
+    ensures { result.now ≡ bad_in (option_map (λ v. v.now) verdict.entry) }
 {
     match verdict {
         Some(verdict) => verdict.bad.as_slice(),
@@ -106,13 +107,26 @@ fn bad_in<'a>(verdict: Option<&'a Verdict>) -> &'a [u64]
 }
 
 /// Adds a letter for each signature, of which those at some places are bad.
+#[tactic(auto, using(crate::proofs::Letters::lettering))]
 fn push_letters(text: &mut String, bad: &[u64], signatures: &[Signature]) -> Result<(), AllocError>
     ensures { OnOk result (string_bytes text.new ≡ string_bytes text.old ++ letters_from bad.now 0 signatures.now) }
 {
     for (place, signature) in signatures.iter().enumerate() {
-        text.push(vote_letter(bad, place as u64, signature.flag))?;
+        push_letter(text, bad, place as u64, signature.flag)?;
     }
     Ok(())
+}
+
+/// Adds the letter of the vote at a place, of which these are bad.
+fn push_letter(
+    text: &mut String,
+    bad: &[u64],
+    place: u64,
+    flag: BlockIdFlag,
+) -> Result<(), AllocError>
+    ensures { OnOk result (string_bytes text.new ≡ string_bytes text.old ++ vote_letter bad.now place flag ∷ []) }
+{
+    text.push(vote_letter(bad, place, flag))
 }
 
 /// Adds the event of a record that a client has stored.
