@@ -347,6 +347,7 @@ KINDS = {"send_packet": "sent", "recv_packet": "received", "write_acknowledgemen
 
 
 LAST = 2**63 - 1
+NO_WAITS = [0, 0, 0]
 
 
 def packet_events(folder, path):
@@ -408,7 +409,7 @@ def kept(records, folder):
 
 def script_of(setup, folder):
     """The script of a setup's text and of the answers, as TOML's values, its times in nanoseconds."""
-    script = tomllib.loads(setup) | {"version": 2}
+    script = tomllib.loads(setup) | {"version": 3}
     records, by_chain = [], {}
     for client in script.get("client", []):
         states = answers_in(folder / client["id"])
@@ -438,6 +439,7 @@ def script_of(setup, folder):
     for path in script.get("path", []):
         events += packet_events(folder, path)
         path.setdefault("first", 1)
+        path.setdefault("wait_ns", NO_WAITS)
         for key in "port", "channel", "counterparty_port", "counterparty_channel":
             path.pop(key, None)
     for turn in script["turn"]:
@@ -447,7 +449,9 @@ def script_of(setup, folder):
 
 
 def with_numbers(script):
-    """A script's values with its times in nanoseconds."""
+    """A script's values with its times in nanoseconds, and with the waits of each path."""
+    for path in script.get("path", []):
+        path.setdefault("wait_ns", NO_WAITS)
     for turn in script["turn"]:
         turn["from"], turn["until"] = nanoseconds(turn["from"]), nanoseconds(turn["until"])
         for event in turn.get("event", []):

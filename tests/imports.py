@@ -39,6 +39,7 @@ def setups(seed):
     one = HEAD + ONE + GIVEN[seed % 4] + TURN % 20
     two = CLIENT % ("zone-on-hub", "hub-4", "zone-1") + "refresh_ns = 5_000_000_000_000\n"
     path = PATH + (ENDS if seed % 4 == 1 else SOURCE if seed % 2 else "") + ("first = 2\n" if seed % 3 == 0 else "")
+    path += "wait_ns = [600_000_000_000, 0, 9223372036854775807]\n" if seed % 5 == 2 else ""
     turns = TURN % 10 + 'settle = [{ client = "hub-on-zone", batch = 1, done = 2 }]\n' + TURN % 20
     return one, HEAD + ONE + two + path + turns
 

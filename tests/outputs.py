@@ -25,10 +25,11 @@ def value_of(script, report):
             turns[-1]["refused"].append({"event": int(words[1]), "number": int(words[2]), "name": words[3]})
         elif kind == "refused" and words[0] == "window":
             turns[-1]["window_back"] = True
-        elif kind == "settled" or kind == "refused":
-            settlement = {key: settlements[len(turns[-1]["settlements"])][key] for key in ("client", "batch", "done")}
-            refusal = {"number": int(words[2]), "name": words[3]} if kind == "refused" else {}
-            turns[-1]["settlements"].append(settlement | refusal)
+        elif kind == "settled":
+            turns[-1]["settlements"].append({"client": words[0], "batch": int(words[1]), "done": int(words[2])})
+        elif kind == "refused":
+            settlement = {key: settlements[int(words[1])][key] for key in ("client", "batch", "done")}
+            turns[-1]["settlements"].append(settlement | {"number": int(words[2]), "name": words[3]})
         elif kind == "client":
             client = {"id": words[0], "outcome": words[1]}
             if words[1] == "goal":
@@ -50,7 +51,9 @@ def value_of(script, report):
             client["too_big"] = int(words[0])
         elif kind == "batch":
             client["batch"], client["proof"] = numbers(words)
-    return {"ibcplan": 1, "turns": turns}
+        elif kind == "next":
+            client["next"] = words[0]
+    return {"ibcplan": int(report.split()[1]), "turns": turns}
 
 
 def word(identifier):

@@ -55,7 +55,7 @@ def planned(script):
         relayer.take_in(turn)
         for client in script.clients.values():
             view = relayer.view(client)
-            goal, _ = relayer.goal(client, reference.labels_of(view))
+            goal, _ = relayer.goal(client, view)
             if goal and client.id not in relayer.open:
                 yield number, client.id, goal, view
             relayer.plan(client)

@@ -12,14 +12,19 @@ height and trusted height from the last update back. Lists that store the same h
 put to the end of both keeps their order, so only the first of them is continued. That is exponential in the number of
 headers; where more than EXHAUSTIVE heights can be stored, heights are labelled upwards instead. Where the first search
 is made, the second is made too, and a difference ends the program with an error.
+
+In scripts of version WAITING and later messages may wait for one another, and a refresh goes as high as can be reached.
 """
 import heapq
 import sys
+from datetime import datetime, timedelta
 
 sys.dont_write_bytecode = True
-from scripts import FAULTS, Fault, need, read_certificate, read_script
+from scripts import FAULTS, LAST_MOMENT, Fault, need, read_certificate, read_script
 
 EXHAUSTIVE = 11
+WAITING = 3
+KINDS = "recv", "ack", "timeout"
 MAX_SETS, MAX_ADDRESSES, MAX_PACKETS = 1024, 65_536, 4096
 NAMES = FAULTS | {
     401: "UnknownSet", 402: "WrongVerdictCount", 403: "BadVote", 404: "Conflict", 405: "TimeOrder", 406: "Full", 407: "HashClash",
@@ -36,11 +41,11 @@ class Refused(Exception):
 
 
 class Book:
-    """Sets by hash, records and headers by height; a record is (time, root, next), a header (record, set, votes)."""
+    """Sets by hash, records, their times and headers by height; a record is (time, root, next), a header (record, set, votes)."""
 
     def __init__(self, limit):
         self.limit = limit  # of records
-        self.sets, self.records, self.headers = {}, {}, {}
+        self.sets, self.records, self.headers, self.times = {}, {}, {}, {}
 
     def add_set(self, members):
         if members.hash in self.sets:
@@ -61,7 +66,7 @@ class Book:
             raise Refused(405)
         if len(self.records) >= self.limit:
             raise Refused(406)
-        self.records[at] = record
+        self.records[at], self.times[at] = record, record[0]
 
     def add_header(self, at, record, own, given):
         if own not in self.sets:
@@ -308,7 +313,7 @@ class Channel:
 
     def table(self, times):
         """The messages that the packets want, by kind: the floor of each by its sequence."""
-        found = {"recv": {}, "ack": {}, "timeout": {}}
+        found = {kind: {} for kind in KINDS}
         for seq, packet in sorted(self.packets.items()):
             expired = packet.timeouts(times)
             if packet.written is not None and not packet.is_cleared():
@@ -331,7 +336,7 @@ class Channel:
             table["ack"] = run_from(self.least(Packet.is_cleared), table["ack"])
             first = self.least(Packet.is_finished)
             table["timeout"] = {first: table["timeout"][first]} if first in table["timeout"] else {}
-        return [(kind, seq, table[kind][seq]) for kind in ("recv", "ack", "timeout") for seq in sorted(table[kind])]
+        return [(kind, seq, table[kind][seq]) for kind in KINDS for seq in sorted(table[kind])]
 
     def ready(self, times, reach):
         """The owed messages that a greatest labelled height lets go out; in a run of an ordered path none after one that has to wait."""
@@ -418,28 +423,67 @@ class Relayer:
         """The client's ready messages, path by path: kind, path, sequence and floor."""
         found = []
         for name, channel in self.channels.items():
-            times = {h: record[0] for h, record in self.books[channel.path.dest].records.items()}
-            for kind, seq, floor in channel.ready(times, reach):
+            for kind, seq, floor in channel.ready(self.books[channel.path.dest].times, reach):
                 if (channel.path.forward if kind == "recv" else channel.path.back) == client.id:
                     found.append((kind, name, seq, floor))
         return found
 
-    def due(self, client):
-        """The height that a refresh has to reach, if it is time for one."""
-        stored, times = self.stored[client.id], {h: record[0] for h, record in self.books[client.of].records.items()}
-        if not client.refresh or not stored or self.window[1] < times[max(stored)] + client.refresh:
-            return None
-        return min((h for h in times if times[h] + client.refresh > self.window[1]), default=None)
+    def due(self, client, updates=()):
+        """The time at which the client's newest record is due for a refresh, if it ever is, once some updates are taken."""
+        heights = self.stored[client.id] | {h for _, h in updates}
+        return self.books[client.of].times[max(heights)] + client.refresh if client.refresh and heights else None
 
-    def goal(self, client, labels):
+    def refresh(self, client, reach):
+        """The height that a refresh has to reach, if it is time for one and there is such a height."""
+        due, times = self.due(client), self.books[client.of].times
+        fresh = [h for h in times if times[h] + client.refresh > self.window[1]]
+        if due is None or self.window[1] < due or not fresh:
+            return None
+        return reach if self.script.version >= WAITING and reach in fresh else min(fresh)
+
+    def press(self, client, message):
+        """The earliest end of a window in which a message presses that is ready and not near."""
+        kind, name, seq, floor = message
+        times, channel = self.books[client.of].times, self.channels[name]
+        wait, packet = channel.path.waits[KINDS.index(kind)], channel.packets[seq]
+        if not wait or (kind == "recv" and packet.timeout_height):
+            return 0
+        since = times[min(h for h in times if h >= floor)]
+        if kind == "recv" and packet.timeout_time:
+            return min(since + wait, packet.timeout_time - wait)
+        return since + wait
+
+    def near_and_far(self, client, view, reach):
+        """Of the ready messages those that the stored heights prove, and the others."""
+        ready, near = self.ready(client, reach), self.ready(client, max(view.live, default=None))
+        return near, [message for message in ready if message not in near]
+
+    def going(self, client, view, reach):
+        """The messages that go where no height was asked for: all that are ready, or the near ones if none of the others presses."""
+        near, far = self.near_and_far(client, view, reach)
+        is_pressed = any(self.press(client, message) <= self.window[1] for message in far)
+        return self.ready(client, reach) if is_pressed else near
+
+    def goal(self, client, view):
         """The client's goal, if it has one, and the messages that go with it."""
-        ready = self.ready(client, max(labels, default=None))
         if client.id in self.asked:
             return self.asked[client.id], []
-        if ready:
-            return ("at_least", max(floor for *_, floor in ready)), [message[:3] for message in ready]
-        due = self.due(client)
-        return (("at_least", due) if due else None), []
+        reach = max(labels_of(view), default=None)
+        going = self.going(client, view, reach)
+        if going:
+            return ("at_least", max(floor for *_, floor in going)), [message[:3] for message in going]
+        height = self.refresh(client, reach)
+        return (("at_least", height) if height else None), []
+
+    def next_lines(self, client, view, updates):
+        """The line on when a goal arises next, as far as is known once these updates are taken."""
+        _, far = self.near_and_far(client, view, max(labels_of(view), default=None))
+        moments = [min((self.press(client, message) for message in far), default=0)]
+        times, due = self.books[client.of].times, self.due(client, updates)
+        if due is not None and due - client.refresh < max(times.values()):  # else there is nothing to refresh it to
+            moments.append(due)
+        later = [moment for moment in moments if self.window[1] < moment <= LAST_MOMENT]
+        return [f"next {stamp(min(later))}"] if later and self.script.version >= WAITING else []
 
     def take_in(self, turn):
         """A turn's window, goals and observations; the lines of those that are refused."""
@@ -460,7 +504,7 @@ class Relayer:
         """Opens the batch of these, if there is one; the lines on it."""
         script = self.script
         gas = [view.gas(t, h) for t, h in updates]
-        gas += [script.paths[path].gas[("recv", "ack", "timeout").index(kind)] for kind, path, _ in messages]
+        gas += [script.paths[path].gas[KINDS.index(kind)] for kind, path, _ in messages]
         if not gas:
             return []
         runs, big = least_cut(gas, client.limits)
@@ -480,10 +524,10 @@ class Relayer:
         if client.id in self.open:
             return [f"client {client.id} held {self.open[client.id].number}"]
         view = self.view(client)
-        goal, messages = self.goal(client, labels_of(view))
+        goal, messages = self.goal(client, view)
         self.asked.pop(client.id, None)
         if goal is None:
-            return [f"client {client.id} idle"]
+            return [f"client {client.id} idle", *self.next_lines(client, view, [])]
         labels, updates = plan(view, goal)
         lines = [f"client {client.id} goal {goal[0]} {goal[1]}"]
         lines += [f"label {h} {labels[h][0]} {labels[h][1]}" for h in sorted(labels)]
@@ -492,7 +536,8 @@ class Relayer:
         lines += [f"update {h} from {t} fee {view.fee(t, h)}" for t, h in updates]
         lines.append(f"total {sum(view.fee(t, h) for t, h in updates)} updates {len(updates)}")
         lines += [f"{kind} {path} {seq}" for kind, path, seq in messages]
-        return lines + self.send(client, view, updates, messages)
+        after = self.next_lines(client, view, updates)
+        return lines + self.send(client, view, updates, messages) + after
 
     def settle_all(self, settlements):
         lines = []
@@ -504,11 +549,23 @@ class Relayer:
                 lines.append(refused_line(f"settle {i}", refusal))
         return lines
 
+    def all_open(self):
+        """The settlements that take all open batches whole, in script order."""
+        return [(client, self.open[client].number, len(self.open[client].transactions)) for client in self.script.clients if client in self.open]
+
     def turn(self, turn):
         lines = self.take_in(turn)
         for client in self.script.clients.values():
             lines += self.plan(client)
-        return lines + self.settle_all(turn.settlements)
+        lines += self.settle_all(turn.settlements)
+        return lines + (self.settle_all(self.all_open()) if turn.taken else [])
+
+
+def stamp(moment):
+    """A time as it is written: to the second, or with as many digits as it needs."""
+    seconds, rest = divmod(moment, 10**9)
+    whole = datetime(1970, 1, 1) + timedelta(seconds=seconds)
+    return whole.isoformat() + (f".{rest:09}".rstrip("0") if rest else "") + "Z"
 
 
 def refused_line(what, refusal):
@@ -516,7 +573,7 @@ def refused_line(what, refusal):
 
 
 def report(script):
-    relayer, lines = Relayer(script), ["ibcplan 1"]
+    relayer, lines = Relayer(script), [f"ibcplan {script.version if script.version >= WAITING else 1}"]
     for number, turn in enumerate(script.turns, 1):
         lines += [f"turn {number}", *relayer.turn(turn)]
     return "\n".join(lines + ["end", ""])
@@ -531,7 +588,7 @@ def planned(script, place):
     found = {}
     for client in script.clients.values():
         view = relayer.view(client)
-        goal, _ = relayer.goal(client, labels_of(view))
+        goal, _ = relayer.goal(client, view)
         if goal and client.id not in relayer.open:
             found[client.id] = goal, view
     return found

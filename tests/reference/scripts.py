@@ -7,11 +7,12 @@ from collections import namedtuple
 from datetime import datetime, timezone
 
 MAX_NUMBER = 2**63 - 1
+LAST_MOMENT = 10**20
 MAX_BYTES = 16_777_216
 MAX_POWER = 1152921504606846975
 MAX_MEMBERS = 10_000
 MAX_CHAINS, MAX_CLIENTS, MAX_PATHS, MAX_TURNS, MAX_ENTRIES = 64, 256, 256, 500, 200_000
-MAX_RECORDS = {1: 1024, 2: 4096}  # by version
+MAX_RECORDS = {1: 1024, 2: 4096, 3: 4096}  # by version
 FAULTS = {
     1001: "NotToml", 1002: "MissingKey", 1003: "UnknownKey", 1004: "WrongType", 1005: "BadVersion", 1006: "OutOfRange",
     1007: "BadIdentifier", 1008: "DuplicateIdentifier", 1009: "UnknownIdentifier", 1010: "BadHex", 1011: "BadTime",
@@ -24,10 +25,10 @@ FAULTS = {
 # characters that turn the direction of a text
 TURNING = {chr(c) for c in (0x61C, 0x200E, 0x200F, *range(0x202A, 0x202F), *range(0x2066, 0x206A))}
 
-# how many records a book has; by id, in their order, what clients of a chain share, the clients and the paths; and the turns
-Script = namedtuple("Script", "limit chains clients paths turns")
-Path = namedtuple("Path", "id source dest order first forward back gas")
-Turn = namedtuple("Turn", "begin end asked events settlements")  # the asked goals by client
+# the version; how many records a book has; by id, in their order, what clients of a chain share, the clients and the paths; and the turns
+Script = namedtuple("Script", "version limit chains clients paths turns")
+Path = namedtuple("Path", "id source dest order first forward back gas waits")  # how long a receive, an acknowledgement, a timeout may wait
+Turn = namedtuple("Turn", "begin end asked events settlements taken")  # the asked goals by client; whether all open batches are taken
 
 
 class Fault(Exception):
@@ -125,6 +126,11 @@ def numbers(count, *ranges):
 
 fees = numbers(3, (0, 10**9, 1025))
 limits = numbers(3, (1, 10**15, 1024), (1, 10_000, 1024), (0, 10**9, 1024))
+waits = numbers(3, (0, MAX_NUMBER, 1006))
+
+
+def yes_or_no(value, path):
+    return typed(value, bool, path)
 
 
 def trust(value, path):
@@ -185,7 +191,7 @@ def moment(value, path):
         raise Fault(1011, path) from None
     since = whole - datetime(1970, 1, 1, tzinfo=timezone.utc)
     nanoseconds = (since.days * 86400 + since.seconds) * 10**9 + int((fraction or "").ljust(9, "0"))
-    need(0 <= nanoseconds <= 10**20, 1011, path)
+    need(0 <= nanoseconds <= LAST_MOMENT, 1011, path)
     return nanoseconds
 
 
@@ -282,7 +288,7 @@ def read_defaults(value, path):
 
 def read_chain(value, path, version, chains):
     """The identifier, and what is shared."""
-    table = Section(value, path, ["id", "defaults"][:version])
+    table = Section(value, path, ["id"] + ["defaults"] * (version > 1))
     return table.read("id", new_identifier(chains)), table.read("defaults", read_defaults, {})
 
 
@@ -310,17 +316,17 @@ def order(value, path):
     return value
 
 
-def read_path(value, path, chains, clients, paths):
-    table = Section(value, path, list(Path._fields))
+def read_path(value, path, version, chains, clients, paths):
+    table = Section(value, path, "id source dest order first forward back gas".split() + ["wait_ns"] * (version > 2))
     name = table.read("id", new_identifier(paths))
     source, dest = table.read("source", reference(chains)), table.read("dest", reference(chains))
     kind, first = table.read("order", order), table.read("first", sequence, 1)
     forward, back = table.read("forward", reference(clients)), table.read("back", reference(clients))
-    gas = table.read("gas", fees)
+    gas, wait = table.read("gas", fees), table.read("wait_ns", waits, (0, 0, 0))
     need(source != dest, 1015, path)
     need((clients[forward].host, clients[forward].of) == (dest, source), 1016, path)
     need((clients[back].host, clients[back].of) == (source, dest), 1016, path)
-    return Path(name, source, dest, kind, first, forward, back, gas)
+    return Path(name, source, dest, kind, first, forward, back, gas, wait)
 
 
 def set_reference(names):
@@ -427,12 +433,13 @@ def read_settlement(value, path, clients):
     return client, table.read("batch", number(1, MAX_NUMBER)), table.read("done", number(0, MAX_NUMBER))
 
 
-def read_turn(value, path, setup, names, room):
+def read_turn(value, path, version, setup, names, room):
     """A turn, and the room for goals, events and settlements that it leaves."""
     chains, clients, paths = setup
-    table = Section(value, path, "from until goal event settle".split())
+    table = Section(value, path, "from until goal event settle".split() + ["taken"] * (version > 2))
     begin, end = table.read("from", moment), table.read("until", moment)
     goals, events, settlements = (table.read(key, array(None), []) for key in ("goal", "event", "settle"))
+    taken = table.read("taken", yes_or_no, False)
     room -= len(goals) + len(events) + len(settlements)
     need(room >= 0, 1018, path)
     need(begin <= end, 1023, path)
@@ -441,12 +448,12 @@ def read_turn(value, path, setup, names, room):
         read_goal(entry, f"{path}.goal[{k}]", clients, asked)
     seen = [read_event(entry, f"{path}.event[{k}]", chains, clients, paths, names) for k, entry in enumerate(events)]
     settled = [read_settlement(entry, f"{path}.settle[{k}]", clients) for k, entry in enumerate(settlements)]
-    return Turn(begin, end, asked, seen, settled), room
+    return Turn(begin, end, asked, seen, settled, taken), room
 
 
 def read_script(source):
     top = Section(parse(source), "", "version chain client path turn".split())
-    version = top.read("version", number(1, 2, 1005))
+    version = top.read("version", number(1, max(MAX_RECORDS), 1005))
     entries = [top.read(key, array(most), []) for key, most in
                (("chain", MAX_CHAINS), ("client", MAX_CLIENTS), ("path", MAX_PATHS), ("turn", MAX_TURNS))]
     chains, clients, paths, turns = {}, {}, {}, []
@@ -457,13 +464,13 @@ def read_script(source):
         client = read_client(value, f"client[{i}]", chains, clients)
         clients[client.id] = client
     for i, value in enumerate(entries[2]):
-        path = read_path(value, f"path[{i}]", chains, clients, paths)
+        path = read_path(value, f"path[{i}]", version, chains, clients, paths)
         paths[path.id] = path
     names, room = {chain: {} for chain in chains}, MAX_ENTRIES
     for i, value in enumerate(entries[3]):
-        turn, room = read_turn(value, f"turn[{i}]", (chains, clients, paths), names, room)
+        turn, room = read_turn(value, f"turn[{i}]", version, (chains, clients, paths), names, room)
         turns.append(turn)
-    return Script(MAX_RECORDS[version], chains, clients, paths, turns)
+    return Script(version, MAX_RECORDS[version], chains, clients, paths, turns)
 
 
 # ---- certificates

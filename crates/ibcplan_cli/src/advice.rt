@@ -23,7 +23,8 @@ pub fn advice_for(name: FaultName, path: &str) -> &'static str {
         FaultName::UnknownKey => keys_at(path),
         FaultName::MissingKey => missing_at(path),
         FaultName::WrongType => type_at(path),
-        FaultName::BadVersion => "the version of a script is 1 or 2, of a setup or a certificate 1",
+        FaultName::BadVersion =>
+            "the version of a script is 1, 2 or 3, of a setup or a certificate 1",
         FaultName::OutOfRange | FaultName::BadLimit | FaultName::BadFee => range_at(path),
         FaultName::BadIdentifier => {
             "an identifier has 1 to 64 letters, digits and . _ + - # [ ] < >, a set's name at most 32"
@@ -86,14 +87,16 @@ fn keys_at(path: &str) -> &'static str {
             "there is no such key here; a script or a setup has version, chain, client, path and turn, a certificate version, turn, client, answer, updates and labels; goal, event and settle belong into a turn, as [[turn.goal]]"
         }
         "chain" => {
-            "a chain has id and, in version 2, defaults; TOML puts a key that stands after [[chain]] into that chain"
+            "a chain has id and, from version 2 on, defaults; TOML puts a key that stands after [[chain]] into that chain"
         }
         "defaults" => DEFAULT_KEY_LIST,
         "client" => CLIENT_KEY_LIST,
         "path" => {
-            "a path has id, source, dest, order, first, forward, back and gas, and in a setup port, channel, counterparty_port and counterparty_channel"
+            "a path has id, source, dest, order, first, forward, back and gas, from version 3 on and in a setup wait_ns, and in a setup port, channel, counterparty_port and counterparty_channel"
         }
-        "turn" => "a turn has from, until, goal, event (in a setup none) and settle",
+        "turn" => {
+            "a turn has from, until, goal, event (in a setup none), settle and, from version 3 on, taken (in a setup none)"
+        }
         "goal" => "a goal has client, and at_least or exactly",
         "event" => {
             "an event has kind and the keys of its kind: set has chain, name, validators; header chain, height, time, root, set, next, votes; stored client, height, time, root, next; sent path, seq, height, timeout_height, timeout_time; received and ack path, seq, height; cleared path, seq; closed path"
@@ -142,6 +145,7 @@ fn range_of(key: &str) -> &'static str {
         "seq" | "first" => "a sequence is from 1 to 2^63 - 1",
         "batch" | "turn" => "a number from 1 to 2^63 - 1 belongs here",
         "timeout_height" | "done" => "a number from 0 to 2^63 - 1 belongs here",
+        "wait_ns" => "a wait is from 0 to 2^63 - 1 nanoseconds",
         "validators" => "a power is from 1 to 2^60 - 1",
         "labels" => "a label's height is from 1, its fee and its count from 0 to 2^63 - 1",
         _ => "this number is too small or too big",
@@ -184,6 +188,7 @@ fn inner_type(array: &str) -> &'static str {
 fn outer_type(array: &str) -> &'static str {
     match array {
         "validators" => "a key and a power belong here, as ['64 hexadecimal digits', 10]",
+        "wait_ns" => "a whole number belongs here",
         "updates" => "a height and a trusted height belong here, as [3, 1]",
         "labels" => "a height, a fee and a count belong here, as [3, 112, 1]",
         _ => table_type(array),
@@ -262,6 +267,10 @@ fn array_type(key: &str) -> &'static str {
         }
         "validators" =>
             "pairs of a key and a power belong here, as [['64 hexadecimal digits', 10]]",
+        "wait_ns" => {
+            "three numbers of nanoseconds belong here, as [300_000_000_000, 0, 0]: how long a receive, an acknowledgement and a timeout may wait"
+        }
+        "taken" => "true or false belongs here, without quotes",
         "goal" => "an array of tables belongs here, as [[turn.goal]]",
         "event" => "an array of tables belongs here, as [[turn.event]]",
         "settle" => "an array of tables belongs here, as [[turn.settle]]",

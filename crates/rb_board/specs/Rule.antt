@@ -11,6 +11,7 @@ use Rattle.left_right.specs.declared.reader.Reader.{Reader}
 use Rattle.left_right.specs.declared.writer.Writer.{Writer}
 use Rattle.rb_core.specs.Follower.{Past, Follower, IsOfLog, Told, events_in, follows}
 use Rattle.rb_script_types.specs.Config.{Config}
+use Rattle.rb_script_types.specs.declared.version.Version.TheVariants.{One}
 use Rattle.rb_core_model.specs.Event.{Event}
 use Rattle.rb_core_model.specs.Machine.{state_of}
 use Rattle.rb_board.specs.Knowledge.{Knowledge, nothing_yet, Begins}
@@ -44,7 +45,7 @@ pending writer = drop writer.behind writer.log.items
 -- the configuration, where it is known
 abbrev pub config_or : Option Config → Config
 config_or (Some config) = config
-config_or None = record { limit = 0; chains = []; clients = []; paths = [] }
+config_or None = record { version = One; limit = 0; chains = []; clients = []; paths = [] }
 
 -- what is known, as the past of a relayer
 abbrev pub past_of : Knowledge → Past

@@ -65,7 +65,7 @@ event_back s (AckWritten path sequence block) e = refl
 event_back s (Cleared path sequence) e = refl
 event_back s (Closed path) e = refl
 event_back s (Scanned path scan) e = ap (option_map (λ v. Scanned path (record { view = v; part = scan.part }))) (scan_seen s path scan e)
-event_back s (Planned d) e = ap (option_map (λ job. Planned (record { job = job; answer = d.answer }))) (draft_seen s d e)
+event_back s (Planned d) e = ap (option_map (λ job. Planned (record { job = job; answer = d.answer; next = d.next }))) (draft_seen s d e)
 event_back s (Settled client number done) e = refl
 
 abbrev pub next : State → List Logged → Option Event → List Event

@@ -39,7 +39,7 @@ followed_kept s x is = go x.entry x.scan
     go (entries.whole event) o = entry_kept s (entries.whole event) is
     go (entries.scan path part) None = entry_kept s (entries.scan path part) is
     go (entries.scan path part) (Some scan) = accepted_kept s (Scanned path scan) is
-    go (entries.plan client answer) o = entry_kept s (entries.plan client answer) is
+    go (entries.plan client answer next) o = entry_kept s (entries.plan client answer next) is
 
 -- ---- a follower of a log
 

@@ -3,14 +3,13 @@ use Rattle.std.specs.Prelude.{◌≡◌, ℕ, ◌<◌, ◌≤◌, Bool, true, Li
 use Rattle.rb_book.specs.Shared.{Shared}
 use Rattle.rb_script_types.specs.Config.{Config}
 use Rattle.rb_script_types.specs.declared.refusal.Refusal.{Refusal}
-use Rattle.rb_core_model.specs.Batches.{batch_open}
 use Rattle.rb_core_model.specs.Config.{IsSetUp}
 use Rattle.rb_core_model.specs.Event.{Event, IsEvent, SetSeen, HeaderSeen, StoredSeen, Sent, Settled}
 use Rattle.rb_core_state.specs.Room.{ClientWithRoom, PathWithRoom}
 use Rattle.rb_core_model.specs.Judged.{Ready}
 use Rattle.rb_core_model.specs.Log.{IsLog}
 use Rattle.rb_core_model.specs.Machine.{State, state_of, refusal_of}
-use Rattle.rb_core_model.specs.Standing.{OpenBatch, tracked}
+use Rattle.rb_core_model.specs.Standing.{OpenBatch, tracked, batch_open}
 use Rattle.rb_core.specs.declared.state.CoreState.{CoreState}
 
 -- for how many more there is room: events in the log, stored heights of each client, packets of each path; and whether

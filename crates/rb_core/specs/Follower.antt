@@ -96,4 +96,4 @@ judged_again s event = judged s event
 abbrev pub entry_refusal : State → Logged → Option Refusal
 entry_refusal s (entries.whole event) = refused_first s (is_known s event) (judged_again s.standing event)
 entry_refusal s (entries.scan path part) = refused_first s (knows_path s path) None
-entry_refusal s (entries.plan client answer) = refused_first s (knows_client s client) (refused_if (is_none s.standing.window) OutOfOrder None)
+entry_refusal s (entries.plan client answer next) = refused_first s (knows_client s client) (refused_if (is_none s.standing.window) OutOfOrder None)

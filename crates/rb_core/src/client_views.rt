@@ -76,7 +76,7 @@ fn path_task<A: Allocator + Copy>(
         return Ok(None);
     };
     let owed = Vec::from_slice(alloc, seen_owed(state, place, part))?;
-    Ok(Some(PathTask::new(place, config.order, config.gas, owed)))
+    Ok(Some(PathTask::new(place, config.order, config.gas, config.waits, owed)))
 }
 
 /// Puts a path as the client has it to the end of a list, if it is a path of the client's.
@@ -224,11 +224,12 @@ fn is_task_of<A: Allocator + Copy>(
     part: Part,
     task: &PathTask<A>,
 ) -> bool
-    ensures { result ≡ same_path_task task.now (record { path = place; order = config.now.order; gas = config.now.gas; owed = seen_owed (state_view state.now) place part }) }
+    ensures { result ≡ same_path_task task.now (record { path = place; order = config.now.order; gas = config.now.gas; waits = config.now.waits; owed = seen_owed (state_view state.now) place part }) }
 {
     task.path() == place
         && task.order() == config.order
         && task.gas() == config.gas
+        && task.waits() == config.waits
         && same_messages(task.owed(), seen_owed(state, place, part))
 }
 

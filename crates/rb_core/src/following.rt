@@ -16,6 +16,7 @@ use crate::refusing::{refuse_answer, refuse_mark, refuse_unseen};
 use crate::state::CoreState;
 use crate::taking::{make_room, put};
 use crate::told::Told;
+use rb_base::Moment;
 use rb_core_model::{CoreError, Entry, Event, Scan};
 use rb_core_state::Mark;
 use rb_plan_client::{Planned, copy_answer};
@@ -96,11 +97,12 @@ fn follow_plan<A: Allocator + Copy>(
     state: &mut CoreState<A>,
     client: usize,
     answer: Option<Planned<A>>,
+    next: Option<Moment>,
 ) -> Result<(), CoreError>
     requires { HasInvariant (state_view state.old) }
-    ensures followed { OnOk result (state_view state.new ≡ after_entry (state_view state.old) (plan client answer)) }
+    ensures followed { OnOk result (state_view state.new ≡ after_entry (state_view state.old) (plan client answer next)) }
     ensures unchanged { OnErr result (state_view state.new ≡ state_view state.old) }
-    ensures refused { IfErr result (λ e. IsRefusal e (entry_refusal (state_view state.old) (plan client answer))) }
+    ensures refused { IfErr result (λ e. IsRefusal e (entry_refusal (state_view state.old) (plan client answer next))) }
 {
     if let Some(refusal) = refuse_answer(state, client) {
         return Err(CoreError::Refused(refusal));
@@ -131,9 +133,11 @@ fn follow_entry<A: Allocator + Copy>(
             let scan = scan.share()?;
             follow_event(state, Event::Scanned { path: *path, scan })
         }
-        Entry::Plan { client, answer } => {
-            follow_plan(state, *client, copy_answer(answer.as_ref())?)
-        }
+        Entry::Plan {
+            client,
+            answer,
+            next,
+        } => follow_plan(state, *client, copy_answer(answer.as_ref())?, *next),
         Entry::Settled(settlement) => follow_event(state, Event::Settled(*settlement)),
     }
 }

@@ -2,7 +2,6 @@
 ghost use Rattle.std.specs.Prelude.{◌≡◌, ◌++◌, ◌∷◌, [], All, length, Some, IfOk, IfErr};
 ghost use Rattle.std.specs.Option.{option_copied};
 ghost use Rattle.rb_script_types.specs.Config.{config_view, IsConfig};
-ghost use Rattle.rb_core_model.specs.Batches.{batch_open};
 ghost use Rattle.rb_core_model.specs.Config.{IsSetUp};
 ghost use Rattle.rb_core.specs.Core.{state_in, refusal_in, IsReady};
 ghost use Rattle.rb_core.specs.Follower.{IsOfLog, events_in};
@@ -14,7 +13,7 @@ ghost use Rattle.rb_core_model.specs.Machine.{client_view, client_view_refusal, 
 ghost use Rattle.rb_core_model.specs.Refused.{IsRefusal};
 ghost use Rattle.rb_core_model.specs.Replied.{reply_view};
 ghost use Rattle.rb_core_model.specs.Seen.{event_view};
-ghost use Rattle.rb_core_model.specs.Standing.{book_at, path_view};
+ghost use Rattle.rb_core_model.specs.Standing.{book_at, path_view, batch_open};
 
 use crate::client_views::{book_of, client_view};
 use crate::copies::{copy_state, new_state};

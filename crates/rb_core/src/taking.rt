@@ -59,7 +59,7 @@ fn take<A: Allocator + Copy>(state: &mut CoreState<A>, event: Event<A>) -> Reply
             Reply::Noted
         }
         Event::Planned(draft) => {
-            let (job, answer) = draft.into_parts();
+            let (job, answer, _) = draft.into_parts();
             state.put_planned(job.client(), answer)
         }
         Event::Settled(settlement) => {

@@ -4,7 +4,7 @@ use Rattle.std.specs.List.{filter, filter_map, flat_map, cons_option, enumerate_
 use Rattle.std.specs.Option.{option_map, option_map_or, option_and_then, option_to_list, some_prefix}
 use Rattle.std.proofs.lemmas.Option.{none-some}
 use Rattle.rb_script_types.specs.declared.goal.Goal.{Goal}
-use Rattle.rb_scan.specs.Owed.{floor_of, message_of, packet_at, message_at, next_sequence, open_messages, messages, owed_part, is_ready, ready}
+use Rattle.rb_scan.specs.Owed.{expires_for, floor_of, message_of, packet_at, message_at, next_sequence, open_messages, messages, owed_part, is_ready, ready}
 use Rattle.rb_scan.specs.Packet.{Packet}
 use Rattle.rb_scan.specs.Path.{Path}
 use Rattle.rb_scan.specs.declared.message.Kind.{Kind}
@@ -49,7 +49,7 @@ Is kind least m = (m.kind ≡ kind) × (least ≤ m.sequence)
 
 made : (records : List (ℕ × ℕ)) (kind : Kind) (q : Packet) (m : PacketMsg) → message_of records kind q ≡ Some m → (m.kind ≡ kind) × (m.sequence ≡ q.sequence)
 made records kind q m e =
-    let is = mapped (λ (floor : ℕ). record { kind = kind; sequence = q.sequence; floor = floor }) (floor_of records kind q) m e in
+    let is = mapped (λ (floor : ℕ). record { kind = kind; sequence = q.sequence; floor = floor; expires = expires_for kind q }) (floor_of records kind q) m e in
     (sym (ap (λ (x : PacketMsg). x.kind) is.2), sym (ap (λ (x : PacketMsg). x.sequence) is.2))
 
 apart_above : (kind : Kind) (m : PacketMsg) (ms : List PacketMsg) → AllByRecursion (Is kind (suc m.sequence)) ms → AllByRecursion (Differ m) ms
@@ -210,10 +210,10 @@ module _ (s : Standing) (sound : (n : ℕ) (p : PathState) → slice_get s.paths
       at = ap (slice_get s.paths) (sym (add-zero n)) ∙ places 0 p refl
 
       go : (o : Option Part) → FineFrom (n + 1) (ready_from (n + 1) rest)
-          → FineFrom n (flat_map (ready_on reach) (cons_option (option_map (λ part. record { path = n; order = p.config.order; gas = p.config.gas; owed = owed_at s n part }) o) (filter_map (path_task (owed_at s) client) (enumerate_from (n + 1) rest))))
+          → FineFrom n (flat_map (ready_on reach) (cons_option (option_map (λ part. record { path = n; order = p.config.order; gas = p.config.gas; waits = p.config.waits; owed = owed_at s n part }) o) (filter_map (path_task (owed_at s) client) (enumerate_from (n + 1) rest))))
       go None f = record { above = least n (ready_from (n + 1) rest) f.above; apart = f.apart }
       go (Some part) f =
-          let t : PathTask = record { path = n; order = p.config.order; gas = p.config.gas; owed = owed_at s n part } in
+          let t : PathTask = record { path = n; order = p.config.order; gas = p.config.gas; waits = p.config.waits; owed = owed_at s n part } in
           let own : Up Differ (owed_at s n part) = subst (λ o. Up Differ (option_map_or (λ v. owed_part v part) (option_map (view_of_path s.books) o) [])) (sym at) (apart_part (view_of_path s.books p) part (sound n p at)) in
           let kept = ready (owed_at s n part) p.config.order reach in
           record {

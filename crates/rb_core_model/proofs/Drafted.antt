@@ -24,7 +24,7 @@ seen s n Packets e = cond-true (is_scanned s n Packets) _ _ (and_parts (is_scann
 seen s n Channel e = cond-true (is_scanned s n Channel) _ _ (and_parts (is_scanned s n Packets) (is_scanned s n Channel) e).1
 
 task_at : PathState → ℕ → (Part → List PacketMsg) → Part → PathTask
-task_at p n owed part = record { path = n; order = p.config.order; gas = p.config.gas; owed = owed part }
+task_at p n owed part = record { path = n; order = p.config.order; gas = p.config.gas; waits = p.config.waits; owed = owed part }
 
 one_task : (s : State) (n : ℕ) (p : PathState) (o : Option Part) → (is_some o && not (is_scanned s n Packets && is_scanned s n Channel)) ≡ false
     → option_map (task_at p n (seen_owed s n)) o ≡ option_map (task_at p n (owed_at s.standing n)) o
@@ -32,7 +32,7 @@ unfolding task_at
 one_task s n p None e = refl
 one_task s n p (Some part) e =
     let both = not-false (is_scanned s n Packets && is_scanned s n Channel) e in
-    ap (λ owed. Some (record { path = n; order = p.config.order; gas = p.config.gas; owed = owed })) (seen s n part both)
+    ap (λ owed. Some (record { path = n; order = p.config.order; gas = p.config.gas; waits = p.config.waits; owed = owed })) (seen s n part both)
 
 all_tasks : (s : State) (client n : ℕ) (paths : List PathState) → list_any (is_missed s client) (enumerate_from n paths) ≡ false
     → filter_map (path_task (seen_owed s) client) (enumerate_from n paths) ≡ filter_map (path_task (owed_at s.standing) client) (enumerate_from n paths)

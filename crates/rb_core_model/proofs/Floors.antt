@@ -12,7 +12,7 @@ use Rattle.rb_scan.specs.Owed.{wanted}
 use Rattle.rb_scan.specs.declared.message.PacketMsg.{PacketMsg}
 use Rattle.rb_step.specs.LightClient.{Update, Client}
 use Rattle.rb_step.specs.View.{client_of}
-use Rattle.rb_plan_client.specs.Task.{Task, Message, view_of, goal_of, messages_of, ready_messages}
+use Rattle.rb_plan_client.specs.Task.{Task, Message, view_of, goal_of, messages_of, due_messages}
 
 abbrev floors : List Message → List ℕ
 floors ms = map (λ (m : PacketMsg). m.floor) (map (λ (m : Message). m.packet) ms)
@@ -37,7 +37,7 @@ weaker : (low high : ℕ) (ms : List Message) → low ≤ high → AreUnder low 
 weaker low high [] le all = tt
 weaker low high (m ∷ ms) le all = (omega (arith, all.0), weaker low high ms le all.1)
 
--- a goal that comes from the ready messages is to be at least as high as their floors
+-- a goal that comes from messages is to be at least as high as their floors
 by_goal : (asked refresh : Option Goal) (ms : List Message) (goal : Goal) (top : ℕ)
     → option_or asked (option_or (option_map (λ h. AtLeast h) (wanted (map (λ (m : Message). m.packet) ms))) refresh) ≡ Some goal
     → ((h : ℕ) → goal ≡ AtLeast h → h ≤ top) → AreUnder top (if is_some asked then [] else ms)
@@ -56,4 +56,4 @@ pub floors_fit : (t : Task) (reach : Option ℕ) (goal : Goal) (us : List Update
     → IsProofHeight (client_of (view_of t)) us (Some proof) → All (λ (m : Message). m.packet.floor ≤ proof) (messages_of t reach)
 floors_fit t reach goal us proof e meets is =
     All-from_recursion (λ (m : Message). m.packet.floor ≤ proof) (messages_of t reach)
-    (by_goal t.asked _ (ready_messages t reach) goal proof e (λ h. reached (client_of (view_of t)) goal us proof h meets is))
+    (by_goal t.asked _ (due_messages t reach) goal proof e (λ h. reached (client_of (view_of t)) goal us proof h meets is))

@@ -82,9 +82,9 @@ module _ (owed : ℕ → Part → List PacketMsg) (client : ℕ) (reach : Option
   unfolding one_at given
   not_there n path p other = go (part_for p.config client)
     where
-      go : (o : Option Part) → receives_on path (given reach (option_map (λ part. record { path = n; order = p.config.order; gas = p.config.gas; owed = owed n part }) o)) ≡ []
+      go : (o : Option Part) → receives_on path (given reach (option_map (λ part. record { path = n; order = p.config.order; gas = p.config.gas; waits = p.config.waits; owed = owed n part }) o)) ≡ []
       go None = refl
-      go (Some part) = elsewhere (record { path = n; order = p.config.order; gas = p.config.gas; owed = owed n part }) path other (ready (owed n part) p.config.order reach)
+      go (Some part) = elsewhere (record { path = n; order = p.config.order; gas = p.config.gas; waits = p.config.waits; owed = owed n part }) path other (ready (owed n part) p.config.order reach)
 
   later : (n path : ℕ) (paths : List PathState) → path < n → receives_on path (all_from n paths) ≡ []
   unfolding all_from
@@ -145,11 +145,11 @@ in_turn law s client path reach v is ordered =
     subst (AreInTurn v) (sym (at_place (owed_at s) client reach 0 path path s.paths p (omega arith) found.1)) (go p order (part_for p.config client))
   where
     go : (p : PathState) → p.config.order ≡ Ordered → (o : Option Part)
-        → AreInTurn v (receives_on path (given reach (option_map (λ part. record { path = path; order = p.config.order; gas = p.config.gas; owed = owed_at s path part }) o)))
+        → AreInTurn v (receives_on path (given reach (option_map (λ part. record { path = path; order = p.config.order; gas = p.config.gas; waits = p.config.waits; owed = owed_at s path part }) o)))
     go p order None = refl
     go p order (Some Packets) =
-        subst (λ (x : Order × Option Path). AreInTurn v (receives_on path (map (message_on (record { path = path; order = x.0; gas = p.config.gas; owed = option_map_or (λ w. owed_part w Packets) x.1 [] })) (ready (option_map_or (λ w. owed_part w Packets) x.1 []) x.0 reach))))
-        (λ i. (sym order i, sym is i)) (receives_in_turn law v ordered (record { path = path; order = Ordered; gas = p.config.gas; owed = owed_part v Packets }) reach)
+        subst (λ (x : Order × Option Path). AreInTurn v (receives_on path (map (message_on (record { path = path; order = x.0; gas = p.config.gas; waits = p.config.waits; owed = option_map_or (λ w. owed_part w Packets) x.1 [] })) (ready (option_map_or (λ w. owed_part w Packets) x.1 []) x.0 reach))))
+        (λ i. (sym order i, sym is i)) (receives_in_turn law v ordered (record { path = path; order = Ordered; gas = p.config.gas; waits = p.config.waits; owed = owed_part v Packets }) reach)
     go p order (Some Channel) =
-        subst (λ (x : Option Path). AreInTurn v (receives_on path (map (message_on (record { path = path; order = p.config.order; gas = p.config.gas; owed = option_map_or (λ w. owed_part w Channel) x [] })) (ready (option_map_or (λ w. owed_part w Channel) x []) p.config.order reach))))
-        (sym is) (channel_in_turn law v ordered (record { path = path; order = p.config.order; gas = p.config.gas; owed = owed_part v Channel }) path reach p.config.order)
+        subst (λ (x : Option Path). AreInTurn v (receives_on path (map (message_on (record { path = path; order = p.config.order; gas = p.config.gas; waits = p.config.waits; owed = option_map_or (λ w. owed_part w Channel) x [] })) (ready (option_map_or (λ w. owed_part w Channel) x []) p.config.order reach))))
+        (sym is) (channel_in_turn law v ordered (record { path = path; order = p.config.order; gas = p.config.gas; waits = p.config.waits; owed = owed_part v Channel }) path reach p.config.order)

@@ -8,7 +8,7 @@ use Rattle.std.proofs.lemmas.List.Elements.{All-from_recursion, recursion_from_A
 use Rattle.rb_script_types.specs.declared.goal.Goal.{Goal}
 use Rattle.rb_plan.specs.Least.{IsUnreachable}
 use Rattle.rb_scan.specs.Laws.{SettledIsNotOwed}
-use Rattle.rb_scan.specs.Owed.{floor_of, message_of, messages, owed_part, ready}
+use Rattle.rb_scan.specs.Owed.{expires_for, floor_of, message_of, messages, owed_part, ready}
 use Rattle.rb_scan.specs.Packet.{Packet}
 use Rattle.rb_scan.specs.Path.{Path}
 use Rattle.rb_scan.specs.declared.message.Kind.{Kind}
@@ -18,7 +18,7 @@ use Rattle.rb_scan.specs.declared.path.Order.{Order}
 use Rattle.rb_base.specs.declared.gate.Part.{Part}
 use Rattle.rb_base.specs.declared.gate.Part.TheVariants.{Packets, Channel}
 use Rattle.rb_step.specs.View.{client_of}
-use Rattle.rb_core_model.specs.Batches.{batch_open, Carries, MessagesAreInOneBatch, SettledMessagesAreGone}
+use Rattle.rb_core_model.specs.Batches.{Carries, MessagesAreInOneBatch, SettledMessagesAreGone}
 use Rattle.rb_script_types.specs.Config.{Config}
 use Rattle.rb_script_types.specs.declared.config.ClientConfig.{ClientConfig}
 use Rattle.rb_script_types.specs.declared.config.PathConfig.{PathConfig}
@@ -28,8 +28,8 @@ use Rattle.rb_core_model.specs.Event.{Event, IsEvent, Window, Asked, SetSeen, He
 use Rattle.rb_core_model.specs.Machine.{State, opening, knows_client, is_known, refusal_beside, refusal_of, accepted, after, state_of}
 use Rattle.rb_script_types.specs.declared.refusal.Refusal.{Refusal}
 use Rattle.rb_script_types.specs.declared.refusal.Refusal.TheVariants.{UnknownObject, LogFull, Repeat, OutOfOrder}
-use Rattle.rb_core_model.specs.Standing.{OpenBatch, ClientState, PathState, Standing, opening_standing, new_path, new_client, view_of_path, owed_at, path_task, path_tasks, task_in, judged, changed, changed_at, with_path, new_packet, batch_opened, with_batch, after_answer, open_batch, settled_refusal, settled_refusal_of, settled_messages, after_batch, after_messages, after_settled, sent_refusal, with_height}
-use Rattle.rb_plan_client.specs.Task.{PathTask, Message, view_of, message_on, ready_on, messages_of}
+use Rattle.rb_core_model.specs.Standing.{OpenBatch, ClientState, PathState, Standing, opening_standing, new_path, new_client, view_of_path, owed_at, path_task, path_tasks, task_in, judged, changed, changed_at, with_path, new_packet, batch_opened, with_batch, after_answer, open_batch, settled_refusal, settled_refusal_of, settled_messages, after_batch, after_messages, after_settled, sent_refusal, with_height, batch_open}
+use Rattle.rb_plan_client.specs.Task.{PathTask, Message, view_of, message_on, ready_on, sending_reach, messages_of}
 use Rattle.rb_core_model.proofs.Drafted.{IsDrafted, drafted}
 use Rattle.rb_core_model.proofs.Marks.{all_at, all_take, all_weaker, has, part_of, is_settled, mark_in, mark_at, AllFound, KeepsPath, keeps_marked, keeps_packet, KeepsPaths, keeps_all, keeps_changed, IsAbout, all_grow, all_others, all_marked, configs_messages, found_messages}
 use Rattle.rb_core_model.proofs.Options.{passes, mapped, chained, none_from, get_changed}
@@ -128,7 +128,7 @@ is_open_settled law records Timeout q m e = elim (cases_Bool q.outcome_settled) 
 
 sequence_of : (records : List (ℕ × ℕ)) (kind : Kind) (q : Packet) (m : PacketMsg) → message_of records kind q ≡ Some m → (m.kind ≡ kind) × (m.sequence ≡ q.sequence)
 sequence_of records kind q m e =
-    let is = mapped (λ (floor : ℕ). record { kind = kind; sequence = q.sequence; floor = floor }) (floor_of records kind q) m e in
+    let is = mapped (λ (floor : ℕ). record { kind = kind; sequence = q.sequence; floor = floor; expires = expires_for kind q }) (floor_of records kind q) m e in
     (sym (ap (λ (x : PacketMsg). x.kind) is.2), sym (ap (λ (x : PacketMsg). x.sequence) is.2))
 
 -- a message that a part owes is of that part, and its packet is there and not settled
@@ -174,10 +174,10 @@ module _ (law : SettledIsNotOwed) (config : Config) (s : Standing) (kept : HasIn
 
   one_task_sent : (n : ℕ) (p : PathState) → slice_get s.paths n ≡ Some p → (o : Option Part) → part_for p.config client ≡ o → (rest : List PathTask)
       → AllByRecursion (IsSent config s.paths client) (flat_map (ready_on reach) rest)
-      → AllByRecursion (IsSent config s.paths client) (flat_map (ready_on reach) (cons_option (option_map (λ part. record { path = n; order = p.config.order; gas = p.config.gas; owed = owed_at s n part }) o) rest))
+      → AllByRecursion (IsSent config s.paths client) (flat_map (ready_on reach) (cons_option (option_map (λ part. record { path = n; order = p.config.order; gas = p.config.gas; waits = p.config.waits; owed = owed_at s n part }) o) rest))
   one_task_sent n p at None e rest all = all
   one_task_sent n p at (Some part) e rest all =
-      let t : PathTask = record { path = n; order = p.config.order; gas = p.config.gas; owed = owed_at s n part } in
+      let t : PathTask = record { path = n; order = p.config.order; gas = p.config.gas; waits = p.config.waits; owed = owed_at s n part } in
       append_all (IsSent config s.paths client) (ready_on reach t) (flat_map (ready_on reach) rest)
       (sent_on n p p.config.order part t at e refl refl (ready (owed_at s n part) p.config.order reach)
       (ready_all (IsOpen p.packets part) (owed_at s n part) p.config.order reach (owed_open n p part at))) all
@@ -201,10 +201,10 @@ plan_sent : SettledIsNotOwed → (config : Config) (s : State) (d : Draft) (x : 
 plan_sent law config s d x b kept is e =
     let t = task_in s.standing x.window d.job.client x.known in
     let o = opens (x.known.batches + 1) d.answer b e in
-    let planned : IsPlanned t o.planned = subst (IsAnswer t) o.is_planned (subst (λ u. IsAnswer u d.answer) x.task is) in
+    let planned : IsPlanned t o.planned = subst (IsAnswer t) o.is_planned (subst (λ u. IsAnswer u d.answer) x.task is.answer) in
     let plan : IsPlan t o.planned.goal (messages_of t planned.reach) o.plan = subst (λ p. MatchOption p (IsUnreachable (client_of (view_of t)) o.planned.goal) (IsPlan t o.planned.goal (messages_of t planned.reach))) o.is_plan planned.plan in
     subst (AllByRecursion (IsSent config s.standing.paths d.job.client)) (sym plan.messages ∙ sym (ap (λ (y : OpenBatch). y.messages) o.is))
-    (messages_sent law config s.standing kept d.job.client planned.reach x.known.asked)
+    (messages_sent law config s.standing kept d.job.client (sending_reach t planned.reach) x.known.asked)
 
 opened_batch : (c : ClientState) (o : Option OpenBatch) → (with_batch c o).batch ≡ o
 opened_batch c None = refl

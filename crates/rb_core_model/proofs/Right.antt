@@ -9,12 +9,12 @@ use Rattle.rb_scan.specs.Laws.{ReadyReceivesAreConsecutive}
 use Rattle.rb_scan.specs.Path.{Path}
 use Rattle.rb_scan.specs.declared.path.Order.TheVariants.{Ordered}
 use Rattle.rb_step.specs.View.{client_of}
-use Rattle.rb_core_model.specs.Batches.{IsRightBatch, batch_open, BatchesAreRight, AreInTurn, receives_on}
+use Rattle.rb_core_model.specs.Batches.{IsRightBatch, BatchesAreRight, AreInTurn, receives_on}
 use Rattle.rb_plan_client.specs.Draft.{Batch, Sending, nothing, too_big, batched, Plan, Planned as Answer, IsBatch, IsSending, IsPlan, IsPlanned, IsAnswer, Draft}
 use Rattle.rb_core_model.specs.Event.{Planned}
 use Rattle.rb_core_model.specs.Machine.{State, Opened, reply_for, batch_for, refusal_of, accepted, after, state_of}
-use Rattle.rb_core_model.specs.Standing.{OpenBatch, ClientState, Standing, path_view, owed_at, path_tasks, task_in, batch_of_sending, batch_of, batch_opened, with_batch, after_answer}
-use Rattle.rb_plan_client.specs.Task.{Message, view_of, ready_on, messages_of}
+use Rattle.rb_core_model.specs.Standing.{OpenBatch, ClientState, Standing, path_view, owed_at, path_tasks, task_in, batch_of_sending, batch_of, batch_opened, with_batch, after_answer, batch_open}
+use Rattle.rb_plan_client.specs.Task.{Message, view_of, ready_on, sending_reach, messages_of}
 use Rattle.rb_core_model.proofs.Drafted.{IsDrafted, drafted}
 use Rattle.rb_core_model.proofs.Floors.{floors_fit}
 use Rattle.rb_core_model.proofs.InTurn.{in_turn}
@@ -90,7 +90,7 @@ module _ (law : ReadyReceivesAreConsecutive) (s : State) (d : Draft) where
         proof = batch.proof;
         floors = subst (λ ms. All (λ (m : Message). m.packet.floor ≤ o.batch.proof) ms) (sym plan.messages)
             (floors_fit t planned.reach o.planned.goal o.plan.updates o.batch.proof planned.goal plan.least.meets batch.proof);
-        in_turn = λ path v is ordered. subst (λ ms. AreInTurn v (receives_on path ms)) (sym plan.messages) (turn_by law s.standing d.job.client path planned.reach v x.known.asked is ordered);
+        in_turn = λ path v is ordered. subst (λ ms. AreInTurn v (receives_on path ms)) (sym plan.messages) (turn_by law s.standing d.job.client path (sending_reach t planned.reach) v x.known.asked is ordered);
       })
 
 pub batches_right : ReadyReceivesAreConsecutive → BatchesAreRight
@@ -106,5 +106,5 @@ batches_right law config events d number is accepted_by reply =
       ap (λ (u : State). batch_open u.standing d.job.client) (after_accepted s d accepted_by)
           ∙ ap (option_and_then (λ (c : ClientState). c.batch)) (get_changed_same (after_answer d.answer) s.standing.clients d.job.client x.known x.is_known)
           ∙ ap (λ o. (with_batch x.known o).batch) opened,
-      right_batch law s d x b.0 o (subst (λ t. IsAnswer t d.answer) x.task is),
+      right_batch law s d x b.0 o (subst (λ t. IsAnswer t d.answer) x.task is.answer),
     )

@@ -34,7 +34,7 @@ use Rattle.rb_core_model.specs.Machine.{State, opening, job_of, refusal_of, acce
 use Rattle.rb_script_types.specs.declared.refusal.Refusal.{Refusal}
 use Rattle.rb_script_types.specs.declared.refusal.Refusal.TheVariants.{OutOfOrder}
 use Rattle.rb_core_model.specs.Standing.{OpenBatch, ClientState, PathState, Standing, empty_book, new_client, new_path, opening_standing, book_at, tracked, view_of_path, task_of, task_in, changed, changed_at, with_book, with_client, with_path, with_height, with_packet, new_packet, marked, with_mark, mark_of, batch_opened, with_batch, after_answer, after_batch, after_message, after_messages, settled_updates, settled_messages, sent_refusal}
-use Rattle.rb_plan_client.specs.Task.{Message, view_of, messages_of}
+use Rattle.rb_plan_client.specs.Task.{Message, view_of, sending_reach, messages_of}
 use Rattle.rb_core_model.specs.Views.{ClientViewsAreViews, PathViewsArePaths}
 use Rattle.rb_core_model.specs.Batches.{AreApart, MessagesStandOnce}
 use Rattle.rb_core_model.proofs.Apart.{messages_apart}
@@ -287,7 +287,7 @@ module _ (finds : FindsWhatWasAdded) (stays : StaysABook) (orderly : ViewsAreOrd
             let planned : IsPlanned t o.planned = subst (IsAnswer t) o.is_planned right in
             let plan : IsPlan t o.planned.goal (messages_of t planned.reach) o.plan = subst (λ p. MatchOption p (IsUnreachable (client_of (view_of t)) o.planned.goal) (IsPlan t o.planned.goal (messages_of t planned.reach))) o.is_plan planned.plan in
             subst (Up AreApart) (sym plan.messages ∙ sym (ap (λ (y : OpenBatch). y.messages) (sym same ∙ o.is)))
-            (messages_apart s (λ n p at_n. Up-from_increasing (λ (q : Packet). q.sequence) p.packets (all_at IsSoundPath s.paths n p sound.paths at_n).rising) client planned.reach c.asked);
+            (messages_apart s (λ n p at_n. Up-from_increasing (λ (q : Packet). q.sequence) p.packets (all_at IsSoundPath s.paths n p sound.paths at_n).rising) client (sending_reach t planned.reach) c.asked);
       }
 
   plan_sound : (s : State) (d : Draft) → IsSound s.standing → IsDraft d → refusal_of s (Planned d) ≡ None → IsSound (changed s.standing (Planned d))
@@ -296,7 +296,7 @@ module _ (finds : FindsWhatWasAdded) (stays : StaysABook) (orderly : ViewsAreOrd
       with_client_sound s.standing d.job.client (after_answer d.answer) sound (λ c at sound_c.
       let known : x.known ≡ c = same_Some x.known c (sym x.is_known ∙ at) in
       answer_sound s.standing x.window d.job.client c d.answer sound x.is_window sound_c
-      (subst (λ t. IsAnswer t d.answer) (x.task ∙ ap (λ k. task_in s.standing x.window d.job.client k) known) is))
+      (subst (λ t. IsAnswer t d.answer) (x.task ∙ ap (λ k. task_in s.standing x.window d.job.client k) known) is.answer))
 
   settle_sound : (s : State) (client number done : ℕ) → IsSound s.standing → refusal_of s (Settled client number done) ≡ None → IsSound (changed s.standing (Settled client number done))
   settle_sound s client number done sound ok =

@@ -1,7 +1,6 @@
 -- Laws of batches, over every list of events.
 use Rattle.std.specs.Prelude.{◌≡◌, ℕ, ◌≤◌, Bool, ◌&&◌, ◌==◌, List, ◌∷◌, ◌++◌, length, map, filter, All, AllPairs, Contains, Option, Some, None, slice_get}
 use Rattle.std.specs.List.{range_with_len}
-use Rattle.std.specs.Option.{option_and_then}
 use Rattle.rb_base.specs.Window.{Span}
 use Rattle.rb_batch.specs.Cut.{IsLeastCut}
 use Rattle.rb_script_types.specs.declared.goal.Goal.{Goal}
@@ -19,7 +18,7 @@ use Rattle.rb_plan_client.specs.Draft.{Draft, IsDraft}
 use Rattle.rb_core_model.specs.Event.{Event, IsEvent, Planned, Settled}
 use Rattle.rb_core_model.specs.Machine.{Opened, refusal_of, reply_of, after, state_of}
 use Rattle.rb_plan_client.specs.Reach.{IsReach}
-use Rattle.rb_core_model.specs.Standing.{OpenBatch, ClientState, Standing, path_view, task_in, settled_messages}
+use Rattle.rb_core_model.specs.Standing.{OpenBatch, ClientState, Standing, path_view, task_in, settled_messages, batch_open}
 use Rattle.rb_plan_client.specs.Task.{Message, view_of, goal_of, messages_of, gases}
 
 -- ---- a batch when it is opened
@@ -36,7 +35,7 @@ abbrev pub AreInTurn : Path → List ℕ → Type 0
 AreInTurn v sequences = sequences ≡ range_with_len (next_sequence v Receive) (length sequences)
 
 -- A batch is what a client is to be sent as things stand: the least list of updates that meets its goal, the messages that
--- are ready, and none where the goal was asked for, and the least cut of them all. Each message can be proved at the
+-- are due, and none where the goal was asked for, and the least cut of them all. Each message can be proved at the
 -- batch's height, and the receives of an ORDERED path come in turn.
 pub record IsRightBatch (s : Standing) (client : ℕ) (b : OpenBatch) : Type 0 where
   pub window : Span
@@ -56,9 +55,6 @@ pub record IsRightBatch (s : Standing) (client : ℕ) (b : OpenBatch) : Type 0 w
   pub in_turn : (path : ℕ) (v : Path) → path_view s path ≡ Some v → v.order ≡ Ordered → AreInTurn v (receives_on path b.messages)
 
 -- ---- batches that are open
-
-abbrev pub batch_open : Standing → ℕ → Option OpenBatch
-batch_open s client = option_and_then (λ (c : ClientState). c.batch) (slice_get s.clients client)
 
 -- a client's open batch has a message of a kind for a packet, by its path's place and its sequence
 pub record Carries (s : Standing) (client path : ℕ) (kind : Kind) (sequence : ℕ) : Type 0 where

@@ -15,14 +15,14 @@ use Rattle.rb_core_model.specs.declared.entry.Entry.TheVariants as entry
 pub data Logged : Type 0 where
   whole : Event → Logged
   scan : ℕ → Part → Logged
-  plan : ℕ → Option Answer → Logged
+  plan : ℕ → Option Answer → Option ℕ → Logged
 
 abbrev pub entry_view : {A : Type 0} → Entry A → Logged
 entry_view (entry.Window window) = whole (Window window)
 entry_view (entry.Asked asked) = whole (Asked asked.client asked.goal)
 entry_view (entry.Observed observation) = whole (observed observation)
 entry_view (entry.Scan path part) = scan path part
-entry_view (entry.Plan client answer) = plan client answer
+entry_view (entry.Plan client answer next) = plan client answer next
 entry_view (entry.Settled settlement) = whole (Settled settlement.client settlement.batch settlement.done)
 
 abbrev pub logged_of : Event → Logged
@@ -37,7 +37,7 @@ logged_of (AckWritten path sequence block) = whole (AckWritten path sequence blo
 logged_of (Cleared path sequence) = whole (Cleared path sequence)
 logged_of (Closed path) = whole (Closed path)
 logged_of (Scanned path s) = scan path s.part
-logged_of (Planned d) = plan d.job.client d.answer
+logged_of (Planned d) = plan d.job.client d.answer d.next
 logged_of (Settled client number done) = whole (Settled client number done)
 
 -- the event of an entry in the state that the log before it leaves; none of a path or a client that isn't shown, which no
@@ -45,7 +45,7 @@ logged_of (Settled client number done) = whole (Settled client number done)
 abbrev pub event_of : State → Logged → Option Event
 event_of s (whole event) = Some event
 event_of s (scan path part) = option_map (λ v. Scanned path (record { view = v; part = part })) (path_view s.standing path)
-event_of s (plan client answer) = option_map (λ job. Planned (record { job = job; answer = answer })) (client_view s client)
+event_of s (plan client answer next) = option_map (λ job. Planned (record { job = job; answer = answer; next = next })) (client_view s client)
 
 abbrev pub events_of : State → List Logged → List Event
 events_of s [] = []

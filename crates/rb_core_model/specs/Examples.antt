@@ -13,6 +13,8 @@ use Rattle.rb_scan.specs.declared.path.Order.TheVariants.{Ordered, Unordered}
 use Rattle.rb_base.specs.declared.gate.Part.TheVariants.{Packets, Channel}
 use Rattle.rb_script_types.specs.Config.{Config}
 use Rattle.rb_script_types.specs.declared.config.ClientConfig.{ClientConfig}
+use Rattle.rb_script_types.specs.declared.config.RefreshTo.TheVariants.{Lowest}
+use Rattle.rb_script_types.specs.declared.version.Version.TheVariants.{One}
 use Rattle.rb_plan_client.specs.Draft.{batched, Planned as Answer, Job, Draft}
 use Rattle.rb_core_model.specs.Event.{Event, Window, Asked, StoredSeen, Sent, Received, AckWritten, Cleared, Closed, Scanned, Planned, Settled}
 use Rattle.rb_core_model.specs.Machine.{State, Opened, client_view, client_view_refusal, path_view_refusal, max_events, refusal_of, reply_of, state_of}
@@ -32,6 +34,7 @@ a_client id host tracks = record {
   tracks = tracks;
   options = record { period = 1000; drift = 10; trust = one_third };
   refresh = 0;
+  refresh_to = Lowest;
   fees = no_fees;
   gas = no_fees;
   limits = record { gas = 100; count = 100; transaction_gas = 0 };
@@ -39,10 +42,21 @@ a_client id host tracks = record {
 
 abbrev pub a_config : Order → Config
 a_config order = record {
+  version = One;
   limit = 1024;
   chains = (1 ∷ []) ∷ (2 ∷ []) ∷ [];
   clients = a_client (1 ∷ []) 1 0 ∷ a_client (2 ∷ []) 0 1 ∷ [];
-  paths = record { id = 1 ∷ []; source = 0; destination = 1; order = order; first = 4; forward = 0; back = 1; gas = record { receive = 5; acknowledge = 6; timeout = 7 } } ∷ [];
+  paths = record {
+    id = 1 ∷ [];
+    source = 0;
+    destination = 1;
+    order = order;
+    first = 4;
+    forward = 0;
+    back = 1;
+    gas = record { receive = 5; acknowledge = 6; timeout = 7 };
+    waits = record { receive = 0; acknowledge = 0; timeout = 0 };
+  } ∷ [];
 }
 
 abbrev pub a_window : Event
@@ -71,14 +85,14 @@ scanned order events = events ++ both_scans order events
 
 -- a draft for the job that a client is after these events
 abbrev pub draft_of : Order → List Event → ℕ → Option Answer → Option Draft
-draft_of order events client answer = option_map (λ job. record { job = job; answer = answer }) (client_view (at order events) client)
+draft_of order events client answer = option_map (λ job. record { job = job; answer = answer; next = None }) (client_view (at order events) client)
 
 abbrev pub refused : State → Option Draft → Option Refusal
 refused s d = option_and_then (λ x. refusal_of s (Planned x)) d
 
 -- a plan that sends the packet's receive alone
 abbrev pub one_receive : Message
-one_receive = record { path = 0; packet = record { kind = Receive; sequence = 4; floor = 9 }; gas = 5 }
+one_receive = record { path = 0; packet = record { kind = Receive; sequence = 4; floor = 9; expires = None }; gas = 5 }
 
 abbrev pub an_answer : Answer
 an_answer = record {
@@ -180,6 +194,6 @@ pub record Examples : Type 0 where
   pub both_done : option_map receives (owed_to Ordered (scanned Ordered (opened_two ++ Settled 0 1 2 ∷ [])) 0) ≡ Some ([] ∷ [])
   pub no_update : stored_by (opened_two ++ Settled 0 1 0 ∷ []) 0 ≡ Some (9 ∷ [])
   -- a settled timeout closes an ORDERED path
-  pub timeout_closes : option_map (λ (v : Path). v.closed) (option_map (λ p. view_of_path [] (after_message (record { kind = Timeout; sequence = 4; floor = 9 }) p)) (slice_get (at Ordered beginning).standing.paths 0)) ≡ Some true
-  pub timeout_leaves : option_map (λ (v : Path). v.closed) (option_map (λ p. view_of_path [] (after_message (record { kind = Timeout; sequence = 4; floor = 9 }) p)) (slice_get (at Unordered beginning).standing.paths 0)) ≡ Some false
+  pub timeout_closes : option_map (λ (v : Path). v.closed) (option_map (λ p. view_of_path [] (after_message (record { kind = Timeout; sequence = 4; floor = 9; expires = None }) p)) (slice_get (at Ordered beginning).standing.paths 0)) ≡ Some true
+  pub timeout_leaves : option_map (λ (v : Path). v.closed) (option_map (λ p. view_of_path [] (after_message (record { kind = Timeout; sequence = 4; floor = 9; expires = None }) p)) (slice_get (at Unordered beginning).standing.paths 0)) ≡ Some false
   pub none_settled : option_map receives (owed_to Ordered (scanned Ordered (opened Ordered ++ Settled 0 1 0 ∷ [])) 0) ≡ Some ((4 ∷ []) ∷ [])

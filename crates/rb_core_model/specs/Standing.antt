@@ -109,7 +109,7 @@ owed_at s path part = option_map_or (λ v. owed_part v part) (path_view s path) 
 -- the paths of a client, with the messages that are for it, by what each part of each path owes
 abbrev pub path_task : (ℕ → Part → List PacketMsg) → ℕ → ℕ × PathState → Option PathTask
 path_task owed client (place, p) =
-    option_map (λ part. record { path = place; order = p.config.order; gas = p.config.gas; owed = owed place part }) (part_for p.config client)
+    option_map (λ part. record { path = place; order = p.config.order; gas = p.config.gas; waits = p.config.waits; owed = owed place part }) (part_for p.config client)
 
 abbrev pub path_tasks : (ℕ → Part → List PacketMsg) → List PathState → ℕ → List PathTask
 path_tasks owed paths client = filter_map (path_task owed client) (enumerate_from 0 paths)
@@ -255,6 +255,10 @@ batch_of number answer =
 -- batches are numbered from 1
 abbrev pub batch_opened : ClientState → Option Answer → Option OpenBatch
 batch_opened c answer = batch_of (c.batches + 1) answer
+
+-- the open batch of the client at a place
+abbrev pub batch_open : Standing → ℕ → Option OpenBatch
+batch_open s client = option_and_then (λ (c : ClientState). c.batch) (slice_get s.clients client)
 
 -- a client after a plan: what it was asked for is done with, and the plan's batch is open
 abbrev pub with_batch : ClientState → Option OpenBatch → ClientState

@@ -4,12 +4,12 @@ ghost use Rattle.rb_core_model.specs.Entry.{entry_view, logged_of};
 ghost use Rattle.rb_core_model.specs.Seen.{event_view};
 
 use crate::event::Event;
-use rb_base::{Part, Window};
+use rb_base::{Moment, Part, Window};
 use rb_plan_client::{Planned, copy_answer};
 use rb_script_types::{Asked, Observation, Settlement};
 use std::alloc::{AllocError, Allocator, Global};
 
-/// A log entry: an event, but of a scan only its path and part, and of a plan only its client and answer,
+/// A log entry: an event, but of a scan only its path and part, and of a plan only its client and what was planned,
 /// since the log before it determines the path and the client. So a log keeps no book in memory.
 #[derive(Drop)]
 pub enum Entry<A: Allocator = Global> {
@@ -24,10 +24,11 @@ pub enum Entry<A: Allocator = Global> {
         path: usize,
         part: Part,
     },
-    /// What was planned for a client, as the client is after the log before it.
+    /// What was planned for a client, as the client is after the log before it, and when it has a goal next.
     Plan {
         client: usize,
         answer: Option<Planned<A>>,
+        next: Option<Moment>,
     },
     /// So many transactions of a client's batch, by its number, were taken.
     Settled(Settlement),
@@ -49,6 +50,7 @@ impl<A: Allocator + Copy> Entry<A> {
             Event::Planned(draft) => Entry::Plan {
                 client: draft.job().client(),
                 answer: copy_answer(draft.answer())?,
+                next: draft.next(),
             },
             Event::Settled(settlement) => Entry::Settled(*settlement),
         })

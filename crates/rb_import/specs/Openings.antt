@@ -1,9 +1,10 @@
--- The line that a script of answers begins with.
+-- What a script of answers begins with: who verified signatures, and the script's version.
 use Rattle.std.specs.Prelude.{◌≡◌, ◌⊎◌, ℕ, List, [], ◌∷◌, ◌++◌, All, Bool, true, false, codes}
 use Rattle.std.specs.List.{list_any}
 use Rattle.rb_import_answers.specs.Said.{IsPlain}
 use Rattle.rb_import_check.specs.declared.saved.SavedAnswers.{SavedAnswers}
 use Rattle.rb_import_check.specs.Verdicts.{has_verdicts}
+use Rattle.rb_import.specs.Texts.{heading}
 
 -- the line where no answer holds verdicts
 abbrev pub warning : List ℕ
@@ -25,6 +26,6 @@ IsCredit line = (words : List ℕ) × All IsPlain words × (line ≡ credit word
 abbrev pub IsOpening : Bool → List ℕ → Type 0
 IsOpening verified line = ((verified ≡ true) × IsCredit line) ⊎ ((verified ≡ false) × (line ≡ warning))
 
--- the text begins so
+-- the text begins with that line and the heading
 abbrev pub Opens : Bool → List ℕ → Type 0
-Opens verified text = (line : List ℕ) × (rest : List ℕ) × IsOpening verified line × (text ≡ line ++ rest)
+Opens verified text = (line : List ℕ) × (tables : List ℕ) × IsOpening verified line × (text ≡ line ++ heading ++ tables)

@@ -1,7 +1,9 @@
 -- The text of a script that was made of answers.
-use Rattle.std.specs.Prelude.{ℕ, List, [], ◌∷◌, ◌+◌, ◌++◌, codes, Bool, true, false, ◌&&◌, if◌then◌else◌, Option, Some, None, option_map}
+use Rattle.std.specs.Prelude.{◌≡◌, ℕ, List, [], ◌∷◌, ◌+◌, ◌++◌, codes, Bool, true, false, ◌&&◌, if◌then◌else◌, Option, Some, None, option_map}
+use Rattle.std.specs.Fmt.{decimal}
 use Rattle.rb_scan.specs.declared.path.Order.{Order}
 use Rattle.rb_scan.specs.declared.path.Order.TheVariants.{Ordered, Unordered}
+use Rattle.rb_script_types.specs.declared.waits.Waits.{Waits}
 use Rattle.rb_import_setup.specs.declared.setup.PathSetup.{PathSetup}
 use Rattle.rb_import_merge.specs.declared.packets.SeenPacket.{SeenPacket}
 use Rattle.rb_import_merge.specs.Packets.{some_timed_out}
@@ -9,6 +11,18 @@ use Rattle.rb_import_answers.specs.declared.commit.Signature.{Signature}
 use Rattle.rb_import_answers.specs.declared.verdicts.Verdict.{Verdict}
 use Rattle.rb_import_check.specs.declared.chain.Commit.{Commit}
 use Rattle.rb_import_check.specs.Verdicts.{vote_letter}
+
+-- what stands behind the opening line: who wrote the script, and its version
+abbrev pub heading : List ℕ
+heading = codes "# Written by ibcplan import.\nversion = 3\n"
+
+-- how many nanoseconds a receive, an acknowledgement and a timeout of a path may wait
+abbrev pub waits_line : Waits → List ℕ
+waits_line w = codes "wait_ns = [" ++ decimal w.receive ++ codes ", " ++ decimal w.acknowledge ++ codes ", " ++ decimal w.timeout ++ codes "]\n"
+
+-- the text ends with how long the messages of a path may wait
+abbrev pub EndsWithWaits : Waits → List ℕ → Type 0
+EndsWithWaits w text = (before : List ℕ) × (text ≡ before ++ waits_line w)
 
 abbrev pub is_ordered : Order → Bool
 is_ordered Ordered = true

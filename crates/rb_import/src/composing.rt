@@ -5,9 +5,10 @@ ghost use Rattle.rb_import_merge.specs.Errors.{IsToldIn};
 ghost use Rattle.rb_import_merge.specs.Seen.{HoldsOfSeen};
 ghost use Rattle.rb_import_notices.specs.Whole.{AreNoticesOf};
 ghost use Rattle.rb_import.specs.Openings.{Opens, hold_verdicts};
+ghost use Rattle.rb_import.specs.Texts.{heading};
 
 use crate::opening::opening_of;
-use crate::text::push_script;
+use crate::text::push_tables;
 use rb_import_check::{CheckErrorName, ImportError, SavedAnswers};
 use rb_import_merge::seen_in;
 use rb_import_notices::{Notices, notices_of};
@@ -22,9 +23,9 @@ pub struct Composed<'a> {
     pub notices: Notices<'a>,
 }
 
-/// The text of the script that a setup and the answers of its chains, clients and paths make, which
-/// begins with a line that says who verified signatures, or that nobody did; and what isn't among the answers,
-/// though the script stands without it, or isn't written, since no book has room for it. The first
+/// The text of the script of version 3 that a setup and the answers of its chains, clients and paths make,
+/// which begins with a line that says who verified signatures, or that nobody did; and what isn't among the
+/// answers, though the script stands without it, or isn't written, since no book has room for it. The first
 /// problem is answered: of the chains, of the clients, then of the paths, each in order. `NoMemory` comes
 /// where a growth is refused.
 pub fn compose<'a>(
@@ -38,10 +39,10 @@ pub fn compose<'a>(
     ensures told { IfErr result (IsToldIn setup.entry.now) }
 {
     let seen = seen_in(alloc, setup, answers)?;
-    let mut body = String::new(alloc);
-    push_script(&mut body, setup, &seen)?;
+    let mut tables = String::new(alloc);
+    push_tables(&mut tables, setup, &seen)?;
     let opening = opening_of(alloc, answers, &seen)?;
-    let text = with_opening(opening, body.as_str())?;
+    let text = with_opening(opening, tables.as_str())?;
     if text.len() > MAX_BYTES {
         return Err(ImportError::of(CheckErrorName::ScriptTooBig, "-"));
     }
@@ -49,11 +50,12 @@ pub fn compose<'a>(
     Ok(Composed { text, notices })
 }
 
-/// The text that a script goes on with, behind the line that it begins with.
-fn with_opening(opening: String, body: &str) -> Result<String, AllocError>
-    ensures { IfOk result (λ text. string_bytes text ≡ string_bytes opening ++ body.now) }
+/// A script's text: the line that it begins with, who wrote it and its version, and its tables.
+fn with_opening(opening: String, tables: &str) -> Result<String, AllocError>
+    ensures { IfOk result (λ text. string_bytes text ≡ string_bytes opening ++ heading ++ tables.now) }
 {
     let mut text = opening;
-    text.push_str(body)?;
+    text.push_str("# Written by ibcplan import.\nversion = 3\n")?;
+    text.push_str(tables)?;
     Ok(text)
 }

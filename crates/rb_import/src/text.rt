@@ -1,6 +1,7 @@
 //! The text of a script.
-ghost use Rattle.std.specs.Prelude.{◌<◌, All, length};
+ghost use Rattle.std.specs.Prelude.{◌≡◌, ◌<◌, ◌++◌, All, length, OnOk, string_bytes};
 ghost use Rattle.rb_import_setup.specs.Places.{IsClientOf, IsPathOf, IsTurnOf};
+ghost use Rattle.rb_import.specs.Texts.{EndsWithWaits, waits_line};
 
 use crate::event_text::{push_closing, push_header, push_packet, push_set, push_stored};
 use jiff::Timestamp;
@@ -9,17 +10,12 @@ use rb_import_check::{SeenChain, SeenClient, Stored};
 use rb_import_merge::Seen;
 use rb_import_setup::{ClientSetup, Setup, TurnSetup};
 use rb_scan::{Kind, Order};
-use rb_script_types::{Asked, Goal, PathConfig, Settlement};
+use rb_script_types::{Asked, Goal, PathConfig, Settlement, Waits};
 use std::alloc::AllocError;
 
-const HEAD: &str = "# Written by ibcplan import.
-version = 2
-chain = [
-";
-
-/// Adds the text of a script, but for the line that it begins with.
-pub fn push_script(text: &mut String, setup: &Setup, seen: &Seen<'_>) -> Result<(), AllocError> {
-    text.push_str(HEAD)?;
+/// Adds the tables of a script.
+pub fn push_tables(text: &mut String, setup: &Setup, seen: &Seen<'_>) -> Result<(), AllocError> {
+    text.push_str("chain = [\n")?;
     for chain in &setup.chains {
         writeln!(text, "  {{ id = \"{chain}\" }},")?;
     }
@@ -101,8 +97,10 @@ fn push_client(
     writeln!(text, "trust = [{numerator}, {denominator}]")
 }
 
+/// Adds the table of a path, of which how long its messages may wait is the last line.
 fn push_path(text: &mut String, setup: &Setup, path: &PathConfig) -> Result<(), AllocError>
     requires { IsPathOf (length setup.now.chains.items) (length setup.now.clients.items) path.now }
+    ensures { OnOk result (EndsWithWaits path.now.waits (string_bytes text.new)) }
 {
     let id = path.id.as_str();
     let source = chain_at(setup, path.source);
@@ -124,7 +122,20 @@ fn push_path(text: &mut String, setup: &Setup, path: &PathConfig) -> Result<(), 
         text,
         "gas",
         [Kind::Receive, Kind::Acknowledge, Kind::Timeout].map(|kind: Kind| path.gas.of(kind)),
-    )
+    )?;
+    push_waits(text, path.waits)
+}
+
+/// Adds how long the messages of a path may wait.
+fn push_waits(text: &mut String, waits: Waits) -> Result<(), AllocError>
+    ensures { OnOk result (string_bytes text.new ≡ string_bytes text.old ++ waits_line waits) }
+{
+    let Waits {
+        receive,
+        acknowledge,
+        timeout,
+    } = waits;
+    writeln!(text, "wait_ns = [{receive}, {acknowledge}, {timeout}]")
 }
 
 /// Adds a turn, with what was seen where it is the last one.

@@ -13,7 +13,7 @@ use Rattle.rb_import_check.specs.declared.client.Stored.{Stored}
 unfoldable pub HasHeader : SeenChain → ℕ → Type 0
 HasHeader chain height = Any (λ (c : Commit). c.header.now.height ≡ height) chain.commits.items
 
--- how many records a book holds beside the chain's headers, in a script of version 2, one a height
+-- how many records a book holds beside the chain's headers, in a script of version 2 or 3, one a height
 abbrev pub room_of : SeenChain → ℕ
 room_of chain = 4096 - length chain.commits.items
 

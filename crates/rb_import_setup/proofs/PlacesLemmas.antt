@@ -1,5 +1,5 @@
 -- Which chains and clients a setup that is read names.
-use Rattle.std.proofs.Common.{◌≡◌, ℕ, ◌<◌, ◌==◌, not, List, [], map, length, get_or, codes, Result, Ok, All, arith, subst, sym}
+use Rattle.std.proofs.Common.{◌≡◌, ℕ, ◌<◌, ◌==◌, not, List, [], map, length, get_or, codes, Ok, All, arith, subst, sym}
 use Rattle.std.proofs.lemmas.List.{length-map, get_or-map}
 use Rattle.std.proofs.lemmas.List.Elements.{All-push}
 use Rattle.toml.specs.Data.{Items}
@@ -13,7 +13,8 @@ use Rattle.rb_script_config.specs.Chains.{no_defaults}
 use Rattle.rb_script_config.specs.Clients.{identity, terms}
 use Rattle.rb_script_config.specs.Goals.{asked, goal_keys, goal_of, one_goal, is_asked, settlement, settlement_keys}
 use Rattle.rb_script_config.specs.Named.{reference}
-use Rattle.rb_script_config.specs.Paths.{path_config, fits}
+use Rattle.rb_script_config.specs.Paths.{path_config, waits_in, fits}
+use Rattle.rb_script_types.specs.declared.version.Version.TheVariants.{Three}
 use Rattle.rb_script_config.proofs.ConfigForms.{pass, same_ok, elements-keep, place-within, identity-form, path_config-form}
 use Rattle.rb_import_setup.specs.declared.setup.ClientSetup.{ClientSetup}
 use Rattle.rb_import_setup.specs.declared.setup.PathSetup.{PathSetup}
@@ -55,7 +56,8 @@ path-places chains clients before s p h =
     let count = length-map clients (λ (c : ClientSetup). c.id) in
     pass (only path_keys s) _ p h (λ u e0 h0.
     pass (path_config chains (client_ids clients) (path_ids before) s) _ p h0 (λ q e1 h1.
-    pass (source_channel s) _ p h1 (λ channel e2 h2.
+    pass (waits_in Three s) _ p h1 (λ waits ew hw.
+    pass (source_channel s) _ p hw (λ channel e2 h2.
     pass (counterparty s) _ p h2 (λ other e3 h3.
     pass (fits client_ends clients q s.path) _ p h3 (λ v e4 same.
     let named = path_config-form chains (client_ids clients) (path_ids before) s q e1 in
@@ -64,7 +66,7 @@ path-places chains clients before s p h =
       destination = named.1;
       forward = omega (arith, named.2, count);
       back = omega (arith, named.3, count);
-    }))))))
+    })))))))
 
 all-views : {A B : Type 0} (P : B → Type 0) (view : A → B) (xs : List A) → All P (map view xs) → All (λ x. P (view x)) xs
 all-views P view xs all k d lt = subst P (get_or-map view xs k d (view d) lt) (all k (view d) (omega (arith, lt, length-map xs view)))

@@ -1,9 +1,10 @@
 -- The tables of paths (ICS 4: one direction of a channel).
 use Rattle.std.specs.Prelude.{ℕ, List, [], ◌∷◌, ◌++◌, map, codes, string_bytes, Option, Some, None, option_map, is_none, Bool, ◌&&◌, Result, Ok, if◌then◌else◌}
 use Rattle.rb_script_types.specs.declared.config.PathConfig.{PathConfig}
+use Rattle.rb_script_types.specs.declared.version.Version.TheVariants.{Three}
 use Rattle.rb_script_toml.specs.Faults.{Fault, ◌>>=◌}
 use Rattle.rb_script_toml.specs.Fields.{Section, text, only, needs, optional}
-use Rattle.rb_script_config.specs.Paths.{path_config, fits}
+use Rattle.rb_script_config.specs.Paths.{path_config, waits_in, fits}
 use Rattle.rb_import_setup.specs.declared.setup.ClientSetup.{ClientSetup}
 use Rattle.rb_import_setup.specs.declared.setup.PathSetup.{PathSetup}
 use Rattle.rb_import_setup.specs.Clients.{client_ends, client_ids}
@@ -50,14 +51,15 @@ path_ids paths = map (λ p. p.config.id) paths
 abbrev pub path_keys : List (List ℕ)
 path_keys =
     codes "id" ∷ codes "source" ∷ codes "dest" ∷ codes "order" ∷ codes "first" ∷ codes "forward" ∷ codes "back" ∷ codes "gas"
-    ∷ codes "port" ∷ codes "channel" ∷ codes "counterparty_port" ∷ codes "counterparty_channel" ∷ []
+    ∷ codes "wait_ns" ∷ codes "port" ∷ codes "channel" ∷ codes "counterparty_port" ∷ codes "counterparty_channel" ∷ []
 
--- a path of these chains and clients, beside those before it
+-- a path of these chains and clients, beside those before it; its messages may wait, as those of a script of version 3
 unfoldable pub path : List (List ℕ) → List ClientSetup → List Path → Section → Result Path Fault
 path chains clients before s = do
   _ ← only path_keys s
   p ← path_config chains (client_ids clients) (path_ids before) s
+  w ← waits_in Three s
   channel ← source_channel s
   other ← counterparty s
   _ ← fits client_ends clients p s.path
-  Ok (record { config = p; source_channel = channel; counterparty = other })
+  Ok (record { config = record p { waits = w }; source_channel = channel; counterparty = other })

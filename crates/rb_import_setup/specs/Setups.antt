@@ -6,7 +6,7 @@ use Rattle.rb_script_toml.specs.Faults.{Fault, ◌>>=◌, check}
 use Rattle.rb_script_toml.specs.Fields.{Section, only, needs, required, optional, or_default, number, array, items_count, elements}
 use Rattle.rb_script_toml.specs.declared.fault.FaultName.TheVariants.{BadVersion, MissingKey}
 use Rattle.rb_script_toml.specs.Documents.{document}
-use Rattle.rb_script_config.specs.declared.version.Version.TheVariants.{One}
+use Rattle.rb_script_types.specs.declared.version.Version.TheVariants.{One}
 use Rattle.rb_script_config.specs.Chains.{chain, chain_ids}
 use Rattle.rb_script_config.specs.Tables.{top_keys}
 use Rattle.rb_script_types.specs.Limits.{max_chains, max_clients, max_paths, max_turns}

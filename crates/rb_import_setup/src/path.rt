@@ -7,8 +7,9 @@ ghost use Rattle.rb_import_setup.specs.Paths.{is_unnamed, named_end, source_chan
 
 use crate::setup::{ClientSetup, PathSetup};
 use rb_base::ChainId;
-use rb_script_config::{Directory, judge_path, read_path_config};
+use rb_script_config::{Directory, judge_path, read_path_config, read_waits};
 use rb_script_toml::{RunError, Section, element_path, section_at};
+use rb_script_types::{PathConfig, Version};
 use std::alloc::Global;
 use toml::Value;
 
@@ -76,6 +77,7 @@ fn only_path_keys(section: &Section<'_>) -> Result<(), RunError>
         "forward",
         "back",
         "gas",
+        "wait_ns",
         "port",
         "channel",
         "counterparty_port",
@@ -94,11 +96,12 @@ fn read_path(
 {
     only_path_keys(section)?;
     let config = read_path_config(section, chains, clients, before)?;
+    let waits = read_waits(Version::Three, section)?;
     let source_channel = source_channel(section)?;
     let counterparty = counterparty(section)?;
     judge_path(section, clients, &config)?;
     Ok(PathSetup {
-        config,
+        config: PathConfig { waits, ..config },
         source_channel,
         counterparty,
     })

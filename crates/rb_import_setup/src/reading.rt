@@ -10,9 +10,9 @@ use crate::client::read_clients;
 use crate::path::read_paths;
 use crate::setup::Setup;
 use crate::turn::read_turns;
-use rb_script_config::{Version, ids_of, only_top_keys, read_chains};
+use rb_script_config::{ids_of, only_top_keys, read_chains};
 use rb_script_toml::{FaultName, RunError, Section, read_table};
-use rb_script_types::{MAX_CHAINS, MAX_CLIENTS, MAX_PATHS, MAX_TURNS};
+use rb_script_types::{MAX_CHAINS, MAX_CLIENTS, MAX_PATHS, MAX_TURNS, Version};
 use std::alloc::Global;
 use toml::{Table, Value};
 
@@ -80,8 +80,8 @@ fn read_document(alloc: Global, table: &Table) -> Result<Setup, RunError>
 }
 
 /// Reads the setup that a text holds: a script without events, with at least one turn, whose
-/// clients may leave out `period_ns`, `drift_ns` and `trust`, and whose paths may have `port` and
-/// `channel`, and beside them `counterparty_port` and `counterparty_channel`. `Fault` is its first
+/// clients may leave out `period_ns`, `drift_ns` and `trust`, and whose paths may have `wait_ns`, as those of
+/// version 3, `port` and `channel`, and beside these `counterparty_port` and `counterparty_channel`. `Fault` is its first
 /// fault, in the order in which scripts are judged (docs/FORMATS.md); `NoMemory` comes where a growth
 /// is refused.
 #[tactic(auto, using(rb_script_toml::proofs::Steps::steps), unfolding(crate::specs::Setups::setup_of))]

@@ -1,2 +1,8 @@
 pub mod Ids
 pub mod RightAnswers
+pub mod Far
+pub mod Lowest
+pub mod Waits
+pub mod Nexts
+pub mod Pressing
+pub mod Refreshes

@@ -17,7 +17,7 @@ use Rattle.rb_step.specs.View.{client_of}
 use Rattle.rb_plan_client.specs.Draft.{Planned, IsPlan, IsPlanned, IsIdle, IsAnswer}
 use Rattle.rb_plan_client.specs.Planning.{IsPlannedFor, IsPlannedIf}
 use Rattle.rb_plan_client.specs.Reach.{IsReachable, IsReach}
-use Rattle.rb_plan_client.specs.Task.{Task, Message, view_of, ready_messages, refresh_goal, first_goal, goal_of, messages_of}
+use Rattle.rb_plan_client.specs.Task.{Task, Message, view_of, due_messages, refresh_goal, first_goal, goal_of, messages_of}
 
 -- ---- the greatest labelled height is the reach
 
@@ -62,20 +62,20 @@ reach_from_top client ls (Some t) exact there greatest = record {
 
 -- ---- the goal by the messages that go with it
 
-pub goal_same : (t : Task) (reach : Option ℕ) → first_goal t (wanted (map (λ (m : Message). m.packet) (messages_of t reach))) ≡ goal_of t reach
+pub goal_same : (t : Task) (reach : Option ℕ) → first_goal t reach (wanted (map (λ (m : Message). m.packet) (messages_of t reach))) ≡ goal_of t reach
 goal_same t reach = go t.asked
   where
     go : (o : Option Goal)
-        → option_or o (option_or (option_map (λ h. AtLeast h) (wanted (map (λ (m : Message). m.packet) (if is_some o then [] else ready_messages t reach)))) (refresh_goal t))
-        ≡ option_or o (option_or (option_map (λ h. AtLeast h) (wanted (map (λ (m : Message). m.packet) (ready_messages t reach)))) (refresh_goal t))
+        → option_or o (option_or (option_map (λ h. AtLeast h) (wanted (map (λ (m : Message). m.packet) (if is_some o then [] else due_messages t reach)))) (refresh_goal t reach))
+        ≡ option_or o (option_or (option_map (λ h. AtLeast h) (wanted (map (λ (m : Message). m.packet) (due_messages t reach)))) (refresh_goal t reach))
     go None = refl
     go (Some g) = refl
 
-by_messages : (t : Task) (reach : Option ℕ) (ms : List Message) (o : Option Goal) → ms ≡ messages_of t reach → first_goal t (wanted (map (λ (m : Message). m.packet) ms)) ≡ o → goal_of t reach ≡ o
-by_messages t reach ms o same goal = sym (goal_same t reach) ∙ ap (λ (xs : List Message). first_goal t (wanted (map (λ (m : Message). m.packet) xs))) (sym same) ∙ goal
+by_messages : (t : Task) (reach : Option ℕ) (ms : List Message) (o : Option Goal) → ms ≡ messages_of t reach → first_goal t reach (wanted (map (λ (m : Message). m.packet) ms)) ≡ o → goal_of t reach ≡ o
+by_messages t reach ms o same goal = sym (goal_same t reach) ∙ ap (λ (xs : List Message). first_goal t reach (wanted (map (λ (m : Message). m.packet) xs))) (sym same) ∙ goal
 
 pub planned_right : (t : Task) (reach : Option ℕ) (ms : List Message) (g : Goal) (p : Planned) → IsReach (client_of (view_of t)) reach → ms ≡ messages_of t reach
-    → first_goal t (wanted (map (λ (m : Message). m.packet) ms)) ≡ Some g → IsPlannedFor t g ms p → IsPlanned t p
+    → first_goal t reach (wanted (map (λ (m : Message). m.packet) ms)) ≡ Some g → IsPlannedFor t g ms p → IsPlanned t p
 planned_right t reach ms g p is same goal planned = record {
   reach = reach;
   is_reach = is;
@@ -86,11 +86,11 @@ planned_right t reach ms g p is same goal planned = record {
       (subst (λ (xs : List Message). MatchOption p.plan (IsUnreachable (client_of (view_of t)) g) (IsPlan t g xs)) same planned.plan);
 }
 
-pub idle_right : (t : Task) (reach : Option ℕ) (ms : List Message) → IsReach (client_of (view_of t)) reach → ms ≡ messages_of t reach → first_goal t (wanted (map (λ (m : Message). m.packet) ms)) ≡ None → IsIdle t
+pub idle_right : (t : Task) (reach : Option ℕ) (ms : List Message) → IsReach (client_of (view_of t)) reach → ms ≡ messages_of t reach → first_goal t reach (wanted (map (λ (m : Message). m.packet) ms)) ≡ None → IsIdle t
 idle_right t reach ms is same goal = record { reach = reach; is_reach = is; goal = by_messages t reach ms None same goal }
 
 pub answer_right : (t : Task) (reach : Option ℕ) (ms : List Message) (o : Option Goal) (p : Option Planned) → IsReach (client_of (view_of t)) reach → ms ≡ messages_of t reach
-    → o ≡ first_goal t (wanted (map (λ (m : Message). m.packet) ms)) → IsPlannedIf t o ms p → IsAnswer t p
+    → o ≡ first_goal t reach (wanted (map (λ (m : Message). m.packet) ms)) → IsPlannedIf t o ms p → IsAnswer t p
 answer_right t reach ms None None is same goal planned = idle_right t reach ms is same (sym goal)
 answer_right t reach ms None (Some p) is same goal planned = absurd planned
 answer_right t reach ms (Some g) None is same goal planned = absurd planned

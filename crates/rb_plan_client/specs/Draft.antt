@@ -1,5 +1,6 @@
 -- What is planned for a client (own choice, over the least lists, the exact labellings and the least cuts).
 use Rattle.std.specs.Prelude.{◌≡◌, ℕ, ◌+◌, ◌<◌, Bool, List, [], length, Option, Some, None, MatchOption}
+use Rattle.std.specs.Option.{option_map_or}
 use Rattle.rb_batch.specs.Cut.{IsLeastCut, IsFirstTooBig}
 use Rattle.rb_batch.specs.declared.transaction.Transaction.{Transaction}
 use Rattle.rb_script_types.specs.declared.goal.Goal.{Goal}
@@ -9,6 +10,7 @@ use Rattle.rb_plan.specs.Least.{IsLeast, IsUnreachable}
 use Rattle.rb_plan.specs.ProofHeight.{IsProofHeight}
 use Rattle.rb_step.specs.LightClient.{Update}
 use Rattle.rb_step.specs.View.{client_of}
+use Rattle.rb_plan_client.specs.Next.{IsNext}
 use Rattle.rb_plan_client.specs.Reach.{IsReach}
 use Rattle.rb_plan_client.specs.Task.{Task, Message, view_of, goal_of, messages_of, gases}
 
@@ -81,11 +83,17 @@ pub record Job : Type 0 where
   pub plan : ℕ
   pub held : Bool
 
--- a job with what was planned for it
+-- a job with what was planned for it, and when the client has a goal next
 pub record Draft : Type 0 where
   pub job : Job
   pub answer : Option Planned
+  pub next : Option ℕ
+
+-- the updates that are planned: none where there is no goal, or where no list meets it
+abbrev pub planned_updates : Option Planned → List Update
+planned_updates answer = option_map_or (λ (p : Planned). option_map_or (λ (plan : Plan). plan.updates) p.plan []) answer []
 
 -- what every draft keeps
-abbrev pub IsDraft : Draft → Type 0
-IsDraft d = IsAnswer d.job.task d.answer
+pub record IsDraft (d : Draft) : Type 0 where
+  pub answer : IsAnswer d.job.task d.answer
+  pub next : IsNext d.job.task (planned_updates d.answer) d.next

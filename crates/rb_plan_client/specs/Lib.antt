@@ -1,6 +1,8 @@
 pub mod Reach
 pub mod Task
+pub mod Next
 pub mod Draft
 pub mod Sent
 pub mod Planning
 pub mod Same
+pub mod Laws

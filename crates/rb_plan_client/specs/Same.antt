@@ -1,5 +1,5 @@
 -- Jobs are compared by their content.
-use Rattle.std.specs.Prelude.{◌≡◌, ◌==◌, ◌&&◌, Bool, false, Option, Some, None, refl}
+use Rattle.std.specs.Prelude.{◌≡◌, ◌==◌, ◌&&◌, Bool, true, false, Option, Some, None, refl}
 use Rattle.std.proofs.Common.{ap, nat_eq}
 use Rattle.std.specs.Bool.{Decides, beq}
 use Rattle.std.specs.Option.{option_eq}
@@ -15,6 +15,9 @@ use Rattle.rb_batch.specs.Limits.{TransactionLimits}
 use Rattle.rb_book.specs.Book.{same_book}
 use Rattle.rb_book.specs.Same.{same_book-Decides}
 use Rattle.rb_script_types.specs.declared.config.ClientConfig.{ClientConfig}
+use Rattle.rb_script_types.specs.declared.config.RefreshTo.{RefreshTo}
+use Rattle.rb_script_types.specs.declared.config.RefreshTo.TheVariants.{Lowest, Highest}
+use Rattle.rb_script_types.specs.declared.waits.Waits.{Waits}
 use Rattle.rb_script_types.specs.declared.goal.Goal.{Goal}
 use Rattle.rb_script_types.specs.declared.goal.Goal.TheVariants.{Exactly, AtLeast}
 use Rattle.rb_scan.specs.Owed.{same_kind}
@@ -37,11 +40,17 @@ same_fees f g = (f.base == g.base) && ((f.signature == g.signature) && (f.valida
 abbrev pub same_limits : TransactionLimits → TransactionLimits → Bool
 same_limits l m = (l.gas == m.gas) && ((l.count == m.count) && (l.transaction_gas == m.transaction_gas))
 
+abbrev pub same_refresh_to : RefreshTo → RefreshTo → Bool
+same_refresh_to Lowest Lowest = true
+same_refresh_to Lowest Highest = false
+same_refresh_to Highest Lowest = false
+same_refresh_to Highest Highest = true
+
 -- by all that a client is set up with
 abbrev pub same_config : ClientConfig → ClientConfig → Bool
 same_config c d =
     bytes_eq c.id d.id && ((c.host == d.host) && ((c.tracks == d.tracks) && (same_options c.options d.options && ((c.refresh == d.refresh)
-    && (same_fees c.fees d.fees && (same_fees c.gas d.gas && same_limits c.limits d.limits))))))
+    && (same_refresh_to c.refresh_to d.refresh_to && (same_fees c.fees d.fees && (same_fees c.gas d.gas && same_limits c.limits d.limits)))))))
 
 abbrev pub same_span : Span → Span → Bool
 same_span s t = (s.from == t.from) && (s.until == t.until)
@@ -49,12 +58,15 @@ same_span s t = (s.from == t.from) && (s.until == t.until)
 abbrev pub same_gas : PathGas → PathGas → Bool
 same_gas g h = (g.receive == h.receive) && (g.acknowledge == h.acknowledge) && (g.timeout == h.timeout)
 
+abbrev pub same_waits : Waits → Waits → Bool
+same_waits w x = (w.receive == x.receive) && ((w.acknowledge == x.acknowledge) && (w.timeout == x.timeout))
+
 abbrev pub same_packet_message : PacketMsg → PacketMsg → Bool
-same_packet_message m n = same_kind m.kind n.kind && (m.sequence == n.sequence) && (m.floor == n.floor)
+same_packet_message m n = same_kind m.kind n.kind && (m.sequence == n.sequence) && (m.floor == n.floor) && option_eq nat_eq m.expires n.expires
 
 abbrev pub same_path_task : PathTask → PathTask → Bool
 same_path_task p q =
-    (p.path == q.path) && same_order p.order q.order && same_gas p.gas q.gas && pointwise same_packet_message p.owed q.owed
+    (p.path == q.path) && same_order p.order q.order && same_gas p.gas q.gas && same_waits p.waits q.waits && pointwise same_packet_message p.owed q.owed
 
 abbrev pub same_goal : Goal → Goal → Bool
 same_goal (Exactly g) (Exactly h) = g == h
@@ -89,6 +101,12 @@ goals_Decides (Exactly g) (AtLeast h) = (λ e. cc, λ e. cc)
 goals_Decides (AtLeast g) (Exactly h) = (λ e. cc, λ e. cc)
 goals_Decides (AtLeast g) (AtLeast h) = Decides-like _ (λ e. ap (λ n. AtLeast n) e) (λ e. cc) (unsigned_Decides g h)
 
+refresh_to_Decides : (a b : RefreshTo) → Decides (same_refresh_to a b) (a ≡ b)
+refresh_to_Decides Lowest Lowest = (λ _. refl, λ _. refl)
+refresh_to_Decides Lowest Highest = (λ e. cc, λ e. cc)
+refresh_to_Decides Highest Lowest = (λ e. cc, λ e. cc)
+refresh_to_Decides Highest Highest = (λ _. refl, λ _. refl)
+
 same_options-Decides : (o p : ClientOptions) → Decides (same_options o p) (o ≡ p)
 same_options-Decides o p =
     Decides-like _
@@ -112,11 +130,11 @@ same_limits-Decides l m =
 same_config-Decides : (c d : ClientConfig) → Decides (same_config c d) (c ≡ d)
 same_config-Decides c d =
     Decides-like _
-    (λ e i. record { id = e.0 i; host = e.1.0 i; tracks = e.1.1.0 i; options = e.1.1.1.0 i; refresh = e.1.1.1.1.0 i; fees = e.1.1.1.1.1.0 i; gas = e.1.1.1.1.1.1.0 i; limits = e.1.1.1.1.1.1.1 i })
-    (λ e. (ap (λ (x : ClientConfig). x.id) e, (ap (λ (x : ClientConfig). x.host) e, (ap (λ (x : ClientConfig). x.tracks) e, (ap (λ (x : ClientConfig). x.options) e, (ap (λ (x : ClientConfig). x.refresh) e, (ap (λ (x : ClientConfig). x.fees) e, (ap (λ (x : ClientConfig). x.gas) e, ap (λ (x : ClientConfig). x.limits) e))))))))
+    (λ e i. record { id = e.0 i; host = e.1.0 i; tracks = e.1.1.0 i; options = e.1.1.1.0 i; refresh = e.1.1.1.1.0 i; refresh_to = e.1.1.1.1.1.0 i; fees = e.1.1.1.1.1.1.0 i; gas = e.1.1.1.1.1.1.1.0 i; limits = e.1.1.1.1.1.1.1.1 i })
+    (λ e. (ap (λ (x : ClientConfig). x.id) e, (ap (λ (x : ClientConfig). x.host) e, (ap (λ (x : ClientConfig). x.tracks) e, (ap (λ (x : ClientConfig). x.options) e, (ap (λ (x : ClientConfig). x.refresh) e, (ap (λ (x : ClientConfig). x.refresh_to) e, (ap (λ (x : ClientConfig). x.fees) e, (ap (λ (x : ClientConfig). x.gas) e, ap (λ (x : ClientConfig). x.limits) e)))))))))
     (Decides-and _ _ (bytes_eq-Decides c.id d.id) (Decides-and _ _ (unsigned_Decides c.host d.host) (Decides-and _ _ (unsigned_Decides c.tracks d.tracks)
-    (Decides-and _ _ (same_options-Decides c.options d.options) (Decides-and _ _ (unsigned_Decides c.refresh d.refresh)
-    (Decides-and _ _ (same_fees-Decides c.fees d.fees) (Decides-and _ _ (same_fees-Decides c.gas d.gas) (same_limits-Decides c.limits d.limits))))))))
+    (Decides-and _ _ (same_options-Decides c.options d.options) (Decides-and _ _ (unsigned_Decides c.refresh d.refresh) (Decides-and _ _ (refresh_to_Decides c.refresh_to d.refresh_to)
+    (Decides-and _ _ (same_fees-Decides c.fees d.fees) (Decides-and _ _ (same_fees-Decides c.gas d.gas) (same_limits-Decides c.limits d.limits)))))))))
 
 same_span-Decides : (s t : Span) → Decides (same_span s t) (s ≡ t)
 same_span-Decides s t =
@@ -131,15 +149,22 @@ same_gas-Decides g h =
 
 same_packet_message-Decides : (m n : PacketMsg) → Decides (same_packet_message m n) (m ≡ n)
 same_packet_message-Decides m n =
-    Decides-like _ (λ e i. record { kind = e.0.0 i; sequence = e.0.1 i; floor = e.1 i })
-    (λ e. ((ap (λ (x : PacketMsg). x.kind) e, ap (λ (x : PacketMsg). x.sequence) e), ap (λ (x : PacketMsg). x.floor) e))
-    (Decides-and _ _ (Decides-and _ _ (kinds_Decides m.kind n.kind) (unsigned_Decides m.sequence n.sequence)) (unsigned_Decides m.floor n.floor))
+    Decides-like _ (λ e i. record { kind = e.0.0.0 i; sequence = e.0.0.1 i; floor = e.0.1 i; expires = e.1 i })
+    (λ e. (((ap (λ (x : PacketMsg). x.kind) e, ap (λ (x : PacketMsg). x.sequence) e), ap (λ (x : PacketMsg). x.floor) e), ap (λ (x : PacketMsg). x.expires) e))
+    (Decides-and _ _ (Decides-and _ _ (Decides-and _ _ (kinds_Decides m.kind n.kind) (unsigned_Decides m.sequence n.sequence)) (unsigned_Decides m.floor n.floor))
+    (options_Decides nat_eq unsigned_Decides m.expires n.expires))
+
+same_waits-Decides : (w x : Waits) → Decides (same_waits w x) (w ≡ x)
+same_waits-Decides w x =
+    Decides-like _ (λ e i. record { receive = e.0 i; acknowledge = e.1.0 i; timeout = e.1.1 i })
+    (λ e. (ap (λ (y : Waits). y.receive) e, (ap (λ (y : Waits). y.acknowledge) e, ap (λ (y : Waits). y.timeout) e)))
+    (Decides-and _ _ (unsigned_Decides w.receive x.receive) (Decides-and _ _ (unsigned_Decides w.acknowledge x.acknowledge) (unsigned_Decides w.timeout x.timeout)))
 
 pub same_path_task-Decides : (p q : PathTask) → Decides (same_path_task p q) (p ≡ q)
 same_path_task-Decides p q =
-    Decides-like _ (λ e i. record { path = e.0.0.0 i; order = e.0.0.1 i; gas = e.0.1 i; owed = e.1 i })
-    (λ e. (((ap (λ (x : PathTask). x.path) e, ap (λ (x : PathTask). x.order) e), ap (λ (x : PathTask). x.gas) e), ap (λ (x : PathTask). x.owed) e))
-    (Decides-and _ _ (Decides-and _ _ (Decides-and _ _ (unsigned_Decides p.path q.path) (orders_Decides p.order q.order)) (same_gas-Decides p.gas q.gas))
+    Decides-like _ (λ e i. record { path = e.0.0.0.0 i; order = e.0.0.0.1 i; gas = e.0.0.1 i; waits = e.0.1 i; owed = e.1 i })
+    (λ e. ((((ap (λ (x : PathTask). x.path) e, ap (λ (x : PathTask). x.order) e), ap (λ (x : PathTask). x.gas) e), ap (λ (x : PathTask). x.waits) e), ap (λ (x : PathTask). x.owed) e))
+    (Decides-and _ _ (Decides-and _ _ (Decides-and _ _ (Decides-and _ _ (unsigned_Decides p.path q.path) (orders_Decides p.order q.order)) (same_gas-Decides p.gas q.gas)) (same_waits-Decides p.waits q.waits))
     (slice_eq-Decides same_packet_message-Decides p.owed q.owed _ refl))
 
 same_task-Decides : (t u : Task) → Decides (same_task t u) (t ≡ u)
@@ -164,9 +189,3 @@ same_path_task-equiv = decided same_path_task same_path_task-Decides
 
 pub same_path_task-laws : IsPartialEquivalence same_path_task
 same_path_task-laws = partial_equiv_from_equiv same_path_task-equiv
-
-pub same_job-equiv : IsEquivalence same_job
-same_job-equiv = decided same_job same_job-Decides
-
-pub same_job-laws : IsPartialEquivalence same_job
-same_job-laws = partial_equiv_from_equiv same_job-equiv

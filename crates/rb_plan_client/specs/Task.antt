@@ -1,26 +1,33 @@
 -- What a client is to be brought to, and what is sent with the updates (own choice).
-use Rattle.std.specs.Prelude.{ℕ, ◌+◌, ◌-◌, ◌==◌, Bool, false, not, ◌&&◌, nat_lt, nat_le, List, [], ◌++◌, length, map, find, slice_get, Option, None, is_some, if◌then◌else◌}
-use Rattle.std.specs.List.{flat_map}
+use Rattle.std.specs.Prelude.{ℕ, ◌+◌, ◌-◌, ◌==◌, ◌^◌, Bool, false, not, ◌&&◌, nat_lt, nat_le, max, List, [], ◌++◌, length, map, fold, find, slice_get, Option, Some, None, is_some, if◌then◌else◌}
+use Rattle.std.specs.List.{flat_map, reduce}
 use Rattle.std.specs.Option.{option_map, option_map_or, option_or, option_and_then}
 use Rattle.rb_base.specs.Window.{Span}
 use Rattle.rb_book.specs.Book.{Book, RecordAt, record_at, height_of, time_of}
 use Rattle.rb_book.specs.Header.{Record}
+use Rattle.rb_scan.specs.Expiry.{lesser}
 use Rattle.rb_script_types.specs.declared.config.ClientConfig.{ClientConfig}
+use Rattle.rb_script_types.specs.declared.config.RefreshTo.{RefreshTo}
+use Rattle.rb_script_types.specs.declared.config.RefreshTo.TheVariants.{Lowest, Highest}
 use Rattle.rb_script_types.specs.declared.goal.Goal.{Goal}
 use Rattle.rb_script_types.specs.declared.goal.Goal.TheVariants.{AtLeast}
-use Rattle.rb_scan.specs.Owed.{ready, wanted}
+use Rattle.rb_scan.specs.Owed.{ready, ready_beyond, wanted}
 use Rattle.rb_scan.specs.declared.message.PacketMsg.{PacketMsg}
 use Rattle.rb_scan.specs.declared.path.Order.{Order}
 use Rattle.rb_step.specs.Fee.{fee_at}
 use Rattle.rb_step.specs.LightClient.{Update}
 use Rattle.rb_step.specs.View.{View}
 use Rattle.rb_script_types.specs.Gas.{PathGas, gas_for}
+use Rattle.rb_script_types.specs.Waits.{wait_for}
+use Rattle.rb_script_types.specs.declared.waits.Waits.{Waits}
 
--- a path, by its place, as one of its clients has it: its order, its gas, and the messages that it owes that client
+-- a path, by its place, as one of its clients has it: its order, its gas, how long its messages may wait, and the messages that it owes
+-- that client
 pub record PathTask : Type 0 where
   pub path : ℕ
   pub order : Order
   pub gas : PathGas
+  pub waits : Waits
   pub owed : List PacketMsg
 
 -- all that a plan for a client goes by: how the client is set up, the heights that it has stored, rising, the window in
@@ -48,16 +55,58 @@ pub record Message : Type 0 where
 abbrev pub message_on : PathTask → PacketMsg → Message
 message_on p m = record { path = p.path; packet = m; gas = gas_for p.gas m.kind }
 
--- the ready messages of all paths, the reach being the greatest height that the client can be brought to
+-- the messages of all paths that are ready at a height
 abbrev pub ready_on : Option ℕ → PathTask → List Message
 ready_on reach p = map (message_on p) (ready p.owed p.order reach)
 
 abbrev pub ready_messages : Task → Option ℕ → List Message
 ready_messages t reach = flat_map (ready_on reach) t.paths
 
+-- ---- waiting: what can be proved with no update goes at once, what needs one waits for others to go with it
+
+-- the record at a height is known, and doesn't expire in the window
+abbrev pub is_live : Task → ℕ → Bool
+is_live t h = option_map_or (λ (r : Record). nat_lt t.window.until (r.time + t.config.options.period)) (record_at t.book h) false
+
+-- the near reach, up to which messages can be proved with no update: the greatest stored height, where it is live (heights and times rise
+-- together, so no lower one is live where it is not)
+abbrev pub near_reach : Task → Option ℕ
+near_reach t = option_and_then (λ h. if is_live t h then Some h else None) (slice_get t.stored (length t.stored - 1))
+
+-- the moment at which a message came to be provable: the time of the lowest known height at or above its floor
+abbrev pub since : Task → PacketMsg → Option ℕ
+since t m = option_map time_of (find (λ k. nat_le m.floor (height_of k)) t.book.records)
+
+-- the moment from which on a message presses: at once where it may not wait; else once it has waited, or, for a receive, once it would have
+-- waited when its packet may have expired, whichever comes first
+abbrev pub press_moment : Task → Waits → PacketMsg → Option ℕ
+press_moment t w m =
+    if wait_for w m.kind == 0
+    then Some 0
+    else lesser (option_map (λ moment. moment + wait_for w m.kind) (since t m)) (option_map (λ moment. moment - wait_for w m.kind) m.expires)
+
+-- of the messages of a path that only an update brings across, the reach being the greatest height that the client can be brought to
+abbrev pub press_moments_on : Task → Option ℕ → PathTask → List (Option ℕ)
+press_moments_on t reach p = map (press_moment t p.waits) (ready_beyond p.owed p.order (near_reach t) reach)
+
+-- the first of these moments, over all paths
+abbrev pub first_press : Task → Option ℕ → Option ℕ
+first_press t reach = fold lesser None (flat_map (press_moments_on t reach) t.paths)
+
+-- some message presses by the end of the window
+abbrev pub presses : Task → Option ℕ → Bool
+presses t reach = option_map_or (λ moment. nat_le moment t.window.until) (first_press t reach) false
+
+-- the height up to which messages go: all that are ready where one presses, else those that need no update
+abbrev pub sending_reach : Task → Option ℕ → Option ℕ
+sending_reach t reach = if presses t reach then reach else near_reach t
+
+abbrev pub due_messages : Task → Option ℕ → List Message
+due_messages t reach = ready_messages t (sending_reach t reach)
+
 -- the greatest of their floors
 abbrev pub wanted_height : Task → Option ℕ → Option ℕ
-wanted_height t reach = wanted (map (λ (m : Message). m.packet) (ready_messages t reach))
+wanted_height t reach = wanted (map (λ (m : Message). m.packet) (due_messages t reach))
 
 -- ---- refreshing
 
@@ -74,23 +123,66 @@ is_due t =
 abbrev pub is_fresh : Task → RecordAt → Bool
 is_fresh t k = nat_lt t.window.until (time_of k + t.config.refresh)
 
--- the lowest such height, or one above it; none where the client is not due, or no record is fresh
-abbrev pub refresh_goal : Task → Option Goal
-refresh_goal t = if is_due t then option_map (λ k. AtLeast (height_of k)) (find (is_fresh t) t.book.records) else None
+-- the lowest such height
+abbrev pub lowest_fresh : Task → Option ℕ
+lowest_fresh t = option_map height_of (find (is_fresh t) t.book.records)
+
+-- the reach, where its record is not due
+abbrev pub fresh_reach : Task → Option ℕ → Option ℕ
+fresh_reach t reach =
+    option_and_then (λ h. if option_map_or (λ (r : Record). nat_lt t.window.until (r.time + t.config.refresh)) (record_at t.book h) false then Some h else None) reach
+
+-- to which height a client is refreshed
+abbrev pub refresh_height : Task → Option ℕ → RefreshTo → Option ℕ
+refresh_height t reach Lowest = lowest_fresh t
+refresh_height t reach Highest = option_or (fresh_reach t reach) (lowest_fresh t)
+
+-- such a height, or one above it; none where the client is not due, or no record is fresh
+abbrev pub refresh_goal : Task → Option ℕ → Option Goal
+refresh_goal t reach = if is_due t then option_map (λ h. AtLeast h) (refresh_height t reach t.config.refresh_to) else None
 
 -- ---- the goal, and what goes with it
 
 -- what was asked for, else the wanted height, else a refresh
-abbrev pub first_goal : Task → Option ℕ → Option Goal
-first_goal t wanted = option_or t.asked (option_or (option_map (λ h. AtLeast h) wanted) (refresh_goal t))
+abbrev pub first_goal : Task → Option ℕ → Option ℕ → Option Goal
+first_goal t reach wanted = option_or t.asked (option_or (option_map (λ h. AtLeast h) wanted) (refresh_goal t reach))
 
 -- a client without a goal is idle
 abbrev pub goal_of : Task → Option ℕ → Option Goal
-goal_of t reach = first_goal t (wanted_height t reach)
+goal_of t reach = first_goal t reach (wanted_height t reach)
 
--- the packet messages that follow the updates: those that are ready, but none where a goal was asked for
+-- the packet messages that follow the updates: those that are due, but none where a goal was asked for
 abbrev pub messages_of : Task → Option ℕ → List Message
-messages_of t reach = if is_some t.asked then [] else ready_messages t reach
+messages_of t reach = if is_some t.asked then [] else due_messages t reach
+
+-- ---- what comes next
+
+-- the greater of two numbers, or the only one
+abbrev pub greater : Option ℕ → Option ℕ → Option ℕ
+greater None b = b
+greater (Some a) None = Some a
+greater (Some a) (Some b) = Some (max a b)
+
+-- the record of the greatest height that a client has stored once updates are taken
+abbrev pub newest_after : Task → List Update → Option Record
+newest_after t us = option_and_then (record_at t.book) (greater (slice_get t.stored (length t.stored - 1)) (reduce max (map (λ (u : Update). u.height) us)))
+
+-- the highest known record is later
+abbrev pub is_overtaken : Task → Record → Bool
+is_overtaken t r = option_map_or (λ k. nat_lt r.time (time_of k)) (slice_get t.book.records (length t.book.records - 1)) false
+
+-- the moment from which on that record is due for a refresh, where a later one is known
+abbrev pub refresh_moment : Task → List Update → Option ℕ
+refresh_moment t us =
+    option_and_then (λ (r : Record). if not (t.config.refresh == 0) && is_overtaken t r then Some (r.time + t.config.refresh) else None) (newest_after t us)
+
+-- a moment that is still to come, and at which a window can end
+abbrev pub if_later : Task → Option ℕ → Option ℕ
+if_later t moment = option_and_then (λ m. if nat_lt t.window.until m && nat_le m (10 ^ 20) then Some m else None) moment
+
+-- the first moment after the window at which a message that waits presses, or the client is due for a refresh, once updates are taken
+abbrev pub next_moment : Task → Option ℕ → List Update → Option ℕ
+next_moment t reach us = lesser (if_later t (first_press t reach)) (if_later t (refresh_moment t us))
 
 -- the gas of each message in turn, the updates first
 abbrev pub gas_of : Task → Update → ℕ

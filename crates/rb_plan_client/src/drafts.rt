@@ -1,16 +1,18 @@
 //! Drafts: jobs with what is planned for them.
 ghost use Rattle.std.specs.Prelude.{◌≡◌, IfOk};
 ghost use Rattle.std.specs.Option.{option_copied};
-ghost use Rattle.rb_plan_client.specs.Draft.{IsAnswer, IsDraft};
+ghost use Rattle.rb_plan_client.specs.Draft.{IsAnswer, IsDraft, planned_updates};
+ghost use Rattle.rb_plan_client.specs.Next.{IsNext};
 
 use crate::job::JobView;
 use crate::planned::Planned;
+use rb_base::Moment;
 use std::alloc::{AllocError, Allocator, Global};
 use std::marker::Model;
 
-/// A job with what is planned for it, None where the client has no goal. What is planned is right for
-/// that job, however it came to be: a relayer that accepts the draft needs only to compare the job with
-/// the client as it is by then.
+/// A job with what is planned for it, None where the client has no goal, and the moment at which the client
+/// has a goal next, by what is known and once that is taken. Both are right for that job, however the draft
+/// came to be: a relayer that accepts it needs only to compare the job with the client as it is by then.
 #[derive(Drop)]
 pub struct Draft<A: Allocator = Global> {
     // apart, since drafts are handed on by value among much smaller events
@@ -22,6 +24,7 @@ pub struct Draft<A: Allocator = Global> {
 struct Parts<A: Allocator> {
     job: JobView<A>,
     answer: Option<Planned<A>>,
+    next: Option<Moment>,
 }
 
 impl<A: Allocator> Model for Draft<A> {
@@ -29,22 +32,25 @@ impl<A: Allocator> Model for Draft<A> {
 
     ghost Value = { drafts.Draft };
 
-    ghost view = { λ d. record { job = d.parts.value.job; answer = d.parts.value.answer } };
+    ghost view = { λ d. record { job = d.parts.value.job; answer = d.parts.value.answer; next = d.parts.value.next } };
 
-    ghost invariant = { λ d. drafts.IsAnswer d.parts.value.job.task d.parts.value.answer };
+    ghost invariant = { λ d. drafts.IsDraft (record { job = d.parts.value.job; answer = d.parts.value.answer; next = d.parts.value.next }) };
 }
 
 impl<A: Allocator> Draft<A> {
-    /// The draft of a job and of an answer that is right for it.
+    /// The draft of a job, of an answer that is right for it, and of the moment at which its client has a
+    /// goal next.
     pub(crate) fn new(
         alloc: A,
         job: JobView<A>,
         answer: Option<Planned<A>>,
+        next: Option<Moment>,
     ) -> Result<Draft<A>, AllocError>
-        requires { IsAnswer job.task answer }
-        ensures { IfOk result (λ draft. draft ≡ record { job = job; answer = answer }) }
+        requires answer { IsAnswer job.task answer }
+        requires next { IsNext job.task (planned_updates answer) next }
+        ensures { IfOk result (λ draft. draft ≡ record { job = job; answer = answer; next = next }) }
     {
-        let parts = Box::new(alloc, Parts { job, answer })?;
+        let parts = Box::new(alloc, Parts { job, answer, next })?;
         Ok(Draft { parts })
     }
 
@@ -63,14 +69,22 @@ impl<A: Allocator> Draft<A> {
         self.parts.answer.as_ref()
     }
 
-    /// The job, and what is planned for it.
-    pub fn into_parts(self) -> (JobView<A>, Option<Planned<A>>)
+    /// The moment at which the client has a goal next; None where nothing that is known gives it one.
+    pub fn next(&self) -> Option<Moment>
+        ensures { result ≡ self.now.next }
+    {
+        self.parts.next
+    }
+
+    /// The job, what is planned for it, and when its client has a goal next.
+    pub fn into_parts(self) -> (JobView<A>, Option<Planned<A>>, Option<Moment>)
         ensures job { result.0 ≡ self.job }
         ensures answer { result.1 ≡ self.answer }
+        ensures next { result.2 ≡ self.next }
         ensures right { IsDraft self }
     {
-        let Parts { job, answer } = Box::into_inner(self.parts);
-        (job, answer)
+        let Parts { job, answer, next } = Box::into_inner(self.parts);
+        (job, answer, next)
     }
 }
 
@@ -82,7 +96,8 @@ impl<A: Allocator + Copy> Draft<A> {
     {
         let job = self.parts.job.copy()?;
         let answer = copy_answer(self.parts.answer.as_ref())?;
-        let parts = Box::new(*Box::allocator(&self.parts), Parts { job, answer })?;
+        let next = self.parts.next;
+        let parts = Box::new(*Box::allocator(&self.parts), Parts { job, answer, next })?;
         Ok(Draft { parts })
     }
 }

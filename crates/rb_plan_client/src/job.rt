@@ -1,9 +1,9 @@
 //! A client with all that its next plan is made from.
-ghost use Rattle.std.specs.Prelude.{◌≡◌, ◌↔◌, IsTrue, IfOk};
+ghost use Rattle.std.specs.Prelude.{◌≡◌, IfOk};
 ghost use Rattle.std.specs.Cmp.Lexicographic.{pointwise};
 ghost use Rattle.std.proofs.Common.{nat_eq};
 ghost use Rattle.rb_step.specs.View.{AreKnown};
-ghost use Rattle.rb_plan_client.specs.Same.{same_config, same_job, same_path_task, same_task};
+ghost use Rattle.rb_plan_client.specs.Same.{same_config};
 ghost use Rattle.rb_plan_client.specs.Task.{view_of};
 
 use crate::task::PathTask;
@@ -31,7 +31,7 @@ pub struct NextPlan {
 /// is open. A job owns all of it, but shares the book.
 ///
 /// A relayer refuses a plan as stale where the job that it was made for differs from the client as
-/// it is by then, which `==` tells.
+/// it is by then.
 #[derive(Drop)]
 pub struct JobView<A: Allocator = Global> {
     client: usize,
@@ -174,26 +174,6 @@ impl<A: Allocator + Copy> JobView<A> {
         )
     }
 
-    fn is_same_task(&self, other: &JobView<A>) -> bool
-        ensures { result ≡ same_task self.now.task other.now.task }
-    {
-        same_config(&self.config, &other.config)
-            && same_heights(self.stored.as_slice(), other.stored.as_slice())
-            && self.window == other.window
-            && *self.book.book() == *other.book.book()
-            && same_paths(self.paths.as_slice(), other.paths.as_slice())
-            && self.asked == other.asked
-    }
-
-    fn is_same(&self, other: &JobView<A>) -> bool
-        ensures { result ≡ same_job self.now other.now }
-    {
-        self.client == other.client
-            && self.is_same_task(other)
-            && self.plan == other.plan
-            && self.is_held == other.is_held
-    }
-
     /// The allocator of its lists.
     pub(crate) fn alloc(&self) -> A {
         *self.stored.allocator()
@@ -219,29 +199,6 @@ impl<A: Allocator + Copy> JobView<A> {
     }
 }
 
-impl<A: Allocator + Copy> PartialEq for JobView<A> {
-    ghost use Rattle.rb_plan_client.specs.Same.{same_job, same_job-laws};
-
-    ghost eq = { same_job };
-
-    ghost laws = { same_job-laws };
-
-    /// Whether two jobs are for the same plan of the same client, and have the same content. Books
-    /// are compared by their content too.
-    fn eq(&self, other: &JobView<A>) -> bool
-        ensures value { result ≡ same_job self.now other.now }
-        ensures equal { IsTrue result ↔ (self.now ≡ other.now) }
-    {
-        self.is_same(other)
-    }
-}
-
-impl<A: Allocator + Copy> Eq for JobView<A> {
-    ghost use Rattle.rb_plan_client.specs.Same.{same_job-equiv};
-
-    ghost laws = { same_job-equiv };
-}
-
 /// Whether two clients are set up alike, in every key.
 pub fn same_config(config: &ClientConfig, other: &ClientConfig) -> bool
     ensures { result ≡ same_config config.now other.now }
@@ -254,12 +211,6 @@ pub fn same_heights(heights: &[Height], others: &[Height]) -> bool
     ensures { result ≡ pointwise nat_eq heights.now others.now }
 {
     heights == others
-}
-
-fn same_paths<A: Allocator>(paths: &[PathTask<A>], others: &[PathTask<A>]) -> bool
-    ensures { result ≡ pointwise same_path_task paths.now others.now }
-{
-    paths == others
 }
 
 /// Equal paths, in their order.

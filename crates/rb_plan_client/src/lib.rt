@@ -8,10 +8,13 @@ mod drafting;
 mod drafts;
 mod goal;
 mod job;
+pub mod laws;
 mod message;
+mod next;
 mod planned;
 mod planning;
 mod task;
+mod waiting;
 
 pub use batch::{Batch, Sending};
 pub use drafting::draft;

@@ -3,7 +3,7 @@ ghost use Rattle.std.specs.Prelude.{◌≡◌, IfOk};
 ghost use Rattle.std.specs.Option.{option_map, option_copied};
 ghost use Rattle.rb_plan_client.specs.Sent.{sending_view};
 
-use crate::batch::{Batch, Sending};
+use crate::batch::Sending;
 use crate::message::Message;
 use rb_plan::{Labelling, Update};
 use rb_script_types::Goal;

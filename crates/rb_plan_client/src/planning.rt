@@ -4,18 +4,21 @@ ghost use Rattle.std.specs.Bool.{OnTrue, OnFalse};
 ghost use Rattle.rb_plan.specs.Goal.{Meets};
 ghost use Rattle.rb_plan.specs.Labelling.{IsExact, IsLabelling, label_of};
 ghost use Rattle.rb_step.specs.View.{client_of};
-ghost use Rattle.rb_plan_client.specs.Draft.{IsSending, IsAnswer};
+ghost use Rattle.rb_plan_client.specs.Draft.{IsSending, IsAnswer, planned_updates};
+ghost use Rattle.rb_plan_client.specs.Next.{IsNext};
 ghost use Rattle.rb_plan_client.specs.Planning.{IsPlannedFor, IsPlannedIf};
 ghost use Rattle.rb_plan_client.specs.Sent.{sending_view};
-ghost use Rattle.rb_plan_client.specs.Task.{Message, view_of, gas_of, gases, messages_of};
+ghost use Rattle.rb_plan_client.specs.Task.{Message, view_of, gas_of, gases, first_press, messages_of};
 
 use crate::batch::{Batch, Sending};
 use crate::goal::first_goal;
 use crate::job::JobView;
 use crate::message::Message;
+use crate::next::next_once_taken;
 use crate::planned::{Plan, Planned};
 use crate::task::ready_messages;
-use rb_base::Height;
+use crate::waiting::{first_press, sending_reach};
+use rb_base::{Height, Moment};
 use rb_batch::{BatchError, Msg, cut};
 use rb_graph::Graph;
 use rb_plan::{Answer, Labelling, Update, gas_of, label, plan_by, proof_height, top_reachable};
@@ -124,19 +127,22 @@ fn planned<A: Allocator + Copy>(
     }
 }
 
-/// The packet messages that follow the updates: those that are ready, but none where a goal was
+/// The packet messages that follow the updates: those that are due, but none where a goal was
 /// asked for. The reach is the greatest height that the client can be brought to.
 fn messages_of<A: Allocator + Copy>(
     alloc: A,
     job: &JobView<A>,
-    reach: Option<Height>,
+    reach: &Option<Height>,
+    first: &Option<u128>,
 ) -> Result<Vec<Message, A>, AllocError>
-    ensures { IfOk result (λ messages. messages.items ≡ messages_of job.now.task reach) }
+    requires { first.now ≡ first_press job.now.task reach.now }
+    ensures { IfOk result (λ messages. messages.items ≡ messages_of job.now.task reach.now) }
 {
     if job.asked().is_some() {
         return Ok(Vec::new(alloc));
     }
-    ready_messages(alloc, job.paths(), &reach)
+    let sending = sending_reach(job, *reach, first);
+    ready_messages(alloc, job.paths(), &sending)
 }
 
 /// What is planned for a goal, if there is one.
@@ -159,6 +165,26 @@ fn planned_if<A: Allocator + Copy>(
     }
 }
 
+/// What is planned for a job, as `answer` has it, and the moment at which the client has a goal next, once
+/// that is taken.
+pub(crate) fn answer_and_next<A: Allocator + Copy>(
+    alloc: A,
+    job: &JobView<A>,
+    graph: &Graph<A>,
+) -> Result<(Option<Planned<A>>, Option<Moment>), AllocError>
+    requires { graph.now ≡ job.now.task.book }
+    ensures { IfOk result (λ both. IsAnswer job.now.task both.0 × IsNext job.now.task (planned_updates both.0) both.1) }
+{
+    let labelling = label(alloc, &job.view(), graph)?;
+    let reach = top_reachable(&labelling);
+    let first = first_press(alloc, job, &reach)?;
+    let messages = messages_of(alloc, job, &reach, &first)?;
+    let goal = first_goal(job, &reach, messages.as_slice());
+    let outcome = planned_if(alloc, job, graph, labelling, goal, messages)?;
+    let next = next_once_taken(job, &reach, &first, &outcome);
+    Ok((outcome, next))
+}
+
 /// What is planned for a job: its goal with the exact labelling and the least list of updates that
 /// meets it, the packet messages that follow, and the transactions that carry them; None where the
 /// client has no goal. `graph` is the table of the job's book, as `Graph::is_of` tells. `AllocError`
@@ -172,10 +198,6 @@ pub fn answer<A: Allocator + Copy>(
     requires { graph.now ≡ job.now.task.book }
     ensures { IfOk result (IsAnswer job.now.task) }
 {
-    let labelling = label(alloc, &job.view(), graph)?;
-    let reach = top_reachable(&labelling);
-    let messages = messages_of(alloc, job, reach)?;
-    let goal = first_goal(job, messages.as_slice());
-    let outcome = planned_if(alloc, job, graph, labelling, goal, messages)?;
-    Ok(outcome)
+    let (answer, _) = answer_and_next(alloc, job, graph)?;
+    Ok(answer)
 }

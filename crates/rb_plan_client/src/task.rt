@@ -9,17 +9,19 @@ ghost use Rattle.rb_plan_client.specs.Task.{message_on, ready_on};
 use crate::message::Message;
 use rb_base::Height;
 use rb_scan::{Order, PacketMsg, ready};
-use rb_script_types::PathGas;
+use rb_script_types::{PathGas, Waits};
 use std::alloc::{AllocError, Allocator, Global};
 use std::marker::Model;
 
 /// A path as one of its clients has it: its place in the script, in which order its packets are
-/// received (ICS 4), the gas of its messages, and the messages that are owed to that client.
+/// received (ICS 4), the gas of its messages, how long they may wait, and the messages that are owed to
+/// that client.
 #[derive(Debug, Drop)]
 pub struct PathTask<A: Allocator = Global> {
     path: usize,
     order: Order,
     gas: PathGas,
+    waits: Waits,
     owed: Vec<PacketMsg, A>,
 }
 
@@ -28,19 +30,26 @@ impl<A: Allocator> Model for PathTask<A> {
 
     ghost Value = { tasks.PathTask };
 
-    ghost view = { λ p. record { path = p.path; order = p.order; gas = p.gas; owed = p.owed.items } };
+    ghost view = { λ p. record { path = p.path; order = p.order; gas = p.gas; waits = p.waits; owed = p.owed.items } };
 }
 
 impl<A: Allocator> PathTask<A> {
     /// The path at a place of the script, with the messages that are owed to one of its clients, in
     /// the order in which they are to be sent.
-    pub fn new(path: usize, order: Order, gas: PathGas, owed: Vec<PacketMsg, A>) -> PathTask<A>
-        ensures { result ≡ record { path = path; order = order; gas = gas; owed = owed.items } }
+    pub fn new(
+        path: usize,
+        order: Order,
+        gas: PathGas,
+        waits: Waits,
+        owed: Vec<PacketMsg, A>,
+    ) -> PathTask<A>
+        ensures { result ≡ record { path = path; order = order; gas = gas; waits = waits; owed = owed.items } }
     {
         PathTask {
             path,
             order,
             gas,
+            waits,
             owed,
         }
     }
@@ -66,6 +75,13 @@ impl<A: Allocator> PathTask<A> {
         self.gas
     }
 
+    /// How long the path's messages may wait, by their kind.
+    pub fn waits(&self) -> Waits
+        ensures { result ≡ self.now.waits }
+    {
+        self.waits
+    }
+
     /// The messages that are owed to the client, in the order in which they are to be sent.
     pub fn owed(&self) -> &[PacketMsg]
         ensures { result.now ≡ self.now.owed }
@@ -81,6 +97,7 @@ impl<A: Allocator> PathTask<A> {
         self.path == other.path
             && self.order == other.order
             && self.gas == other.gas
+            && self.waits == other.waits
             && same_messages(self.owed.as_slice(), other.owed.as_slice())
     }
 }
@@ -124,13 +141,13 @@ impl<A: Allocator + Copy> PathTask<A> {
             path: self.path,
             order: self.order,
             gas: self.gas,
+            waits: self.waits,
             owed: Vec::from_slice(*self.owed.allocator(), self.owed.as_slice())?,
         })
     }
 
     /// The owed messages that are ready: those that a height up to `reach` proves, and of an ORDERED
-    /// path none that follows one that isn't. `reach` is the greatest height that the client can be
-    /// brought to, None where there is none.
+    /// path none that follows one that isn't; none where there is no `reach`.
     fn ready(&self, alloc: A, reach: Option<Height>) -> Result<Vec<PacketMsg, A>, AllocError>
         ensures { IfOk result (λ list. list.items ≡ ready self.now.owed self.now.order reach) }
     {
@@ -161,7 +178,7 @@ impl<A: Allocator + Copy> PathTask<A> {
     }
 }
 
-/// The ready messages of all paths, in their order.
+/// The ready messages of all paths, in their order: those that a height up to `reach` proves.
 pub(crate) fn ready_messages<A: Allocator + Copy>(
     alloc: A,
     paths: &[PathTask<A>],

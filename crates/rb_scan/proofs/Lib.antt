@@ -5,3 +5,4 @@ pub mod Least
 pub mod Within
 pub mod Replaced
 pub mod ReadyAfter
+pub mod Ends

@@ -12,7 +12,7 @@ use Rattle.std.proofs.lemmas.List.Sums.{fails_before_first}
 use Rattle.std.proofs.lemmas.List.FromFn.{length-enumerate_from, get_or-enumerate_from}
 use Rattle.rb_scan.specs.Packet.{Packet}
 use Rattle.rb_scan.specs.Path.{Path}
-use Rattle.rb_scan.specs.Owed.{message_of, message_at, floor_of, packet_at, next_sequence, open_messages, messages, same_kind, run_end, is_ready, ready}
+use Rattle.rb_scan.specs.Owed.{expires_for, message_of, message_at, floor_of, packet_at, next_sequence, open_messages, messages, same_kind, run_end, is_ready, ready}
 use Rattle.rb_scan.specs.declared.path.Order.{Order}
 use Rattle.rb_scan.specs.declared.path.Order.TheVariants.{Ordered, Unordered}
 use Rattle.rb_scan.specs.declared.message.Kind.{Kind}
@@ -66,7 +66,7 @@ found : (path : Path) (kind : Kind) (s : ℕ) (m : PacketMsg) → message_at pat
 found path kind s m e =
     option_and_then_some (message_of path.destination kind) (packet_at path s) m e (λ p at made.
     let numbered : p.sequence ≡ s = eqb-true p.sequence s (find-passes (λ (q : Packet). eqb q.sequence s) path.packets p at) in
-    (elim (floor_of path.destination kind p) as (λ o. option_map (λ (floor : ℕ). record { kind = kind; sequence = p.sequence; floor = floor }) o ≡ Some m → (m.sequence ≡ s) × (m.kind ≡ kind)) [
+    (elim (floor_of path.destination kind p) as (λ o. option_map (λ (floor : ℕ). record { kind = kind; sequence = p.sequence; floor = floor; expires = expires_for kind p }) o ≡ Some m → (m.sequence ≡ s) × (m.kind ≡ kind)) [
       | None ↦ λ none. cc
       | Some floor ↦ λ some. let is = same_Some _ _ some in (ap (λ (n : PacketMsg). n.sequence) (sym is) ∙ numbered, ap (λ (n : PacketMsg). n.kind) (sym is))
     ])

@@ -1,5 +1,5 @@
 -- when a packet has expired, and from which height on that can be proved (ICS 4, timeouts: equality expires; own choice: the lesser height, and that a packet with no timeout, which ICS 4 refuses to send, is accepted and never expires)
-use Rattle.std.specs.Prelude.{ℕ, ◌-◌, Bool, false, ◌||◌, nat_le, List, length, find, Option, Some, None, min, slice_get, if◌then◌else◌}
+use Rattle.std.specs.Prelude.{ℕ, ◌-◌, Bool, false, ◌||◌, nat_le, List, length, find, Option, Some, None, is_some, min, slice_get, if◌then◌else◌}
 use Rattle.std.specs.Option.{option_map}
 use Rattle.rb_scan.specs.Packet.{Packet}
 
@@ -42,3 +42,8 @@ lesser (Some a) (Some b) = Some (min a b)
 
 abbrev pub timeout_floor : List (ℕ × ℕ) → Packet → Option ℕ
 timeout_floor records p = lesser (height_floor records p) (time_floor records p)
+
+-- the moment from which on the packet may have expired by what is told when it is sent: its timeout time; from the first moment on where it
+-- has a timeout height, since the times of blocks to come are not told
+abbrev pub expires_from : Packet → Option ℕ
+expires_from p = if is_some p.timeout_height then Some 0 else p.timeout_time

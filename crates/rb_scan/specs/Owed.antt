@@ -4,7 +4,7 @@ use Rattle.std.specs.List.{prefix_len, position_or_len, range_with_len, enumerat
 use Rattle.std.specs.Option.{option_map, option_map_or, option_and_then, option_to_list, some_prefix}
 use Rattle.rb_scan.specs.Packet.{Packet, is_finished, is_cleared, is_in_flight}
 use Rattle.rb_scan.specs.Path.{Path}
-use Rattle.rb_scan.specs.Expiry.{is_expired, timeout_floor}
+use Rattle.rb_scan.specs.Expiry.{is_expired, timeout_floor, expires_from}
 use Rattle.rb_scan.specs.declared.path.Order.{Order}
 use Rattle.rb_scan.specs.declared.path.Order.TheVariants.{Ordered, Unordered}
 use Rattle.rb_scan.specs.declared.message.Kind.{Kind}
@@ -19,9 +19,15 @@ floor_of records Receive p = if is_in_flight p && not (is_expired records p) the
 floor_of records Acknowledge p = if is_cleared p then None else option_map (λ (block : ℕ). block + 1) p.written
 floor_of records Timeout p = if is_in_flight p && is_expired records p then timeout_floor records p else None
 
+-- the moment from which on a message of a kind may be in vain: that from which on its packet may have expired, of a receive alone
+abbrev pub expires_for : Kind → Packet → Option ℕ
+expires_for Receive p = expires_from p
+expires_for Acknowledge p = None
+expires_for Timeout p = None
+
 abbrev pub message_of : List (ℕ × ℕ) → Kind → Packet → Option PacketMsg
 message_of records kind p =
-    option_map (λ (floor : ℕ). record { kind = kind; sequence = p.sequence; floor = floor }) (floor_of records kind p)
+    option_map (λ (floor : ℕ). record { kind = kind; sequence = p.sequence; floor = floor; expires = expires_for kind p }) (floor_of records kind p)
 
 -- the packet that was sent under a sequence, and the message that the table has for it
 abbrev pub packet_at : Path → ℕ → Option Packet
@@ -96,6 +102,18 @@ abbrev pub ready : List PacketMsg → Order → Option ℕ → List PacketMsg
 ready ms order None = []
 ready ms order (Some reach) =
     map (λ (p : ℕ × PacketMsg). p.1) (filter (λ (p : ℕ × PacketMsg). is_ready order reach ms p.0 p.1) (enumerate_from 0 ms))
+
+-- the message at a place is ready at a near reach, if there is one
+abbrev pub is_near : Order → Option ℕ → List PacketMsg → ℕ → PacketMsg → Bool
+is_near order None ms place m = false
+is_near order (Some near) ms place m = is_ready order near ms place m
+
+-- the messages that are ready at the reach and not at the near one, in the list's order
+abbrev pub ready_beyond : List PacketMsg → Order → Option ℕ → Option ℕ → List PacketMsg
+ready_beyond ms order near None = []
+ready_beyond ms order near (Some reach) =
+    map (λ (p : ℕ × PacketMsg). p.1)
+    (filter (λ (p : ℕ × PacketMsg). is_ready order reach ms p.0 p.1 && not (is_near order near ms p.0 p.1)) (enumerate_from 0 ms))
 
 -- the greatest floor
 abbrev pub wanted : List PacketMsg → Option ℕ

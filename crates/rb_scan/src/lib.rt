@@ -14,6 +14,6 @@ mod table;
 pub use message::{Kind, PacketMsg};
 pub use packet::Packet;
 pub use path::{Order, PathView, is_path};
-pub use readiness::{ready, wanted};
+pub use readiness::{ready, ready_beyond, wanted};
 pub use scan::{owed, owed_part};
 pub use sequence::Sequence;

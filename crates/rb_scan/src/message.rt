@@ -1,6 +1,6 @@
 //! The messages that a relayer submits for a packet.
 use crate::sequence::Sequence;
-use rb_base::Height;
+use rb_base::{Height, Moment};
 
 /// What a message does (ICS 4): `recvPacket`, `acknowledgePacket` or `timeoutPacket`.
 #[derive(Clone, Copy, Debug, PartialEq, Eq, Hash)]
@@ -34,4 +34,7 @@ pub struct PacketMsg {
     pub sequence: Sequence,
     /// The least height whose record proves it.
     pub floor: Height,
+    /// Of a receive, the moment from which on its packet may have expired: its timeout time, or 0 where
+    /// it has a timeout height, since the times of blocks to come are not known.
+    pub expires: Option<Moment>,
 }

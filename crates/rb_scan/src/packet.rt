@@ -2,6 +2,7 @@
 ghost use Rattle.std.specs.Prelude.{◌≡◌, ◌+◌, ◌<◌, ◌^◌, ℕ, Some, None, true, false};
 ghost use Rattle.std.specs.Option.{option_map};
 ghost use Rattle.rb_scan.specs.Packet.{is_finished, is_cleared, is_in_flight};
+ghost use Rattle.rb_scan.specs.Expiry.{expires_from};
 ghost use Rattle.rb_scan.specs.Owed.{is_done};
 
 use crate::message::Kind;
@@ -202,6 +203,18 @@ impl Packet {
         ensures { result ≡ self.now.timeout_time }
     {
         self.timeout_time
+    }
+
+    /// The moment from which on it may have expired: its timeout time, or 0 where it has a timeout height,
+    /// since the times of blocks to come are not known.
+    pub(crate) fn expires_from(&self) -> Option<Moment>
+        ensures { result ≡ expires_from self.now }
+    {
+        if self.timeout_height.is_some() {
+            Moment::new(0)
+        } else {
+            self.timeout_time
+        }
     }
 
     /// The block of the destination where it was seen received.

@@ -4,7 +4,7 @@ ghost use Rattle.std.specs.List.Sorted.{IsStrictlyIncreasing};
 ghost use Rattle.std.specs.Option.{option_map};
 ghost use Rattle.rb_scan.specs.Path.{times_of};
 ghost use Rattle.rb_scan.specs.Expiry.{has_come, is_expired, height_floor, time_floor, timeout_floor};
-ghost use Rattle.rb_scan.specs.Owed.{floor_of, message_of};
+ghost use Rattle.rb_scan.specs.Owed.{floor_of, expires_for, message_of};
 
 use crate::message::{Kind, PacketMsg};
 use crate::packet::Packet;
@@ -79,7 +79,18 @@ impl<A: Allocator> PathView<A> {
             kind,
             sequence: packet.sequence(),
             floor,
+            expires: expires_for(kind, packet),
         })
+    }
+}
+
+/// The moment from which on a message of this kind for the packet may be in vain.
+fn expires_for(kind: Kind, packet: &Packet) -> Option<Moment>
+    ensures { result ≡ expires_for kind packet.now }
+{
+    match kind {
+        Kind::Receive => packet.expires_from(),
+        Kind::Acknowledge | Kind::Timeout => None,
     }
 }
 

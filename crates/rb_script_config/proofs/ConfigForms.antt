@@ -18,14 +18,14 @@ use Rattle.rb_script_toml.specs.declared.fault.FaultName.TheVariants.{OutOfRange
 use Rattle.rb_script_toml.specs.Fields.{Field, Section, section_at, at_element, elements, identifier, needs, required, optional, or_default, only, number, fee_table, trust, max_number, items, items_count, array}
 use Rattle.rb_script_toml.specs.KeyPaths.{element}
 use Rattle.rb_script_config.specs.Named.{known, reference, new_identifier}
-use Rattle.rb_script_config.specs.declared.version.Version.{Version}
-use Rattle.rb_script_config.specs.declared.version.Version.TheVariants as versions
+use Rattle.rb_script_types.specs.declared.version.Version.{Version}
+use Rattle.rb_script_types.specs.declared.version.Version.TheVariants as versions
 use Rattle.rb_script_config.specs.declared.chain.Chain.{Chain}
 use Rattle.rb_script_config.specs.Versions.{version, max_records}
 use Rattle.rb_script_config.specs.Chains.{chain, chain_keys, chain_ids, shared, no_defaults}
 use Rattle.rb_script_config.specs.declared.client.ClientIdentity.{ClientIdentity}
 use Rattle.rb_script_config.specs.Clients.{identity, terms, client, client_ends, client_keys, client_ids, own, shared_by}
-use Rattle.rb_script_config.specs.Paths.{path, path_config, path_keys, path_ids, order, sequence, path_gas, connects, fits}
+use Rattle.rb_script_config.specs.Paths.{path, path_config, path_keys, waits_in, path_ids, order, sequence, path_gas, connects, fits}
 use Rattle.rb_script_config.specs.Tables.{Tables, tables, top_keys, config}
 
 -- ---- steps
@@ -188,10 +188,10 @@ identity-form chains before s n h =
       needs-field (codes "id") (new_identifier before) s id e1 (λ f r. new_identifier-new before f id r),
     )))))
 
-client-form : (chains : List Chain) (before : List ClientConfig) (s : Section) (c : ClientConfig) → client chains before s ≡ Ok c
+client-form : (ver : Version) (chains : List Chain) (before : List ClientConfig) (s : Section) (c : ClientConfig) → client ver chains before s ≡ Ok c
     → IsClient (length (chain_ids chains)) c × All (λ x. x ≢ c.id) (client_ids before)
 unfolding client
-client-form chains before s c h =
+client-form ver chains before s c h =
     let ids = chain_ids chains in
     pass (identity ids (client_ids before) s) _ c h (λ n e0 h0.
     let d = shared_by chains n.tracks in
@@ -210,11 +210,11 @@ client-form chains before s c h =
 abbrev AreClients : ℕ → List ClientConfig → Type 0
 AreClients chains cs = AllPairs (λ c d. c.id ≢ d.id) cs × All (IsClient chains) cs
 
-clients-form : (chains : List Chain) (ds : Items) (clients : List ClientConfig) → elements (client chains) (codes "client") [] ds ≡ Ok clients
+clients-form : (ver : Version) (chains : List Chain) (ds : Items) (clients : List ClientConfig) → elements (client ver chains) (codes "client") [] ds ≡ Ok clients
     → AreClients (length (chain_ids chains)) clients
-clients-form chains ds clients h =
-    elements-keep (client chains) (AreClients (length (chain_ids chains))) (λ before s c kept read.
-    let one = client-form chains before s c read in (
+clients-form ver chains ds clients h =
+    elements-keep (client ver chains) (AreClients (length (chain_ids chains))) (λ before s c kept read.
+    let one = client-form ver chains before s c read in (
       all_pairs_push (λ a b. a.id ≢ b.id) before c kept.0
           (λ k d lt. let short : k < length (client_ids before) = omega (arith, length-map before (λ (x : ClientConfig). x.id)) in
           λ e. one.1 k d.id short (get_or-map (λ (x : ClientConfig). x.id) before k d d.id lt ∙ e)),
@@ -256,17 +256,18 @@ path_config-form chains clients before s p h =
       needs-field (codes "id") (new_identifier before) s id e1 (λ f r. new_identifier-new before f id r),
     )))))))))
 
-path-form : (chains : List (List ℕ)) (clients : List ClientConfig) (before : List PathConfig) (s : Section) (p : PathConfig) → path chains clients before s ≡ Ok p
+path-form : (ver : Version) (chains : List (List ℕ)) (clients : List ClientConfig) (before : List PathConfig) (s : Section) (p : PathConfig) → path ver chains clients before s ≡ Ok p
     → IsPathConfig (length chains) clients p × All (λ x. x ≢ p.id) (path_ids before)
 unfolding path
-path-form chains clients before s p h =
-    pass (only path_keys s) _ p h (λ u e0 h0.
+path-form ver chains clients before s p h =
+    pass (only (path_keys ver) s) _ p h (λ u e0 h0.
     pass (path_config chains (client_ids clients) (path_ids before) s) _ p h0 (λ q e1 h1.
-    pass (fits client_ends clients q s.path) _ p h1 (λ v fit same.
+    pass (waits_in ver s) _ p h1 (λ w2 e2 h2.
+    pass (fits client_ends clients q s.path) _ p h2 (λ v fit same.
     pass (check (not (q.source == q.destination)) SameChain s.path) _ v fit (λ w apart whole.
     let named = path_config-form chains (client_ids clients) (path_ids before) s q e1 in
     let fits = and_parts (connects client_ends clients q.forward q.destination q.source) (connects client_ends clients q.back q.source q.destination) (check-passed _ WrongClient s.path v whole) in
-    subst (λ x. IsPathConfig (length chains) clients x × All (λ i. i ≢ x.id) (path_ids before)) (same_ok q p same) (
+    subst (λ x. IsPathConfig (length chains) clients x × All (λ i. i ≢ x.id) (path_ids before)) (same_ok _ p same) (
       record {
         source = named.0;
         destination = named.1;
@@ -275,16 +276,16 @@ path-form chains clients before s p h =
         back = connected (slice_get clients q.back) q.source q.destination fits.1;
       },
       named.4,
-    )))))
+    ))))))
 
 abbrev ArePaths : ℕ → List ClientConfig → List PathConfig → Type 0
 ArePaths chains clients ps = AllPairs (λ p q. p.id ≢ q.id) ps × All (IsPathConfig chains clients) ps
 
-paths-form : (chains : List (List ℕ)) (clients : List ClientConfig) (ds : Items) (paths : List PathConfig) → elements (path chains clients) (codes "path") [] ds ≡ Ok paths
+paths-form : (ver : Version) (chains : List (List ℕ)) (clients : List ClientConfig) (ds : Items) (paths : List PathConfig) → elements (path ver chains clients) (codes "path") [] ds ≡ Ok paths
     → ArePaths (length chains) clients paths
-paths-form chains clients ds paths h =
-    elements-keep (path chains clients) (ArePaths (length chains) clients) (λ before s p kept read.
-    let one = path-form chains clients before s p read in (
+paths-form ver chains clients ds paths h =
+    elements-keep (path ver chains clients) (ArePaths (length chains) clients) (λ before s p kept read.
+    let one = path-form ver chains clients before s p read in (
       all_pairs_push (λ a b. a.id ≢ b.id) before p kept.0
           (λ k d lt. let short : k < length (path_ids before) = omega (arith, length-map before (λ (x : PathConfig). x.id)) in
           λ e. one.1 k d.id short (get_or-map (λ (x : PathConfig). x.id) before k d d.id lt ∙ e)),
@@ -296,20 +297,21 @@ paths-form chains clients ds paths h =
 limit-form : (v : Version) → (1 ≤ max_records v) × (max_records v ≤ most_records)
 limit-form versions.One = (omega arith, omega arith)
 limit-form versions.Two = (omega arith, omega arith)
+limit-form versions.Three = (omega arith, omega arith)
 
 pub config-form : (t : Tables) (c : Config) → AreFew t → config t ≡ Ok c → IsConfig c
 unfolding config
 config-form t c few h =
     pass (elements (chain t.version) (codes "chain") [] t.chains) _ c h (λ chains e0 h0.
-    pass (elements (client chains) (codes "client") [] t.clients) _ c h0 (λ clients e1 h1.
-    pass (elements (path (chain_ids chains) clients) (codes "path") [] t.paths) _ c h1 (λ paths e2 same.
-    let are_clients = clients-form chains t.clients clients e1 in
-    let are_paths = paths-form (chain_ids chains) clients t.paths paths e2 in
+    pass (elements (client t.version chains) (codes "client") [] t.clients) _ c h0 (λ clients e1 h1.
+    pass (elements (path t.version (chain_ids chains) clients) (codes "path") [] t.paths) _ c h1 (λ paths e2 same.
+    let are_clients = clients-form t.version chains t.clients clients e1 in
+    let are_paths = paths-form t.version (chain_ids chains) clients t.paths paths e2 in
     subst IsConfig (same_ok _ c same) (record {
       limit = limit-form t.version;
       few_chains = omega (arith, few.chains, elements-count (chain t.version) (codes "chain") [] t.chains chains e0, length-map chains (λ (x : Chain). x.id));
-      few_clients = omega (arith, few.clients, elements-count (client chains) (codes "client") [] t.clients clients e1);
-      few_paths = omega (arith, few.paths, elements-count (path (chain_ids chains) clients) (codes "path") [] t.paths paths e2);
+      few_clients = omega (arith, few.clients, elements-count (client t.version chains) (codes "client") [] t.clients clients e1);
+      few_paths = omega (arith, few.paths, elements-count (path t.version (chain_ids chains) clients) (codes "path") [] t.paths paths e2);
       chain_ids = chains-form t.version t.chains chains e0;
       client_ids = are_clients.0;
       path_ids = are_paths.0;

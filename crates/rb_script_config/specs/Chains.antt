@@ -4,8 +4,8 @@ use Rattle.rb_base.specs.Fraction.{one_third}
 use Rattle.rb_script_toml.specs.Faults.{Fault, ◌>>=◌}
 use Rattle.rb_script_toml.specs.Fields.{Field, Section, section_at, only, needs, optional, or_default, maybe, number, fee_table, trust, max_number}
 use Rattle.rb_script_toml.specs.declared.fault.FaultName.TheVariants.{OutOfRange}
-use Rattle.rb_script_config.specs.declared.version.Version.{Version}
-use Rattle.rb_script_config.specs.declared.version.Version.TheVariants.{One, Two}
+use Rattle.rb_script_types.specs.declared.version.Version.{Version}
+use Rattle.rb_script_types.specs.declared.version.Version.TheVariants.{One, Two, Three}
 use Rattle.rb_script_config.specs.declared.defaults.Defaults.{Defaults}
 use Rattle.rb_script_config.specs.declared.chain.Chain.{Chain}
 use Rattle.rb_script_config.specs.Named.{new_identifier}
@@ -38,10 +38,12 @@ defaults_at f = do
 abbrev pub shared : Version → Section → Result Defaults Fault
 shared One s = Ok no_defaults
 shared Two s = or_default no_defaults defaults_at (optional (codes "defaults") s)
+shared Three s = or_default no_defaults defaults_at (optional (codes "defaults") s)
 
 abbrev pub chain_keys : Version → List (List ℕ)
 chain_keys One = codes "id" ∷ []
 chain_keys Two = codes "id" ∷ codes "defaults" ∷ []
+chain_keys Three = codes "id" ∷ codes "defaults" ∷ []
 
 abbrev pub chain_ids : List Chain → List (List ℕ)
 chain_ids chains = map (λ c. c.id) chains

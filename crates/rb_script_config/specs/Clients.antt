@@ -2,6 +2,10 @@
 use Rattle.std.specs.Prelude.{ℕ, List, [], ◌∷◌, map, codes, Option, Some, None, option_map, unwrap_or, slice_get, Result, Ok, not, ◌==◌}
 use Rattle.rb_batch.specs.Limits.{TransactionLimits}
 use Rattle.rb_script_types.specs.declared.config.ClientConfig.{ClientConfig}
+use Rattle.rb_script_types.specs.declared.config.RefreshTo.{RefreshTo}
+use Rattle.rb_script_types.specs.declared.config.RefreshTo.TheVariants.{Lowest, Highest}
+use Rattle.rb_script_types.specs.declared.version.Version.{Version}
+use Rattle.rb_script_types.specs.declared.version.Version.TheVariants.{One, Two, Three}
 use Rattle.rb_script_toml.specs.Faults.{Fault, ◌>>=◌, check}
 use Rattle.rb_script_toml.specs.KeyPaths.{element}
 use Rattle.rb_script_toml.specs.Fields.{Field, Section, only, needs, optional, or_default, number, within, three_integers, fee_table, trust, max_number}
@@ -61,9 +65,15 @@ terms d s = do
   limit ← needs (codes "limits") limits s
   Ok (record { refresh = refresh; fees = fees; gas = gas; limits = limit })
 
+-- to which height clients are refreshed: from version 3 on to the greatest
+abbrev pub refresh_to : Version → RefreshTo
+refresh_to One = Lowest
+refresh_to Two = Lowest
+refresh_to Three = Highest
+
 -- a client of these chains, beside those before it
-unfoldable pub client : List Chain → List ClientConfig → Section → Result ClientConfig Fault
-client chains before s = do
+unfoldable pub client : Version → List Chain → List ClientConfig → Section → Result ClientConfig Fault
+client version chains before s = do
   i ← identity (chain_ids chains) (client_ids before) s
   let d = shared_by chains i.tracks
   period ← own d.period (codes "period_ns") (number 1 max_number OutOfRange) s
@@ -77,6 +87,7 @@ client chains before s = do
     tracks = i.tracks;
     options = record { period = period; drift = drift; trust = level };
     refresh = t.refresh;
+    refresh_to = refresh_to version;
     fees = t.fees;
     gas = t.gas;
     limits = t.limits;

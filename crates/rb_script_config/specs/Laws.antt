@@ -2,7 +2,7 @@
 use Rattle.std.specs.Prelude.{◌≡◌, List, [], codes, All, Ok}
 use Rattle.toml.specs.Data.{Items}
 use Rattle.rb_script_toml.specs.Fields.{elements}
-use Rattle.rb_script_config.specs.declared.version.Version.TheVariants.{One}
+use Rattle.rb_script_types.specs.declared.version.Version.TheVariants.{One}
 use Rattle.rb_script_config.specs.declared.chain.Chain.{Chain}
 use Rattle.rb_script_config.specs.Chains.{chain, no_defaults}
 

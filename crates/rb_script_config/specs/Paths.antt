@@ -6,8 +6,12 @@ use Rattle.rb_scan.specs.declared.path.Order.TheVariants.{Ordered, Unordered}
 use Rattle.rb_script_types.specs.Gas.{PathGas}
 use Rattle.rb_script_types.specs.declared.config.ClientConfig.{ClientConfig}
 use Rattle.rb_script_types.specs.declared.config.PathConfig.{PathConfig}
+use Rattle.rb_script_types.specs.declared.version.Version.{Version}
+use Rattle.rb_script_types.specs.declared.version.Version.TheVariants.{One, Two, Three}
+use Rattle.rb_script_types.specs.declared.waits.Waits.{Waits}
 use Rattle.rb_script_toml.specs.Faults.{Fault, ◌>>=◌, fault, check}
-use Rattle.rb_script_toml.specs.Fields.{Field, Section, text, only, needs, optional, or_default, number, fees, max_number}
+use Rattle.rb_script_toml.specs.KeyPaths.{element}
+use Rattle.rb_script_toml.specs.Fields.{Field, Section, text, only, needs, optional, or_default, number, within, three_integers, fees, max_number}
 use Rattle.rb_script_toml.specs.declared.fault.FaultName.TheVariants.{OutOfRange, BadOrder, SameChain, WrongClient}
 use Rattle.rb_script_config.specs.Named.{reference, new_identifier}
 use Rattle.rb_script_config.specs.Clients.{client_ends, client_ids}
@@ -38,6 +42,15 @@ path_gas f = do
   n ← fees f
   Ok (record { receive = n.0; acknowledge = n.1; timeout = n.2 })
 
+-- so many nanoseconds a receive, an acknowledgement and a timeout
+unfoldable pub waits : Field → Result Waits Fault
+waits f = do
+  n ← three_integers f
+  receive ← within 0 max_number OutOfRange (element f.path 0) n.0
+  acknowledge ← within 0 max_number OutOfRange (element f.path 1) n.1
+  timeout ← within 0 max_number OutOfRange (element f.path 2) n.2
+  Ok (record { receive = receive; acknowledge = acknowledge; timeout = timeout })
+
 -- whether the client at a place is hosted on the one chain and tracks the other
 abbrev pub connects : {A : Type 0} → (A → ℕ × ℕ) → List A → ℕ → ℕ → ℕ → Bool
 connects ends clients place host tracks =
@@ -48,9 +61,17 @@ connects ends clients place host tracks =
 abbrev pub path_ids : List PathConfig → List (List ℕ)
 path_ids paths = map (λ p. p.id) paths
 
-abbrev pub path_keys : List (List ℕ)
-path_keys =
+abbrev pub path_keys : Version → List (List ℕ)
+path_keys One =
     codes "id" ∷ codes "source" ∷ codes "dest" ∷ codes "order" ∷ codes "first" ∷ codes "forward" ∷ codes "back" ∷ codes "gas" ∷ []
+path_keys Two =
+    codes "id" ∷ codes "source" ∷ codes "dest" ∷ codes "order" ∷ codes "first" ∷ codes "forward" ∷ codes "back" ∷ codes "gas" ∷ []
+path_keys Three =
+    codes "id" ∷ codes "source" ∷ codes "dest" ∷ codes "order" ∷ codes "first" ∷ codes "forward" ∷ codes "back" ∷ codes "gas" ∷ codes "wait_ns" ∷ []
+
+-- no message may wait
+abbrev pub no_waits : Waits
+no_waits = record { receive = 0; acknowledge = 0; timeout = 0 }
 
 -- what scripts and setups say of a path alike, of these chains and clients, beside the paths before it
 unfoldable pub path_config : List (List ℕ) → List (List ℕ) → List (List ℕ) → Section → Result PathConfig Fault
@@ -72,6 +93,7 @@ path_config chains clients before s = do
     forward = forward;
     back = back;
     gas = gas;
+    waits = no_waits;
   })
 
 -- its chains differ, and its clients are hosted on the one and track the other
@@ -80,10 +102,17 @@ fits ends clients p place = do
   _ ← check (not (p.source == p.destination)) SameChain place
   check (connects ends clients p.forward p.destination p.source && connects ends clients p.back p.source p.destination) WrongClient place
 
+-- how long a path's messages may wait: from version 3 on, and not at all where the key isn't there
+abbrev pub waits_in : Version → Section → Result Waits Fault
+waits_in One s = Ok no_waits
+waits_in Two s = Ok no_waits
+waits_in Three s = or_default no_waits waits (optional (codes "wait_ns") s)
+
 -- a path of these chains and clients, beside those before it
-unfoldable pub path : List (List ℕ) → List ClientConfig → List PathConfig → Section → Result PathConfig Fault
-path chains clients before s = do
-  _ ← only path_keys s
+unfoldable pub path : Version → List (List ℕ) → List ClientConfig → List PathConfig → Section → Result PathConfig Fault
+path version chains clients before s = do
+  _ ← only (path_keys version) s
   p ← path_config chains (client_ids clients) (path_ids before) s
+  w ← waits_in version s
   _ ← fits client_ends clients p s.path
-  Ok p
+  Ok (record p { waits = w })

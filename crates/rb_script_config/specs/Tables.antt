@@ -7,7 +7,7 @@ use Rattle.rb_script_types.specs.Limits.{max_chains, max_clients, max_paths, max
 use Rattle.rb_script_toml.specs.Faults.{Fault, ◌>>=◌}
 use Rattle.rb_script_toml.specs.Fields.{Section, only, needs, optional, or_default, array, elements}
 use Rattle.rb_script_config.specs.declared.tables.Tables.{Tables as CodeTables}
-use Rattle.rb_script_config.specs.declared.version.Version.{Version}
+use Rattle.rb_script_types.specs.declared.version.Version.{Version}
 use Rattle.rb_script_config.specs.Versions.{version, max_records}
 use Rattle.rb_script_config.specs.Chains.{chain, chain_ids}
 use Rattle.rb_script_config.specs.Clients.{client}
@@ -47,6 +47,6 @@ tables s = do
 unfoldable pub config : Tables → Result Config Fault
 config t = do
   chains ← elements (chain t.version) (codes "chain") [] t.chains
-  clients ← elements (client chains) (codes "client") [] t.clients
-  paths ← elements (path (chain_ids chains) clients) (codes "path") [] t.paths
-  Ok (record { limit = max_records t.version; chains = chain_ids chains; clients = clients; paths = paths })
+  clients ← elements (client t.version chains) (codes "client") [] t.clients
+  paths ← elements (path t.version (chain_ids chains) clients) (codes "path") [] t.paths
+  Ok (record { version = t.version; limit = max_records t.version; chains = chain_ids chains; clients = clients; paths = paths })

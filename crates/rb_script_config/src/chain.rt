@@ -8,9 +8,9 @@ ghost use Rattle.rb_script_config.specs.Chains.{chain, chain_ids, chain_keys, sh
 use crate::defaults::{Defaults, no_defaults, read_defaults};
 use crate::directory::Directory;
 use crate::named::{Named, new_identifier};
-use crate::version::Version;
 use rb_base::ChainId;
 use rb_script_toml::{RunError, Section, element_path, section_at};
+use rb_script_types::Version;
 use std::alloc::{AllocError, Global};
 use toml::Value;
 
@@ -35,7 +35,7 @@ fn only_chain_keys(version: Version, section: &Section<'_>) -> Result<(), RunErr
 {
     match version {
         Version::One => section.only(&["id"]),
-        Version::Two => section.only(&["id", "defaults"]),
+        Version::Two | Version::Three => section.only(&["id", "defaults"]),
     }
 }
 
@@ -45,7 +45,7 @@ fn read_shared(version: Version, section: &Section<'_>) -> Result<Defaults, RunE
 {
     match version {
         Version::One => Ok(no_defaults()),
-        Version::Two => match section.optional("defaults") {
+        Version::Two | Version::Three => match section.optional("defaults") {
             Some(field) => read_defaults(&field),
             None => Ok(no_defaults()),
         },

@@ -4,7 +4,7 @@ ghost use Rattle.toml.specs.View.{view, items_view};
 ghost use Rattle.rb_script_toml.specs.Faults.{Gives, check};
 ghost use Rattle.rb_script_toml.specs.Fields.{field_view, section_view, number, fee_table, max_number, at_element, elements};
 ghost use Rattle.rb_script_toml.specs.declared.fault.FaultName.TheVariants.{OutOfRange, SameChain};
-ghost use Rattle.rb_script_config.specs.Clients.{limits, identity, terms, client, own, shared_by};
+ghost use Rattle.rb_script_config.specs.Clients.{limits, identity, terms, client, own, shared_by, refresh_to};
 
 use crate::chain::Chain;
 use crate::client_keys::{DRIFT, FEE, GAS, HOST, LIMITS, OF, PERIOD, REFRESH, only_client_keys};
@@ -15,7 +15,7 @@ use crate::named::{Named, new_identifier, reference};
 use rb_base::{ClientId, FeeTable, Options, Period};
 use rb_batch::Limits;
 use rb_script_toml::{FaultName, Field, MAX_NUMBER, RunError, Section, element_path, section_at};
-use rb_script_types::ClientConfig;
+use rb_script_types::{ClientConfig, RefreshTo, Version};
 use std::alloc::Global;
 use toml::Value;
 
@@ -167,13 +167,24 @@ pub fn two_chains(section: &Section<'_>, chain: usize, other: usize) -> Result<(
     Ok(())
 }
 
+/// To which height clients are refreshed: from version 3 on to the greatest.
+fn refresh_to(version: Version) -> RefreshTo
+    ensures { result ≡ refresh_to version }
+{
+    match version {
+        Version::One | Version::Two => RefreshTo::Lowest,
+        Version::Three => RefreshTo::Highest,
+    }
+}
+
 #[tactic(auto, using(rb_script_toml::proofs::Steps::steps), unfolding(crate::specs::Clients::client))]
 fn read_client(
+    version: Version,
     section: &Section<'_>,
     chains: &Directory<Chain>,
     before: &Directory<ClientConfig>,
 ) -> Result<ClientConfig, RunError>
-    ensures { Gives (λ c. c) result (client chains.now before.now (section_view section.now)) }
+    ensures { Gives (λ c. c) result (client version chains.now before.now (section_view section.now)) }
 {
     let identity = read_identity(section, chains, before)?;
     let shared = shared_by(chains, identity.tracks);
@@ -188,6 +199,7 @@ fn read_client(
         tracks: identity.tracks,
         options: Options::new(period, drift.nanoseconds()).with_trust(trust),
         refresh: terms.refresh,
+        refresh_to: refresh_to(version),
         fees: terms.fees,
         gas: terms.gas,
         limits: terms.limits,
@@ -197,15 +209,16 @@ fn read_client(
 #[tactic(auto, using(rb_script_toml::proofs::Steps::steps))]
 fn read_client_at(
     alloc: Global,
+    version: Version,
     value: &Value,
     chains: &Directory<Chain>,
     before: &Directory<ClientConfig>,
 ) -> Result<ClientConfig, RunError>
-    ensures { Gives (λ c. c) result (at_element (client chains.now) (codes "client") before.now (view value.now)) }
+    ensures { Gives (λ c. c) result (at_element (client version chains.now) (codes "client") before.now (view value.now)) }
 {
     let path = element_path(alloc, "client", before.as_slice().len())?;
     let section = section_at(alloc, path.as_str(), value)?;
-    read_client(&section, chains, before)
+    read_client(version, &section, chains, before)
 }
 
 /// Reads the tables of the array `client`, in their order, each as `read_identity` and `read_terms` tell,
@@ -215,14 +228,15 @@ fn read_client_at(
 /// chain that hosts it. `NoMemory` comes where a growth is refused.
 pub fn read_clients(
     alloc: Global,
+    version: Version,
     items: &[Value],
     chains: &Directory<Chain>,
 ) -> Result<Directory<ClientConfig>, RunError>
-    ensures { Gives (λ d. d) result (elements (client chains.now) (codes "client") [] (items_view items.now)) }
+    ensures { Gives (λ d. d) result (elements (client version chains.now) (codes "client") [] (items_view items.now)) }
 {
     let mut clients = Directory::new(alloc);
     for value in items {
-        let client = read_client_at(alloc, value, chains, &clients)?;
+        let client = read_client_at(alloc, version, value, chains, &clients)?;
         clients = clients.with(client)?;
     }
     Ok(clients)

@@ -3,15 +3,15 @@ ghost use Rattle.std.specs.Prelude.{◌≡◌, ◌<◌, [], IfOk, codes, length,
 ghost use Rattle.toml.specs.View.{view, items_view};
 ghost use Rattle.rb_script_toml.specs.Faults.{Gives};
 ghost use Rattle.rb_script_toml.specs.Fields.{field_view, section_view, only, needs, optional, or_default, at_element, elements};
-ghost use Rattle.rb_script_config.specs.Paths.{order, sequence, path_gas, connects, fits, path, path_config, path_keys};
+ghost use Rattle.rb_script_config.specs.Paths.{order, sequence, path_gas, waits, waits_in, connects, fits, path, path_config, path_keys};
 
 use crate::client::two_chains;
 use crate::directory::Directory;
 use crate::named::{Client, Named, new_identifier, reference};
 use rb_base::{ChainId, PathId};
 use rb_scan::{Order, Sequence};
-use rb_script_toml::{FaultName, Field, RunError, Section, element_path, section_at};
-use rb_script_types::{ClientConfig, PathConfig, PathGas};
+use rb_script_toml::{FaultName, Field, MAX_NUMBER, RunError, Section, element_path, section_at};
+use rb_script_types::{ClientConfig, PathConfig, PathGas, Version, Waits};
 use std::alloc::Global;
 use toml::Value;
 
@@ -85,12 +85,49 @@ fn connects<C: Client>(clients: &Directory<C>, place: usize, host: usize, tracks
     client.host() == host && client.tracks() == tracks
 }
 
-fn only_path_keys(section: &Section<'_>) -> Result<(), RunError>
-    ensures { Gives (λ u. u) result (only path_keys (section_view section.now)) }
+fn only_path_keys(version: Version, section: &Section<'_>) -> Result<(), RunError>
+    ensures { Gives (λ u. u) result (only (path_keys version) (section_view section.now)) }
 {
-    section.only(&[
-        "id", "source", "dest", "order", "first", "forward", "back", "gas",
-    ])
+    match version {
+        Version::One | Version::Two => section.only(&[
+            "id", "source", "dest", "order", "first", "forward", "back", "gas",
+        ]),
+        Version::Three => section.only(&[
+            "id", "source", "dest", "order", "first", "forward", "back", "gas", "wait_ns",
+        ]),
+    }
+}
+
+#[tactic(auto, using(rb_script_toml::proofs::Steps::steps), unfolding(crate::specs::Paths::waits))]
+fn waits(field: &Field<'_>) -> Result<Waits, RunError>
+    ensures { Gives (λ w. w) result (waits (field_view field.now)) }
+{
+    let (receive, acknowledge, timeout) = field.three_integers()?;
+    let receive = field.within(0, receive, 0, MAX_NUMBER, FaultName::OutOfRange)?;
+    let acknowledge = field.within(1, acknowledge, 0, MAX_NUMBER, FaultName::OutOfRange)?;
+    let timeout = field.within(2, timeout, 0, MAX_NUMBER, FaultName::OutOfRange)?;
+    Ok(Waits {
+        receive,
+        acknowledge,
+        timeout,
+    })
+}
+
+/// Reads how long a path's messages may wait: `wait_ns`, three numbers from 0 to 2^63 - 1, of nanoseconds,
+/// from version 3 on; no message may wait where the key isn't there. `Fault` is `WrongType` where it holds
+/// another type, or an array of another length, else `OutOfRange` at the first number outside its range;
+/// `NoMemory` comes where a growth is refused.
+#[tactic(auto, using(rb_script_toml::proofs::Steps::steps))]
+pub fn read_waits(version: Version, section: &Section<'_>) -> Result<Waits, RunError>
+    ensures { Gives (λ w. w) result (waits_in version (section_view section.now)) }
+{
+    match version {
+        Version::One | Version::Two => Ok(Waits::NONE),
+        Version::Three => match section.optional("wait_ns") {
+            Some(field) => waits(&field),
+            None => Ok(Waits::NONE),
+        },
+    }
 }
 
 /// Reads what scripts and setups say of a path alike, in this order: `id`, which none of the paths before
@@ -129,6 +166,7 @@ pub fn read_path_config<C: Named, T: Named>(
         forward,
         back,
         gas,
+        waits: Waits::NONE,
     })
 }
 
@@ -158,48 +196,52 @@ pub fn judge_path<C: Client>(
 
 #[tactic(auto, using(rb_script_toml::proofs::Steps::steps), unfolding(crate::specs::Paths::path))]
 fn read_path(
+    version: Version,
     section: &Section<'_>,
     chains: &Directory<ChainId>,
     clients: &Directory<ClientConfig>,
     before: &Directory<PathConfig>,
 ) -> Result<PathConfig, RunError>
-    ensures { Gives (λ p. p) result (path chains.now clients.now before.now (section_view section.now)) }
+    ensures { Gives (λ p. p) result (path version chains.now clients.now before.now (section_view section.now)) }
 {
-    only_path_keys(section)?;
+    only_path_keys(version, section)?;
     let path = read_path_config(section, chains, clients, before)?;
+    let waits = read_waits(version, section)?;
     judge_path(section, clients, &path)?;
-    Ok(path)
+    Ok(PathConfig { waits, ..path })
 }
 
 #[tactic(auto, using(rb_script_toml::proofs::Steps::steps))]
 fn read_path_at(
     alloc: Global,
+    version: Version,
     value: &Value,
     chains: &Directory<ChainId>,
     clients: &Directory<ClientConfig>,
     before: &Directory<PathConfig>,
 ) -> Result<PathConfig, RunError>
-    ensures { Gives (λ p. p) result (at_element (path chains.now clients.now) (codes "path") before.now (view value.now)) }
+    ensures { Gives (λ p. p) result (at_element (path version chains.now clients.now) (codes "path") before.now (view value.now)) }
 {
     let path = element_path(alloc, "path", before.as_slice().len())?;
     let section = section_at(alloc, path.as_str(), value)?;
-    read_path(&section, chains, clients, before)
+    read_path(version, &section, chains, clients, before)
 }
 
 /// Reads the tables of the array `path`, in their order: keys that no path has are refused, then each is
-/// read as by `read_path_config` and judged as by `judge_path`. `Fault` is the first of the first table
+/// read as by `read_path_config` and `read_waits`, and judged as by `judge_path`. `Fault` is the first of the first table
 /// that is refused; `NoMemory` comes where a growth is refused.
 pub fn read_paths(
     alloc: Global,
+    version: Version,
     items: &[Value],
     chains: &Directory<ChainId>,
     clients: &Directory<ClientConfig>,
 ) -> Result<Directory<PathConfig>, RunError>
-    ensures { Gives (λ d. d) result (elements (path chains.now clients.now) (codes "path") [] (items_view items.now)) }
+    ensures { Gives (λ d. d) result (elements (path version chains.now clients.now) (codes "path") [] (items_view items.now)) }
 {
     let mut paths = Directory::new(alloc);
     for value in items {
-        let path = read_path_at(alloc, value, chains, clients, &paths)?;
+        let path = read_path_at(alloc, version, value, chains, clients, &paths)?;
         paths = paths.with(path)?;
     }
     Ok(paths)

@@ -5,12 +5,13 @@ ghost use Rattle.rb_script_config.specs.Setups.{setup_view};
 
 use crate::directory::Directory;
 use rb_base::ChainId;
-use rb_script_types::{ClientConfig, Config, PathConfig};
+use rb_script_types::{ClientConfig, Config, PathConfig, Version};
 
-/// How many records a book may have, and the chains, the clients and the paths of a script, each
+/// The version, how many records a book may have, and the chains, the clients and the paths of a script, each
 /// found by its identifier.
 #[derive(Drop)]
 pub struct Setup {
+    pub version: Version,
     pub limit: usize,
     pub chains: Directory<ChainId>,
     pub clients: Directory<ClientConfig>,
@@ -23,6 +24,7 @@ impl Setup {
         ensures { config_view result ≡ setup_view self }
     {
         Config {
+            version: self.version,
             limit: self.limit,
             chains: self.chains.into_vec(),
             clients: self.clients.into_vec(),

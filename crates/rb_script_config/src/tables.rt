@@ -8,9 +8,9 @@ use crate::chain::{ids_of, read_chains};
 use crate::client::read_clients;
 use crate::path::read_paths;
 use crate::setup::Setup;
-use crate::version::{Version, needed_version};
+use crate::version::{max_records, needed_version};
 use rb_script_toml::{RunError, Section};
-use rb_script_types::{MAX_CHAINS, MAX_CLIENTS, MAX_PATHS, MAX_TURNS};
+use rb_script_types::{MAX_CHAINS, MAX_CLIENTS, MAX_PATHS, MAX_TURNS, Version};
 use std::alloc::Global;
 use toml::Value;
 
@@ -33,7 +33,7 @@ pub fn only_top_keys(section: &Section<'_>) -> Result<(), RunError>
     section.only(&["version", "chain", "client", "path", "turn"])
 }
 
-/// Reads what the keys of the whole text hold: a version, 1 or 2, and the elements of the four arrays, none
+/// Reads what the keys of the whole text hold: a version, 1 to 3, and the elements of the four arrays, none
 /// where an array isn't there. `Fault` is the first of: another key (`UnknownKey`), no version
 /// (`MissingKey`, `WrongType`, `BadVersion`), then of `chain`, `client`, `path` and `turn`, in this order,
 /// that it is no array (`WrongType`) or has more than 64, 256, 256 and 500 elements (`TooManyObjects`).
@@ -65,11 +65,12 @@ pub fn read_setup(alloc: Global, tables: Tables<'_>) -> Result<Setup, RunError>
     ensures { Gives setup_view result (config (tables_view tables.entry)) }
 {
     let chains = read_chains(alloc, tables.version, tables.chains)?;
-    let clients = read_clients(alloc, tables.clients, &chains)?;
+    let clients = read_clients(alloc, tables.version, tables.clients, &chains)?;
     let chains = ids_of(alloc, &chains)?;
-    let paths = read_paths(alloc, tables.paths, &chains, &clients)?;
+    let paths = read_paths(alloc, tables.version, tables.paths, &chains, &clients)?;
     Ok(Setup {
-        limit: tables.version.max_records(),
+        version: tables.version,
+        limit: max_records(tables.version),
         chains,
         clients,
         paths,

@@ -6,24 +6,15 @@ ghost use Rattle.rb_script_config.specs.Versions.{version, max_records};
 
 use rb_book::MAX_RECORDS;
 use rb_script_toml::{FaultName, Field, RunError, Section};
+use rb_script_types::Version;
 
-/// A version of the format: from the second on the chains' clients share defaults, and books are
-/// larger.
-#[derive(Clone, Copy)]
-pub enum Version {
-    One,
-    Two,
-}
-
-impl Version {
-    /// How many records a book may have: 1,024 in version 1, 4,096 in version 2.
-    pub fn max_records(self) -> usize
-        ensures { result ≡ max_records self }
-    {
-        match self {
-            Version::One => 1024,
-            Version::Two => MAX_RECORDS,
-        }
+/// How many records a book may have: 1,024 in version 1, 4,096 from version 2 on.
+pub(crate) fn max_records(version: Version) -> usize
+    ensures { result ≡ max_records version }
+{
+    match version {
+        Version::One => 1024,
+        Version::Two | Version::Three => MAX_RECORDS,
     }
 }
 
@@ -31,16 +22,18 @@ impl Version {
 fn read_version(field: &Field<'_>) -> Result<Version, RunError>
     ensures { Gives (λ v. v) result (version (field_view field.now)) }
 {
-    let number = field.number(1, 2, FaultName::BadVersion)?;
+    let number = field.number(1, 3, FaultName::BadVersion)?;
     if number == 1 {
         Ok(Version::One)
-    } else {
+    } else if number == 2 {
         Ok(Version::Two)
+    } else {
+        Ok(Version::Three)
     }
 }
 
 /// The version of a text, which the key `version` holds. `Fault` is `MissingKey` where the key isn't there,
-/// `WrongType` where it holds no integer, `BadVersion` where that is neither 1 nor 2; `NoMemory` where the
+/// `WrongType` where it holds no integer, `BadVersion` where that isn't from 1 to 3; `NoMemory` where the
 /// path finds no room.
 #[tactic(auto, using(rb_script_toml::proofs::Steps::steps))]
 pub fn needed_version(section: &Section<'_>) -> Result<Version, RunError>

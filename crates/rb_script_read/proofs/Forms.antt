@@ -8,6 +8,7 @@ use Rattle.std.proofs.lemmas.List.Elements.{All-cons, All-push}
 use Rattle.std.proofs.lemmas.List.Quantifiers.{all_pairs_push}
 use Rattle.toml.specs.Data.{Items, no_items, item}
 use Rattle.rb_script_types.specs.Script.{Script, Turn, IsReadScript, IsReadTurn, IsReadObservation, entry_count, script_view}
+use Rattle.rb_script_types.specs.declared.version.Version.{Version}
 use Rattle.rb_script_types.specs.Config.{Config}
 use Rattle.rb_script_types.specs.Limits.{max_entries}
 use Rattle.rb_script_types.specs.declared.script.Script.{Script as CodeScript}
@@ -32,7 +33,7 @@ use Rattle.rb_script_config.specs.Paths.{path, path_ids, sequence}
 use Rattle.rb_script_read.specs.Packets.{block, height_or_none, time_or_none, sent, sent_keys, received, ack_written, packet_keys, cleared, cleared_keys, closed, closed_keys}
 use Rattle.rb_script_read.specs.Events.{kind, votes, set_seen, set_keys, header_seen, header_keys, stored_seen, stored_keys, tracked_by, unnamed, event_of_kind, event}
 use Rattle.rb_script_config.specs.Goals.{asked, goal_keys, goal_of, one_goal, is_asked, settlement, settlement_keys}
-use Rattle.rb_script_read.specs.Turns.{TurnHead, Reading, taken, frame, turn_keys, turn}
+use Rattle.rb_script_read.specs.Turns.{TurnHead, Reading, entries, is_taken, frame, turn_keys, turn}
 use Rattle.rb_script_config.specs.Tables.{tables, config}
 use Rattle.rb_script_read.specs.Scripts.{opening, script}
 use Rattle.rb_script_config.proofs.ConfigForms.{pass, same_ok, check-passed, needs-field, elements-keep, elements-count, reference-within, client-within, place-within, tables-few, config-form}
@@ -254,24 +255,25 @@ events-form c path names ds all h =
 -- a window that doesn't end before it begins, and the room that is left
 record IsTurnHead (room : ℕ) (f : TurnHead) : Type 0 where
   window : f.window.from ≤ f.window.until
-  left : taken f.goals f.events f.settlements + f.room ≡ room
+  left : entries f.goals f.events f.settlements + f.room ≡ room
 
-head-form : (room : ℕ) (s : Section) (f : TurnHead) → frame room s ≡ Ok f → IsTurnHead room f
+head-form : (ver : Version) (room : ℕ) (s : Section) (f : TurnHead) → frame ver room s ≡ Ok f → IsTurnHead room f
 unfolding frame
-head-form room s f h =
-    pass (only turn_keys s) _ f h (λ u e0 h0.
+head-form ver room s f h =
+    pass (only (turn_keys ver) s) _ f h (λ u e0 h0.
     pass (needs (codes "from") time s) _ f h0 (λ from e1 h1.
     pass (needs (codes "until") time s) _ f h1 (λ until e2 h2.
     pass (or_default no_items items (optional (codes "goal") s)) _ f h2 (λ goals e3 h3.
     pass (or_default no_items items (optional (codes "event") s)) _ f h3 (λ events e4 h4.
     pass (or_default no_items items (optional (codes "settle") s)) _ f h4 (λ settlements e5 h5.
-    pass (check (nat_le (taken goals events settlements) room) TooManyEvents s.path) _ f h5 (λ v few h6.
-    pass (check (nat_le from until) BadWindow s.path) _ f h6 (λ w ordered same.
-    let fits = leb-true (taken goals events settlements) room (check-passed _ TooManyEvents s.path v few) in
+    pass (is_taken ver s) _ f h5 (λ whole e6 h6.
+    pass (check (nat_le (entries goals events settlements) room) TooManyEvents s.path) _ f h6 (λ v few h7.
+    pass (check (nat_le from until) BadWindow s.path) _ f h7 (λ w ordered same.
+    let fits = leb-true (entries goals events settlements) room (check-passed _ TooManyEvents s.path v few) in
     subst (IsTurnHead room) (same_ok _ f same) (record {
       window = leb-true from until (check-passed _ BadWindow s.path w ordered);
       left = omega (arith, fits);
-    })))))))))
+    }))))))))))
 
 -- a turn keeps what every turn keeps, and takes room for its entries
 record IsTaken (c : Config) (reading : Reading) (x : Turn Global × Reading) : Type 0 where
@@ -283,11 +285,11 @@ unfolding turn
 turn-form c reading s x h =
     let ids = client_ids c.clients in
     let count = length-map c.clients (λ (k : ClientConfig). k.id) in
-    pass (frame reading.room s) _ x h (λ f e0 h0.
+    pass (frame c.version reading.room s) _ x h (λ f e0 h0.
     pass (elements (asked ids) (child s.path (codes "goal")) [] f.goals) _ x h0 (λ goals e1 h1.
     pass (in_sequence (event c) (child s.path (codes "event")) reading.names [] f.events) _ x h1 (λ events e2 h2.
     pass (elements (settlement ids) (child s.path (codes "settle")) [] f.settlements) _ x h2 (λ settlements e3 same.
-    let framed = head-form reading.room s f e0 in
+    let framed = head-form c.version reading.room s f e0 in
     let asked_well = subst (λ n. AreGoals n goals) count (goals-form ids (child s.path (codes "goal")) f.goals goals e1) in
     let settled_well = subst (λ n. All (λ (y : Settlement). y.client < n) settlements) count (settlements-form ids (child s.path (codes "settle")) f.settlements settlements e3) in
     let asked_count = elements-count (asked ids) (child s.path (codes "goal")) [] f.goals goals e1 in

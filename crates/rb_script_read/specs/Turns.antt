@@ -1,14 +1,16 @@
 -- The tables of turns.
-use Rattle.std.specs.Prelude.{ℕ, ◌+◌, ◌-◌, List, [], ◌∷◌, codes, Result, Ok, nat_le}
+use Rattle.std.specs.Prelude.{ℕ, ◌+◌, ◌-◌, Bool, false, List, [], ◌∷◌, codes, Result, Ok, nat_le}
 use Rattle.std.specs.declared.alloc.Global.{Global}
 use Rattle.toml.specs.Data.{Data, Items, no_items}
 use Rattle.toml.specs.View.{items_view}
 use Rattle.rb_base.specs.Window.{Span}
 use Rattle.rb_script_types.specs.Config.{Config}
+use Rattle.rb_script_types.specs.declared.version.Version.{Version}
+use Rattle.rb_script_types.specs.declared.version.Version.TheVariants.{One, Two, Three}
 use Rattle.rb_script_types.specs.Script.{Turn}
 use Rattle.rb_script_toml.specs.Faults.{Fault, ◌>>=◌, check}
 use Rattle.rb_script_toml.specs.KeyPaths.{child}
-use Rattle.rb_script_toml.specs.Fields.{Section, items, items_count, only, needs, optional, or_default, time, elements, in_sequence, next_in_sequence}
+use Rattle.rb_script_toml.specs.Fields.{Section, items, items_count, only, needs, optional, or_default, flag, time, elements, in_sequence, next_in_sequence}
 use Rattle.rb_script_toml.specs.declared.fault.FaultName.TheVariants.{TooManyEvents, BadWindow}
 use Rattle.rb_script_read.specs.declared.turn.Reading.{Reading as CodeReading}
 use Rattle.rb_script_read.specs.declared.turn.TurnHead.{TurnHead as CodeTurnHead}
@@ -17,8 +19,17 @@ use Rattle.rb_script_config.specs.Clients.{client_ids}
 use Rattle.rb_script_config.specs.Goals.{asked, settlement}
 use Rattle.rb_script_read.specs.Events.{event}
 
-abbrev pub turn_keys : List (List ℕ)
-turn_keys = codes "from" ∷ codes "until" ∷ codes "goal" ∷ codes "event" ∷ codes "settle" ∷ []
+-- from version 3 on a turn can say that all is taken
+abbrev pub turn_keys : Version → List (List ℕ)
+turn_keys One = codes "from" ∷ codes "until" ∷ codes "goal" ∷ codes "event" ∷ codes "settle" ∷ []
+turn_keys Two = codes "from" ∷ codes "until" ∷ codes "goal" ∷ codes "event" ∷ codes "settle" ∷ []
+turn_keys Three = codes "from" ∷ codes "until" ∷ codes "goal" ∷ codes "event" ∷ codes "settle" ∷ codes "taken" ∷ []
+
+-- whether every batch that is open after the turn's settlements is taken whole
+abbrev pub is_taken : Version → Section → Result Bool Fault
+is_taken One s = Ok false
+is_taken Two s = Ok false
+is_taken Three s = or_default false flag (optional (codes "taken") s)
 
 -- what a turn's own keys hold, and room for so many goals, events and settlements after it
 pub record TurnHead : Type 0 where
@@ -26,6 +37,7 @@ pub record TurnHead : Type 0 where
   pub goals : Items
   pub events : Items
   pub settlements : Items
+  pub taken : Bool
   pub room : ℕ
 
 abbrev pub head_view : CodeTurnHead → TurnHead
@@ -34,30 +46,33 @@ head_view f = record {
   goals = items_view f.goals.now;
   events = items_view f.events.now;
   settlements = items_view f.settlements.now;
+  taken = f.taken;
   room = f.room;
 }
 
 -- the goals, events and settlements of a turn
-abbrev pub taken : Items → Items → Items → ℕ
-taken goals events settlements = items_count goals + items_count events + items_count settlements
+abbrev pub entries : Items → Items → Items → ℕ
+entries goals events settlements = items_count goals + items_count events + items_count settlements
 
 -- where there is room for so many of them
-unfoldable pub frame : ℕ → Section → Result TurnHead Fault
-frame room s = do
-  _ ← only turn_keys s
+unfoldable pub frame : Version → ℕ → Section → Result TurnHead Fault
+frame version room s = do
+  _ ← only (turn_keys version) s
   from ← needs (codes "from") time s
   until ← needs (codes "until") time s
   goals ← or_default no_items items (optional (codes "goal") s)
   events ← or_default no_items items (optional (codes "event") s)
   settlements ← or_default no_items items (optional (codes "settle") s)
-  _ ← check (nat_le (taken goals events settlements) room) TooManyEvents s.path
+  whole ← is_taken version s
+  _ ← check (nat_le (entries goals events settlements) room) TooManyEvents s.path
   _ ← check (nat_le from until) BadWindow s.path
   Ok (record {
     window = record { from = from; until = until };
     goals = goals;
     events = events;
     settlements = settlements;
-    room = room - taken goals events settlements;
+    taken = whole;
+    room = room - entries goals events settlements;
   })
 
 -- what the turns before leave to the next: the names that they gave, and the room
@@ -70,12 +85,12 @@ reading_view r = record { names = names_of r.names; room = r.room }
 
 unfoldable pub turn : Config → Reading → Section → Result (Turn Global × Reading) Fault
 turn c reading s = do
-  f ← frame reading.room s
+  f ← frame c.version reading.room s
   goals ← elements (asked (client_ids c.clients)) (child s.path (codes "goal")) [] f.goals
   events ← in_sequence (event c) (child s.path (codes "event")) reading.names [] f.events
   settlements ← elements (settlement (client_ids c.clients)) (child s.path (codes "settle")) [] f.settlements
   Ok (
-    record { window = f.window; goals = goals; events = events.0; settlements = settlements },
+    record { window = f.window; goals = goals; events = events.0; settlements = settlements; taken = f.taken },
     record { names = events.1; room = f.room },
   )
 

@@ -4,7 +4,7 @@ ghost use Rattle.toml.specs.View.{view};
 ghost use Rattle.rb_script_types.specs.Script.{turn_view};
 ghost use Rattle.rb_script_toml.specs.Faults.{Gives};
 ghost use Rattle.rb_script_toml.specs.Fields.{section_view, only};
-ghost use Rattle.rb_script_read.specs.Turns.{turn, turn_at, turn_keys, frame, head_view, reading_view};
+ghost use Rattle.rb_script_read.specs.Turns.{turn, turn_at, turn_keys, is_taken, frame, head_view, reading_view};
 ghost use Rattle.rb_script_config.specs.Setups.{setup_view};
 
 use crate::event::read_events;
@@ -12,7 +12,7 @@ use crate::names::SetNames;
 use rb_base::Window;
 use rb_script_config::{Setup, read_goals, read_settlements};
 use rb_script_toml::{FaultName, RunError, Section, child_path, element_path, section_at};
-use rb_script_types::Turn;
+use rb_script_types::{Turn, Version};
 use toml::Value;
 
 /// What a turn's own keys hold, and the room that it leaves.
@@ -22,6 +22,7 @@ pub struct TurnHead<'a> {
     pub goals: &'a [Value],
     pub events: &'a [Value],
     pub settlements: &'a [Value],
+    pub taken: bool,
     pub room: usize,
 }
 
@@ -33,10 +34,25 @@ pub struct Reading {
     pub room: usize,
 }
 
-fn only_turn_keys(section: &Section<'_>) -> Result<(), RunError>
-    ensures { Gives (λ u. u) result (only turn_keys (section_view section.now)) }
+fn only_turn_keys(version: Version, section: &Section<'_>) -> Result<(), RunError>
+    ensures { Gives (λ u. u) result (only (turn_keys version) (section_view section.now)) }
 {
-    section.only(&["from", "until", "goal", "event", "settle"])
+    match version {
+        Version::One | Version::Two => {
+            section.only(&["from", "until", "goal", "event", "settle"])
+        }
+        Version::Three => section.only(&["from", "until", "goal", "event", "settle", "taken"]),
+    }
+}
+
+/// Whether every batch that is open after the turn's settlements is taken whole.
+fn is_taken(version: Version, section: &Section<'_>) -> Result<bool, RunError>
+    ensures { Gives (λ b. b) result (is_taken version (section_view section.now)) }
+{
+    match version {
+        Version::One | Version::Two => Ok(false),
+        Version::Three => section.flag("taken"),
+    }
 }
 
 /// How much room is left of so much after so many goals, events and settlements, if they fit.
@@ -49,15 +65,20 @@ fn room_after(room: usize, goals: usize, events: usize, settlements: usize) -> O
 }
 
 #[tactic(auto, using(rb_script_toml::proofs::Steps::steps, rb_script_toml::proofs::Steps::counted), unfolding(crate::specs::Turns::frame))]
-fn read_head<'a>(section: Section<'a>, room: usize) -> Result<TurnHead<'a>, RunError>
-    ensures read { Gives head_view result (frame room (section_view section.entry)) }
+fn read_head<'a>(
+    version: Version,
+    section: Section<'a>,
+    room: usize,
+) -> Result<TurnHead<'a>, RunError>
+    ensures read { Gives head_view result (frame version room (section_view section.entry)) }
 {
-    only_turn_keys(&section)?;
+    only_turn_keys(version, &section)?;
     let from = section.time("from")?;
     let until = section.time("until")?;
     let goals = section.items("goal")?;
     let events = section.items("event")?;
     let settlements = section.items("settle")?;
+    let taken = is_taken(version, &section)?;
     let Some(room) = room_after(room, goals.len(), events.len(), settlements.len()) else {
         return Err(section.fault(FaultName::TooManyEvents));
     };
@@ -67,6 +88,7 @@ fn read_head<'a>(section: Section<'a>, room: usize) -> Result<TurnHead<'a>, RunE
             goals,
             events,
             settlements,
+            taken,
             room,
         }),
         Err(_) => Err(section.fault(FaultName::BadWindow)),
@@ -77,7 +99,7 @@ fn read_head<'a>(section: Section<'a>, room: usize) -> Result<TurnHead<'a>, RunE
 fn read_turn(section: &Section<'_>, setup: &Setup, reading: &mut Reading) -> Result<Turn, RunError>
     ensures { Gives (λ t. (turn_view t, reading_view reading.new)) result (turn (setup_view setup.now) (reading_view reading.old) (section_view section.now)) }
 {
-    let frame = read_head(*section, reading.room)?;
+    let frame = read_head(setup.version, *section, reading.room)?;
     reading.room = frame.room;
     let path = child_path(section.alloc, section.path, "goal")?;
     let goals = read_goals(section.alloc, path.as_str(), frame.goals, &setup.clients)?;
@@ -95,6 +117,7 @@ fn read_turn(section: &Section<'_>, setup: &Setup, reading: &mut Reading) -> Res
         goals,
         events,
         settlements,
+        taken: frame.taken,
     })
 }
 

@@ -1,8 +1,8 @@
 -- What a key of a table holds, read by its type and its range.
-use Rattle.std.specs.Prelude.{ℕ, suc, ◌*◌, ◌≤◌, List, [], ◌∷◌, ◌++◌, length, Option, Some, None, option_map, Result, Ok, Err, ℤ, pos, negsuc, ◌&&◌, nat_le, nat_lt, if◌then◌else◌, replicate}
+use Rattle.std.specs.Prelude.{ℕ, suc, Bool, ◌*◌, ◌≤◌, List, [], ◌∷◌, ◌++◌, length, Option, Some, None, option_map, Result, Ok, Err, ℤ, pos, negsuc, ◌&&◌, nat_le, nat_lt, if◌then◌else◌, replicate}
 use Rattle.std.specs.List.{list_any}
 use Rattle.std.specs.Str.{bytes_eq}
-use Rattle.toml.specs.Data.{Data, Items, no_items, item, Members, no_members, member, get_member, as_str, as_integer, as_array, as_table}
+use Rattle.toml.specs.Data.{Data, Items, no_items, item, Members, no_members, member, get_member, as_str, as_bool, as_integer, as_array, as_table}
 use Rattle.toml.specs.View.{view, table_view}
 use Rattle.hex.specs.Hex.{decode_sized}
 use Rattle.hex.specs.declared.error.FromHexError.{FromHexError}
@@ -32,6 +32,10 @@ typed None path = fault WrongType path
 
 unfoldable pub text : Field → Result (List ℕ) Fault
 text f = typed (as_str f.value) f.path
+
+-- true or false
+unfoldable pub flag : Field → Result Bool Fault
+flag f = typed (as_bool f.value) f.path
 
 -- ---- numbers
 

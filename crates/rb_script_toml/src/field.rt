@@ -28,7 +28,7 @@ pub struct Field<'a> {
 impl<'a> Field<'a> {
     ghost use Rattle.rb_base.specs.Fraction.{IsTrustLevel};
     ghost use Rattle.rb_base.specs.Identifier.{IsIdentifier};
-    ghost use Rattle.rb_script_toml.specs.Fields.{field_view, typed, text, number, height, identifier, three_integers, two_integers, fees, AreFees, fee_table, ratio_of, trust, within, time, hash, items, array};
+    ghost use Rattle.rb_script_toml.specs.Fields.{field_view, typed, text, flag, number, height, identifier, three_integers, two_integers, fees, AreFees, fee_table, ratio_of, trust, within, time, hash, items, array};
 
     /// The fault of this name at this value.
     pub fn fault(&self, name: FaultName) -> RunError
@@ -65,6 +65,17 @@ impl<'a> Field<'a> {
     {
         match self.value.as_str() {
             Some(text) => Ok(text),
+            None => Err(self.wrong_type()),
+        }
+    }
+
+    /// Whether it holds `true`.
+    #[tactic(auto, using(crate::proofs::Steps::steps), unfolding(crate::specs::Fields::flag))]
+    pub fn flag(&self) -> Result<bool, RunError>
+        ensures { Gives (λ b. b) result (flag (field_view self.now)) }
+    {
+        match self.value.as_bool() {
+            Some(value) => Ok(value),
             None => Err(self.wrong_type()),
         }
     }

@@ -1,5 +1,5 @@
 //! A table, and the look-up of its keys.
-ghost use Rattle.std.specs.Prelude.{◌≡◌, ◌≤◌, IfOk, map, option_map, string_bytes};
+ghost use Rattle.std.specs.Prelude.{◌≡◌, ◌≤◌, false, IfOk, map, option_map, string_bytes};
 ghost use Rattle.std.specs.List.{list_any};
 ghost use Rattle.std.specs.Str.{bytes_eq};
 ghost use Rattle.toml.specs.Data.{get_member};
@@ -26,7 +26,7 @@ pub struct Section<'a> {
 impl<'a> Section<'a> {
     ghost use Rattle.toml.specs.Data.{no_items};
     ghost use Rattle.rb_script_toml.specs.KeyPaths.{place_path};
-    ghost use Rattle.rb_script_toml.specs.Fields.{field_view, only, optional, required, needs, or_default, maybe, number, height, fee_table, time, hash, zero_hash, array, items};
+    ghost use Rattle.rb_script_toml.specs.Fields.{field_view, only, optional, required, needs, or_default, maybe, flag, number, height, fee_table, time, hash, zero_hash, array, items};
 
     /// The place of a key of this table.
     pub fn place(&self, key: &'a str) -> KeyPath<'a>
@@ -114,6 +114,17 @@ impl<'a> Section<'a> {
         match self.optional(key) {
             Some(field) => field.number(low, high, FaultName::OutOfRange),
             None => Ok(default),
+        }
+    }
+
+    /// Whether a key holds `true`, or not where it isn't there.
+    #[tactic(auto, using(crate::proofs::Steps::steps))]
+    pub fn flag(&self, key: &'a str) -> Result<bool, RunError>
+        ensures { Gives (λ b. b) result (or_default false flag (optional key.entry.now (section_view self.now))) }
+    {
+        match self.optional(key) {
+            Some(field) => field.flag(),
+            None => Ok(false),
         }
     }
 

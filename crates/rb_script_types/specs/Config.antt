@@ -3,17 +3,19 @@ use Rattle.std.specs.Prelude.{◌≡◌, ◌≢◌, ℕ, ◌<◌, ◌≤◌, Lis
 use Rattle.rb_script_types.specs.declared.config.ClientConfig.{ClientConfig}
 use Rattle.rb_script_types.specs.declared.config.PathConfig.{PathConfig}
 use Rattle.rb_script_types.specs.declared.config.Config.{Config as CodeConfig}
+use Rattle.rb_script_types.specs.declared.version.Version.{Version}
 use Rattle.rb_script_types.specs.Limits.{max_chains, max_clients, max_paths, max_records}
 
--- how many records a book may have, the identifiers of the chains, the clients and the paths
+-- the version, how many records a book may have, the identifiers of the chains, the clients and the paths
 pub record Config : Type 0 where
+  pub version : Version
   pub limit : ℕ
   pub chains : List (List ℕ)
   pub clients : List ClientConfig
   pub paths : List PathConfig
 
 abbrev pub config_view : {A : Type 0} → CodeConfig A → Config
-config_view c = record { limit = c.limit; chains = c.chains.items; clients = c.clients.items; paths = c.paths.items }
+config_view c = record { version = c.version; limit = c.limit; chains = c.chains.items; clients = c.clients.items; paths = c.paths.items }
 
 -- ---- what every configuration keeps
 

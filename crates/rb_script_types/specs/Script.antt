@@ -1,5 +1,5 @@
 -- scripts, with chains, clients and paths named by their places
-use Rattle.std.specs.Prelude.{◌≡◌, ◌≢◌, ℕ, ◌+◌, ◌<◌, ◌≤◌, List, length, map, sum_by, All, AllPairs}
+use Rattle.std.specs.Prelude.{◌≡◌, ◌≢◌, ℕ, ◌+◌, ◌<◌, ◌≤◌, Bool, List, length, map, sum_by, All, AllPairs}
 use Rattle.rb_base.specs.Window.{Span}
 use Rattle.rb_script_types.specs.declared.observation.Observation.{Observation}
 use Rattle.rb_script_types.specs.declared.observation.Observation.TheVariants.{SetSeen, HeaderSeen, StoredSeen, Sent, Received, AckWritten, Cleared, Closed}
@@ -11,19 +11,20 @@ use Rattle.rb_script_types.specs.declared.config.Config.{Config as CodeConfig}
 use Rattle.rb_script_types.specs.Config.{Config, config_view, IsConfig}
 use Rattle.rb_script_types.specs.Limits.{max_turns, max_entries}
 
--- the window, what is asked, what was seen before, and what was settled after
+-- the window, what is asked, what was seen before, what was settled after, and whether all that is open then was taken
 pub record Turn (A : Type 0) : Type 0 where
   pub window : Span
   pub goals : List Asked
   pub events : List (Observation A)
   pub settlements : List Settlement
+  pub taken : Bool
 
 pub record Script (A : Type 0) : Type 0 where
   pub config : Config
   pub turns : List (Turn A)
 
 abbrev pub turn_view : {A : Type 0} → CodeTurn A → Turn A
-turn_view t = record { window = t.window; goals = t.goals.items; events = t.events.items; settlements = t.settlements.items }
+turn_view t = record { window = t.window; goals = t.goals.items; events = t.events.items; settlements = t.settlements.items; taken = t.taken }
 
 abbrev pub script_view : {A : Type 0} → CodeScript A → Script A
 script_view s = record { config = config_view s.config; turns = map turn_view s.turns.items }

@@ -5,15 +5,26 @@ ghost use Rattle.rb_script_types.specs.Config.{config_view, Connects, IsClient, 
 use crate::differing::all_differ;
 use crate::gas::PathGas;
 use crate::limits::{MAX_CHAINS, MAX_CLIENTS, MAX_PATHS};
+use crate::version::Version;
+use crate::waits::Waits;
 use rb_base::{ChainId, ClientId, FeeTable, Options, PathId};
 use rb_batch::Limits;
 use rb_book::MAX_RECORDS;
 use rb_scan::{Order, Sequence};
 use std::alloc::{AllocError, Allocator, Global};
 
+/// To which height a client is brought where it is due for a refresh.
+#[derive(Clone, Copy, Debug, PartialEq, Eq)]
+pub enum RefreshTo {
+    /// The lowest known one whose record is not due, or one above it.
+    Lowest,
+    /// The greatest that can be reached, where its record is not due; else as `Lowest` has it.
+    Highest,
+}
+
 /// A client: the chain that hosts it, the chain that it tracks, how it judges headers, after how
-/// many nanoseconds it is to be refreshed (0: never), what an update costs in fees and in gas, and
-/// what a transaction may carry.
+/// many nanoseconds it is to be refreshed (0: never) and to which height, what an update costs in fees
+/// and in gas, and what a transaction may carry.
 #[derive(Clone, Copy, Debug, PartialEq, Eq)]
 pub struct ClientConfig {
     pub id: ClientId,
@@ -21,6 +32,7 @@ pub struct ClientConfig {
     pub tracks: usize,
     pub options: Options,
     pub refresh: u64,
+    pub refresh_to: RefreshTo,
     pub fees: FeeTable,
     pub gas: FeeTable,
     pub limits: Limits,
@@ -29,7 +41,7 @@ pub struct ClientConfig {
 /// A path, which is one direction of a channel (ICS 4): the chain that its packets come from and the
 /// one that they go to, in which order they are received, the sequence below which all of them are
 /// finished and cleared, the client on the destination, which takes receives, the one on the source,
-/// which takes acknowledgements and timeouts, and the gas of its messages.
+/// which takes acknowledgements and timeouts, the gas of its messages, and how long they may wait.
 #[derive(Clone, Copy, Debug, PartialEq, Eq)]
 pub struct PathConfig {
     pub id: PathId,
@@ -40,11 +52,14 @@ pub struct PathConfig {
     pub forward: usize,
     pub back: usize,
     pub gas: PathGas,
+    pub waits: Waits,
 }
 
-/// The chains, the clients and the paths, and how many records a book of a chain may have.
+/// The version of the format, how many records a book of a chain may have, and the chains, the clients
+/// and the paths.
 #[derive(Debug, Drop)]
 pub struct Config<A: Allocator = Global> {
+    pub version: Version,
     pub limit: usize,
     pub chains: Vec<ChainId, A>,
     pub clients: Vec<ClientConfig, A>,
@@ -58,6 +73,7 @@ impl<A: Allocator + Copy> Config<A> {
     {
         let alloc = *self.chains.allocator();
         Ok(Config {
+            version: self.version,
             limit: self.limit,
             chains: Vec::from_slice(alloc, self.chains.as_slice())?,
             clients: Vec::from_slice(alloc, self.clients.as_slice())?,

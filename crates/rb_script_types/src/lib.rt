@@ -10,12 +10,16 @@ mod limits;
 mod observation;
 mod refusal;
 mod script;
+mod version;
+mod waits;
 
 pub use block::BlockHeight;
-pub use config::{ClientConfig, Config, PathConfig, is_config};
+pub use config::{ClientConfig, Config, PathConfig, RefreshTo, is_config};
 pub use gas::PathGas;
 pub use goal::Goal;
 pub use limits::{MAX_CHAINS, MAX_CLIENTS, MAX_ENTRIES, MAX_PATHS, MAX_TURNS};
 pub use observation::Observation;
 pub use refusal::Refusal;
 pub use script::{Asked, Script, Settlement, Turn};
+pub use version::Version;
+pub use waits::Waits;

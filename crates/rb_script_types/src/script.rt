@@ -13,14 +13,15 @@ pub struct Script<A: Allocator = Global> {
     pub turns: Vec<Turn<A>, A>,
 }
 
-/// A turn: the window in which updates may be submitted, what is asked, what was seen before, and
-/// what was taken of the batches after.
+/// A turn: the window in which updates may be submitted, what is asked, what was seen before, what was
+/// taken of the batches after, and whether every batch that is open then was taken whole.
 #[derive(Debug, Drop)]
 pub struct Turn<A: Allocator = Global> {
     pub window: Window,
     pub goals: Vec<Asked, A>,
     pub events: Vec<Observation<A>, A>,
     pub settlements: Vec<Settlement, A>,
+    pub taken: bool,
 }
 
 /// What is asked of a client.

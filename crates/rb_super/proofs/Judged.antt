@@ -7,11 +7,10 @@ use Rattle.std.specs.declared.alloc.AllocError.{AllocError}
 use Rattle.std.proofs.lemmas.Option.{none-some, same_Some}
 use Rattle.rb_cert.specs.declared.verdict.Judgement.{Judgement}
 use Rattle.rb_cert.specs.declared.verdict.Judgement.TheVariants.{Yes}
-use Rattle.rb_core_model.specs.Batches.{batch_open}
 use Rattle.rb_core.specs.Core.{Core, state_in}
 use Rattle.rb_plan_client.specs.Draft.{Job, Draft}
 use Rattle.rb_core_model.specs.Machine.{client_view}
-use Rattle.rb_core_model.specs.Standing.{OpenBatch, ClientState, Standing, task_in}
+use Rattle.rb_core_model.specs.Standing.{OpenBatch, ClientState, Standing, task_in, batch_open}
 use Rattle.rb_plan_client.specs.Task.{Task, view_of, goal_of}
 use Rattle.rb_core_model.proofs.Drafted.{drafted}
 use Rattle.rb_core_model.proofs.Options.{some_from}
@@ -68,7 +67,7 @@ pub job_there : (core : Core) (client : ℕ) (job : Job) → client < length cor
     → batch_open (standing_in core) client ≡ None → client_view (state_in core) client ≡ Some job
     → (known : ClientState) × IsClientIn (standing_in core) client known job.task × (known.batch ≡ None)
 job_there core client job lt room ready none_open view =
-    let d : Draft = record { job = job; answer = None } in
+    let d : Draft = record { job = job; answer = None; next = None } in
     let x = drafted (state_in core) d (draft_accepted core client d lt room ready none_open view) in
     let place : job.client ≡ client = client_of_view (state_in core) client d view in (
       x.known,

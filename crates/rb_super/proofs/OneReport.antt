@@ -18,13 +18,14 @@ use Rattle.rb_plan.specs.Least.{IsUnreachable}
 use Rattle.rb_plan.specs.ProofHeight.{IsProofHeight}
 use Rattle.rb_step.specs.LightClient.{Update, Client}
 use Rattle.rb_step.specs.View.{client_of}
-use Rattle.rb_plan_client.specs.Draft.{Batch, Sending, nothing, too_big, batched, Plan, Planned as Answer, IsBatch, IsSending, IsPlan, IsPlanned, IsIdle}
+use Rattle.rb_plan_client.specs.Draft.{Batch, Sending, nothing, too_big, batched, Plan, Planned as Answer, IsBatch, IsSending, IsPlan, IsPlanned, IsIdle, planned_updates}
 use Rattle.rb_plan_client.specs.Reach.{IsReach}
 use Rattle.rb_core_model.specs.Standing.{OpenBatch, ClientState, Standing, task_in}
-use Rattle.rb_plan_client.specs.Task.{Task, Message, view_of, goal_of, messages_of, gas_of, gases}
+use Rattle.rb_plan_client.specs.Next.{IsNext}
+use Rattle.rb_plan_client.specs.Task.{Task, Message, view_of, next_moment, goal_of, messages_of, gas_of, gases}
 use Rattle.rb_super_turn.specs.Report.{Outcome, held, idle, planned, ClientReport, TurnReport}
 use Rattle.rb_super_turn.specs.Script.{Turn}
-use Rattle.rb_super_turn.specs.Turns.{reported, IsOutcome, IsClientReport, before_plans, after_plans, settlement_reports, IsTurnReport}
+use Rattle.rb_super_turn.specs.Turns.{reported, IsOutcome, IsClientReport, before_plans, after_plans, reports_of_all, IsTurnReport}
 use Rattle.rb_super.proofs.OneLabelling.{one_labelling}
 
 -- ---- no message of a division is too big alone
@@ -129,20 +130,25 @@ module _ (one : AnswersAreOne) (cuts : LeastCutIsOne) where
   idle_or_planned t p a b =
       none-some p.goal (sym a.goal ∙ ap (goal_of t) (one_reach (client_of (view_of t)) a.reach b.reach a.is_reach b.is_reach) ∙ b.goal)
 
+  one_next : (t : Task) (us : List Update) (m n : Option ℕ) → IsNext t us m → IsNext t us n → m ≡ n
+  one_next t us m n a b = a.is ∙ ap (λ reach. next_moment t reach us) (one_reach (client_of (view_of t)) a.reach b.reach a.is_reach b.is_reach) ∙ sym b.is
+
   held_or_free : (c : ClientState) (n : ℕ) → option_map (λ (b : OpenBatch). b.number) c.batch ≡ Some n → c.batch ≡ None → ⊥
   held_or_free c n e free = none-some n (sym (ap (option_map (λ (b : OpenBatch). b.number)) free) ∙ e)
 
   one_outcome : (t : Task) (c : ClientState) (a b : Outcome) → IsOutcome t c a → IsOutcome t c b → a ≡ b
   one_outcome t c (held m) (held n) p q = ap (λ x. held x) (same_Some m n (sym p ∙ q))
-  one_outcome t c (held m) idle p q = absurd (held_or_free c m p q.0)
+  one_outcome t c (held m) (idle n) p q = absurd (held_or_free c m p q.0)
   one_outcome t c (held m) (planned b) p q = absurd (held_or_free c m p q.0)
-  one_outcome t c idle (held n) p q = absurd (held_or_free c n q p.0)
-  one_outcome t c idle idle p q = refl
-  one_outcome t c idle (planned b) p q = absurd (idle_or_planned t q.1.answer p.1 q.1.right)
+  one_outcome t c (idle m) (held n) p q = absurd (held_or_free c n q p.0)
+  one_outcome t c (idle m) (idle n) p q = ap (λ x. idle x) (one_next t [] m n p.2 q.2)
+  one_outcome t c (idle m) (planned b) p q = absurd (idle_or_planned t q.1.answer p.1 q.1.right)
   one_outcome t c (planned a) (held n) p q = absurd (held_or_free c n q p.0)
-  one_outcome t c (planned a) idle p q = absurd (idle_or_planned t p.1.answer q.1 p.1.right)
+  one_outcome t c (planned a) (idle n) p q = absurd (idle_or_planned t p.1.answer q.1 p.1.right)
   one_outcome t c (planned a) (planned b) p q =
-      ap (λ x. planned x) (p.1.is ∙ ap (reported t (c.batches + 1)) (one_planned t p.1.answer q.1.answer p.1.right q.1.right) ∙ sym q.1.is)
+      let answer : p.1.answer ≡ q.1.answer = one_planned t p.1.answer q.1.answer p.1.right q.1.right in
+      let next : a.next ≡ b.next = one_next t (planned_updates (Some q.1.answer)) a.next b.next (subst (λ x. IsNext t (planned_updates (Some x)) a.next) answer p.1.next) q.1.next in
+      ap (λ x. planned x) (p.1.is ∙ (λ i. reported t (c.batches + 1) (next i) (answer i)) ∙ sym q.1.is)
 
   -- ---- turns
 
@@ -171,6 +177,6 @@ module _ (one : AnswersAreOne) (cuts : LeastCutIsOne) where
       let refused = a.refused ∙ sym b.refused in
       let clients = one_row (before_plans s t) (enumerate_from 0 (before_plans s t).clients) r.clients q.clients a.clients b.clients in
       let settlements = a.settlements
-      ∙ ap (λ (rs : List ClientReport). settlement_reports (after_plans s t (record { window_back = r.window_back; refused = r.refused; clients = rs; settlements = r.settlements })) t.settlements) clients
+      ∙ ap (λ (rs : List ClientReport). reports_of_all t.settlements t.taken (after_plans s t (record { window_back = r.window_back; refused = r.refused; clients = rs; settlements = r.settlements }))) clients
       ∙ sym b.settlements in
       λ i. record { window_back = window i; refused = refused i; clients = clients i; settlements = settlements i }

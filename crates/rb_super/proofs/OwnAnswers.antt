@@ -48,8 +48,8 @@ reported_at one cuts s (x ∷ ts) (y ∷ rs) (suc i) u t r all leads at is =
     reported_at one cuts (after_turn s x leads.0) ts rs i u t r (subst (λ (z : TurnReport). AreTurnReports (after_turn s x z) ts rs) same all.1) leads.2 at is
 
 -- what a report claims is what was planned
-claimed : (t : Task) (number : ℕ) (a : Answer) → claim_in (reported t number a) ≡ option_map (λ (p : SentPlan). p.updates) a.plan
-claimed t number a = go a.plan
+claimed : (t : Task) (number : ℕ) (next : Option ℕ) (a : Answer) → claim_in (reported t number next a) ≡ option_map (λ (p : SentPlan). p.updates) a.plan
+claimed t number next a = go a.plan
   where
     go : (o : Option SentPlan) → option_map (λ (p : PlanReport). map update_of p.updates) (option_map (reported_plan t number) o) ≡ option_map (λ (p : SentPlan). p.updates) o
     go None = refl
@@ -76,7 +76,7 @@ own_answer one cuts script turn client labels claim s Accepted phase accepts rep
     let outcome : IsOutcome t c (planned own.answer) = subst (IsOutcome t c) own.outcome mine.outcome in
     let a = outcome.1.answer in
     let right = outcome.1.right in
-    let is : own.answer ≡ reported t (c.batches + 1) a = outcome.1.is in
+    let is : own.answer ≡ reported t (c.batches + 1) own.answer.next a = outcome.1.is in
     let goal : IsPlannedGoal c t (Some a.goal) =
     subst (λ o. MatchOption o (IsWanted t (Some a.goal)) (λ b. Some a.goal ≡ None)) (sym outcome.0) (record { reach = right.reach; is_reach = right.is_reach; is_goal = sym right.goal }) in
     accepts (record {
@@ -86,5 +86,5 @@ own_answer one cuts script turn client labels claim s Accepted phase accepts rep
       goal = a.goal;
       is_planned = goal;
       exact = subst (λ (l : Labels). IsExact (client_of (view_of t)) l) (sym (own.labels_are ∙ ap (λ (p : PlannedReport). label_of p.labels) is)) right.exact;
-      shows = subst (λ (x : Option (List Update)). Shows (client_of (view_of t)) a.goal x) (sym (own.claim_is ∙ ap claim_in is ∙ claimed t (c.batches + 1) a)) (shown t right.reach a.goal a.plan right.plan);
+      shows = subst (λ (x : Option (List Update)). Shows (client_of (view_of t)) a.goal x) (sym (own.claim_is ∙ ap claim_in is ∙ claimed t (c.batches + 1) own.answer.next a)) (shown t right.reach a.goal a.plan right.plan);
     })

@@ -45,7 +45,7 @@ reach_leads (w ∷ ts) (q ∷ rs) s u so_far = (q, so_far.0, reach_leads ts rs (
 -- ---- room
 
 -- all that a script's turns give has room
-turns_give : {A : Type 0} (c : Config) → length c.clients ≤ 256 → length c.paths ≤ 256 → (ts : List (CodeTurn A)) → sum_by (most_events c) ts ≤ sum_by entry_count (map turn_view ts) + 769 * length ts
+turns_give : {A : Type 0} (c : Config) → length c.clients ≤ 256 → length c.paths ≤ 256 → (ts : List (CodeTurn A)) → sum_by (most_events c) ts ≤ sum_by entry_count (map turn_view ts) + 1025 * length ts
 turns_give c clients paths [] = omega arith
 turns_give c clients paths (t ∷ ts) =
     let rest = turns_give c clients paths ts in

@@ -1,7 +1,7 @@
 //! The judgement of an answer that was made for a client in a turn of a script.
 ghost use Rattle.std.specs.Prelude.{◌≡◌, ◌<◌, Ok, Some, None, length, take, slice_get, IfOk};
 ghost use denote.Param.Send.{Frees};
-ghost use Rattle.rb_core_model.specs.Batches.{batch_open};
+ghost use Rattle.rb_core_model.specs.Standing.{batch_open};
 ghost use Rattle.rb_core.specs.Core.{state_in};
 ghost use Rattle.rb_core_model.specs.Machine.{client_view};
 ghost use Rattle.rb_script_types.specs.declared.goal.Goal.{Goal as AnyGoal};

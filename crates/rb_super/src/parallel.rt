@@ -17,7 +17,7 @@ use rb_core::Core;
 use rb_script_types::{Asked, Config, Observation, Turn};
 use rb_super_turn::{
     ClientReport, Crew, RefusedEvent, Relayer, TurnReport, hear_all, no_tables, plan_all, scan_all,
-    settle_all,
+    settle_turn,
 };
 use rb_super_worker::{Inbox, Team};
 use std::alloc::{AllocError, Global};
@@ -238,9 +238,10 @@ impl<G: Gate + Send + Sync + Drop + 'static> ParallelSupervisor<G> {
 
     /// Leads the relayer through a turn: the window, the asked goals, what was observed, the scans of
     /// both parts of each path that has no valid one, the plans of the clients that have no open
-    /// batch, and the settlements. Workers scan and plan; what they don't find, and what is refused of
-    /// it, is done here. What is refused of the turn is reported and changes nothing. An error comes
-    /// only where a growth is refused, also to a worker; all workers have then ended.
+    /// batch, the settlements, and what is taken after them. Workers scan and plan; what they don't
+    /// find, and what is refused of it, is done here. What is refused of the turn is reported and
+    /// changes nothing. An error comes only where a growth is refused, also to a worker; all workers
+    /// have then ended.
     pub fn turn<R: Threads + Sync + Wait>(
         self,
         crew: &Crew<R, G>,
@@ -257,6 +258,7 @@ impl<G: Gate + Send + Sync + Drop + 'static> ParallelSupervisor<G> {
             goals,
             events,
             settlements,
+            taken,
         } = turn;
         let ParallelSupervisor {
             alloc,
@@ -273,7 +275,7 @@ impl<G: Gate + Send + Sync + Drop + 'static> ParallelSupervisor<G> {
             events,
         )?;
         let (mut relayer, team, clients) = plan(crew, alloc, relayer, team)?;
-        let settled = settle_all(alloc, &mut relayer, settlements.as_slice());
+        let settled = settle_turn(alloc, &mut relayer, settlements.as_slice(), taken);
         let (relayer, team, settlements) = or_end(crew.rt(), relayer, team, settled)?;
         let report = TurnReport {
             window_back,

@@ -68,15 +68,21 @@ pub fn run_script<R: Threads + Sync, G: Gate + Sync, A: Allocator + Copy + Send 
 ) -> Result<Report<A>, AllocError>
     requires script { IsReadScript (script_view script) }
     requires alloc { Frees A.Allocator A.dealloc_token }
+    ensures version { IfOk result (λ report. report.version ≡ script.config.version) }
     ensures paths { IfOk result (λ report. report.paths.items ≡ map (λ (p : PathConfig). p.id) script.config.paths.items) }
     ensures turns { IfOk result (λ report. IsReportOf (as_events (script_view script)) (report_view report)) }
 {
     let crew = Crew::new(rt, 0, gate);
     let Script { config, turns } = script;
+    let version = config.version;
     let paths = path_ids(alloc, config.paths.as_slice())?;
     let supervisor = Supervisor::new(alloc, config)?;
     let (turns, _) = run_turns(&crew, alloc, supervisor, turns)?;
-    Ok(Report { paths, turns })
+    Ok(Report {
+        version,
+        paths,
+        turns,
+    })
 }
 
 /// Puts a report to the end of a list.
@@ -146,15 +152,21 @@ where
     requires script { IsReadScript (script_view script) }
     requires desks { desks ≤ 64 }
     requires start { F.IsAlwaysCallable start }
+    ensures version { IfOk result (λ report. report.version ≡ script.config.version) }
     ensures paths { IfOk result (λ report. report.paths.items ≡ map (λ (p : PathConfig). p.id) script.config.paths.items) }
     ensures turns { IfOk result (λ report. IsReportOf (as_events (script_view script)) (report_view report)) }
 {
     let Script { config, turns } = script;
+    let version = config.version;
     let paths = path_ids(alloc, config.paths.as_slice())?;
     let reports = Vec::with_capacity(alloc, turns.len())?;
     let team = ParallelSupervisor::new(crew.rt(), alloc, config, desks, start)?;
     let turns = turns_by_workers(crew, reports, team, turns)?;
-    Ok(Report { paths, turns })
+    Ok(Report {
+        version,
+        paths,
+        turns,
+    })
 }
 
 /// Runs a script, turn by turn, its scans and plans by so many workers in threads of their own, at most
@@ -174,6 +186,7 @@ pub fn run_by_workers<
 ) -> Result<Report, AllocError>
     requires script { IsReadScript (script_view script) }
     requires workers { workers ≤ 64 }
+    ensures version { IfOk result (λ report. report.version ≡ script.config.version) }
     ensures paths { IfOk result (λ report. report.paths.items ≡ map (λ (p : PathConfig). p.id) script.config.paths.items) }
     ensures turns { IfOk result (λ report. IsReportOf (as_events (script_view script)) (report_view report)) }
 {

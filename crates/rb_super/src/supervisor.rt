@@ -22,7 +22,7 @@ use rb_plan_client::Draft;
 use rb_script_types::{Asked, Config, Observation, Turn};
 use rb_super_turn::{
     Crew, Nothing, RefusedEvent, Relayer, TurnReport, drafts_of, hear_all, plan_all, scan_all,
-    settle_all,
+    settle_turn,
 };
 use std::alloc::{AllocError, Allocator, Global};
 use std::marker::Model;
@@ -138,8 +138,8 @@ impl<A: Allocator + Copy> Supervisor<A> {
 impl<A: Allocator + Copy + Send + Sync> Supervisor<A> {
     /// Leads the relayer through a turn: the window, the asked goals, what was observed, the scans of
     /// both parts of each path that has no valid one, the plans of the clients that have no open
-    /// batch, and the settlements. What is refused is reported and changes nothing. An error comes
-    /// only where a growth is refused; the supervisor is then given up.
+    /// batch, the settlements, and what is taken after them. What is refused is reported and changes
+    /// nothing. An error comes only where a growth is refused; the supervisor is then given up.
     pub fn turn<R: Threads + Sync, G: Gate + Sync>(
         self,
         crew: &Crew<R, G>,
@@ -157,6 +157,7 @@ impl<A: Allocator + Copy + Send + Sync> Supervisor<A> {
             goals,
             events,
             settlements,
+            taken,
         } = turn;
         let Supervisor { alloc, mut relayer } = self;
         let (window_back, refused) = prepare(
@@ -168,7 +169,7 @@ impl<A: Allocator + Copy + Send + Sync> Supervisor<A> {
             events,
         )?;
         let clients = plan_all(crew, alloc, &mut relayer, &mut Nothing)?;
-        let settlements = settle_all(alloc, &mut relayer, settlements.as_slice())?;
+        let settlements = settle_turn(alloc, &mut relayer, settlements.as_slice(), taken)?;
         let report = TurnReport {
             window_back,
             refused,

@@ -1,5 +1,5 @@
 -- Before a client is planned for, all parts of all paths are scanned.
-use Rattle.std.proofs.Common.{◌≡◌, ◌⊎◌, ℕ, zero, suc, ◌+◌, ◌<◌, ◌≤◌, true, List, [], ◌∷◌, ◌++◌, length, map, is_some, refl, inl, inr, arith}
+use Rattle.std.proofs.Common.{◌≡◌, ◌⊎◌, ℕ, zero, suc, ◌+◌, ◌<◌, ◌≤◌, Bool, true, false, if◌then◌else◌, List, [], ◌∷◌, ◌++◌, length, map, is_some, refl, inl, inr, arith}
 use Rattle.std.specs.List.{flat_map, range_with_len, AllByRecursion}
 use Rattle.std.proofs.lemmas.Bool.{cases_eq}
 use Rattle.std.proofs.lemmas.List.Elements.{recursion_from_All}
@@ -8,7 +8,7 @@ use Rattle.rb_base.specs.declared.gate.Part.TheVariants.{Packets, Channel}
 use Rattle.rb_script_types.specs.Config.{Config}
 use Rattle.rb_core_model.specs.Event.{Event, IsEvent}
 use Rattle.rb_core_model.specs.Standing.{Standing}
-use Rattle.rb_super_turn.specs.Agenda.{Item, enter, ask, observe, scan, plan, settle, observations, both_parts, agenda}
+use Rattle.rb_super_turn.specs.Agenda.{Item, enter, ask, observe, scan, plan, settle, take_open, takes, observations, both_parts, agenda}
 use Rattle.rb_script_types.specs.declared.script.Asked.{Asked as Question}
 use Rattle.rb_script_types.specs.declared.script.Settlement.{Settlement}
 use Rattle.rb_super_turn.specs.Script.{Turn, IsSeen, IsTurn}
@@ -31,6 +31,7 @@ Covers paths S (observe number event ∷ items) = Covers paths Nothing items
 Covers paths S (scan path part ∷ items) = Covers paths (Plus S path part) items
 Covers paths S (plan client ∷ items) = ((p : ℕ) (part : Part) → p < paths → S p part) × Covers paths S items
 Covers paths S (settle x ∷ items) = Covers paths Nothing items
+Covers paths S (take_open client ∷ items) = Covers paths Nothing items
 
 pub more : (paths : ℕ) (S T : Scanning) → ((p : ℕ) (part : Part) → S p part → T p part) → (items : List Item) → Covers paths S items → Covers paths T items
 more paths S T f [] c = c
@@ -40,6 +41,7 @@ more paths S T f (observe number event ∷ items) c = c
 more paths S T f (scan path part ∷ items) c = more paths (Plus S path part) (Plus T path part) (λ p other. elim [ inl a ↦ inl (f p other a) | inr b ↦ inr b ]) items c
 more paths S T f (plan client ∷ items) c = (λ p part lt. f p part (c.0 p part lt), more paths S T f items c.1)
 more paths S T f (settle x ∷ items) c = c
+more paths S T f (take_open client ∷ items) c = c
 
 -- ---- the agenda
 
@@ -77,9 +79,20 @@ within (suc count) a S p part from to = elim (cases_eq p a) [
   | inr other ↦ within count (a + 1) (Both S a) p part (omega arith) (omega arith)
 ]
 
-settling : (paths : ℕ) (xs : List Settlement) (S : Scanning) → Covers paths S (map settle xs)
-settling paths [] S = tt
-settling paths (x ∷ xs) S = settling paths xs Nothing
+nothing_more : (paths : ℕ) (S : Scanning) (items : List Item) → Covers paths Nothing items → Covers paths S items
+nothing_more paths S items c = more paths Nothing S (λ p part no. absurd no) items c
+
+settling : (paths : ℕ) (xs : List Settlement) (items : List Item) (S : Scanning) → Covers paths Nothing items → Covers paths S (map settle xs ++ items)
+settling paths [] items S c = nothing_more paths S items c
+settling paths (x ∷ xs) items S c = settling paths xs items Nothing c
+
+taking_open : (paths : ℕ) (clients : List ℕ) → Covers paths Nothing (map take_open clients)
+taking_open paths [] = tt
+taking_open paths (n ∷ clients) = taking_open paths clients
+
+taking_all : (paths : ℕ) (clients : List ℕ) (b : Bool) → Covers paths Nothing (if b then map take_open clients else [])
+taking_all paths clients true = taking_open paths clients
+taking_all paths clients false = tt
 
 after_plans : (paths : ℕ) (clients : List ℕ) (S : Scanning) (items : List Item) → ((p : ℕ) (part : Part) → p < paths → S p part) → Covers paths S items → Covers paths S (map plan clients ++ items)
 after_plans paths [] S items all c = c
@@ -89,8 +102,8 @@ pub agenda_covers : (config : Config) (turn : Turn) (S : Scanning) → Covers (l
 agenda_covers config turn S =
     let n = length config.paths in
     after_asks n turn.goals _ (after_observations n turn.events 0 _ (after_scans n (range_with_len 0 n) Nothing _
-    (after_plans n (range_with_len 0 (length config.clients)) (PlusAll Nothing (range_with_len 0 n)) (map settle turn.settlements)
-    (λ p part lt. within n 0 Nothing p part (omega arith) (omega arith)) (settling n turn.settlements (PlusAll Nothing (range_with_len 0 n))))))
+    (after_plans n (range_with_len 0 (length config.clients)) (PlusAll Nothing (range_with_len 0 n)) (map settle turn.settlements ++ takes config turn)
+    (λ p part lt. within n 0 Nothing p part (omega arith) (omega arith)) (settling n turn.settlements (takes config turn) (PlusAll Nothing (range_with_len 0 n)) (taking_all n (range_with_len 0 (length config.clients)) turn.taken)))))
 
 -- ---- what is named is there
 
@@ -101,6 +114,7 @@ IsItem c (observe number event) = IsSeen c event × IsEvent event
 IsItem c (scan path part) = path < length c.paths
 IsItem c (plan client) = client < length c.clients
 IsItem c (settle x) = x.client < length c.clients
+IsItem c (take_open client) = client < length c.clients
 
 module _ (c : Config) where
   items_asked : (goals : List Question) (items : List Item) → AllByRecursion (λ (g : Question). g.client < length c.clients) goals → AllByRecursion (IsItem c) items → AllByRecursion (IsItem c) (map ask goals ++ items)
@@ -120,9 +134,18 @@ module _ (c : Config) where
   items_planned zero a items le rest = rest
   items_planned (suc count) a items le rest = (omega arith, items_planned count (a + 1) items (omega arith) rest)
 
-  items_settled : (xs : List Settlement) → AllByRecursion (λ (x : Settlement). x.client < length c.clients) xs → AllByRecursion (IsItem c) (map settle xs)
-  items_settled [] all = tt
-  items_settled (x ∷ xs) all = (all.0, items_settled xs all.1)
+  items_settled : (xs : List Settlement) (items : List Item) → AllByRecursion (λ (x : Settlement). x.client < length c.clients) xs → AllByRecursion (IsItem c) items
+      → AllByRecursion (IsItem c) (map settle xs ++ items)
+  items_settled [] items all rest = rest
+  items_settled (x ∷ xs) items all rest = (all.0, items_settled xs items all.1 rest)
+
+  items_taken : (count a : ℕ) → a + count ≤ length c.clients → AllByRecursion (IsItem c) (map take_open (range_with_len a count))
+  items_taken zero a le = tt
+  items_taken (suc count) a le = (omega arith, items_taken count (a + 1) (omega arith))
+
+  items_if_taken : (b : Bool) → AllByRecursion (IsItem c) (if b then map take_open (range_with_len 0 (length c.clients)) else [])
+  items_if_taken true = items_taken (length c.clients) 0 (omega arith)
+  items_if_taken false = tt
 
 pub agenda_items : (c : Config) (turn : Turn) → IsTurn c turn → AllByRecursion (IsItem c) (agenda c turn)
 agenda_items c turn is = (
@@ -130,7 +153,7 @@ agenda_items c turn is = (
   items_asked c turn.goals _ (recursion_from_All _ turn.goals is.goals)
       (items_observed c turn.events 0 _ (recursion_from_All _ turn.events is.events) (recursion_from_All _ turn.events is.right)
       (items_scanned c (length c.paths) 0 _ (omega arith)
-      (items_planned c (length c.clients) 0 _ (omega arith) (items_settled c turn.settlements (recursion_from_All _ turn.settlements is.settlements))))),
+      (items_planned c (length c.clients) 0 _ (omega arith) (items_settled c turn.settlements (takes c turn) (recursion_from_All _ turn.settlements is.settlements) (items_if_taken c turn.taken))))),
 )
 
 -- ---- a window is entered first
@@ -148,3 +171,4 @@ entered s (observe number event ∷ items) is = is
 entered s (scan path part ∷ items) is = is
 entered s (plan client ∷ items) is = is
 entered s (settle x ∷ items) is = is
+entered s (take_open client ∷ items) is = is

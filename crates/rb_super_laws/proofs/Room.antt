@@ -1,5 +1,5 @@
 -- The log of a script that was read is never full.
-use Rattle.std.proofs.Common.{◌≡◌, ℕ, suc, ◌+◌, ◌*◌, ◌≤◌, List, [], ◌∷◌, ◌++◌, length, map, refl, ap, arith}
+use Rattle.std.proofs.Common.{◌≡◌, ℕ, suc, ◌+◌, ◌*◌, ◌≤◌, Bool, true, false, if◌then◌else◌, List, [], ◌∷◌, ◌++◌, length, map, refl, ap, arith}
 use Rattle.std.specs.List.{flat_map, range_with_len, sum_by}
 use Rattle.std.proofs.lemmas.List.{length-append, length-map}
 use Rattle.std.proofs.lemmas.List.FromFn.{length-range_with_len}
@@ -9,7 +9,7 @@ use Rattle.rb_script_types.specs.Limits.{max_clients, max_paths}
 use Rattle.rb_script_types.specs.Script.{Turn as SeenTurn, Script as SeenScript, IsReadScript, entry_count}
 use Rattle.rb_core_model.specs.Event.{Event}
 use Rattle.rb_core_model.specs.Seen.{observed}
-use Rattle.rb_super_turn.specs.Agenda.{Item, ask, plan, settle, observations, both_parts, agenda}
+use Rattle.rb_super_turn.specs.Agenda.{Item, ask, plan, settle, take_open, takes, observations, both_parts, agenda}
 use Rattle.rb_super_turn.specs.Script.{Turn}
 use Rattle.rb_super.specs.AsEvents.{as_events, turn_as_events}
 use Rattle.rb_super_laws.specs.Schedule.{appends_in, FitsLog}
@@ -22,13 +22,18 @@ length-parts : (paths : List ℕ) → length (flat_map both_parts paths) ≡ 2 *
 length-parts [] = refl
 length-parts (p ∷ paths) = let rest = length-parts paths in omega arith
 
+length-takes : (c : Config) (b : Bool) → length (if b then map take_open (range_with_len 0 (length c.clients)) else []) ≤ length c.clients
+length-takes c true = omega (arith, length-map (range_with_len 0 (length c.clients)) take_open, length-range_with_len 0 (length c.clients))
+length-takes c false = omega arith
+
 -- how much a turn has to do
 length-agenda : (c : Config) (t : Turn)
-    → length (agenda c t) ≡ length t.goals + length t.events + length t.settlements + (1 + (2 * length c.paths + length c.clients))
+    → length (agenda c t) ≤ length t.goals + length t.events + length t.settlements + (1 + (2 * length c.paths + 2 * length c.clients))
 length-agenda c t =
     let paths = range_with_len 0 (length c.paths) in
     let clients = range_with_len 0 (length c.clients) in
-    let plans : List Item = map plan clients ++ map settle t.settlements in
+    let last : List Item = map settle t.settlements ++ takes c t in
+    let plans : List Item = map plan clients ++ last in
     let scans : List Item = flat_map both_parts paths ++ plans in
     let seen : List Item = observations 0 t.events ++ scans in
     omega (
@@ -36,7 +41,9 @@ length-agenda c t =
       length-append (map ask t.goals) seen,
       length-append (observations 0 t.events) scans,
       length-append (flat_map both_parts paths) plans,
-      length-append (map plan clients) (map settle t.settlements),
+      length-append (map plan clients) last,
+      length-append (map settle t.settlements) (takes c t),
+      length-takes c t.taken,
       length-map t.goals ask,
       length-observations t.events 0,
       length-parts paths,
@@ -48,7 +55,7 @@ length-agenda c t =
 
 module _ {A : Type 0} where
   turns_fit : (c : Config) → length c.clients ≤ max_clients → length c.paths ≤ max_paths → (ts : List (SeenTurn A))
-      → appends_in c (map turn_as_events ts) ≤ sum_by entry_count ts + 769 * length ts
+      → appends_in c (map turn_as_events ts) ≤ sum_by entry_count ts + 1025 * length ts
   turns_fit c clients paths [] = omega arith
   turns_fit c clients paths (t ∷ ts) =
       let rest = turns_fit c clients paths ts in

@@ -1,7 +1,7 @@
 -- Every schedule gives the script's report.
 use Rattle.std.proofs.Common.{◌≡◌, ℕ, suc, ◌+◌, ◌<◌, ◌≤◌, Bool, true, false, cond, not, List, [], ◌∷◌, ◌++◌, length, take, drop, get_or, set, Option, Some, None, is_some, refl, sym, ap, ◌∙◌, subst, inl, inr, arith, if◌then◌else◌}
 use Rattle.std.specs.List.{slice_get, fold, AllByRecursion}
-use Rattle.std.specs.Option.{option_map, option_map_or, option_or, option_and_then}
+use Rattle.std.specs.Option.{option_map, option_map_or, option_or, option_and_then, option_to_list}
 use Rattle.std.proofs.lemmas.Bool.{false≢true, eqb-true, and_parts, not-true}
 use Rattle.std.proofs.lemmas.List.Elements.{recursion_from_All}
 use Rattle.std.proofs.lemmas.List.Sums.{sum_by-cons}
@@ -22,16 +22,17 @@ use Rattle.rb_core_model.proofs.Drafted.{drafted}
 use Rattle.rb_core_model.proofs.Marks.{all_at}
 use Rattle.rb_core_model.proofs.Options.{none_from, some_from}
 use Rattle.rb_core_model.proofs.Owed.{append_all}
-use Rattle.rb_super_turn.specs.Agenda.{Item, enter, ask, observe, scan, plan, settle, agenda, Finishes, OrderGivesReport}
-use Rattle.rb_super_turn.specs.Report.{held, ClientReport, TurnReport, Report}
-use Rattle.rb_super_laws.specs.Schedule.{Progress, World, RightDraft, Step, acts, publishes, tells, learns, scans, plans, first_world, own_scan, appended, next, same_part, if_fits, fits_scan, fits_draft, with_client_report, draft_given, scan_taken, draft_taken, plan_done, item_done, begun, due_done, acted, step, after_steps, appends_in, FitsLog, world_after, Schedules, OwnDraftsServe}
+use Rattle.rb_super_turn.specs.Agenda.{Item, enter, ask, observe, scan, plan, settle, take_open, agenda, Finishes, OrderGivesReport}
+use Rattle.rb_super_turn.specs.Report.{held, ClientReport, SettlementReport, TurnReport, Report}
+use Rattle.rb_super_laws.specs.Schedule.{Progress, World, RightDraft, Step, acts, publishes, tells, learns, scans, plans, first_world, own_scan, appended, next, same_part, if_fits, fits_scan, fits_draft, with_client_report, draft_given, scan_taken, draft_taken, plan_done, settled_as, take_done, item_done, begun, due_done, acted, step, after_steps, appends_in, FitsLog, world_after, Schedules, OwnDraftsServe}
 use Rattle.rb_script_types.specs.declared.script.Asked.{Asked as Question}
 use Rattle.rb_script_types.specs.declared.script.Settlement.{Settlement}
 use Rattle.rb_super_turn.specs.Script.{Turn, Script, IsTurn, IsScript}
-use Rattle.rb_super_turn.specs.Turns.{refused_as, outcome_of, after_outcome, settlement_event, id_of, IsTurnReport, after_turn, AreTurnReports}
+use Rattle.rb_super_turn.specs.Turns.{refused_as, outcome_of, after_outcome, settlement_event, id_of, settlement_report, after_settlement, taking, IsTurnReport, after_turn, AreTurnReports}
 use Rattle.rb_super_laws.proofs.Covering.{Covers, Nothing, Plus, more, agenda_covers, IsItem, agenda_items, Entered, entered}
 use Rattle.rb_core_model.proofs.Accepted.{open_to, standing_of, front_of, scan_ok, now_scanned, still_scanned, draft_ok, plan_scanned, window_stays, window_entered}
 use Rattle.rb_super_turn.proofs.Reported.{changed_by, set_same, right_outcome, same_client}
+use Rattle.rb_super_turn.proofs.Takings.{taker}
 use Rattle.rb_super_turn.proofs.Sizes.{HasSizes, sizes_accepted, sizes_opening, seen_known, client_known, path_known, at_place}
 
 -- ---- turns that are over
@@ -227,6 +228,33 @@ module _ (script : Script) where
       (subst (λ o. Finishes u.start u.turn (standing_after w.core.standing e) (record r { settlements = r.settlements ++ record { id = id; batch = x.batch; done = x.done; refusal = o } ∷ [] }) items) (sym same) u.finishes)
       (none_scanned (after w.core e) items u.covers) u.items.1 (entered (standing_after w.core.standing e) items (window_stays w.core.standing e u.windowed))
 
+  take_fine : (w : World) → IsFine w → (k : ℕ) (own : Option RightDraft) (r : TurnReport) (items : List Item) (client : ℕ) → Due w (take_open client) items r → IsFine (item_done w k own items r (take_open client))
+  unfolding Due
+  take_fine w fine k own r items client due = go (taking w.core.standing client) refl
+    where
+      reported : (Settlement → SettlementReport) → Option Settlement → TurnReport
+      reported f o = record r { settlements = r.settlements ++ option_to_list (option_map f o) }
+
+      go : (o : Option Settlement) → taking w.core.standing client ≡ o → IsFine (take_done w items r o)
+      go None e =
+          let u = under_way w fine (take_open client) items r due in
+          no_event w fine (take_open client) items r due (reported (settled_as w.core) None)
+          (subst (λ (o : Option Settlement). Finishes u.start u.turn (option_map_or (after_settlement w.core.standing) o w.core.standing) (reported (settlement_report w.core.standing) o) items) e u.finishes)
+          (none_scanned w.core items u.covers) u.items.1 (entered w.core.standing items u.windowed)
+      go (Some x) e =
+          let u = under_way w fine (take_open client) items r due in
+          let event : Event = settlement_event x in
+          let lt : x.client < length script.config.clients = subst (λ n. n < length script.config.clients) (sym (taker w.core.standing client x e)) u.items.0 in
+          let same : refusal_of w.core event ≡ judged w.core.standing event =
+          open_to w.core event (client_known script.config w.core x.client fine.is_core.sizes lt) (has_room w fine (take_open client) items r due) in
+          let id = id_of w.core.standing x.client in
+          let finishes : Finishes u.start u.turn (standing_after w.core.standing event) (record r { settlements = r.settlements ++ settlement_report w.core.standing x ∷ [] }) items =
+          subst (λ (o : Option Settlement). Finishes u.start u.turn (option_map_or (after_settlement w.core.standing) o w.core.standing) (reported (settlement_report w.core.standing) o) items) e u.finishes in
+          one_event w fine (take_open client) items r due event (record r { settlements = r.settlements ++ settled_as w.core x ∷ [] })
+          (standing_after w.core.standing event) tt (standing_of w.core event same)
+          (subst (λ o. Finishes u.start u.turn (standing_after w.core.standing event) (record r { settlements = r.settlements ++ record { id = id; batch = x.batch; done = x.done; refusal = o } ∷ [] }) items) (sym same) finishes)
+          (none_scanned (after w.core event) items u.covers) u.items.1 (entered (standing_after w.core.standing event) items (window_stays w.core.standing event u.windowed))
+
   -- ---- a scan
 
   record IsScanTaken (s : State) (path : ℕ) (part : Part) (o : Option (ℕ × Scan)) : Type 0 where
@@ -369,6 +397,7 @@ module _ (script : Script) where
   item_fine w fine k own r items (scan path part) due = scan_fine w fine k own r items path part due
   item_fine w fine k own r items (plan client) due = plan_fine w fine k own r items client due
   item_fine w fine k own r items (settle x) due = settle_fine w fine k own r items x due
+  item_fine w fine k own r items (take_open client) due = take_fine w fine k own r items client due
 
   -- ---- a turn begins, and is over
 

@@ -1,6 +1,7 @@
 -- What a script's client is planned by in a turn is a view.
-use Rattle.std.proofs.Common.{◌≡◌, ℕ, suc, ◌+◌, ◌<◌, true, List, [], ◌∷◌, All, Option, Some, None, is_some, length, map, take, replicate, refl, sym, ap, ◌∙◌, subst, arith, if◌then◌else◌}
-use Rattle.std.specs.List.{AllByRecursion, AllZip, enumerate_from, fold, slice_get}
+use Rattle.std.proofs.Common.{◌≡◌, ℕ, suc, ◌+◌, ◌<◌, ◌≤◌, Bool, true, false, List, [], ◌∷◌, All, Option, Some, None, is_some, length, map, take, replicate, refl, sym, ap, ◌∙◌, subst, arith, if◌then◌else◌}
+use Rattle.std.specs.List.{AllByRecursion, AllZip, enumerate_from, fold, range_with_len, slice_get}
+use Rattle.std.specs.Option.{option_map_or}
 use Rattle.std.proofs.lemmas.List.{length-replicate, length-map}
 use Rattle.std.proofs.lemmas.List.Elements.{All-take, recursion_from_All}
 use Rattle.rb_book.specs.Laws.{FindsWhatWasAdded, StaysABook}
@@ -21,8 +22,9 @@ use Rattle.rb_core_model.proofs.Marks.{all_at, all_take}
 use Rattle.rb_core_model.proofs.Sound.{IsSoundClient, IsSound, answer_sound, client_view_sound, opening_sound, step_sound}
 use Rattle.rb_super_turn.specs.Report.{Outcome, held, idle, planned, ClientReport, TurnReport}
 use Rattle.rb_super_turn.specs.Script.{Turn, Script, IsSeen, IsTurn, IsScript}
-use Rattle.rb_super_turn.specs.Turns.{after_window, after_question, opened, IsOutcome, after_outcome, IsClientReport, before_events, before_plans, after_reports, after_plans, settlement_event, after_settlement, IsTurnReport, after_turn}
+use Rattle.rb_super_turn.specs.Turns.{after_window, after_question, opened, IsOutcome, after_outcome, IsClientReport, before_events, before_plans, after_reports, after_plans, settlement_event, after_settlement, taking, after_taking, takers, IsTurnReport, after_turn}
 use Rattle.rb_super_turn.proofs.Reported.{opened_back}
+use Rattle.rb_super_turn.proofs.Takings.{taker, row_below}
 use Rattle.rb_super_turn.proofs.Sizes.{HasSizes, sizes_opening, seen_known, client_known, at_place}
 use Rattle.rb_super.specs.Judging.{Leads, IsPlanPhase, IsClientIn}
 use Rattle.rb_super_laws.specs.Laws.{PlannedViewsAreViews}
@@ -109,10 +111,10 @@ module _ (finds : FindsWhatWasAdded) (stays : StaysABook) (orderly : ViewsAreOrd
     where
       go : (o : Outcome) → IsOutcome (task_in s is.window place c) c o → IsSoundClient s.books (after_outcome o c)
       go (held number) right = sound_c
-      go idle right = answer_sound finds stays orderly s is.window place c None sound is.is_window sound_c right.1
+      go (idle next) right = answer_sound finds stays orderly s is.window place c None sound is.is_window sound_c right.1
       go (planned p) right =
           subst (λ o. IsSoundClient s.books (with_batch c o))
-          (sym (ap opened right.1.is ∙ opened_back (task_in s is.window place c) (c.batches + 1) right.1.answer))
+          (sym (ap opened right.1.is ∙ opened_back (task_in s is.window place c) (c.batches + 1) p.next right.1.answer))
           (answer_sound finds stays orderly s is.window place c (Some right.1.answer) sound is.is_window sound_c right.1.right)
 
   rows_sound : (s : Standing) → IsSound s → (place : ℕ) (cs : List ClientState) (rs : List ClientReport) → AllByRecursion (IsSoundClient s.books) cs → AllZip (IsClientReport s) (enumerate_from place cs) rs
@@ -126,6 +128,25 @@ module _ (finds : FindsWhatWasAdded) (stays : StaysABook) (orderly : ViewsAreOrd
   settled_fit config (x ∷ xs) all s fit =
       settled_fit config xs all.1 (after_settlement s x)
       (event_fit config s (settlement_event x) tt tt (client_known config (at_rest config s) x.client (sizes config s fit) all.0) fit)
+
+  one_taken : (config : Config) (client : ℕ) → client < length config.clients → (s : Standing) → IsFit config s → IsFit config (after_taking s client)
+  one_taken config client lt s fit = go (taking s client) refl
+    where
+      go : (o : Option Settlement) → taking s client ≡ o → IsFit config (option_map_or (after_settlement s) o s)
+      go None e = fit
+      go (Some x) e =
+          event_fit config s (settlement_event x) tt tt
+          (client_known config (at_rest config s) x.client (sizes config s fit) (subst (λ n. n < length config.clients) (sym (taker s client x e)) lt)) fit
+
+  taken_fit : (config : Config) (clients : List ℕ) → AllByRecursion (λ n. n < length config.clients) clients → (s : Standing) → IsFit config s → IsFit config (fold after_taking s clients)
+  taken_fit config [] all s fit = fit
+  taken_fit config (n ∷ ns) all s fit = taken_fit config ns all.1 (after_taking s n) (one_taken config n all.0 s fit)
+
+  takers_fit : (config : Config) (taken : Bool) (before s : Standing) → IsFit config before → IsFit config s → IsFit config (fold after_taking s (takers before taken))
+  takers_fit config true before s ready fit =
+      let clients = ready.clients in
+      taken_fit config (range_with_len 0 (length before.clients)) (row_below (length before.clients) 0 (length config.clients) (omega arith)) s fit
+  takers_fit config false before s ready fit = fit
 
   turn_fit : (config : Config) (s : Standing) (t : Turn) (r : TurnReport) → IsTurn config t → IsTurnReport s t r → IsFit config s → IsFit config (after_turn s t r)
   turn_fit config s t r is report fit =
@@ -142,7 +163,8 @@ module _ (finds : FindsWhatWasAdded) (stays : StaysABook) (orderly : ViewsAreOrd
         clients = length-reports there.clients r.clients ∙ ready.clients;
         paths = ready.paths;
       } in
-      settled_fit config t.settlements (recursion_from_All (λ (x : Settlement). x.client < length config.clients) t.settlements is.settlements) (after_plans s t r) sent
+      takers_fit config t.taken (after_plans s t r) (fold after_settlement (after_plans s t r) t.settlements) sent
+      (settled_fit config t.settlements (recursion_from_All (λ (x : Settlement). x.client < length config.clients) t.settlements is.settlements) (after_plans s t r) sent)
 
   -- ---- a script
 

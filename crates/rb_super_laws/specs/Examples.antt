@@ -10,16 +10,17 @@ use Rattle.rb_plan_client.specs.Draft.{Job, IsIdle}
 use Rattle.rb_core_model.specs.Event.{Sent}
 use Rattle.rb_core_model.specs.Examples.{a_config, a_client}
 use Rattle.rb_core_model.specs.Machine.{client_view}
-use Rattle.rb_plan_client.specs.Reach.{IsReachable}
+use Rattle.rb_plan_client.specs.Reach.{IsReachable, IsReach}
 use Rattle.rb_core_model.specs.Standing.{empty_book}
-use Rattle.rb_plan_client.specs.Task.{Task, view_of, goal_of}
+use Rattle.rb_plan_client.specs.Next.{IsNext}
+use Rattle.rb_plan_client.specs.Task.{Task, view_of, goal_of, next_moment}
 use Rattle.rb_super_turn.specs.Report.{idle, ClientReport, TurnReport}
 use Rattle.rb_super_laws.specs.Schedule.{RightDraft, Step, acts, publishes, tells, learns, scans, plans, world_after}
 use Rattle.rb_super_turn.specs.Script.{Turn, Script}
 
 -- a packet is seen, and no client has stored anything
 abbrev pub a_turn : Turn
-a_turn = record { window = record { from = 100; until = 200 }; goals = []; events = Sent 0 4 8 None None ∷ Sent 0 4 8 None None ∷ []; settlements = [] }
+a_turn = record { window = record { from = 100; until = 200 }; goals = []; events = Sent 0 4 8 None None ∷ Sent 0 4 8 None None ∷ []; settlements = []; taken = false }
 
 abbrev pub a_script : Script
 a_script = record { config = a_config Ordered; turns = a_turn ∷ [] }
@@ -32,9 +33,15 @@ unreachable : (client : Client) (h : ℕ) → client.stored ≡ [] → IsReachab
 unreachable client h e ([], accepted, left) = none_stored client.stored h e left.0
 unreachable client h e (u ∷ us, accepted, left) = none_stored client.stored u.trusted e accepted.0
 
-pub idle_without_records : (t : Task) → t.stored ≡ [] → goal_of t None ≡ None → IsIdle t
+no_reach : (t : Task) → t.stored ≡ [] → IsReach (client_of (view_of t)) None
 unfolding client_of
-idle_without_records t stored goal = record { reach = None; is_reach = record { reached = tt; greatest = λ h r. absurd (unreachable (client_of (view_of t)) h stored r) }; goal = goal }
+no_reach t stored = record { reached = tt; greatest = λ h r. absurd (unreachable (client_of (view_of t)) h stored r) }
+
+pub idle_without_records : (t : Task) → t.stored ≡ [] → goal_of t None ≡ None → IsIdle t
+idle_without_records t stored goal = record { reach = None; is_reach = no_reach t stored; goal = goal }
+
+pub next_without_records : (t : Task) → t.stored ≡ [] → IsNext t [] (next_moment t None [])
+next_without_records t stored = record { reach = None; is_reach = no_reach t stored; is = refl }
 
 abbrev pub no_task : Task
 no_task = record {
@@ -52,7 +59,10 @@ job_after steps client =
     unwrap_or (client_view (world_after a_script steps).core client) (record { client = client; task = no_task; plan = 0; held = false })
 
 abbrev pub idle_draft : (j : Job) → j.task.stored ≡ [] → goal_of j.task None ≡ None → RightDraft
-idle_draft j stored goal = record { draft = record { job = j; answer = None }; right = idle_without_records j.task stored goal }
+idle_draft j stored goal = record {
+  draft = record { job = j; answer = None; next = next_moment j.task None [] };
+  right = record { answer = idle_without_records j.task stored goal; next = next_without_records j.task stored };
+}
 
 abbrev pub act : Step
 act = acts 0 None
@@ -82,7 +92,7 @@ with_worker =
 
 -- the second sending is refused, and both clients are idle
 abbrev pub idle_client : ℕ → ClientReport
-idle_client name = record { id = name ∷ []; outcome = idle }
+idle_client name = record { id = name ∷ []; outcome = idle None }
 
 -- what a run reports in its first turn
 abbrev pub clients_in : List Step → Option (List ClientReport)

@@ -11,10 +11,11 @@ use Rattle.rb_core_model.specs.Event.{Event, Window, Asked, Scanned, Planned}
 use Rattle.rb_core_model.specs.Scan.{Scan}
 use Rattle.rb_core_model.specs.Machine.{State, opening, is_scanned, is_job, client_view, max_events, refusal_of, after, state_of}
 use Rattle.rb_core_model.specs.Standing.{OpenBatch, ClientState, opening_standing, path_view}
-use Rattle.rb_super_turn.specs.Agenda.{Item, enter, ask, observe, scan, plan, settle, agenda, empty_report}
-use Rattle.rb_super_turn.specs.Report.{Outcome, held, TurnReport, Report}
+use Rattle.rb_script_types.specs.declared.script.Settlement.{Settlement}
+use Rattle.rb_super_turn.specs.Agenda.{Item, enter, ask, observe, scan, plan, settle, take_open, agenda, empty_report}
+use Rattle.rb_super_turn.specs.Report.{Outcome, held, SettlementReport, TurnReport, Report}
 use Rattle.rb_super_turn.specs.Script.{Turn, Script, IsScript}
-use Rattle.rb_super_turn.specs.Turns.{refused_as, outcome_of, settlement_event, id_of, AreTurnReports}
+use Rattle.rb_super_turn.specs.Turns.{refused_as, outcome_of, settlement_event, id_of, taking, AreTurnReports}
 
 -- a turn under way: what is still due, and its report so far
 pub record Progress : Type 0 where
@@ -131,6 +132,15 @@ plan_done w k own items r client c (Some b) = next w items (with_client_report r
 plan_done w k own items r client c None =
     option_map_or (λ d. next (appended w (Planned d)) items (with_client_report r c (outcome_of c d))) (draft_taken w k own client) w
 
+-- what is reported of a settlement
+abbrev pub settled_as : State → Settlement → SettlementReport
+settled_as s x = record { id = id_of s.standing x.client; batch = x.batch; done = x.done; refusal = refusal_of s (settlement_event x) }
+
+-- a client's open batch is taken whole; where none is open, nothing is done
+abbrev pub take_done : World → List Item → TurnReport → Option Settlement → World
+take_done w items r x =
+    next (option_map_or (λ y. appended w (settlement_event y)) x w) items (record r { settlements = r.settlements ++ option_to_list (option_map (settled_as w.core) x) })
+
 abbrev pub item_done : World → ℕ → Option RightDraft → List Item → TurnReport → Item → World
 item_done w k own items r (enter window) = next (appended w (Window window)) items (record r { window_back = is_some (refusal_of w.core (Window window)) })
 item_done w k own items r (ask q) = next (appended w (Asked q.client q.goal)) items r
@@ -139,8 +149,8 @@ item_done w k own items r (scan path part) = next (scanned w k path part) items 
 item_done w k own items r (plan client) =
     option_map_or (λ (c : ClientState). plan_done w k own items r client c c.batch) (slice_get w.core.standing.clients client) w
 item_done w k own items r (settle x) =
-    next (appended w (settlement_event x)) items
-    (record r { settlements = r.settlements ++ record { id = id_of w.core.standing x.client; batch = x.batch; done = x.done; refusal = refusal_of w.core (settlement_event x) } ∷ [] })
+    next (appended w (settlement_event x)) items (record r { settlements = r.settlements ++ settled_as w.core x ∷ [] })
+item_done w k own items r (take_open client) = take_done w items r (taking w.core.standing client)
 
 module _ (config : Config) where
   -- the next turn begins, the turn under way is over, or what is due next is done

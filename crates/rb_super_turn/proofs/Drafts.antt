@@ -33,13 +33,13 @@ book_seen core client c job lt at view =
 -- ---- what is seen to be owed
 
 owed_as : (owed : Part → List PacketMsg) → ℕ → PathState → Part → PathTask
-owed_as owed n p part = record { path = n; order = p.config.order; gas = p.config.gas; owed = owed part }
+owed_as owed n p part = record { path = n; order = p.config.order; gas = p.config.gas; waits = p.config.waits; owed = owed part }
 
 one_task : (seen owed : Part → List PacketMsg) (n : ℕ) (p : PathState) → ((part : Part) → seen part ≡ owed part) → (o : Option Part)
     → option_map (owed_as seen n p) o ≡ option_map (owed_as owed n p) o
 unfolding owed_as
 one_task seen owed n p same None = refl
-one_task seen owed n p same (Some part) = ap (λ messages. Some (record { path = n; order = p.config.order; gas = p.config.gas; owed = messages })) (same part)
+one_task seen owed n p same (Some part) = ap (λ messages. Some (record { path = n; order = p.config.order; gas = p.config.gas; waits = p.config.waits; owed = messages })) (same part)
 
 all_tasks : (seen owed : ℕ → Part → List PacketMsg) (client n : ℕ) (paths : List PathState) → ((k : ℕ) (part : Part) → k < length paths → seen (n + k) part ≡ owed (n + k) part)
     → filter_map (path_task seen client) (enumerate_from n paths) ≡ filter_map (path_task owed client) (enumerate_from n paths)

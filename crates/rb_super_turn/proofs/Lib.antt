@@ -9,3 +9,4 @@ pub mod Plans
 pub mod Prices
 pub mod Kept
 pub mod Drafts
+pub mod Takings

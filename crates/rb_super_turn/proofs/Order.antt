@@ -1,17 +1,18 @@
 -- The supervisor's order gives the report of a turn.
-use Rattle.std.proofs.Common.{◌≡◌, ℕ, zero, suc, ◌+◌, List, [], ◌∷◌, ◌++◌, length, map, Some, set, refl, sym, ap, ◌∙◌, subst, arith, append_assoc, append-nil}
+use Rattle.std.proofs.Common.{◌≡◌, ℕ, zero, suc, ◌+◌, Bool, true, false, if◌then◌else◌, List, [], ◌∷◌, ◌++◌, length, map, Some, set, refl, sym, ap, ◌∙◌, subst, arith, append_assoc, append-nil}
 use Rattle.std.specs.List.{AllZip, slice_get, flat_map, fold, enumerate_from, range_with_len}
-use Rattle.std.specs.Option.{option_map_or}
+use Rattle.std.specs.Option.{option_map, option_map_or, option_to_list}
 use Rattle.std.proofs.lemmas.List.{set_at, length-append}
 use Rattle.std.proofs.lemmas.Option.{same_Some}
 use Rattle.rb_core_model.specs.Event.{Event, Window, Asked}
 use Rattle.rb_core_model.specs.Standing.{ClientState, Standing, changed_at, goes_back, standing_after}
-use Rattle.rb_super_turn.specs.Agenda.{Item, ask, plan, settle, observations, both_parts, empty_report, Finishes, OrderGivesReport}
+use Rattle.rb_super_turn.specs.Agenda.{Item, ask, plan, settle, take_open, takes, observations, both_parts, empty_report, Finishes, OrderGivesReport}
 use Rattle.rb_super_turn.specs.Report.{ClientReport, TurnReport}
+use Rattle.rb_script_types.specs.Config.{Config}
 use Rattle.rb_script_types.specs.declared.script.Asked.{Asked as Question}
 use Rattle.rb_script_types.specs.declared.script.Settlement.{Settlement}
 use Rattle.rb_super_turn.specs.Script.{Turn}
-use Rattle.rb_super_turn.specs.Turns.{after_window, after_question, refusal_at, refusals, before_events, before_plans, refusals_in, IsClientReport, after_outcome, after_reports, after_settlement, settlement_report, settlement_reports}
+use Rattle.rb_super_turn.specs.Turns.{after_window, after_question, refusal_at, refusals, before_events, before_plans, refusals_in, IsClientReport, after_outcome, after_reports, after_settlement, settlement_report, settlement_reports, taking, after_taking, taking_reports, takers}
 use Rattle.rb_core_model.proofs.Lengths.{lengths_after, lengths_fold}
 
 -- ---- lists with one element more
@@ -59,13 +60,32 @@ module _ (start : Standing) (turn : Turn) where
   scanned_all [] s r items h = h
   scanned_all (p ∷ paths) s r items h = scanned_all paths s r items h
 
-  settled_all : (xs : List Settlement) (s : Standing) (r : TurnReport)
-      → Finishes start turn (fold after_settlement s xs) (record r { settlements = r.settlements ++ settlement_reports s xs }) [] → Finishes start turn s r (map settle xs)
-  settled_all [] s r h = subst (λ ys. Finishes start turn s (record r { settlements = ys }) []) (append-nil r.settlements) h
-  settled_all (x ∷ xs) s r h =
-      settled_all xs (after_settlement s x) (record r { settlements = r.settlements ++ settlement_report s x ∷ [] })
-      (subst (λ ys. Finishes start turn (fold after_settlement (after_settlement s x) xs) (record r { settlements = ys }) [])
+  settled_all : (xs : List Settlement) (s : Standing) (r : TurnReport) (items : List Item)
+      → Finishes start turn (fold after_settlement s xs) (record r { settlements = r.settlements ++ settlement_reports s xs }) items → Finishes start turn s r (map settle xs ++ items)
+  settled_all [] s r items h = subst (λ ys. Finishes start turn s (record r { settlements = ys }) items) (append-nil r.settlements) h
+  settled_all (x ∷ xs) s r items h =
+      settled_all xs (after_settlement s x) (record r { settlements = r.settlements ++ settlement_report s x ∷ [] }) items
+      (subst (λ ys. Finishes start turn (fold after_settlement (after_settlement s x) xs) (record r { settlements = ys }) items)
       (sym (append_assoc r.settlements (settlement_report s x ∷ []) (settlement_reports (after_settlement s x) xs))) h)
+
+  taken_all : (clients : List ℕ) (s : Standing) (r : TurnReport)
+      → Finishes start turn (fold after_taking s clients) (record r { settlements = r.settlements ++ taking_reports s clients }) [] → Finishes start turn s r (map take_open clients)
+  taken_all [] s r h = subst (λ ys. Finishes start turn s (record r { settlements = ys }) []) (append-nil r.settlements) h
+  taken_all (n ∷ ns) s r h =
+      let here = option_to_list (option_map (settlement_report s) (taking s n)) in
+      taken_all ns (after_taking s n) (record r { settlements = r.settlements ++ here })
+      (subst (λ ys. Finishes start turn (fold after_taking (after_taking s n) ns) (record r { settlements = ys }) [])
+      (sym (append_assoc r.settlements here (taking_reports (after_taking s n) ns))) h)
+
+  -- all or none, where there are as many clients as the configuration has
+  takes_all : (c : Config) (u s : Standing) (r : TurnReport) → length u.clients ≡ length c.clients
+      → Finishes start turn (fold after_taking s (takers u turn.taken)) (record r { settlements = r.settlements ++ taking_reports s (takers u turn.taken) }) []
+      → Finishes start turn s r (takes c turn)
+  takes_all c u s r long h = subst (Finishes start turn s r) (same turn.taken) (taken_all (takers u turn.taken) s r h)
+    where
+      same : (b : Bool) → map take_open (takers u b) ≡ (if b then map take_open (range_with_len 0 (length c.clients)) else [])
+      same true = ap (λ n. map take_open (range_with_len 0 n)) long
+      same false = refl
 
   -- ---- the clients, one after another
   planned_all : (p : Standing) (r : TurnReport) (items : List Item)
@@ -103,7 +123,13 @@ order config turn s long =
     let observed = lengths_fold standing_after lengths_after turn.events e in
     let count : length p.clients ≡ length config.clients = observed.clients ∙ asked.clients ∙ (lengths_after s (Window turn.window)).clients ∙ long in
     let r = record empty_report { window_back = goes_back s.window turn.window; refused = refusals_in s turn } in
+    let last : List Item = map settle turn.settlements ++ takes config turn in
     asks s turn turn.goals (after_window s turn.window) _ _ (seen_all s turn turn.events 0 e _ _ (scanned_all s turn (range_with_len 0 (length config.paths)) p r _
-    (subst (λ n. Finishes s turn p r (map plan (range_with_len 0 n) ++ map settle turn.settlements)) count
-    (planned_all s turn p r (map settle turn.settlements) (λ rs all. settled_all s turn turn.settlements (record p { clients = after_reports p.clients rs }) (record r { clients = rs })
-    (record { window = refl; refused = refl; clients = all; settlements = refl }, refl)) p.clients [] [] 0 refl refl refl tt))))
+    (subst (λ n. Finishes s turn p r (map plan (range_with_len 0 n) ++ last)) count
+    (planned_all s turn p r last (λ rs all.
+    let u : Standing = record p { clients = after_reports p.clients rs } in
+    let mine : TurnReport = record r { clients = rs } in
+    let planned_count : length u.clients ≡ length config.clients = length-reports p.clients rs ∙ count in
+    settled_all s turn turn.settlements u mine (takes config turn)
+    (takes_all s turn config u (fold after_settlement u turn.settlements) (record mine { settlements = settlement_reports u turn.settlements }) planned_count
+    (record { window = refl; refused = refl; clients = all; settlements = refl }, refl))) p.clients [] [] 0 refl refl refl tt))))

@@ -3,12 +3,11 @@ use Rattle.std.proofs.Common.{◌≡◌, ℕ, ◌+◌, ◌<◌, not, [], Option,
 use Rattle.std.specs.List.{slice_get}
 use Rattle.std.specs.Option.{option_map, option_map_or, option_and_then}
 use Rattle.std.proofs.lemmas.Bool.{ltb-true, not-false}
-use Rattle.rb_core_model.specs.Batches.{batch_open}
 use Rattle.rb_core.specs.Core.{Core, state_in, refusal_in}
 use Rattle.rb_plan_client.specs.Draft.{Sending, nothing, too_big, batched, Plan, Planned as Answer, Job, Draft, IsDraft}
 use Rattle.rb_core_model.specs.Event.{Planned}
 use Rattle.rb_core_model.specs.Machine.{State, Reply, is_known, is_scanned, job_of, client_view, refusal_of, reply_for, reply_of, after}
-use Rattle.rb_core_model.specs.Standing.{OpenBatch, ClientState, Standing, batch_of_sending, batch_of, batch_opened, with_client}
+use Rattle.rb_core_model.specs.Standing.{OpenBatch, ClientState, Standing, batch_of_sending, batch_of, batch_opened, with_client, batch_open}
 use Rattle.rb_script_types.specs.Config.{Config}
 use Rattle.rb_script_types.specs.declared.config.ClientConfig.{ClientConfig}
 use Rattle.rb_script_types.specs.declared.refusal.Refusal.TheVariants.{UnknownObject}
@@ -55,8 +54,8 @@ sent_as number p nothing = refl
 sent_as number p (too_big index) = refl
 sent_as number p (batched b) = refl
 
-numbered_as : (t : Task) (number : ℕ) (a : Answer) → reported t (number_of (reply_for (batch_of number (Some a)))) a ≡ reported t number a
-numbered_as t number a = ap (λ plan. record { goal = a.goal; labels = a.labels; plan = plan }) (go a.plan)
+numbered_as : (t : Task) (number : ℕ) (next : Option ℕ) (a : Answer) → reported t (number_of (reply_for (batch_of number (Some a)))) next a ≡ reported t number next a
+numbered_as t number next a = ap (λ plan. record { goal = a.goal; labels = a.labels; plan = plan; next = next }) (go a.plan)
   where
     go : (o : Option Plan) → option_map (reported_plan t (number_of (reply_for (option_and_then (λ (p : Plan). batch_of_sending number p p.sending) o)))) o ≡ option_map (reported_plan t number) o
     go None = refl
@@ -71,9 +70,9 @@ outcome_is s c d reply at e =
     ap (λ r. outcome_numbered (number_of r) d) same ∙ go d.answer
   where
     go : (o : Option Answer)
-        → option_map_or (λ a. planned (reported d.job.task (number_of (reply_for (batch_opened c o))) a)) o idle ≡ option_map_or (λ a. planned (reported d.job.task (c.batches + 1) a)) o idle
+        → option_map_or (λ a. planned (reported d.job.task (number_of (reply_for (batch_opened c o))) d.next a)) o (idle d.next) ≡ option_map_or (λ a. planned (reported d.job.task (c.batches + 1) d.next a)) o (idle d.next)
     go None = refl
-    go (Some a) = ap (λ x. planned x) (numbered_as d.job.task (c.batches + 1) a)
+    go (Some a) = ap (λ x. planned x) (numbered_as d.job.task (c.batches + 1) d.next a)
 
 -- ---- what is reported of it
 

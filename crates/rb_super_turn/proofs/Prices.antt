@@ -97,4 +97,4 @@ plan_is_small t a is = go a.plan is.plan
 
 -- the answer of a draft is right for its job
 pub answer_right : (d : Draft) (a : Answer) (t : Task) → IsDraft d → Some a ≡ d.answer → t ≡ d.job.task → IsPlanned t a
-answer_right d a t is answer task = subst (λ (u : Task). IsPlanned u a) (sym task) (subst (IsAnswer d.job.task) (sym answer) is)
+answer_right d a t is answer task = subst (λ (u : Task). IsPlanned u a) (sym task) (subst (IsAnswer d.job.task) (sym answer) is.answer)

@@ -4,7 +4,8 @@ use Rattle.std.specs.List.{slice_get}
 use Rattle.std.specs.Option.{option_map, option_map_or, option_and_then}
 use Rattle.std.proofs.lemmas.Option.{same_Some}
 use Rattle.rb_step.specs.LightClient.{Update}
-use Rattle.rb_plan_client.specs.Draft.{Sending, nothing, too_big, batched, Plan, Planned as Answer, Draft, IsDraft, IsIdle, IsPlanned, IsAnswer}
+use Rattle.rb_plan_client.specs.Draft.{Sending, nothing, too_big, batched, Plan, Planned as Answer, Draft, planned_updates, IsDraft, IsIdle, IsPlanned, IsAnswer}
+use Rattle.rb_plan_client.specs.Next.{IsNext}
 use Rattle.rb_core_model.specs.Event.{Planned}
 use Rattle.rb_core_model.specs.Machine.{State, accepted, after}
 use Rattle.rb_core_model.specs.Standing.{ClientState, task_in, with_batch, batch_of_sending, batch_of, after_answer, changed_at}
@@ -26,8 +27,8 @@ batch_back t number p (too_big index) = refl
 batch_back t number p (batched b) =
     ap (λ us. Some (record { number = number; proof = b.proof; updates = us; messages = p.messages; transactions = b.transactions })) (updates_back t p.updates)
 
-pub opened_back : (t : Task) (number : ℕ) (a : Answer) → opened (reported t number a) ≡ batch_of number (Some a)
-opened_back t number a = go a.plan
+pub opened_back : (t : Task) (number : ℕ) (next : Option ℕ) (a : Answer) → opened (reported t number next a) ≡ batch_of number (Some a)
+opened_back t number next a = go a.plan
   where
     go : (o : Option Plan) → option_and_then (λ (p : ReportedPlan). batch_sent p p.sending) (option_map (reported_plan t number) o) ≡ option_and_then (λ (p : Plan). batch_of_sending number p p.sending) o
     go None = refl
@@ -36,9 +37,9 @@ opened_back t number a = go a.plan
 pub same_client : (c : ClientState) (d : Draft) → after_outcome (outcome_of c d) c ≡ after_answer d.answer c
 same_client c d = go d.answer
   where
-    go : (o : Option Answer) → after_outcome (option_map_or (λ a. planned (reported d.job.task (c.batches + 1) a)) o idle) c ≡ after_answer o c
+    go : (o : Option Answer) → after_outcome (option_map_or (λ a. planned (reported d.job.task (c.batches + 1) d.next a)) o (idle d.next)) c ≡ after_answer o c
     go None = refl
-    go (Some a) = ap (with_batch c) (opened_back d.job.task (c.batches + 1) a)
+    go (Some a) = ap (with_batch c) (opened_back d.job.task (c.batches + 1) d.next a)
 
 pub changed_by : (f g : ClientState → ClientState) (cs : List ClientState) (i : ℕ) (c : ClientState) → slice_get cs i ≡ Some c → f c ≡ g c → changed_at f cs i ≡ changed_at g cs i
 changed_by f g cs i c at e =
@@ -50,16 +51,18 @@ set_same (y ∷ xs) zero x e = ap (λ z. z ∷ xs) (sym (same_Some y x e))
 set_same (y ∷ xs) (suc i) x e = ap (λ ys. y ∷ ys) (set_same xs i x e)
 
 pub right_outcome : (t : Task) (c : ClientState) (d : Draft) → c.batch ≡ None → d.job.task ≡ t → IsDraft d → IsOutcome t c (outcome_of c d)
-right_outcome t c d not_held task is = go d.answer is
+right_outcome t c d not_held task is = go d.answer is.answer is.next
   where
-    go : (o : Option Answer) → IsAnswer d.job.task o → IsOutcome t c (option_map_or (λ a. planned (reported d.job.task (c.batches + 1) a)) o idle)
-    go None right = (not_held, subst (λ u. IsIdle u) task right)
-    go (Some a) right = (
+    go : (o : Option Answer) → IsAnswer d.job.task o → IsNext d.job.task (planned_updates o) d.next
+        → IsOutcome t c (option_map_or (λ a. planned (reported d.job.task (c.batches + 1) d.next a)) o (idle d.next))
+    go None right next = (not_held, subst (λ u. IsIdle u) task right, subst (λ u. IsNext u [] d.next) task next)
+    go (Some a) right next = (
       not_held,
       record {
         answer = a;
         right = subst (λ u. IsPlanned u a) task right;
-        is = ap (λ u. reported u (c.batches + 1) a) task;
+        next = subst (λ u. IsNext u (planned_updates (Some a)) d.next) task next;
+        is = ap (λ u. reported u (c.batches + 1) d.next a) task;
       },
     )
 

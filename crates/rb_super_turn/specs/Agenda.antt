@@ -1,6 +1,7 @@
 -- In which order a supervisor goes through a turn.
-use Rattle.std.specs.Prelude.{◌≡◌, ℕ, ◌+◌, false, List, [], ◌∷◌, ◌++◌, length, map, Some, slice_get}
+use Rattle.std.specs.Prelude.{◌≡◌, ℕ, ◌+◌, false, List, [], ◌∷◌, ◌++◌, length, map, Some, slice_get, if◌then◌else◌}
 use Rattle.std.specs.List.{flat_map, range_with_len}
+use Rattle.std.specs.Option.{option_map, option_to_list}
 use Rattle.rb_base.specs.Window.{Span}
 use Rattle.rb_base.specs.declared.gate.Part.{Part}
 use Rattle.rb_base.specs.declared.gate.Part.TheVariants.{Packets, Channel}
@@ -11,10 +12,10 @@ use Rattle.rb_super_turn.specs.Report.{ClientReport, TurnReport}
 use Rattle.rb_script_types.specs.declared.script.Asked.{Asked as Question}
 use Rattle.rb_script_types.specs.declared.script.Settlement.{Settlement}
 use Rattle.rb_super_turn.specs.Script.{Turn}
-use Rattle.rb_super_turn.specs.Turns.{after_window, after_question, refusal_at, IsClientReport, after_outcome, settlement_report, after_settlement, IsTurnReport, after_turn}
+use Rattle.rb_super_turn.specs.Turns.{after_window, after_question, refusal_at, IsClientReport, after_outcome, settlement_report, after_settlement, taking, after_taking, IsTurnReport, after_turn}
 
 -- what is next: to enter the window, to ask a client, to take in an event by its number, to scan a part of a path, to plan
--- for a client, to settle
+-- for a client, to settle, to take a client's open batch whole
 pub data Item : Type 0 where
   enter : Span → Item
   ask : Question → Item
@@ -22,6 +23,7 @@ pub data Item : Type 0 where
   scan : ℕ → Part → Item
   plan : ℕ → Item
   settle : Settlement → Item
+  take_open : ℕ → Item
 
 abbrev pub observations : ℕ → List Event → List Item
 observations number [] = []
@@ -31,10 +33,14 @@ observations number (event ∷ events) = observe number event ∷ observations (
 abbrev pub both_parts : ℕ → List Item
 both_parts path = scan path Packets ∷ scan path Channel ∷ []
 
+-- where all is taken
+abbrev pub takes : Config → Turn → List Item
+takes c turn = if turn.taken then map take_open (range_with_len 0 (length c.clients)) else []
+
 abbrev pub agenda : Config → Turn → List Item
 agenda c turn =
     enter turn.window ∷ (map ask turn.goals ++ (observations 0 turn.events ++ (flat_map both_parts (range_with_len 0 (length c.paths))
-    ++ (map plan (range_with_len 0 (length c.clients)) ++ map settle turn.settlements))))
+    ++ (map plan (range_with_len 0 (length c.clients)) ++ (map settle turn.settlements ++ takes c turn)))))
 
 abbrev pub empty_report : TurnReport
 empty_report = record { window_back = false; refused = []; clients = []; settlements = [] }
@@ -52,6 +58,9 @@ Finishes start turn s r (plan client ∷ items) =
     → Finishes start turn (with_client s client (after_outcome report.outcome)) (record r { clients = r.clients ++ report ∷ [] }) items
 Finishes start turn s r (settle x ∷ items) =
     Finishes start turn (after_settlement s x) (record r { settlements = r.settlements ++ settlement_report s x ∷ [] }) items
+Finishes start turn s r (take_open client ∷ items) =
+    Finishes start turn (after_taking s client)
+    (record r { settlements = r.settlements ++ option_to_list (option_map (settlement_report s) (taking s client)) }) items
 
 -- the supervisor's order gives the report of a turn
 abbrev pub OrderGivesReport : Type 0

@@ -1,5 +1,5 @@
 -- What the phases of a turn keep of a relayer.
-use Rattle.std.specs.Prelude.{◌≡◌, ℕ, ◌+◌, ◌<◌, ◌≤◌, true, length, Some, is_some, slice_get, List, [], ◌∷◌, map}
+use Rattle.std.specs.Prelude.{◌≡◌, ℕ, ◌+◌, ◌<◌, ◌≤◌, true, false, length, Some, is_some, slice_get, List, [], ◌∷◌, map}
 use Rattle.rb_base.specs.Window.{Span}
 use Rattle.rb_base.specs.declared.gate.Part.{Part}
 use Rattle.rb_script_types.specs.declared.observation.Observation.{Observation}
@@ -26,7 +26,7 @@ pub record IsLater (count : ℕ) (old new : Core) : Type 0 where
 
 -- a turn that was heard up to its plans: its window, what is asked, and what was observed
 abbrev pub turn_heard : {A : Type 0} → Span → List Question → List (Observation A) → Turn
-turn_heard window goals observations = record { window = window; goals = goals; events = map observed observations; settlements = [] }
+turn_heard window goals observations = record { window = window; goals = goals; events = map observed observations; settlements = []; taken = false }
 
 -- each part of each path has a valid scan
 abbrev pub IsAllScanned : Core → Type 0

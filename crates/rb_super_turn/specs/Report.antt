@@ -33,14 +33,17 @@ pub record PlanReport : Type 0 where
   pub messages : List Message
   pub sending : SendingReport
 
+-- a goal, the exact labelling, the plan, and the moment at which the client has a goal next
 pub record PlannedReport : Type 0 where
   pub goal : Goal
   pub labels : List Label
   pub plan : Option PlanReport
+  pub next : Option ℕ
 
+-- a client is held by the batch of this number, idle with the moment at which it has a goal next, or planned for
 pub data Outcome : Type 0 where
   held : ℕ → Outcome
-  idle : Outcome
+  idle : Option ℕ → Outcome
   planned : PlannedReport → Outcome
 
 pub record ClientReport : Type 0 where

@@ -1,5 +1,5 @@
 -- Scripts, with chains, clients and paths named by their places.
-use Rattle.std.specs.Prelude.{◌≢◌, ◌<◌, ◌≤◌, List, length, All, AllPairs}
+use Rattle.std.specs.Prelude.{◌≢◌, ◌<◌, ◌≤◌, Bool, List, length, All, AllPairs}
 use Rattle.rb_base.specs.Window.{Span}
 use Rattle.rb_script_types.specs.Config.{Config}
 use Rattle.rb_script_types.specs.declared.script.Asked.{Asked as Question}
@@ -7,12 +7,13 @@ use Rattle.rb_script_types.specs.declared.script.Settlement.{Settlement}
 use Rattle.rb_core_model.specs.Config.{IsSetUp}
 use Rattle.rb_core_model.specs.Event.{Event, IsEvent, Window, Asked, SetSeen, HeaderSeen, StoredSeen, Sent, Received, AckWritten, Cleared, Closed, Scanned, Planned, Settled}
 
--- the window, what is asked, what was seen before, and what was settled after
+-- the window, what is asked, what was seen before, what was settled after, and whether all that is open then was taken
 pub record Turn : Type 0 where
   pub window : Span
   pub goals : List Question
   pub events : List Event
   pub settlements : List Settlement
+  pub taken : Bool
 
 pub record Script : Type 0 where
   pub config : Config

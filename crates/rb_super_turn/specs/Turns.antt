@@ -1,14 +1,15 @@
 -- What a script's turns report (own choice, over what clients are to be sent as things stand).
-use Rattle.std.specs.Prelude.{◌≡◌, ℕ, ◌+◌, List, [], ◌∷◌, ◌++◌, map, fold, Option, Some, None, slice_get}
-use Rattle.std.specs.List.{AllZip, enumerate_from}
+use Rattle.std.specs.Prelude.{◌≡◌, ℕ, ◌+◌, Bool, List, [], ◌∷◌, ◌++◌, length, map, fold, Option, Some, None, slice_get, if◌then◌else◌}
+use Rattle.std.specs.List.{AllZip, enumerate_from, range_with_len}
 use Rattle.std.specs.Option.{option_map, option_map_or, option_and_then, option_to_list}
 use Rattle.rb_base.specs.Window.{Span}
 use Rattle.rb_plan.specs.Order.{cost_of}
 use Rattle.rb_step.specs.LightClient.{Update}
 use Rattle.rb_step.specs.View.{client_of}
-use Rattle.rb_plan_client.specs.Draft.{Plan as SentPlan, Planned as Answer, Sending as SentAs, nothing as sent_nothing, too_big as sent_too_big, batched as sent_batched, Draft, IsIdle, IsPlanned}
+use Rattle.rb_plan_client.specs.Draft.{Plan as SentPlan, Planned as Answer, Sending as SentAs, nothing as sent_nothing, too_big as sent_too_big, batched as sent_batched, Draft, planned_updates, IsIdle, IsPlanned}
+use Rattle.rb_plan_client.specs.Next.{IsNext}
 use Rattle.rb_core_model.specs.Event.{Event, Window, Asked, Settled}
-use Rattle.rb_core_model.specs.Standing.{OpenBatch, ClientState, Standing, opening_standing, task_in, with_batch, goes_back, judged, standing_after}
+use Rattle.rb_core_model.specs.Standing.{OpenBatch, ClientState, Standing, opening_standing, task_in, with_batch, goes_back, judged, standing_after, batch_open}
 use Rattle.rb_plan_client.specs.Task.{Task, view_of}
 use Rattle.rb_super_turn.specs.Report.{RefusedEvent, PricedUpdate, SendingReport, nothing, too_big, batched, PlanReport, PlannedReport, Outcome, held, idle, planned, ClientReport, SettlementReport, TurnReport, Report}
 use Rattle.rb_script_types.specs.declared.refusal.Refusal.{Refusal}
@@ -68,27 +69,28 @@ reported_plan t number p = record {
   sending = numbered number p.sending;
 }
 
-abbrev pub reported : Task → ℕ → Answer → PlannedReport
-reported t number a = record { goal = a.goal; labels = a.labels; plan = option_map (reported_plan t number) a.plan }
+abbrev pub reported : Task → ℕ → Option ℕ → Answer → PlannedReport
+reported t number next a = record { goal = a.goal; labels = a.labels; plan = option_map (reported_plan t number) a.plan; next = next }
 
 -- what is reported of a draft whose batch has this number
 abbrev pub outcome_numbered : ℕ → Draft → Outcome
-outcome_numbered number d = option_map_or (λ a. planned (reported d.job.task number a)) d.answer idle
+outcome_numbered number d = option_map_or (λ a. planned (reported d.job.task number d.next a)) d.answer (idle d.next)
 
 -- what is reported of a client's draft; batches are numbered from 1
 abbrev pub outcome_of : ClientState → Draft → Outcome
 outcome_of c d = outcome_numbered (c.batches + 1) d
 
--- a plan is right for a task, and its batch has this number if it opens one
+-- a plan is right for a task, its batch has this number if it opens one, and the client has a goal next when it is said
 pub record IsPlanFor (t : Task) (number : ℕ) (p : PlannedReport) : Type 0 where
   pub answer : Answer
   pub right : IsPlanned t answer
-  pub is : p ≡ reported t number answer
+  pub next : IsNext t (planned_updates (Some answer)) p.next
+  pub is : p ≡ reported t number p.next answer
 
 -- a client with an open batch is held, one without a goal is idle, and for the others there is a plan; batches are numbered from 1
 abbrev pub IsOutcome : Task → ClientState → Outcome → Type 0
 IsOutcome t c (held number) = option_map (λ (b : OpenBatch). b.number) c.batch ≡ Some number
-IsOutcome t c idle = (c.batch ≡ None) × IsIdle t
+IsOutcome t c (idle next) = (c.batch ≡ None) × IsIdle t × IsNext t [] next
 IsOutcome t c (planned p) = (c.batch ≡ None) × IsPlanFor t (c.batches + 1) p
 
 -- a client, with its place, as things stand
@@ -121,7 +123,7 @@ opened a = option_and_then (λ (p : PlanReport). batch_sent p p.sending) a.plan
 -- the goal that a client was asked for is done with, unless the client is held
 abbrev pub after_outcome : Outcome → ClientState → ClientState
 after_outcome (held number) c = c
-after_outcome idle c = with_batch c None
+after_outcome (idle next) c = with_batch c None
 after_outcome (planned p) c = with_batch c (opened p)
 
 abbrev pub after_reports : List ClientState → List ClientReport → List ClientState
@@ -150,16 +152,38 @@ abbrev pub settlement_reports : Standing → List Settlement → List Settlement
 settlement_reports s [] = []
 settlement_reports s (x ∷ xs) = settlement_report s x ∷ settlement_reports (after_settlement s x) xs
 
+-- a client's open batch, taken whole
+abbrev pub taking : Standing → ℕ → Option Settlement
+taking s client = option_map (λ (b : OpenBatch). record { client = client; batch = b.number; done = length b.transactions }) (batch_open s client)
+
+abbrev pub after_taking : Standing → ℕ → Standing
+after_taking s client = option_map_or (after_settlement s) (taking s client) s
+
+abbrev pub taking_reports : Standing → List ℕ → List SettlementReport
+taking_reports s [] = []
+taking_reports s (client ∷ clients) = option_to_list (option_map (settlement_report s) (taking s client)) ++ taking_reports (after_taking s client) clients
+
+-- the clients whose open batches are taken after the settlements, in script order: all or none
+abbrev pub takers : Standing → Bool → List ℕ
+takers s taken = if taken then range_with_len 0 (length s.clients) else []
+
+-- how things stand after settlements, and after what is taken then, where all is
+abbrev pub after_all : List Settlement → Bool → Standing → Standing
+after_all xs taken s = fold after_taking (fold after_settlement s xs) (takers s taken)
+
+abbrev pub reports_of_all : List Settlement → Bool → Standing → List SettlementReport
+reports_of_all xs taken s = settlement_reports s xs ++ taking_reports (fold after_settlement s xs) (takers s taken)
+
 -- ---- turns
 
 pub record IsTurnReport (s : Standing) (turn : Turn) (r : TurnReport) : Type 0 where
   pub window : r.window_back ≡ goes_back s.window turn.window
   pub refused : r.refused ≡ refusals_in s turn
   pub clients : AllZip (IsClientReport (before_plans s turn)) (enumerate_from 0 (before_plans s turn).clients) r.clients
-  pub settlements : r.settlements ≡ settlement_reports (after_plans s turn r) turn.settlements
+  pub settlements : r.settlements ≡ reports_of_all turn.settlements turn.taken (after_plans s turn r)
 
 abbrev pub after_turn : Standing → Turn → TurnReport → Standing
-after_turn s turn r = fold after_settlement (after_plans s turn r) turn.settlements
+after_turn s turn r = after_all turn.settlements turn.taken (after_plans s turn r)
 
 -- one report for each turn, in the standing that the turns before it leave
 abbrev pub AreTurnReports : Standing → List Turn → Report → Type 0

@@ -35,11 +35,11 @@ abbrev pub plan_view : {A : Type 0} → CodePlan A → PlanReport
 plan_view p = record { updates = map priced_view p.updates.items; total = p.total; messages = p.messages.items; sending = sending_view p.sending }
 
 abbrev pub planned_view : {A : Type 0} → CodePlanned A → PlannedReport
-planned_view p = record { goal = p.goal; labels = p.labelling; plan = option_map plan_view p.plan }
+planned_view p = record { goal = p.goal; labels = p.labelling; plan = option_map plan_view p.plan; next = p.next }
 
 abbrev pub outcome_view : {A : Type 0} → CodeOutcome A → Outcome
 outcome_view (outcome.Held number) = held number
-outcome_view outcome.Idle = idle
+outcome_view (outcome.Idle next) = idle next
 outcome_view (outcome.Planned p) = planned (planned_view p)
 
 abbrev pub client_report_view : {A : Type 0} → CodeClientReport A → ClientReport

@@ -28,5 +28,5 @@ pub use report::{
     Report, SendingReport, SettlementReport, TurnReport,
 };
 pub use scanning::scan_all;
-pub use settling::settle_all;
+pub use settling::settle_turn;
 pub use tables::no_tables;

@@ -11,6 +11,7 @@ ghost use Rattle.rb_super_turn.specs.Turns.{priced, numbered, reported_plan, rep
 ghost use Rattle.rb_super_turn.specs.Views.{priced_view, sending_view, plan_view, planned_view, outcome_view, number_of};
 
 use crate::report::{BatchReport, Outcome, PlanReport, PlannedReport, PricedUpdate, SendingReport};
+use rb_base::Moment;
 use rb_core_model::Reply;
 use rb_plan::{Cost, Update};
 use rb_plan_client::{Draft, JobView};
@@ -112,9 +113,10 @@ fn planned_of<A: Allocator + Copy>(
     job: &JobView<A>,
     planned: &rb_plan_client::Planned<A>,
     number: u64,
+    next: Option<Moment>,
 ) -> Result<PlannedReport<A>, AllocError>
     requires { IsPlanned job.now.task planned.now }
-    ensures { IfOk result (λ p. planned_view p ≡ reported job.now.task number planned.now) }
+    ensures { IfOk result (λ p. planned_view p ≡ reported job.now.task number next planned.now) }
 {
     let labelling = planned.labelling().copy()?;
     let plan = plan_if(alloc, job, planned.plan(), number)?;
@@ -122,6 +124,7 @@ fn planned_of<A: Allocator + Copy>(
         goal: planned.goal(),
         labelling,
         plan,
+        next,
     })
 }
 
@@ -146,9 +149,9 @@ pub(crate) fn outcome_of<A: Allocator + Copy>(
     match draft.answer() {
         Some(answer) => {
             let number = number_of(reply);
-            let planned = planned_of(alloc, draft.job(), answer, number)?;
+            let planned = planned_of(alloc, draft.job(), answer, number, draft.next())?;
             Ok(Outcome::Planned(planned))
         }
-        None => Ok(Outcome::Idle),
+        None => Ok(Outcome::Idle(draft.next())),
     }
 }

@@ -1,7 +1,7 @@
 //! Plans for clients.
 ghost use Rattle.std.specs.Prelude.{◌≡◌, ◌<◌, true, Some, None, length, is_some, IfOk, OnOk, map};
 ghost use denote.Param.Send.{Frees};
-ghost use Rattle.rb_core_model.specs.Batches.{batch_open};
+ghost use Rattle.rb_core_model.specs.Standing.{batch_open};
 ghost use Rattle.rb_core.specs.Core.{state_in};
 ghost use Rattle.rb_plan_client.specs.Draft.{IsDraft, Job};
 ghost use Rattle.rb_core_model.specs.Machine.{client_view};

@@ -3,14 +3,13 @@ ghost use Rattle.std.specs.Prelude.{◌≡◌, ◌<◌, ◌++◌, ◌∷◌, [],
 ghost use Rattle.std.specs.Option.{option_copied};
 ghost use denote.Param.Send.{Frees};
 ghost use Rattle.rb_script_types.specs.Config.{config_view, IsConfig};
-ghost use Rattle.rb_core_model.specs.Batches.{batch_open};
 ghost use Rattle.rb_core_model.specs.Config.{IsSetUp};
 ghost use Rattle.rb_core.specs.Core.{state_in, refusal_in};
 ghost use Rattle.rb_core_model.specs.Machine.{client_view, client_view_refusal, is_scanned, path_view_refusal, reply_of};
 ghost use Rattle.rb_core_model.specs.Refused.{IsRefusal};
 ghost use Rattle.rb_core_model.specs.Replied.{reply_view};
 ghost use Rattle.rb_core_model.specs.Seen.{event_view};
-ghost use Rattle.rb_core_model.specs.Standing.{book_at, path_view};
+ghost use Rattle.rb_core_model.specs.Standing.{book_at, path_view, batch_open};
 ghost use Rattle.rb_super_turn.specs.Phases.{standing_in};
 ghost use Rattle.rb_super_turn.specs.Tables.{AreTables};
 

@@ -1,14 +1,16 @@
 //! What a run reports.
-use rb_base::{ClientId, Height, PathId};
+use rb_base::{ClientId, Height, Moment, PathId};
 use rb_batch::Transaction;
 use rb_plan::{Cost, Labelling, Update};
 use rb_plan_client::Message;
-use rb_script_types::{Goal, Refusal};
+use rb_script_types::{Goal, Refusal, Version};
 use std::alloc::{Allocator, Global};
 
-/// The report of a run, turn by turn, with the identifiers of the paths by their places.
+/// The report of a run, turn by turn, with the script's version and the identifiers of the paths by their
+/// places.
 #[derive(Debug, Drop)]
 pub struct Report<A: Allocator = Global> {
+    pub version: Version,
     pub paths: Vec<PathId, A>,
     pub turns: Vec<TurnReport<A>, A>,
 }
@@ -42,18 +44,20 @@ pub struct ClientReport<A: Allocator = Global> {
 pub enum Outcome<A: Allocator = Global> {
     /// The batch with this number is open, so nothing was planned.
     Held(u64),
-    /// There was no goal.
-    Idle,
+    /// There was no goal; the moment at which the client has one next, by what is known.
+    Idle(Option<Moment>),
     /// There was a goal.
     Planned(PlannedReport<A>),
 }
 
-/// A goal, the exact labelling, and the plan; none where the goal can't be reached.
+/// A goal, the exact labelling, the plan, none where the goal can't be reached, and the moment at which the
+/// client has a goal next, by what is known and once the plan is taken.
 #[derive(Debug, Drop)]
 pub struct PlannedReport<A: Allocator = Global> {
     pub goal: Goal,
     pub labelling: Labelling<A>,
     pub plan: Option<PlanReport<A>>,
+    pub next: Option<Moment>,
 }
 
 /// The least list of updates that meets the goal, their fees and number in all, the packet messages

@@ -2,3 +2,5 @@ pub mod Beginnings
 pub mod Labels
 pub mod Numbered
 pub mod Cases
+pub mod Gregorian
+pub mod Clocks

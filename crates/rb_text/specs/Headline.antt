@@ -24,7 +24,7 @@ pub record WritesReport (bytes : List ℕ) (old new : Option (List ℕ)) : Type 
   pub script : Script Global
   pub report : Report
   pub planned : IsReportFor bytes script report
-  pub written : Appends old new (text (path_ids script.config.paths) report)
+  pub written : Appends old new (text script.config.version (path_ids script.config.paths) report)
 
 -- it is this report, of paths with these identifiers
 pub record WritesThisReport (bytes : List ℕ) (old new : Option (List ℕ)) (ids : List (List ℕ)) (report : Report) : Type 0 where
@@ -37,4 +37,4 @@ pub record BeginsReport (bytes : List ℕ) (old new : Option (List ℕ)) : Type 
   pub script : Script Global
   pub report : Report
   pub planned : IsReportFor bytes script report
-  pub begun : AppendsBeginning old new (text (path_ids script.config.paths) report)
+  pub begun : AppendsBeginning old new (text script.config.version (path_ids script.config.paths) report)

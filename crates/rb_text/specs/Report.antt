@@ -12,6 +12,9 @@ use Rattle.rb_script_types.specs.declared.refusal.Refusal.{Refusal}
 use Rattle.rb_scan.specs.declared.message.Kind.{Kind}
 use Rattle.rb_scan.specs.declared.message.Kind.TheVariants.{Receive, Acknowledge, Timeout}
 use Rattle.rb_plan_client.specs.Task.{Message}
+use Rattle.rb_script_types.specs.declared.version.Version.{Version}
+use Rattle.rb_script_types.specs.declared.version.Version.TheVariants.{One, Two, Three}
+use Rattle.rb_text.specs.Moments.{moment_text}
 use Rattle.rb_super_turn.specs.Report.{RefusedEvent, PricedUpdate, SendingReport, nothing, too_big, batched, PlanReport, Outcome, held, idle, planned, ClientReport, SettlementReport, TurnReport, Report}
 
 -- ---- lines
@@ -67,6 +70,13 @@ transaction_line number t =
     codes "tx " ++ decimal number ++ codes " first " ++ decimal t.first ++ codes " count " ++ decimal t.count ++ codes " gas " ++ decimal t.gas
     ++ codes "\n"
 
+-- when a client has a goal next, from version 3 on
+abbrev pub next_text : Version → Option ℕ → List ℕ
+next_text One next = []
+next_text Two next = []
+next_text Three None = []
+next_text Three (Some moment) = codes "next " ++ moment_text moment ++ codes "\n"
+
 abbrev pub settled_line : List ℕ → ℕ → ℕ → List ℕ
 settled_line id batch done = codes "settled " ++ id ++ codes " " ++ decimal batch ++ codes " " ++ decimal done ++ codes "\n"
 
@@ -89,19 +99,19 @@ sending_text nothing = []
 sending_text (too_big index) = too_big_line index
 sending_text (batched b) = batch_line b.number b.proof ++ numbered_lines transaction_line 1 b.transactions
 
--- with the identifiers of the paths by their places
-abbrev pub plan_text : List (List ℕ) → Option PlanReport → List ℕ
-plan_text paths None = unreachable_line
-plan_text paths (Some p) =
-    flat_map update_line p.updates ++ total_line p.total ++ flat_map (message_line paths) p.messages ++ sending_text p.sending
+-- with the identifiers of the paths by their places, and when the client has a goal next
+abbrev pub plan_text : Version → List (List ℕ) → Option ℕ → Option PlanReport → List ℕ
+plan_text version paths next None = unreachable_line
+plan_text version paths next (Some p) =
+    flat_map update_line p.updates ++ total_line p.total ++ flat_map (message_line paths) p.messages ++ sending_text p.sending ++ next_text version next
 
-abbrev pub outcome_text : List (List ℕ) → List ℕ → Outcome → List ℕ
-outcome_text paths id (held batch) = held_line id batch
-outcome_text paths id idle = idle_line id
-outcome_text paths id (planned p) = goal_line id p.goal ++ flat_map label_line p.labels ++ plan_text paths p.plan
+abbrev pub outcome_text : Version → List (List ℕ) → List ℕ → Outcome → List ℕ
+outcome_text version paths id (held batch) = held_line id batch
+outcome_text version paths id (idle next) = idle_line id ++ next_text version next
+outcome_text version paths id (planned p) = goal_line id p.goal ++ flat_map label_line p.labels ++ plan_text version paths p.next p.plan
 
-abbrev pub client_text : List (List ℕ) → ClientReport → List ℕ
-client_text paths c = outcome_text paths c.id c.outcome
+abbrev pub client_text : Version → List (List ℕ) → ClientReport → List ℕ
+client_text version paths c = outcome_text version paths c.id c.outcome
 
 -- a settlement by its number in its turn, from 0
 abbrev pub settlement_text_by : ℕ → SettlementReport → Option Refusal → List ℕ
@@ -115,11 +125,17 @@ settlement_text number x = settlement_text_by number x x.refusal
 abbrev pub head_text : ℕ → Bool → List ℕ
 head_text number window_back = codes "turn " ++ decimal number ++ codes "\n" ++ (if window_back then window_line else [])
 
-abbrev pub turn_text : List (List ℕ) → ℕ → TurnReport → List ℕ
-turn_text paths number t =
-    head_text number t.window_back ++ flat_map refused_line t.refused ++ flat_map (client_text paths) t.clients
+abbrev pub turn_text : Version → List (List ℕ) → ℕ → TurnReport → List ℕ
+turn_text version paths number t =
+    head_text number t.window_back ++ flat_map refused_line t.refused ++ flat_map (client_text version paths) t.clients
     ++ numbered_lines settlement_text 0 t.settlements
 
+-- the first line: the format of versions 1 and 2 is one
+abbrev pub first_line : Version → List ℕ
+first_line One = codes "ibcplan 1\n"
+first_line Two = codes "ibcplan 1\n"
+first_line Three = codes "ibcplan 3\n"
+
 -- the text of a report, its turns numbered from 1
-abbrev pub text : List (List ℕ) → Report → List ℕ
-text paths turns = codes "ibcplan 1\n" ++ numbered_lines (turn_text paths) 1 turns ++ codes "end\n"
+abbrev pub text : Version → List (List ℕ) → Report → List ℕ
+text version paths turns = first_line version ++ numbered_lines (turn_text version paths) 1 turns ++ codes "end\n"

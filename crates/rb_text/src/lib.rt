@@ -6,6 +6,7 @@
 mod case;
 mod certificate;
 mod certifying;
+mod moment;
 mod refusal;
 mod report;
 mod running;
@@ -14,6 +15,7 @@ mod write;
 
 pub use certificate::{Certificate, read_certificate};
 pub use certifying::certify_texts;
+pub use moment::moments_are_read;
 pub use refusal::{CertifyError, Source};
 pub use running::{report_of, report_over, run_over};
 pub use write::write_report;

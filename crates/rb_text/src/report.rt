@@ -4,14 +4,15 @@ ghost use Rattle.std.specs.List.{flat_map};
 ghost use Rattle.std.specs.Option.{option_map};
 ghost use Rattle.rb_super_turn.specs.Views.{refused_view, priced_view, sending_view, plan_view, planned_view, client_report_view, settlement_view, turn_report_view};
 ghost use Rattle.rb_super_turn.specs.Report.{planned as outcome_planned};
-ghost use Rattle.rb_text.specs.Report.{refused_line, goal_line, label_line, update_line, total_line, kind_name, message_line, batch_line, transaction_line, numbered_lines, sending_text, plan_text, outcome_text, client_text, settled_line, refusal_text, refused_settle_line, settlement_text, head_text, turn_text};
+ghost use Rattle.rb_text.specs.Report.{refused_line, goal_line, label_line, update_line, total_line, kind_name, message_line, batch_line, transaction_line, numbered_lines, sending_text, next_text, plan_text, outcome_text, client_text, settled_line, refusal_text, refused_settle_line, settlement_text, head_text, turn_text};
 
-use rb_base::{Height, PathId};
+use crate::moment::push_moment;
+use rb_base::{Height, Moment, PathId};
 use rb_batch::Transaction;
 use rb_plan::{Cost, Label};
 use rb_plan_client::Message;
 use rb_scan::Kind;
-use rb_script_types::{Goal, Refusal};
+use rb_script_types::{Goal, Refusal, Version};
 use rb_super_turn::{
     ClientReport, Outcome, PlanReport, PlannedReport, PricedUpdate, RefusedEvent, SendingReport,
     SettlementReport, TurnReport,
@@ -172,19 +173,36 @@ fn push_messages(
     Ok(())
 }
 
+/// Adds when a client has a goal next, from version 3 on.
+fn push_next(text: &mut String, version: Version, next: Option<Moment>) -> Result<(), AllocError>
+    ensures { OnOk result (string_bytes text.new ≡ string_bytes text.old ++ next_text version next) }
+{
+    match (version, next) {
+        (Version::Three, Some(moment)) => {
+            text.push_str("next ")?;
+            push_moment(text, moment)?;
+            text.push_str("\n")
+        }
+        _ => Ok(()),
+    }
+}
+
 fn push_plan(
     text: &mut String,
+    version: Version,
     paths: &[PathId],
+    next: Option<Moment>,
     plan: &Option<PlanReport>,
 ) -> Result<(), AllocError>
-    ensures { OnOk result (string_bytes text.new ≡ string_bytes text.old ++ plan_text paths.now (option_map plan_view plan.now)) }
+    ensures { OnOk result (string_bytes text.new ≡ string_bytes text.old ++ plan_text version paths.now next (option_map plan_view plan.now)) }
 {
     match plan {
         Some(plan) => {
             push_updates(text, plan.updates.as_slice())?;
             push_total(text, plan.total)?;
             push_messages(text, paths, plan.messages.as_slice())?;
-            push_sending(text, &plan.sending)
+            push_sending(text, &plan.sending)?;
+            push_next(text, version, next)
         }
         None => text.push_str("unreachable\n"),
     }
@@ -192,39 +210,49 @@ fn push_plan(
 
 fn push_planned(
     text: &mut String,
+    version: Version,
     paths: &[PathId],
     id: &str,
     planned: &PlannedReport,
 ) -> Result<(), AllocError>
     ensures { OnOk result (string_bytes text.new
-        ≡ string_bytes text.old ++ outcome_text paths.now id.now (outcome_planned (planned_view planned.now))) }
+        ≡ string_bytes text.old ++ outcome_text version paths.now id.now (outcome_planned (planned_view planned.now))) }
 {
     push_goal(text, id, planned.goal)?;
     push_labels(text, planned.labelling.labels())?;
-    push_plan(text, paths, &planned.plan)
+    push_plan(text, version, paths, planned.next, &planned.plan)
 }
 
-fn push_client(text: &mut String, paths: &[PathId], client: &ClientReport) -> Result<(), AllocError>
-    ensures { OnOk result (string_bytes text.new ≡ string_bytes text.old ++ client_text paths.now (client_report_view client.now)) }
+fn push_client(
+    text: &mut String,
+    version: Version,
+    paths: &[PathId],
+    client: &ClientReport,
+) -> Result<(), AllocError>
+    ensures { OnOk result (string_bytes text.new ≡ string_bytes text.old ++ client_text version paths.now (client_report_view client.now)) }
 {
     let id = client.id.as_str();
     match &client.outcome {
         Outcome::Held(batch) => writeln!(text, "client {id} held {batch}"),
-        Outcome::Idle => writeln!(text, "client {id} idle"),
-        Outcome::Planned(planned) => push_planned(text, paths, id, planned),
+        Outcome::Idle(next) => {
+            writeln!(text, "client {id} idle")?;
+            push_next(text, version, *next)
+        }
+        Outcome::Planned(planned) => push_planned(text, version, paths, id, planned),
     }
 }
 
 fn push_clients(
     text: &mut String,
+    version: Version,
     paths: &[PathId],
     clients: &[ClientReport],
 ) -> Result<(), AllocError>
     ensures { OnOk result (string_bytes text.new
-        ≡ string_bytes text.old ++ flat_map (client_text paths.now) (map client_report_view clients.now)) }
+        ≡ string_bytes text.old ++ flat_map (client_text version paths.now) (map client_report_view clients.now)) }
 {
     for client in clients {
-        push_client(text, paths, client)?;
+        push_client(text, version, paths, client)?;
     }
     Ok(())
 }
@@ -295,14 +323,15 @@ fn push_head(text: &mut String, number: u64, window_back: bool) -> Result<(), Al
 /// Adds the lines of a turn, by its number from 1, with the identifiers of the paths by their places.
 pub(crate) fn push_turn(
     text: &mut String,
+    version: Version,
     paths: &[PathId],
     number: u64,
     turn: &TurnReport,
 ) -> Result<(), AllocError>
-    ensures { OnOk result (string_bytes text.new ≡ string_bytes text.old ++ turn_text paths.now number (turn_report_view turn.now)) }
+    ensures { OnOk result (string_bytes text.new ≡ string_bytes text.old ++ turn_text version paths.now number (turn_report_view turn.now)) }
 {
     push_head(text, number, turn.window_back)?;
     push_refusals(text, turn.refused.as_slice())?;
-    push_clients(text, paths, turn.clients.as_slice())?;
+    push_clients(text, version, paths, turn.clients.as_slice())?;
     push_settlements(text, turn.settlements.as_slice())
 }

@@ -38,6 +38,7 @@ pub fn report_of<
     requires script { IsReadScript (script_view script) }
     requires workers { workers ≤ 64 }
     ensures kept { relayed.IsScript (as_events (script_view script)) }
+    ensures version { IfOk result (λ report. report.version ≡ script.config.version) }
     ensures paths { IfOk result (λ report. report.paths.items ≡ map (λ (p : PathConfig). p.id) script.config.paths.items) }
     ensures turns { IfOk result (λ report. IsReportOf (as_events (script_view script)) (report_view report)) }
 {

@@ -83,7 +83,7 @@ fn push_window(text: &mut String, turn: u64, window: Option<&Window>) -> Result<
 }
 
 /// A moment as a timestamp, which is written as RFC 3339 has it.
-fn timestamp_of(moment: Moment) -> Option<Timestamp> {
+pub(crate) fn timestamp_of(moment: Moment) -> Option<Timestamp> {
     let nanoseconds = i128::try_from(moment.nanoseconds()).ok()?;
     Timestamp::from_nanosecond(nanoseconds).ok()
 }
@@ -154,7 +154,7 @@ fn push_client(
     let id = client.id.as_str();
     match &client.outcome {
         Outcome::Held(batch) => writeln!(text, "# turn {turn} client {id}: held by batch {batch}"),
-        Outcome::Idle => writeln!(text, "# turn {turn} client {id}: idle"),
+        Outcome::Idle(_) => writeln!(text, "# turn {turn} client {id}: idle"),
         Outcome::Planned(planned) => match &planned.plan {
             Some(plan) => push_plan(text, turn, host, id, plan),
             None => writeln!(text, "# turn {turn} client {id}: unreachable"),

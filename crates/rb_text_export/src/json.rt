@@ -1,10 +1,11 @@
 //! A report as JSON. Identifiers have no character that JSON escapes.
-use rb_base::{Height, PathId};
+use crate::commands::timestamp_of;
+use rb_base::{Height, Moment, PathId};
 use rb_batch::Transaction;
 use rb_plan::{Cost, Label};
 use rb_plan_client::Message;
 use rb_scan::Kind;
-use rb_script_types::{Goal, Refusal};
+use rb_script_types::{Goal, Refusal, Version};
 use rb_super_turn::{
     ClientReport, Outcome, PlanReport, PlannedReport, PricedUpdate, RefusedEvent, Report,
     SendingReport, SettlementReport, TurnReport,
@@ -14,13 +15,33 @@ use std::alloc::{AllocError, Global};
 /// The report as one object of JSON, and a line feed.
 pub fn json_of(alloc: Global, report: &Report) -> Result<String, AllocError> {
     let mut text = String::new(alloc);
-    text.push_str("{\"ibcplan\": 1, \"turns\": [")?;
+    let format = format_of(report.version);
+    write!(&mut text, "{{\"ibcplan\": {format}, \"turns\": [")?;
     for (place, turn) in report.turns.iter().enumerate() {
         push_comma(&mut text, place)?;
-        push_turn(&mut text, report.paths.as_slice(), turn)?;
+        push_turn(&mut text, report.version, report.paths.as_slice(), turn)?;
     }
     text.push_str("]}\n")?;
     Ok(text)
+}
+
+/// The number of the format: that of versions 1 and 2 is 1.
+fn format_of(version: Version) -> u64 {
+    match version {
+        Version::One | Version::Two => 1,
+        Version::Three => 3,
+    }
+}
+
+/// Adds when a client has a goal next, from version 3 on.
+fn push_next(text: &mut String, version: Version, next: Option<Moment>) -> Result<(), AllocError> {
+    let (Version::Three, Some(moment)) = (version, next) else {
+        return Ok(());
+    };
+    match timestamp_of(moment) {
+        Some(timestamp) => write!(text, ", \"next\": \"{timestamp}\""),
+        None => Ok(()),
+    }
 }
 
 /// Adds what stands between an element and the one before it.
@@ -32,12 +53,17 @@ fn push_comma(text: &mut String, place: usize) -> Result<(), AllocError> {
     }
 }
 
-fn push_turn(text: &mut String, paths: &[PathId], turn: &TurnReport) -> Result<(), AllocError> {
+fn push_turn(
+    text: &mut String,
+    version: Version,
+    paths: &[PathId],
+    turn: &TurnReport,
+) -> Result<(), AllocError> {
     let window_back = turn.window_back;
     write!(text, "{{\"window_back\": {window_back}, \"refused\": [")?;
     push_refusals(text, turn.refused.as_slice())?;
     text.push_str("], \"clients\": [")?;
-    push_clients(text, paths, turn.clients.as_slice())?;
+    push_clients(text, version, paths, turn.clients.as_slice())?;
     text.push_str("], \"settlements\": [")?;
     push_settlements(text, turn.settlements.as_slice())?;
     text.push_str("]}")
@@ -53,12 +79,13 @@ fn push_refusals(text: &mut String, refusals: &[RefusedEvent]) -> Result<(), All
 
 fn push_clients(
     text: &mut String,
+    version: Version,
     paths: &[PathId],
     clients: &[ClientReport],
 ) -> Result<(), AllocError> {
     for (place, client) in clients.iter().enumerate() {
         push_comma(text, place)?;
-        push_client(text, paths, client)?;
+        push_client(text, version, paths, client)?;
     }
     Ok(())
 }
@@ -101,6 +128,7 @@ fn push_settlement(text: &mut String, settlement: &SettlementReport) -> Result<(
 
 fn push_client(
     text: &mut String,
+    version: Version,
     paths: &[PathId],
     client: &ClientReport,
 ) -> Result<(), AllocError> {
@@ -108,13 +136,18 @@ fn push_client(
     write!(text, "{{\"id\": \"{id}\", ")?;
     match &client.outcome {
         Outcome::Held(batch) => write!(text, "\"outcome\": \"held\", \"batch\": {batch}}}"),
-        Outcome::Idle => text.push_str("\"outcome\": \"idle\"}"),
-        Outcome::Planned(planned) => push_planned(text, paths, planned),
+        Outcome::Idle(next) => {
+            text.push_str("\"outcome\": \"idle\"")?;
+            push_next(text, version, *next)?;
+            text.push_str("}")
+        }
+        Outcome::Planned(planned) => push_planned(text, version, paths, planned),
     }
 }
 
 fn push_planned(
     text: &mut String,
+    version: Version,
     paths: &[PathId],
     planned: &PlannedReport,
 ) -> Result<(), AllocError> {
@@ -124,7 +157,10 @@ fn push_planned(
     push_labels(text, planned.labelling.labels())?;
     text.push_str("]")?;
     match &planned.plan {
-        Some(plan) => push_plan(text, paths, plan),
+        Some(plan) => {
+            push_next(text, version, planned.next)?;
+            push_plan(text, paths, plan)
+        }
         None => text.push_str("}"),
     }
 }

@@ -3,7 +3,8 @@ ghost use Rattle.std.specs.Prelude.{◌+◌, ◌<◌, ◌^◌, IfOk};
 use crate::same::assert_same;
 use rb_base::{Height, Moment, Part};
 use rb_scan::{
-    Kind, Order, Packet, PacketMsg, PathView, Sequence, is_path, owed, owed_part, ready, wanted,
+    Kind, Order, Packet, PacketMsg, PathView, Sequence, is_path, owed, owed_part, ready,
+    ready_beyond, wanted,
 };
 use std::alloc::Global;
 use std::process::Abort;
@@ -129,7 +130,32 @@ fn packet_of(seen: &Seen) -> Result<Packet, Fail> {
     Ok(with_settled(with_cleared(written, seen.cleared), seen))
 }
 
-fn message_of(message: Message) -> Result<PacketMsg, Fail> {
+/// From when on a packet may have expired: from the first moment on where it has a timeout height, else from
+/// its timeout time on.
+fn expiry_of(seen: &Seen) -> Result<Option<Moment>, Fail> {
+    if seen.timeout_height > 0 {
+        return Ok(Some(second(0)?));
+    }
+    match seen.timeout_seconds {
+        0 => Ok(None),
+        seconds => Ok(Some(second(seconds)?)),
+    }
+}
+
+/// From when on a message for one of these packets may be in vain: a receive alone, where its packet has
+/// expired.
+fn expires_of(packets: &[Seen], message: Message) -> Result<Option<Moment>, Fail> {
+    let (kind, sequence, _) = message;
+    if kind != Kind::Receive {
+        return Ok(None);
+    }
+    match packets.iter().find(|seen| seen.sequence == sequence) {
+        Some(seen) => expiry_of(seen),
+        None => Ok(None),
+    }
+}
+
+fn message_of(message: Message, expires: Option<Moment>) -> Result<PacketMsg, Fail> {
     let (kind, sequence, floor) = message;
     let sequence = number_of(sequence)?;
     let floor = Height::new(floor).ok_or("floor")?;
@@ -137,13 +163,20 @@ fn message_of(message: Message) -> Result<PacketMsg, Fail> {
         kind,
         sequence,
         floor,
+        expires,
     })
 }
 
-fn messages_of(alloc: Global, messages: &[Message]) -> Result<Vec<PacketMsg>, Fail> {
+/// These messages, for packets of which these are some.
+fn messages_of(
+    alloc: Global,
+    packets: &[Seen],
+    messages: &[Message],
+) -> Result<Vec<PacketMsg>, Fail> {
     let mut list = Vec::new(alloc);
     for message in messages {
-        list.push(message_of(*message)?)?;
+        let expires = expires_of(packets, *message)?;
+        list.push(message_of(*message, expires)?)?;
     }
     Ok(list)
 }
@@ -530,7 +563,7 @@ fn check_view(
 }
 
 fn check_path(rt: &impl Abort, alloc: Global, index: usize, row: &Row) -> Result<(), Fail> {
-    let wanted = messages_of(alloc, row.owed)?;
+    let wanted = messages_of(alloc, row.packets, row.owed)?;
     let view = view_of(alloc, row, false)?;
     check_view(rt, &view, index, wanted.as_slice())
 }
@@ -596,7 +629,7 @@ fn chosen(alloc: Global, list: &[PacketMsg], places: &[usize]) -> Result<Vec<Pac
 
 fn check_ready(rt: &impl Abort, alloc: Global, index: usize, reach: &Reach) -> Result<(), Fail> {
     let (list, order, reach, kept, floor) = *reach;
-    let list = messages_of(alloc, list)?;
+    let list = messages_of(alloc, &[], list)?;
     let expected = chosen(alloc, &list, kept)?;
     let ready = ready(alloc, &list, order, Height::new(reach))?;
     assert_same(rt, &index, &ready.as_slice(), &expected.as_slice());
@@ -610,6 +643,39 @@ fn check_ready(rt: &impl Abort, alloc: Global, index: usize, reach: &Reach) -> R
 fn keeps_what_is_ready(rt: HostRuntime) -> Result<(), Fail> {
     for (index, reach) in REACHES.iter().enumerate() {
         check_ready(&rt, rt.alloc(), index, reach)?;
+    }
+    Ok(())
+}
+
+/// A list, its order, how far the client reaches without and with an update (0: nowhere), and the places of
+/// what only an update brings across.
+type Beyond = (&'static [Message], Order, u64, u64, &'static [usize]);
+
+const BEYOND: &[Beyond] = &[
+    (RECEIVES, Order::Ordered, 9, 12, &[1, 2]),
+    (RECEIVES, Order::Ordered, 10, 12, &[1, 2]),
+    (RECEIVES, Order::Unordered, 10, 12, &[1]),
+    (RECEIVES, Order::Unordered, 10, 0, &[]),
+    (RECEIVES, Order::Ordered, 0, 10, &[0]),
+    (KINDS, Order::Ordered, 10, 11, &[0, 1, 3, 4, 5]),
+    (KINDS, Order::Unordered, 9, 10, &[2]),
+];
+
+fn check_beyond(rt: &impl Abort, alloc: Global, index: usize, row: &Beyond) -> Result<(), Fail> {
+    let (list, order, near, reach, kept) = *row;
+    let list = messages_of(alloc, &[], list)?;
+    let expected = chosen(alloc, &list, kept)?;
+    let beyond = ready_beyond(alloc, &list, order, Height::new(near), Height::new(reach))?;
+    assert_same(rt, &index, &beyond.as_slice(), &expected.as_slice());
+    Ok(())
+}
+
+/// What only an update brings across is what is ready with it and isn't without it, also where an ORDERED
+/// run is broken by a message that is far.
+#[test]
+fn tells_what_needs_an_update(rt: HostRuntime) -> Result<(), Fail> {
+    for (index, row) in BEYOND.iter().enumerate() {
+        check_beyond(&rt, rt.alloc(), index, row)?;
     }
     Ok(())
 }

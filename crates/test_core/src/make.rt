@@ -3,7 +3,7 @@ use rb_base::{ChainId, ClientId, FeeTable, Height, Moment, Options, PathId, Peri
 use rb_batch::Limits;
 use rb_book::{Header, Record, Vote};
 use rb_scan::{Order, Sequence};
-use rb_script_types::{ClientConfig, Config, PathConfig, PathGas};
+use rb_script_types::{ClientConfig, Config, PathConfig, PathGas, RefreshTo, Version, Waits};
 use rb_valset::{Validator, ValidatorSet};
 use std::alloc::Global;
 use std::fmt::Debug;
@@ -74,6 +74,7 @@ fn make_client(id: &str, host: usize, tracks: usize) -> Option<ClientConfig> {
         tracks,
         options: options()?,
         refresh: 0,
+        refresh_to: RefreshTo::Lowest,
         fees: FeeTable::new(100, 1, 1).ok()?,
         gas: FeeTable::new(100, 1, 1).ok()?,
         limits: Limits::new(115, 100, 0),
@@ -91,6 +92,7 @@ fn make_path(id: &str, order: Order, first: u64, gas: PathGas) -> Option<PathCon
         forward: 0,
         back: 1,
         gas,
+        waits: Waits::NONE,
     })
 }
 
@@ -127,6 +129,7 @@ fn make_paths(alloc: Global) -> Option<Vec<PathConfig>> {
 /// ORDERED and begins with sequence 3, whose receives take 50, acknowledgements 51 and timeouts 52.
 pub fn make_config(alloc: Global, limit: usize, more: &[&'static str]) -> Option<Config> {
     Some(Config {
+        version: Version::One,
         limit,
         chains: make_chains(alloc)?,
         clients: make_clients(alloc, more)?,

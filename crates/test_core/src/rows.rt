@@ -115,7 +115,7 @@ fn refuses_in_order(rt: HostRuntime) -> Result<(), Fail> {
     run.go(&rt, alloc, ORDER)
 }
 
-/// A plan of a client, made on another machine, where the client's updates cost more.
+/// A plan of a client, made on another machine, where the client's updates take more gas.
 const ELSEWHERE: &[Row] = &[(Deed::Window(50, 60), "Noted"), (Deed::Draft(2), "idle")];
 
 /// It is offered in the same window, and then a plan of this machine.

@@ -74,12 +74,12 @@ pub fn start(alloc: Global, limit: usize, more: &[&'static str]) -> Option<Core>
     Core::new(alloc, config).ok()
 }
 
-/// A machine with a third client, whose updates cost more than those of the others.
+/// A machine with a third client, whose updates take more gas than those of the others.
 pub fn start_dear(alloc: Global) -> Option<Core> {
     let mut config = make_config(alloc, 3, &["third"])?;
-    let fees = FeeTable::new(200, 1, 1).ok()?;
+    let gas = FeeTable::new(200, 1, 1).ok()?;
     let client = config.clients.get_mut(2)?;
-    client.fees = fees;
+    client.gas = gas;
     if !is_config(&config) {
         return None;
     }

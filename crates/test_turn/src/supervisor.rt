@@ -259,6 +259,7 @@ fn drafts_in<R: Threads + Sync>(
         goals: Vec::new(alloc),
         events: Vec::new(alloc),
         settlements: Vec::new(alloc),
+        taken: false,
     };
     let crew = Crew::new(rt, 0, &OpenGate);
     Ok(supervisor.drafts(&crew, turn)?)

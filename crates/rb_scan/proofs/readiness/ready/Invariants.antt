@@ -6,4 +6,5 @@ use Rattle.rb_scan.proofs.readiness.ready.Given as goal
 
 abbrev pub invariant-loop-place : goal.invariant-loop-place
 invariant-loop-place g l =
-    l.list.items ≡ map (λ (p : ℕ × PacketMsg). p.1) (filter (λ (p : ℕ × PacketMsg). is_ready l.order l.reach l.messages p.0 p.1) (take l.place (enumerate_from 0 l.messages)))
+    l.list.items
+    ≡ map (λ (p : ℕ × PacketMsg). p.1) (filter (λ (p : ℕ × PacketMsg). is_ready l.order l.ends.reach l.messages p.0 p.1) (take l.place (enumerate_from 0 l.messages)))

@@ -1,9 +1,8 @@
 use Rattle.std.proofs.Common.{◌≡◌, ◌<◌, ◌≤◌, ◌+◌, IfOk, length, sym, ap, ◌∙◌, subst}
 use Rattle.std.proofs.lemmas.Result.{on_ok_weaker}
 use Rattle.rb_script_types.specs.Config.{Config}
-use Rattle.rb_core_model.specs.Batches.{batch_open}
 use Rattle.rb_core_model.specs.Machine.{State, max_events}
-use Rattle.rb_core_model.specs.Standing.{Standing}
+use Rattle.rb_core_model.specs.Standing.{Standing, batch_open}
 use Rattle.rb_super_turn.specs.Phases.{standing_in, IsOutcomeOf}
 use Rattle.rb_super_turn.specs.Views.{outcome_view}
 use Rattle.rb_super_turn.proofs.Steps.{later_from}

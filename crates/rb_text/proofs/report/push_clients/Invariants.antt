@@ -6,4 +6,4 @@ use Rattle.rb_text.proofs.report.push_clients.Given as goal
 
 abbrev pub invariant-loop-client : goal.invariant-loop-client
 invariant-loop-client l =
-    string_bytes l.text ≡ string_bytes l.fn.text ++ flat_map (client_text l.paths) (map client_report_view (take l.client-index l.clients))
+    string_bytes l.text ≡ string_bytes l.fn.text ++ flat_map (client_text l.version l.paths) (map client_report_view (take l.client-index l.clients))

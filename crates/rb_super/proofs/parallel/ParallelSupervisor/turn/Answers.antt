@@ -1,5 +1,5 @@
-use Rattle.std.proofs.Common.{◌≡◌, ◌<◌, IfOk, List, length, map, sym, ap, ◌∙◌, subst, arith}
-use Rattle.std.specs.List.{All, fold}
+use Rattle.std.proofs.Common.{◌≡◌, ◌+◌, ◌<◌, IfOk, List, length, map, sym, ap, ◌∙◌, subst, arith}
+use Rattle.std.specs.List.{All}
 use Rattle.std.specs.Result.{OnOk}
 use Rattle.std.proofs.lemmas.List.{length-map}
 use Rattle.rb_script_types.specs.Script.{IsReadObservation}
@@ -7,7 +7,7 @@ use Rattle.rb_script_types.specs.declared.script.Asked.{Asked}
 use Rattle.rb_script_types.specs.declared.script.Settlement.{Settlement}
 use Rattle.rb_super_turn.specs.Phases.{standing_in, HasLogRoom, IsLater}
 use Rattle.rb_super.specs.AsEvents.{most_events}
-use Rattle.rb_super_turn.specs.Turns.{after_settlement, settlement_reports}
+use Rattle.rb_super_turn.specs.Turns.{after_all, reports_of_all}
 use Rattle.rb_core.specs.Core.{Core}
 use Rattle.rb_script_types.specs.Config.{Config}
 use Rattle.rb_super_turn.specs.Views.{refused_view, client_report_view, settlement_view}
@@ -31,18 +31,19 @@ plan-requires-clause-room g c = λ ks _.
     let goals = ap length c.as_slice.ensures.value in
     omega arith
 
-pub settle_all-settled-requires-clause-clients : goal.settle_all-settled-requires-clause-clients
-settle_all-settled-requires-clause-clients g c =
+pub settle_turn-settled-requires-clause-clients : goal.settle_turn-settled-requires-clause-clients
+settle_turn-settled-requires-clause-clients g c =
     let same : c.in_ok-relayer-2.relayer.config ≡ c.args.self.config = c.in_ok-relayer-2.ensures.later.config ∙ c.in_ok-relayer.ensures.later.config ∙ ap (λ (k : Core). k.config) c.self.view_is in
     subst (λ (xs : List Settlement). All (λ (x : Settlement). x.client < length c.in_ok-relayer-2.relayer.config.clients) xs) (sym c.as_slice-2.ensures.value)
     (subst (λ (k : Config). All (λ (x : Settlement). x.client < length k.clients) c.args.turn.settlements.items) (sym same) c.requires.turn.settlements)
 
-pub settle_all-settled-requires-clause-room : goal.settle_all-settled-requires-clause-room
-settle_all-settled-requires-clause-room g c =
+pub settle_turn-settled-requires-clause-room : goal.settle_turn-settled-requires-clause-room
+settle_turn-settled-requires-clause-room g c =
     let room = subst (λ (k : Core). HasLogRoom k (most_events k.config c.args.turn)) (sym c.self.view_is) c.requires.room in
     let p = c.in_ok-relayer.ensures.later.front in
     let q = c.in_ok-relayer-2.ensures.later.front in
     let clients = ap (λ (k : Config). length k.clients) c.in_ok-relayer.ensures.later.config in
+    let planned = ap (λ (k : Config). length k.clients) c.in_ok-relayer-2.ensures.later.config in
     let goals = ap length c.as_slice.ensures.value in
     let settlements = ap length c.as_slice-2.ensures.value in
     omega arith
@@ -51,36 +52,37 @@ pub returns-clause-report : goal.returns-clause-report
 returns-clause-report g c =
     let given = c.in_ok-relayer-3.ensures.given in
     let d = c.in_ok-relayer-2.relayer in
-    let e = c.settle_all-settled.new.relayer in
+    let e = c.settle_turn-settled.new.relayer in
     rw (sym c.self.view_is) ((turn_done c.self.inside.relayer c.in_ok-relayer.relayer d e c.args.turn c.as_slice.result.now c.as_slice-2.result.now
     c.in_ok-relayer.window_back (map refused_view c.in_ok-relayer.refused.items) (map client_report_view c.in_ok-relayer-2.clients.items) (map settlement_view c.in_ok-relayer-3.settlements.items)
     c.as_slice.ensures.value c.as_slice-2.ensures.value c.in_ok-relayer.ensures.back c.in_ok-relayer.ensures.refused c.in_ok-relayer.ensures.standing
     (length-map c.in_ok-relayer-2.clients.items client_report_view ∙ c.in_ok-relayer-2.ensures.count ∙ ap (λ (k : Config). length k.clients) c.in_ok-relayer.ensures.later.config)
     c.in_ok-relayer-2.ensures.reports
-    (subst (λ r. IfOk r (λ xs. map settlement_view xs.items ≡ settlement_reports (standing_in d) c.as_slice-2.result.now)) given c.settle_all-settled.ensures.reports)
-    (subst (λ r. OnOk r (standing_in e ≡ fold after_settlement (standing_in d) c.as_slice-2.result.now)) given c.settle_all-settled.ensures.standing)).0)
+    (subst (λ r. IfOk r (λ xs. map settlement_view xs.items ≡ reports_of_all c.as_slice-2.result.now c.args.turn.taken (standing_in d))) given c.settle_turn-settled.ensures.reports)
+    (subst (λ r. OnOk r (standing_in e ≡ after_all c.as_slice-2.result.now c.args.turn.taken (standing_in d))) given c.settle_turn-settled.ensures.standing)).0)
 
 pub returns-clause-standing : goal.returns-clause-standing
 returns-clause-standing g c =
     let given = c.in_ok-relayer-3.ensures.given in
     let d = c.in_ok-relayer-2.relayer in
-    let e = c.settle_all-settled.new.relayer in
+    let e = c.settle_turn-settled.new.relayer in
     ap standing_in c.in_ok-relayer-3.ensures.same
     ∙ rw (sym c.self.view_is) ((turn_done c.self.inside.relayer c.in_ok-relayer.relayer d e c.args.turn c.as_slice.result.now c.as_slice-2.result.now
     c.in_ok-relayer.window_back (map refused_view c.in_ok-relayer.refused.items) (map client_report_view c.in_ok-relayer-2.clients.items) (map settlement_view c.in_ok-relayer-3.settlements.items)
     c.as_slice.ensures.value c.as_slice-2.ensures.value c.in_ok-relayer.ensures.back c.in_ok-relayer.ensures.refused c.in_ok-relayer.ensures.standing
     (length-map c.in_ok-relayer-2.clients.items client_report_view ∙ c.in_ok-relayer-2.ensures.count ∙ ap (λ (k : Config). length k.clients) c.in_ok-relayer.ensures.later.config)
     c.in_ok-relayer-2.ensures.reports
-    (subst (λ r. IfOk r (λ xs. map settlement_view xs.items ≡ settlement_reports (standing_in d) c.as_slice-2.result.now)) given c.settle_all-settled.ensures.reports)
-    (subst (λ r. OnOk r (standing_in e ≡ fold after_settlement (standing_in d) c.as_slice-2.result.now)) given c.settle_all-settled.ensures.standing)).1)
+    (subst (λ r. IfOk r (λ xs. map settlement_view xs.items ≡ reports_of_all c.as_slice-2.result.now c.args.turn.taken (standing_in d))) given c.settle_turn-settled.ensures.reports)
+    (subst (λ r. OnOk r (standing_in e ≡ after_all c.as_slice-2.result.now c.args.turn.taken (standing_in d))) given c.settle_turn-settled.ensures.standing)).1)
 
 pub returns-clause-later : goal.returns-clause-later
 returns-clause-later g c =
-    let settled = subst (λ r. OnOk r (IsLater (length c.as_slice-2.result.now) c.in_ok-relayer-2.relayer c.settle_all-settled.new.relayer)) c.in_ok-relayer-3.ensures.given c.settle_all-settled.ensures.later in
+    let settled = subst (λ r. OnOk r (IsLater (length c.as_slice-2.result.now + length c.in_ok-relayer-2.relayer.config.clients) c.in_ok-relayer-2.relayer c.settle_turn-settled.new.relayer)) c.in_ok-relayer-3.ensures.given c.settle_turn-settled.ensures.later in
     let p = c.in_ok-relayer.ensures.later.front in
     let q = c.in_ok-relayer-2.ensures.later.front in
     let r = settled.front in
     let clients = ap (λ (k : Config). length k.clients) c.in_ok-relayer.ensures.later.config in
+    let planned = ap (λ (k : Config). length k.clients) c.in_ok-relayer-2.ensures.later.config in
     let goals = ap length c.as_slice.ensures.value in
     let settlements = ap length c.as_slice-2.ensures.value in
     subst (λ (k : Core). IsLater (most_events k.config c.args.turn) k c.in_ok-relayer-3.relayer) c.self.view_is

@@ -14,7 +14,7 @@ use Rattle.rb_super.proofs.supervisor.Supervisor.turn.Goals as goal
 
 pub returns-clause-report : goal.returns-clause-report
 returns-clause-report g c =
-    rw (sym c.self.view_is) ((turn_done c.self.inside.relayer c.prepare.new.relayer c.plan_all.new.relayer c.settle_all.new.relayer c.args.turn c.as_slice.result.now c.as_slice-2.result.now
+    rw (sym c.self.view_is) ((turn_done c.self.inside.relayer c.prepare.new.relayer c.plan_all.new.relayer c.settle_turn.new.relayer c.args.turn c.as_slice.result.now c.as_slice-2.result.now
     c.in_ok-window_back.window_back (map refused_view c.in_ok-window_back.refused.items) (map client_report_view c.in_ok-clients.clients.items) (map settlement_view c.in_ok-settlements.settlements.items)
     c.as_slice.ensures.value c.as_slice-2.ensures.value c.in_ok-window_back.ensures.back c.in_ok-window_back.ensures.refused c.in_ok-window_back.ensures.standing
     (length-map c.in_ok-clients.clients.items client_report_view ∙ c.in_ok-clients.ensures.count ∙ ap (λ (k : Config). length k.clients) c.in_ok-window_back.ensures.later.config)
@@ -23,7 +23,7 @@ returns-clause-report g c =
 
 pub returns-clause-standing : goal.returns-clause-standing
 returns-clause-standing g c =
-    rw (sym c.self.view_is) ((turn_done c.self.inside.relayer c.prepare.new.relayer c.plan_all.new.relayer c.settle_all.new.relayer c.args.turn c.as_slice.result.now c.as_slice-2.result.now
+    rw (sym c.self.view_is) ((turn_done c.self.inside.relayer c.prepare.new.relayer c.plan_all.new.relayer c.settle_turn.new.relayer c.args.turn c.as_slice.result.now c.as_slice-2.result.now
     c.in_ok-window_back.window_back (map refused_view c.in_ok-window_back.refused.items) (map client_report_view c.in_ok-clients.clients.items) (map settlement_view c.in_ok-settlements.settlements.items)
     c.as_slice.ensures.value c.as_slice-2.ensures.value c.in_ok-window_back.ensures.back c.in_ok-window_back.ensures.refused c.in_ok-window_back.ensures.standing
     (length-map c.in_ok-clients.clients.items client_report_view ∙ c.in_ok-clients.ensures.count ∙ ap (λ (k : Config). length k.clients) c.in_ok-window_back.ensures.later.config)
@@ -39,18 +39,19 @@ pub prepare-requires-clause-events : goal.prepare-requires-clause-events
 prepare-requires-clause-events g c = λ ks _.
     subst (λ (k : Core). All (IsReadObservation (length k.config.chains) (length k.config.clients) (length k.config.paths)) c.args.turn.events.items) (sym c.self.view_is) c.requires.turn.events
 
-pub settle_all-requires-clause-clients : goal.settle_all-requires-clause-clients
-settle_all-requires-clause-clients g c =
+pub settle_turn-requires-clause-clients : goal.settle_turn-requires-clause-clients
+settle_turn-requires-clause-clients g c =
     let same : c.plan_all.new.relayer.config ≡ c.args.self.config = c.in_ok-clients.ensures.later.config ∙ c.in_ok-window_back.ensures.later.config ∙ ap (λ (k : Core). k.config) c.self.view_is in
     subst (λ (xs : List Settlement). All (λ (x : Settlement). x.client < length c.plan_all.new.relayer.config.clients) xs) (sym c.as_slice-2.ensures.value)
     (subst (λ (k : Config). All (λ (x : Settlement). x.client < length k.clients) c.args.turn.settlements.items) (sym same) c.requires.turn.settlements)
 
-pub settle_all-requires-clause-room : goal.settle_all-requires-clause-room
-settle_all-requires-clause-room g c =
+pub settle_turn-requires-clause-room : goal.settle_turn-requires-clause-room
+settle_turn-requires-clause-room g c =
     let room = subst (λ (k : Core). HasLogRoom k (most_events k.config c.args.turn)) (sym c.self.view_is) c.requires.room in
     let p = c.in_ok-window_back.ensures.later.front in
     let q = c.in_ok-clients.ensures.later.front in
     let clients = ap (λ (k : Config). length k.clients) c.in_ok-window_back.ensures.later.config in
+    let planned = ap (λ (k : Config). length k.clients) c.in_ok-clients.ensures.later.config in
     let goals = ap length c.as_slice.ensures.value in
     let settlements = ap length c.as_slice-2.ensures.value in
     omega arith
@@ -61,7 +62,8 @@ returns-clause-later g c =
     let q = c.in_ok-clients.ensures.later.front in
     let r = c.in_ok-settlements.ensures.later.front in
     let clients = ap (λ (k : Config). length k.clients) c.in_ok-window_back.ensures.later.config in
+    let planned = ap (λ (k : Config). length k.clients) c.in_ok-clients.ensures.later.config in
     let goals = ap length c.as_slice.ensures.value in
     let settlements = ap length c.as_slice-2.ensures.value in
-    subst (λ (k : Core). IsLater (most_events k.config c.args.turn) k c.settle_all.new.relayer) c.self.view_is
+    subst (λ (k : Core). IsLater (most_events k.config c.args.turn) k c.settle_turn.new.relayer) c.self.view_is
     (record { config = c.in_ok-settlements.ensures.later.config ∙ c.in_ok-clients.ensures.later.config ∙ c.in_ok-window_back.ensures.later.config; front = omega arith })

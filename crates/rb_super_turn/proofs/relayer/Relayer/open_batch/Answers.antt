@@ -1,6 +1,6 @@
 use Rattle.std.proofs.Common.{◌≡◌, subst}
 use Rattle.std.specs.Option.{option_copied}
-use Rattle.rb_core_model.specs.Batches.{batch_open}
+use Rattle.rb_core_model.specs.Standing.{batch_open}
 use Rattle.rb_core_model.specs.Machine.{State}
 use Rattle.rb_super_turn.proofs.Steps.{state_seen}
 use Rattle.rb_super_turn.proofs.relayer.Relayer.open_batch.Goals as goal

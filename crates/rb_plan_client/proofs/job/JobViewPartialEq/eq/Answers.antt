@@ -1,8 +1,0 @@
-use Rattle.std.proofs.Common.{rules}
-use Rattle.rb_plan_client.specs.Same.{same_job-Decides}
-use Rattle.rb_plan_client.proofs.job.JobViewPartialEq.eq.Goals as goal
-
-pub returns-clause-equal : goal.returns-clause-equal
-returns-clause-equal g c =
-    let decides = same_job-Decides c.args.self.now c.args.other.now in
-    search (rules, decides)

@@ -1,0 +1,164 @@
+//! Messages that wait for others to go with them.
+ghost use Rattle.std.specs.Prelude.{◌≡◌, ◌+◌, ◌-◌, nat_le, None, IfOk, fold, map, find};
+ghost use Rattle.std.specs.List.{flat_map};
+ghost use Rattle.std.specs.Option.{option_map, option_copied};
+ghost use Rattle.rb_book.specs.Book.{height_of};
+ghost use Rattle.rb_scan.specs.Expiry.{lesser};
+ghost use Rattle.rb_plan_client.specs.Task.{is_live, near_reach, since, press_moment, press_moments_on, first_press, presses, sending_reach};
+
+use crate::job::JobView;
+use crate::task::PathTask;
+use rb_base::{Height, Moment};
+use rb_book::RecordAt;
+use rb_scan::{PacketMsg, ready_beyond};
+use rb_script_types::Waits;
+use std::alloc::{AllocError, Allocator};
+
+/// Whether the record at a height is known, and doesn't expire in the window.
+fn is_live<A: Allocator + Copy>(job: &JobView<A>, height: Height) -> bool
+    ensures { result ≡ is_live job.now.task height }
+{
+    let Some(record) = job.book().record(height) else {
+        return false;
+    };
+    let period = u128::from(job.config().options.period().nanoseconds());
+    job.window().until().nanoseconds() < record.time().nanoseconds() + period
+}
+
+/// The greatest stored height, where it is live: up to it messages can be proved with no update.
+pub(crate) fn near_reach<A: Allocator + Copy>(job: &JobView<A>) -> Option<Height>
+    ensures { result ≡ near_reach job.now.task }
+{
+    let newest = *job.stored().last()?;
+    if is_live(job, newest) {
+        Some(newest)
+    } else {
+        None
+    }
+}
+
+/// The lowest record of the book at a height or above it.
+fn first_from<A: Allocator + Copy>(job: &JobView<A>, floor: Height) -> Option<&RecordAt>
+    ensures { option_copied result ≡ find (λ k. nat_le floor (height_of k)) job.now.task.book.records }
+{
+    let book = job.book();
+    book.records().get(book.lower_count(floor))
+}
+
+/// The time of the lowest known height at or above a message's floor.
+fn since<A: Allocator + Copy>(job: &JobView<A>, message: &PacketMsg) -> Option<Moment>
+    ensures { result ≡ since job.now.task message.now }
+{
+    Some(first_from(job, message.floor)?.record().time())
+}
+
+/// The lesser of two numbers, or the only one.
+pub(crate) fn lesser(number: Option<u128>, other: Option<u128>) -> Option<u128>
+    ensures { result ≡ lesser number other }
+{
+    match (number, other) {
+        (Some(number), Some(other)) => Some(number.min(other)),
+        (number, other) => number.or(other),
+    }
+}
+
+/// When a message has waited, in nanoseconds since 1970-01-01T00:00:00Z.
+fn waited<A: Allocator + Copy>(job: &JobView<A>, wait: u64, message: &PacketMsg) -> Option<u128>
+    ensures { result ≡ option_map (λ moment. moment + wait) (since job.now.task message.now) }
+{
+    match since(job, message) {
+        Some(moment) => Some(moment.nanoseconds() + u128::from(wait)),
+        None => None,
+    }
+}
+
+/// From when on a message would have waited once its packet may have expired.
+fn too_late(wait: u64, message: &PacketMsg) -> Option<u128>
+    ensures { result ≡ option_map (λ moment. moment - wait) message.now.expires }
+{
+    match message.expires {
+        Some(moment) => Some(moment.nanoseconds().saturating_sub(u128::from(wait))),
+        None => None,
+    }
+}
+
+/// The moment from which on a message presses.
+fn press_moment<A: Allocator + Copy>(
+    job: &JobView<A>,
+    waits: &Waits,
+    message: &PacketMsg,
+) -> Option<u128>
+    ensures { result ≡ press_moment job.now.task waits.now message.now }
+{
+    let wait = waits.of(message.kind);
+    if wait == 0 {
+        Some(0)
+    } else {
+        lesser(waited(job, wait, message), too_late(wait, message))
+    }
+}
+
+/// The first moment at which one of these messages presses, or an earlier one.
+fn first_of<A: Allocator + Copy>(
+    job: &JobView<A>,
+    waits: &Waits,
+    messages: &[PacketMsg],
+    first: Option<u128>,
+) -> Option<u128>
+    ensures { result ≡ fold lesser first (map (press_moment job.now.task waits.now) messages.now) }
+{
+    let mut first = first;
+    for message in messages {
+        first = lesser(first, press_moment(job, waits, message));
+    }
+    first
+}
+
+/// The same of those messages of a path that only an update brings across.
+fn first_on<A: Allocator + Copy>(
+    alloc: A,
+    job: &JobView<A>,
+    near: &Option<Height>,
+    reach: &Option<Height>,
+    path: &PathTask<A>,
+    first: Option<u128>,
+) -> Result<Option<u128>, AllocError>
+    requires { near.now ≡ near_reach job.now.task }
+    ensures { IfOk result (λ found. found ≡ fold lesser first (press_moments_on job.now.task reach.now path.now)) }
+{
+    let far = ready_beyond(alloc, path.owed(), path.order(), *near, *reach)?;
+    let waits = path.waits();
+    Ok(first_of(job, &waits, far.as_slice(), first))
+}
+
+/// The first moment, in nanoseconds since 1970-01-01T00:00:00Z, at which a message presses that only an
+/// update brings across.
+pub(crate) fn first_press<A: Allocator + Copy>(
+    alloc: A,
+    job: &JobView<A>,
+    reach: &Option<Height>,
+) -> Result<Option<u128>, AllocError>
+    ensures { IfOk result (λ first. first ≡ first_press job.now.task reach.now) }
+{
+    let near = near_reach(job);
+    let mut first = None;
+    for path in job.paths() {
+        first = first_on(alloc, job, &near, reach, path, first)?;
+    }
+    Ok(first)
+}
+
+/// The height up to which messages go: the reach where one presses, else the near reach.
+pub(crate) fn sending_reach<A: Allocator + Copy>(
+    job: &JobView<A>,
+    reach: Option<Height>,
+    first: &Option<u128>,
+) -> Option<Height>
+    requires { first.now ≡ first_press job.now.task reach }
+    ensures { result ≡ sending_reach job.now.task reach }
+{
+    match *first {
+        Some(moment) if moment <= job.window().until().nanoseconds() => reach,
+        _ => near_reach(job),
+    }
+}

@@ -1,0 +1,15 @@
+pub mod Members
+pub mod Moments
+pub mod InTime
+pub mod Taken
+pub mod TurnByTurn
+pub mod Spent
+pub mod Owing
+pub mod Sends
+pub mod Fewest
+pub mod Expired
+pub mod Packets
+pub mod Later
+pub mod Steady
+pub mod Punctual
+pub mod Updates

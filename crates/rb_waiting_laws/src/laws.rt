@@ -1,0 +1,72 @@
+//! Laws of what goes in time, and of how few updates do, which hold by their proofs alone.
+ghost use Rattle.rb_waiting_laws.specs.Fewest.{UpdatesAreFewest};
+ghost use Rattle.rb_waiting_laws.specs.InTime.{MessagesGoInTime};
+ghost use Rattle.rb_waiting_laws.specs.Punctual.{UpdatesKeepDeadlines};
+ghost use Rattle.rb_waiting_laws.specs.Steady.{MessagesStayReady, TakenUpdatesAreFewest};
+ghost use Rattle.rb_waiting_laws.specs.Taken.{TakenGoesInTime};
+ghost use Rattle.rb_waiting_laws.specs.Updates.{PressingUpdates};
+
+use rb_book::laws::stays_a_book;
+use rb_plan_client::laws::pressing_goes;
+use rb_plan_waiting::laws::seen_is_fewest;
+use rb_scan::laws::settled_is_not_owed;
+
+/// A message that presses in a turn is in the batch that the turn opens for its client, unless that client is
+/// held by an open batch or was asked for a goal, or nothing of its plan is sent because a message is over the
+/// gas limit alone.
+pub fn messages_go_in_time()
+    ensures { MessagesGoInTime }
+{
+    pressing_goes();
+}
+
+/// In a script whose turns take all batches that are open, and ask for no goal, every message that presses is
+/// sent in the turn in which it presses, unless a message is over the gas limit alone.
+pub fn taken_goes_in_time()
+    ensures { TakenGoesInTime }
+{
+    messages_go_in_time();
+}
+
+/// No choice of turns that sends every message before or when it presses, and not before it is ready, has fewer turns
+/// than those in which packets make a client update, where the client's batches are settled whole and its messages
+/// stay ready.
+pub fn updates_are_fewest()
+    ensures { UpdatesAreFewest }
+{
+    seen_is_fewest();
+    pressing_goes();
+    settled_is_not_owed();
+}
+
+/// On UNORDERED paths messages stay ready, where the client can be brought as high in the turns in which packets
+/// make it update as in those before.
+pub fn messages_stay_ready()
+    ensures { MessagesStayReady }
+{
+    stays_a_book();
+}
+
+/// In a script that has no settlement, so that batches stay open until turns take them, packets make a client with
+/// UNORDERED paths update in the fewest turns, where it can be brought as high in those turns as in those before.
+pub fn taken_updates_are_fewest()
+    ensures { TakenUpdatesAreFewest }
+{
+    updates_are_fewest();
+    messages_stay_ready();
+}
+
+/// In a script whose turns take all batches that are open, and ask for no goal, the turns in which packets make a
+/// client update keep every deadline, if no message is over the gas limit alone.
+pub fn updates_keep_deadlines()
+    ensures { UpdatesKeepDeadlines }
+{
+    seen_is_fewest();
+    messages_go_in_time();
+}
+
+/// Where a message presses and no goal was asked for, the plan has updates, if what is known of the client keeps what
+/// every view keeps (`rb_super_laws::planned_views_are_views`).
+pub fn pressing_updates()
+    ensures { PressingUpdates }
+{}
