@@ -239,11 +239,19 @@ impl Player {
     }
 }
 
-/// Plays until it is told to end, or goes.
+/// Lets other threads go on, so that the supervisor sleeps by the end of it, if it has nothing to do.
+fn linger() {
+    for _ in 0..100_000 {
+        thread::yield_now();
+    }
+}
+
+/// Plays until it is told to end, or goes, and lingers before it lets its lanes go: that has to wake the supervisor.
 fn play<R: Wait>(rt: &R, player: Player) {
     let mut player = player;
     for _ in rt.forever() {
         if player.step(rt).is_none() {
+            linger();
             return;
         }
     }
