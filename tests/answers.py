@@ -234,6 +234,8 @@ def serve(chance):
         height = int(asked.get("height", ["0"])[0])
         if path == "/status":
             return {"result": {"sync_info": {"latest_block_height": "81"}}}
+        if path == "/cosmos/base/tendermint/v1beta1/blocks/latest":
+            return {"block": {"header": {"time": "2026-11-01T12:09:20Z"}}}
         if path == "/commit":
             return hub.commit(height)
         if path == "/validators":

@@ -6,6 +6,7 @@ and a line tells each. Then each answer that is spoiled in one place has its err
 import gzip
 import hashlib
 import json
+import os
 import random
 import re
 import shlex
@@ -781,8 +782,8 @@ def chain_cases(top, program):
     folders = [(top / f"seed-{seed}", top / f"setup-{seed}-0.toml", "") for seed in range(1, 21)]
     folders += [(top / "collected", top / "setup-4-0.toml", ""), (top / "busy-1500", top / "busy-1500.toml", SETS % (482, 0))]
     with answers.serve(random.Random(7)) as (rpc, rest):
-        subprocess.run([TOP / "examples" / "collect", top / "collected", "hub-on-zone", "hub-4", rpc, rest, "4"], check=True)
-    for client, chain, there in (("hub-on-zone", "none-1", "hub-on-zone/client_state"), ("none", "hub-4", "hub-4/commit-57")):  # no node is left to answer
+        subprocess.run([TOP / "examples" / "collect", top / "collected", "hub-on-zone", "hub-4", rpc, rest], env={**os.environ, "IBCPLAN": program[0]}, check=True)
+    for client, chain, there in (("hub-on-zone", "none-1", "hub-on-zone/client_state"), ("none", "hub-4", "hub-4/commit-80")):  # no node is left to answer
         told = f"collect: {top}/collected/{there}.json is there already; name a new folder, or take the answers out of this one\n"
         asked = [str(TOP / "examples" / "collect"), str(top / "collected"), client, chain, rpc, rest]
         yield Case(f"collecting {client} of {chain} again", asked, b"", b"", told.encode(), 1)

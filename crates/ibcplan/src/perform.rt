@@ -11,7 +11,8 @@ use crate::forms::{commands_of_script, json_of_script};
 use crate::progress::Progress;
 use crate::reporting::{plan_status, refused_events};
 use ibcplan_cli::{
-    Host, ImportedText, Input, ProgramError, Request, WantedTurns, WorkerCount, imported, status,
+    Host, ImportedText, Input, ProgramError, Request, WantedText, WantedTurns, WorkerCount,
+    imported, status, wanted,
 };
 use rb_base::{Counted, Gate, Sink, write_whole};
 use rb_text::{Source, certify_texts, report_over};
@@ -107,6 +108,7 @@ fn done_of<'a, R: Host, W: Sink>(
         } => json_file(rt, script, workers, is_strict, is_watched, output),
         Request::Commands { script, turns } => commands_file(rt, script, turns, is_watched, output),
         Request::Import { setup, folder } => import_files(rt, setup, folder, output),
+        Request::Want { setup, folder } => want_files(rt, setup, folder, output),
         Request::Certify {
             script,
             certificate,
@@ -185,6 +187,24 @@ fn import_files<'a, R: Host, W: Sink>(
         status: status::DONE,
         refused_events: 0,
         notices: Some(notices),
+    })
+}
+
+fn want_files<'a, R: Host, W: Sink>(
+    rt: &R,
+    setup: &'a str,
+    folder: &str,
+    output: &mut W,
+) -> Result<Done, ProgramError<'a>>
+    requires { W.is_broken output.old ≡ false }
+{
+    let setup = Input::read(rt, setup)?;
+    let WantedText { requests, ends } = wanted(rt, &setup, folder)?;
+    write(requests.as_str(), output)?;
+    Ok(Done {
+        status: status::DONE,
+        refused_events: 0,
+        notices: Some(ends),
     })
 }
 

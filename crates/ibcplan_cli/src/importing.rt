@@ -109,7 +109,7 @@ fn chain_answers<'a, R: Host>(
 }
 
 /// Whether a client tracks the chain at a place.
-fn is_tracked(setup: &Setup, chain: usize) -> bool {
+pub fn is_tracked(setup: &Setup, chain: usize) -> bool {
     setup.clients.iter().any(|client| client.tracks == chain)
 }
 
@@ -139,7 +139,7 @@ fn path_answers<'a, R: Host>(
     Ok(answers)
 }
 
-fn add<'a, T: Drop>(items: &mut Vec<T>, item: T) -> Result<(), ProgramError<'a>> {
+pub fn add<'a, T: Drop>(items: &mut Vec<T>, item: T) -> Result<(), ProgramError<'a>> {
     match items.push(item) {
         Ok(()) => Ok(()),
         Err(_) => Err(ProgramError::NoMemory),
@@ -161,7 +161,7 @@ fn read_folder<'a, R: Host>(
 }
 
 /// The path of what a folder has under a name.
-fn path_in<'a>(alloc: Global, folder: &str, name: &str) -> Result<String, ProgramError<'a>> {
+pub fn path_in<'a>(alloc: Global, folder: &str, name: &str) -> Result<String, ProgramError<'a>> {
     match format!(in alloc; "{folder}/{name}") {
         Ok(path) => Ok(path),
         Err(_) => Err(ProgramError::NoMemory),
@@ -238,6 +238,6 @@ fn said_words(alloc: Global, said: &str) -> Result<String, AllocError> {
     }
 }
 
-fn read_bytes<R: Host>(rt: &R, path: &str) -> io::Result<Vec<u8>> {
+pub fn read_bytes<R: Host>(rt: &R, path: &str) -> io::Result<Vec<u8>> {
     bytes_of(rt.alloc(), File::open(rt, path)?)
 }

@@ -12,6 +12,7 @@ mod input_error;
 mod request;
 mod shown;
 pub mod status;
+mod wanting;
 mod worker_count;
 
 pub use command_line::{no_memory, request_of};
@@ -22,4 +23,5 @@ pub use input::Input;
 pub use input_error::InputError;
 pub use request::{Request, WantedTurns};
 pub use shown::Shown;
+pub use wanting::{WantedText, wanted};
 pub use worker_count::WorkerCount;

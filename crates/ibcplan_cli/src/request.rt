@@ -31,6 +31,11 @@ pub enum Request<'a> {
         setup: &'a str,
         folder: &'a str,
     },
+    /// Write what is to be fetched next for a setup, by the answers in a folder.
+    Want {
+        setup: &'a str,
+        folder: &'a str,
+    },
     /// Judge a certificate.
     Certify {
         script: &'a str,
@@ -66,6 +71,8 @@ const TURN: &str = "turn";
 const LAST: &str = "last";
 
 const IMPORT: &str = "import";
+
+const WANT: &str = "want";
 
 const CERTIFY: &str = "certify";
 
@@ -126,6 +133,15 @@ const AFTER_IMPORT: &str = "Examples (in the folder of the repository):
 
 FOLDER has a folder for each client, each path and each chain that is tracked, by
 its identifier, with saved answers in files *.json. Signatures aren't verified.";
+
+const AFTER_WANT: &str = "Examples (in the folder of the repository):
+  ./ibcplan want setup.toml answers
+  examples/collect answers 07-tendermint-3 hub-4 RPC REST
+
+It writes a line for each answer that is to be fetched next, at most 30: get, the
+chain whose node is to be asked, the path, and the file in FOLDER; then lines that
+say why. It writes nothing where no more is needed. A request that a node refused
+is not written again where its file is there with the ending .refused.";
 
 const AFTER_CERTIFY: &str = "Examples (in the folder of the repository):
   ./ibcplan certify examples/smallest.toml examples/smallest.certificate
@@ -233,6 +249,18 @@ fn import_command<'a>(alloc: Global) -> Result<Command<'a>, AllocError> {
         .arg(path(alloc, FOLDER, "The folder of the answers of nodes"))
 }
 
+fn want_command<'a>(alloc: Global) -> Result<Command<'a>, AllocError> {
+    Command::new(alloc, WANT)
+        .about("Writes which answers of nodes are to be fetched next")
+        .after_help(AFTER_WANT)
+        .arg(path(
+            alloc,
+            SETUP,
+            "A script without events; - for standard input",
+        ))?
+        .arg(path(alloc, FOLDER, "The folder of the answers that are there"))
+}
+
 fn command_line<'a>(alloc: Global) -> Result<Command<'a>, AllocError> {
     Command::new(alloc, "ibcplan")
         .version("0.1.0")
@@ -243,6 +271,7 @@ fn command_line<'a>(alloc: Global) -> Result<Command<'a>, AllocError> {
         .subcommand(plan_command(alloc)?)?
         .subcommand(run_command(alloc)?)?
         .subcommand(commands_command(alloc)?)?
+        .subcommand(want_command(alloc)?)?
         .subcommand(import_command(alloc)?)?
         .subcommand(certify_command(alloc)?)
 }
@@ -291,10 +320,14 @@ fn turns_of(given: &ArgMatches<'_>) -> WantedTurns {
 /// The request of words that were parsed, or none where one is missing.
 fn task_of<'a>(matches: &ArgMatches<'a>) -> Option<Request<'a>> {
     let (name, given) = matches.subcommand()?;
-    if name == IMPORT {
+    if name == IMPORT || name == WANT {
         let setup = given.get_str(SETUP)?;
         let folder = given.get_str(FOLDER)?;
-        return Some(Request::Import { setup, folder });
+        return Some(if name == WANT {
+            Request::Want { setup, folder }
+        } else {
+            Request::Import { setup, folder }
+        });
     }
     let script = given.get_str(SCRIPT)?;
     if name == CERTIFY {

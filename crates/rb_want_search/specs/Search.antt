@@ -1,0 +1,79 @@
+-- What a search for accepted steps comes to, by how steps are judged.
+use Rattle.std.specs.Prelude.{◌≡◌, ◌≢◌, ◌⊎◌, ◌+◌, ◌-◌, ◌/◌, ◌<◌, ◌≤◌, ℕ, List, [], ◌∷◌, Option, Some, None, IfSome}
+use Rattle.rb_want_search.specs.declared.judge.Judgement.{Judgement}
+use Rattle.rb_want_search.specs.declared.judge.Judgement.TheVariants.{Accepted, Gone, Unknown}
+use Rattle.rb_want_search.specs.declared.searching.Aim.{Aim}
+use Rattle.rb_want_search.specs.declared.searching.Question.{Question}
+use Rattle.rb_want_search.specs.declared.searching.Finding.{Finding}
+use Rattle.rb_want_search.specs.declared.searching.Finding.TheVariants.{Asks, Reached, Stuck}
+
+-- how the step from a trusted height to another is judged
+abbrev pub Judgements : Type 1
+Judgements = ℕ → ℕ → Judgement → Type 0
+
+-- the step is judged, and not as accepted
+abbrev pub IsNotAccepted : Judgements → ℕ → ℕ → Type 0
+IsNotAccepted judges trusted height = (j : Judgement) × judges trusted height j × (j ≢ Accepted) × (j ≢ Unknown)
+
+-- the step goes up, and no higher than the aim
+abbrev pub IsWithin : Aim → ℕ → ℕ → Type 0
+IsWithin aim trusted height = (trusted < height) × (height ≤ aim.most)
+
+-- a search goes up from the height, or from a greater one that isn't given
+abbrev pub IsFloor : Judgements → ℕ → ℕ → ℕ → Type 0
+IsFloor judges trusted height floor = (height ≤ floor) × ((floor ≡ height) ⊎ judges trusted floor Gone)
+
+-- no height is left between one from which a search goes up and a greater one to which no step is accepted
+abbrev pub IsFrontier : Judgements → ℕ → ℕ → Type 0
+IsFrontier judges trusted height =
+    (floor : ℕ) × (ceiling : ℕ) × IsFloor judges trusted height floor × (floor < ceiling) × (ceiling ≤ floor + 1) × IsNotAccepted judges trusted ceiling
+
+-- the greatest height that the aim takes, one that serves, or one above which no step is accepted
+abbrev pub IsFarthest : Judgements → Aim → ℕ → ℕ → Type 0
+IsFarthest judges aim trusted height = (height ≡ aim.most) ⊎ (aim.least ≤ height) ⊎ IsFrontier judges trusted height
+
+-- an accepted step goes up to the farthest height
+abbrev pub IsFarthestStep : Judgements → Aim → ℕ → ℕ → Type 0
+IsFarthestStep judges aim trusted height =
+    IsWithin aim trusted height × judges trusted height Accepted × IsFarthest judges aim trusted height
+
+-- farthest steps to these heights in turn lead from a height to another
+abbrev pub Lead : Judgements → Aim → ℕ → List ℕ → ℕ → Type 0
+Lead judges aim from [] to = from ≡ to
+Lead judges aim from (h ∷ hs) to = IsFarthestStep judges aim from h × Lead judges aim h hs to
+
+-- farthest steps lead to the height from the first one
+abbrev pub IsReached : Judgements → Aim → ℕ → ℕ → Type 0
+IsReached judges aim first height = (hops : List ℕ) × Lead judges aim first hops height
+
+-- the height is one that the aim wants, or no lower than its greatest
+abbrev pub Suffices : Aim → ℕ → Type 0
+Suffices aim height = (aim.least ≤ height) ⊎ (aim.most ≤ height)
+
+-- a search goes up from the trusted height, from one to which a step is accepted, or from one that isn't given
+abbrev pub IsLowerEnd : Judgements → ℕ → ℕ → Type 0
+IsLowerEnd judges trusted floor = (floor ≡ trusted) ⊎ judges trusted floor Accepted ⊎ judges trusted floor Gone
+
+-- the height halves the gap between one from which a search goes up and a greater one to which no step is accepted
+abbrev pub HalvesGap : Judgements → ℕ → ℕ → ℕ → Type 0
+HalvesGap judges trusted height ceiling =
+    IsNotAccepted judges trusted ceiling × ((floor : ℕ) × IsLowerEnd judges trusted floor × (height ≡ floor + (ceiling - floor) / 2))
+
+-- the height is the greatest that the aim takes where no other was refused yet, and else halves the gap below the least that was
+abbrev pub IsNext : Judgements → Aim → ℕ → ℕ → Option ℕ → Type 0
+IsNext judges aim trusted height None = height ≡ aim.most
+IsNext judges aim trusted height (Some ceiling) = HalvesGap judges trusted height ceiling
+
+-- a question is about the next step, which can't be judged yet; the height that it names as accepted is
+abbrev pub IsQuestion : Judgements → Aim → Question → Type 0
+IsQuestion judges aim q =
+    IsWithin aim q.trusted q.height × judges q.trusted q.height Unknown × IfSome q.accepted (λ h. judges q.trusted h Accepted)
+    × IsNext judges aim q.trusted q.height q.refused
+
+-- A search ends where farthest steps lead: at a height that suffices; or at one from which a step is asked for that can't be judged yet,
+-- or from which a step that is judged isn't accepted.
+abbrev pub IsFinding : Judgements → ℕ → Aim → Finding → Type 0
+IsFinding judges first aim (Reached height) = IsReached judges aim first height × Suffices aim height
+IsFinding judges first aim (Asks q) = IsReached judges aim first q.trusted × IsQuestion judges aim q
+IsFinding judges first aim (Stuck trusted height) =
+    IsReached judges aim first trusted × IsWithin aim trusted height × IsNotAccepted judges trusted height

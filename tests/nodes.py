@@ -1,0 +1,204 @@
+"""Long made-up chains, and a node and a gateway that answer for them as CometBFT's and ibc-go's do, with pages and errors; requests are counted."""
+import base64
+import contextlib
+import functools
+import hashlib
+import http.server
+import json
+import threading
+import urllib.parse
+from datetime import timedelta
+
+import answers
+
+BLOCK = timedelta(seconds=6)
+
+
+def number_of(*words):
+    return int.from_bytes(hashlib.sha256("/".join(map(str, words)).encode()).digest()[:8], "big")
+
+
+class LongChain:
+    """A chain of so many blocks and validators, of one of three kinds: `quiet`, whose powers move a little; `switch`, all of whose validators change at
+    once at a height; `churn`, one of whose validators is replaced each so many blocks."""
+
+    def __init__(self, name, kind, blocks, size, change=0, lowest=1):
+        self.name, self.kind, self.blocks, self.size, self.change, self.lowest = name, kind, blocks, size, change, lowest
+        self.members = functools.cache(self.members)
+        self.set_hash = functools.cache(self.set_hash)
+
+    def key(self, number):
+        return hashlib.sha256(f"{self.name}/{number}".encode()).digest()
+
+    def first_member(self, height):
+        if self.kind == "switch":
+            return self.size if height >= self.change else 0
+        return height // self.change if self.kind == "churn" else 0
+
+    def members(self, height):
+        """(power, address, key) in set order."""
+        first = self.first_member(height)
+        powers = ((number + height // 7) % 5 if self.kind == "quiet" else 0 for number in range(first, first + self.size))
+        return answers.in_order([(self.key(number), 1000 + power) for number, power in enumerate(powers, first)])
+
+    def set_hash(self, height):
+        return answers.set_hash(self.members(height))
+
+    def time(self, height):
+        return answers.START + BLOCK * height
+
+    def stamp(self, height):
+        return self.time(height).strftime("%Y-%m-%dT%H:%M:%S") + "Z"
+
+    def flags(self, height):
+        """3 of 100 votes are absent, and one of 100 is nil."""
+        chances = (number_of(self.name, height, place) % 100 for place in range(self.size))
+        return [1 if chance < 3 else 3 if chance == 3 else 2 for chance in chances]
+
+    def root(self, height):
+        return hashlib.sha256(f"{self.name} root {height}".encode()).digest()
+
+    def commit(self, height):
+        some = {name: answers.upper(answers.sha(f"{name} {height}".encode())) for name in (
+            "last_commit_hash", "data_hash", "consensus_hash", "last_results_hash", "evidence_hash")}
+        header = {"version": {"block": "11"}, "chain_id": self.name, "height": str(height), "time": self.stamp(height),
+                  "last_block_id": {"hash": some["data_hash"], "parts": {"total": 1, "hash": some["data_hash"]}}, **some,
+                  "validators_hash": answers.upper(self.set_hash(height)), "next_validators_hash": answers.upper(self.set_hash(height + 1)),
+                  "app_hash": answers.upper(self.root(height)), "proposer_address": answers.upper(self.members(height)[0][1])}
+        signatures = []
+        for (_, address, _), flag in zip(self.members(height), self.flags(height)):
+            signatures.append({"block_id_flag": 1, "validator_address": "", "timestamp": "0001-01-01T00:00:00Z", "signature": None} if flag == 1 else
+                              {"block_id_flag": flag, "validator_address": answers.upper(address), "timestamp": self.stamp(height),
+                               "signature": base64.b64encode(bytes(64)).decode()})
+        commit = {"height": str(height), "round": 0, "block_id": {"hash": answers.upper(answers.header_hash(header))}, "signatures": signatures}
+        return {"jsonrpc": "2.0", "id": -1, "result": {"signed_header": {"header": header, "commit": commit}, "canonical": height < self.blocks}}
+
+    def validators(self, height, page, size):
+        members = self.members(height)
+        part = members[(page - 1) * size:page * size]
+        if not part:
+            return self.error(f"page should be within [1, {-(-len(members) // size)}] range, given {page}")
+        return {"jsonrpc": "2.0", "id": -1, "result": {"block_height": str(height), "validators": [
+            {"address": answers.upper(address), "pub_key": {"type": "tendermint/PubKeyEd25519", "value": base64.b64encode(key).decode()},
+             "voting_power": str(power), "proposer_priority": "-7"} for power, address, key in part], "count": str(len(part)), "total": str(len(members))}}
+
+    def status(self):
+        return {"jsonrpc": "2.0", "id": -1, "result": {"node_info": {"network": self.name}, "sync_info": {"latest_block_height": str(self.blocks), "catching_up": False}}}
+
+    def error(self, data):
+        return {"jsonrpc": "2.0", "id": -1, "error": {"code": -32603, "message": "Internal error", "data": data}}
+
+    def at(self, height):
+        return {"revision_number": self.name.rsplit("-", 1)[1], "revision_height": str(height)}
+
+    def record(self, height):
+        return {"height": self.at(height), "consensus_state": {
+            "@type": "/ibc.lightclients.tendermint.v1.ConsensusState", "timestamp": self.stamp(height),
+            "root": {"hash": base64.b64encode(self.root(height)).decode()}, "next_validators_hash": answers.upper(self.set_hash(height + 1))}}
+
+    def answer(self, path, asked):
+        """The status and the answer to what a node is asked."""
+        height = int(asked.get("height", [str(self.blocks)])[0])
+        if path == "/status":
+            return 200, self.status()
+        if height > self.blocks:
+            return 500, self.error(f"height {height} must be less than or equal to the current blockchain height {self.blocks}")
+        if height < self.lowest:
+            return 500, self.error(f"height {height} is not available, lowest height is {self.lowest}")
+        if path == "/commit":
+            return 200, self.commit(height)
+        found = self.validators(height, int(asked.get("page", ["1"])[0]), min(100, int(asked.get("per_page", ["30"])[0])))
+        return (500 if "error" in found else 200), found
+
+
+class Host:
+    """A gateway of the chain that hosts clients of a chain, by their identifiers with the heights that they have stored."""
+
+    def __init__(self, chain, clients, page=1000):
+        self.chain, self.clients, self.page = chain, clients, page
+
+    def store_key(self, height):
+        return "{revision_number}-{revision_height}".format(**self.chain.at(height))
+
+    def answer(self, path, asked):
+        """The status and the answer to what a gateway is asked."""
+        if path == "/cosmos/base/tendermint/v1beta1/blocks/latest":
+            return 200, {"block": {"header": {"time": self.chain.stamp(self.chain.blocks)}}}
+        kind, client = path.rsplit("/", 2)[1:]
+        stored = self.clients.get(client)
+        if stored is None:
+            return 404, {"code": 5, "message": "light client not found: key not found", "details": []}
+        if kind == "client_states":
+            return 200, answers.client_state(self.chain, max(stored))
+        stored = sorted(stored, key=self.store_key)
+        first = base64.b64decode(asked.get("pagination.key", [""])[0]).decode()
+        place = next((number for number, height in enumerate(stored) if self.store_key(height) == first), 0)
+        end = place + min(self.page, int(asked.get("pagination.limit", ["100"])[0]))
+        key = base64.b64encode(self.store_key(stored[end]).encode()).decode() if end < len(stored) else None
+        return 200, {"consensus_states": [self.chain.record(height) for height in stored[place:end]], "pagination": {"next_key": key, "total": "0"}}
+
+
+@contextlib.contextmanager
+def serve(answer, asked):
+    """The address of a node or a gateway that answers by a function, while it answers; what it is asked comes to a list."""
+    class Handler(http.server.BaseHTTPRequestHandler):
+        def do_GET(self):
+            address = urllib.parse.urlsplit(self.path)
+            asked.append(self.path)
+            status, value = answer(address.path, urllib.parse.parse_qs(address.query))
+            self.send_response(status)
+            self.end_headers()
+            self.wfile.write(json.dumps(value).encode())
+
+        def log_message(self, *_):
+            pass
+
+    server = http.server.ThreadingHTTPServer(("127.0.0.1", 0), Handler)
+    threading.Thread(target=server.serve_forever, daemon=True).start()
+    try:
+        yield f"http://127.0.0.1:{server.server_port}"
+    finally:
+        server.shutdown()
+
+
+# ---- the least plan
+
+
+def least_fee(chain, first, last, heights, fee, numerator=1, denominator=3):
+    """The least fee of a list of updates from one height to another over headers of these heights, and its heights: all members have about one power, so that
+    members are counted (`quiet` and `churn` chains whose powers differ by less than they have to)."""
+    base, vote, validator = fee
+    heights = sorted({*heights, last} - {first})
+    signed, named, commits = {}, {}, {}
+    for height in [first, *heights]:
+        bits = 0
+        for (_, _, key), flag in zip(chain.members(height), chain.flags(height)):
+            bits |= (flag == 2) << chain_number(chain, key)
+        signed[height], commits[height] = bits, bits.bit_count()
+        bits = 0
+        for _, _, key in chain.members(height + 1):
+            bits |= 1 << chain_number(chain, key)
+        named[height] = bits
+    least = {first: (0, [])}
+    for place, height in enumerate(heights):
+        if 3 * commits[height] <= 2 * chain.size:
+            continue
+        price, found = base + vote * commits[height] + validator * 2 * chain.size, None
+        for trusted in [first, *heights[:place]]:
+            if trusted not in least or (found and least[trusted][0] + price >= found[0]):
+                continue
+            if height == trusted + 1 or (signed[height] & named[trusted]).bit_count() * denominator > numerator * chain.size:
+                found = least[trusted][0] + price, [*least[trusted][1], height]
+        if found:
+            least[height] = found
+    return least.get(last)
+
+
+@functools.cache
+def numbers(chain):
+    last = chain.first_member(chain.blocks + 1) + chain.size
+    return {chain.key(number): number for number in range(last)}
+
+
+def chain_number(chain, key):
+    return numbers(chain)[key]
