@@ -776,11 +776,18 @@ def import_cases(top, seeds):
     yield from steering_cases(top)
 
 
+NEXT = """notice MissingNextSet at hub-on-zone 1: %s/hub-on-zone/consensus_states-1.json: no answer has the next validators, \
+so that no update starts from this record; fetch all pages of /validators?height=%d&per_page=100 into files *.json of the folder hub-4
+"""
+
+
 def chain_cases(top, program):
     """`import` and `plan` in a row by a shell; at last over what `examples/collect` got of made-up nodes."""
     words = " ".join(map(shlex.quote, program))
     folders = [(top / f"seed-{seed}", top / f"setup-{seed}-0.toml", "") for seed in range(1, 21)]
-    folders += [(top / "collected", top / "setup-4-0.toml", ""), (top / "busy-1500", top / "busy-1500.toml", SETS % (482, 0))]
+    # `collect` asks for what a plan needs, and no update has to start from the older of both states.
+    older = NEXT % (top / "collected", 2)
+    folders += [(top / "collected", top / "setup-4-0.toml", older), (top / "busy-1500", top / "busy-1500.toml", SETS % (482, 0))]
     with answers.serve(random.Random(7)) as (rpc, rest):
         subprocess.run([TOP / "examples" / "collect", top / "collected", "hub-on-zone", "hub-4", rpc, rest], env={**os.environ, "IBCPLAN": program[0]}, check=True)
     for client, chain, there in (("hub-on-zone", "none-1", "hub-on-zone/client_state"), ("none", "hub-4", "hub-4/commit-80")):  # no node is left to answer
