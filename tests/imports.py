@@ -2,7 +2,7 @@
 
 For each seed the script that `import` writes has the values of the plain reading, for one client, and for two clients, a path
 and two turns; `plan` of that script is what the reference planner says. Where headers or next sets are missing, the script is written,
-and a line tells each. Then each answer that is spoiled in one place has its error, which names the file, and nothing is written."""
+and a line tells each. Then each answer that is spoiled in one place has its error, which names the file, and with --all-or-nothing nothing is written."""
 import gzip
 import hashlib
 import json
@@ -645,7 +645,7 @@ def spoiled_cases(top):
         folder = top / f"spoiled-{number}"
         shutil.copytree(whole, folder)
         change(folder)
-        words = ["import", str(setup), str(folder)]
+        words = ["import", "--all-or-nothing", str(setup), str(folder)]
         yield Case(line, words, b"", b"", f"{line}\n".encode(), status, named=tuple(file.encode() for file in named))
     for file, edit, line in DAMAGES:
         if line is None:

@@ -51,11 +51,11 @@ CONTROL = re.compile("[\x00-\x09\x0b-\x1f\x7f-\x9f\u200e\u200f\u202a-\u202e\u206
 
 
 class SafeCase(Case):
-    """A run that ends with 0 or 1, and writes nothing that would do something to a terminal."""
+    """A run that ends with 0, 1 or 7, and writes nothing that would do something to a terminal."""
 
     def is_met_by(self, output, error, status):
         found = [CONTROL.findall(written.decode(errors="replace")) for written in (output, error)]
-        if status not in (0, 1) or any(found):
+        if status not in (0, 1, 7) or any(found):
             print(f"== {self.what}\n-- status {status}, control characters {found!r}")
             return False
         return True

@@ -11,7 +11,7 @@ use crate::forms::{commands_of_script, json_of_script};
 use crate::progress::Progress;
 use crate::reporting::{plan_status, refused_events};
 use ibcplan_cli::{
-    Host, ImportedText, Input, ProgramError, Request, WantedText, WantedTurns, WorkerCount,
+    Answers, Host, ImportedText, Input, ProgramError, Request, WantedText, WantedTurns, WorkerCount,
     imported, status, wanted,
 };
 use rb_base::{Counted, Gate, Sink, write_whole};
@@ -107,7 +107,7 @@ fn done_of<'a, R: Host, W: Sink>(
             is_strict,
         } => json_file(rt, script, workers, is_strict, is_watched, output),
         Request::Commands { script, turns } => commands_file(rt, script, turns, is_watched, output),
-        Request::Import { setup, folder } => import_files(rt, setup, folder, output),
+        Request::Import { setup, answers } => import_files(rt, setup, answers, output),
         Request::Want { setup, folder } => want_files(rt, setup, folder, output),
         Request::Certify {
             script,
@@ -175,16 +175,20 @@ fn commands_file<'a, R: Host, W: Sink>(
 fn import_files<'a, R: Host, W: Sink>(
     rt: &R,
     setup: &'a str,
-    folder: &str,
+    answers: Answers<'_>,
     output: &mut W,
 ) -> Result<Done, ProgramError<'a>>
     requires { W.is_broken output.old ≡ false }
 {
     let setup = Input::read(rt, setup)?;
-    let ImportedText { script, notices } = imported(rt, &setup, folder)?;
+    let ImportedText {
+        script,
+        notices,
+        status,
+    } = imported(rt, &setup, answers)?;
     write(script.as_str(), output)?;
     Ok(Done {
-        status: status::DONE,
+        status,
         refused_events: 0,
         notices: Some(notices),
     })

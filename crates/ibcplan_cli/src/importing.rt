@@ -1,68 +1,118 @@
-//! Importing: the files of a folder are read, and the script that they make is written.
+//! Importing: the files of a folder are read, and the script that they make is written, without the clients and the
+//! paths whose answers are refused.
+ghost use Rattle.std.specs.Prelude.{◌≡◌, IfOk, is_some, string_bytes, true};
+ghost use Rattle.rb_import.specs.Openings.{Opens, hold_verdicts};
+ghost use Rattle.ibcplan_cli.specs.LeftOut.{import_status};
+
 use crate::error::ProgramError;
 use crate::host::Host;
 use crate::input::{Input, bytes_of};
+use crate::left_out::{Failure, Fleet, LeftOut, is_tracked};
 use crate::shown::shown_text;
 use rb_import::{Composed, compose};
-use rb_import_check::{ImportError, Saved, SavedAnswers, SavedError, read_saved};
+use rb_import_check::{CheckErrorName, ImportError, Saved, SavedAnswers, SavedError, read_saved};
 use rb_import_setup::{Setup, read_setup};
 use std::alloc::{AllocError, Global};
 use std::fs::File;
 use std::{fs, io};
 
-/// The text of a script, and the lines that tell which answers aren't there.
+/// The folder with the answers of nodes, and whether nothing is written where some of them are refused.
+#[derive(Clone, Copy, Debug)]
+pub struct Answers<'f> {
+    pub folder: &'f str,
+    pub is_all_or_nothing: bool,
+}
+
+/// The text of a script, lines that tell what is left out and which answers aren't there, and the status to end with.
 #[derive(Drop)]
 pub struct ImportedText {
     pub script: String,
     pub notices: String,
+    pub status: u8,
 }
 
 /// The script that a setup and the answers in a folder make.
 pub fn imported<'a, R: Host>(
     rt: &R,
     input: &Input<'a>,
-    folder: &str,
+    answers: Answers<'_>,
 ) -> Result<ImportedText, ProgramError<'a>> {
     let setup = match read_setup(rt.alloc(), input.bytes()) {
         Ok(setup) => setup,
         Err(error) => return Err(ProgramError::of_run(error, input)),
     };
-    let answers = read_answers(rt, &setup, folder)?;
-    composed(rt.alloc(), &setup, &answers)
+    let mut left_out = LeftOut::nothing(rt.alloc());
+    let fleet = read_fleet(rt, setup, answers, &mut left_out)?;
+    composed(rt.alloc(), fleet, answers.is_all_or_nothing, left_out)
 }
 
-/// The script that a setup and answers make.
+/// The script that a fleet makes, without the clients and the paths whose answers are refused. Each round leaves out
+/// one of them, so that it ends.
 fn composed<'a>(
     alloc: Global,
-    setup: &Setup,
-    answers: &SavedAnswers,
-) -> Result<ImportedText, ProgramError<'a>> {
-    match compose(alloc, setup, answers) {
-        Ok(composed) => imported_text(alloc, composed),
-        Err(error) => Err(refusal(alloc, &error)),
+    fleet: Fleet,
+    is_all_or_nothing: bool,
+    left_out: LeftOut<'a>,
+) -> Result<ImportedText, ProgramError<'a>>
+    ensures whole { IfOk result (λ text. text.status ≡ 0 → Opens (hold_verdicts fleet.answers) (string_bytes text.script)) }
+    ensures in_part { IfOk result (λ text. is_some left_out.entry.first ≡ true → text.status ≡ 7) }
+{
+    let mut fleet = fleet;
+    let mut left_out = left_out;
+    'rounds: loop {
+        let failure = match compose(alloc, &fleet.setup, &fleet.answers) {
+            Ok(composed) => return imported_text(alloc, composed, &left_out),
+            Err(error) => failure_of(alloc, &error)?,
+        };
+        if is_all_or_nothing {
+            return Err(failure.error);
+        }
+        fleet = left_out.without(alloc, fleet, failure)?;
     }
 }
 
-/// A script, with what is told of its answers as a text of its own.
+/// A script, with what is told of its answers, and before that of what is left out, as a text of its own.
 fn imported_text<'a>(
     alloc: Global,
     composed: Composed<'_>,
-) -> Result<ImportedText, ProgramError<'a>> {
+    left_out: &LeftOut<'_>,
+) -> Result<ImportedText, ProgramError<'a>>
+    ensures script { IfOk result (λ text. text.script ≡ composed.entry.text) }
+    ensures status { IfOk result (λ text. text.status ≡ import_status left_out.now) }
+{
     let Composed { text, notices } = composed;
-    match format!(in alloc; "{notices}") {
+    let lines = left_out.lines();
+    match format!(in alloc; "{lines}{notices}") {
         Ok(notices) => Ok(ImportedText {
             script: text,
             notices,
+            status: left_out.status(),
         }),
         Err(_) => Err(ProgramError::NoMemory),
     }
 }
 
-/// Why answers make no script, as a text of its own.
-fn refusal<'a>(alloc: Global, error: &ImportError<'_>) -> ProgramError<'a> {
-    match error {
-        ImportError::NoMemory => ProgramError::NoMemory,
-        ImportError::CheckError(problem) => refused(format!(in alloc; "{problem}")),
+/// Of which chain, client or path answers are refused, and why, as texts of its own. The error is one of the whole.
+fn failure_of<'a>(alloc: Global, error: &ImportError<'_>) -> Result<Failure<'a>, ProgramError<'a>> {
+    let ImportError::CheckError(problem) = error else {
+        return Err(ProgramError::NoMemory);
+    };
+    let error = refused(format!(in alloc; "{problem}"));
+    match problem.name {
+        CheckErrorName::ScriptTooBig => Err(error),
+        _ => failure_at(alloc, problem.object, error),
+    }
+}
+
+/// A failure of the chain, the client or the path of an identifier.
+fn failure_at<'a>(
+    alloc: Global,
+    id: &str,
+    error: ProgramError<'a>,
+) -> Result<Failure<'a>, ProgramError<'a>> {
+    match String::from_str(alloc, id) {
+        Ok(id) => Ok(Failure { id, error }),
+        Err(_) => Err(ProgramError::NoMemory),
     }
 }
 
@@ -73,33 +123,58 @@ fn refused<'a>(text: Result<String, AllocError>) -> ProgramError<'a> {
     }
 }
 
-/// Reads the answers of the chains that clients track, of the clients and of the paths, each from
-/// the folder of its identifier.
-fn read_answers<'a, R: Host>(
+/// Reads the answers of the chains that clients track, of the clients and of the paths, each from the folder of its
+/// identifier.
+fn read_fleet<'a, R: Host>(
     rt: &R,
-    setup: &Setup,
-    folder: &str,
-) -> Result<SavedAnswers, ProgramError<'a>> {
-    let chains = chain_answers(rt, setup, folder)?;
-    let clients = client_answers(rt, setup, folder)?;
-    let paths = path_answers(rt, setup, folder)?;
-    Ok(SavedAnswers {
-        chains,
-        clients,
-        paths,
-    })
+    setup: Setup,
+    answers: Answers<'_>,
+    left_out: &mut LeftOut<'a>,
+) -> Result<Fleet, ProgramError<'a>> {
+    let mut fleet = Fleet {
+        setup,
+        answers: SavedAnswers {
+            chains: Vec::new(rt.alloc()),
+            clients: Vec::new(rt.alloc()),
+            paths: Vec::new(rt.alloc()),
+        },
+    };
+    let mut failures = Vec::new(rt.alloc());
+    fleet.answers.chains = chain_answers(rt, &fleet.setup, answers, &mut failures)?;
+    let mut fleet = without_all(rt.alloc(), fleet, failures, left_out)?;
+    let mut failures = Vec::new(rt.alloc());
+    fleet.answers.clients = client_answers(rt, &fleet.setup, answers, &mut failures)?;
+    let mut fleet = without_all(rt.alloc(), fleet, failures, left_out)?;
+    let mut failures = Vec::new(rt.alloc());
+    fleet.answers.paths = path_answers(rt, &fleet.setup, answers, &mut failures)?;
+    without_all(rt.alloc(), fleet, failures, left_out)
+}
+
+/// The fleet without what goes with each of these failures.
+fn without_all<'a>(
+    alloc: Global,
+    fleet: Fleet,
+    failures: Vec<Failure<'a>>,
+    left_out: &mut LeftOut<'a>,
+) -> Result<Fleet, ProgramError<'a>> {
+    let mut fleet = fleet;
+    for failure in failures {
+        fleet = left_out.without(alloc, fleet, failure)?;
+    }
+    Ok(fleet)
 }
 
 /// The answers of the chains, none of one that no client tracks.
 fn chain_answers<'a, R: Host>(
     rt: &R,
     setup: &Setup,
-    folder: &str,
+    source: Answers<'_>,
+    failures: &mut Vec<Failure<'a>>,
 ) -> Result<Vec<Vec<Saved>>, ProgramError<'a>> {
     let mut answers = Vec::new(rt.alloc());
     for (place, chain) in setup.chains.iter().enumerate() {
         let saved = if is_tracked(setup, place) {
-            read_folder(rt, folder, chain.as_str())?
+            answers_of(rt, source, chain.as_str(), failures)?
         } else {
             Vec::new(rt.alloc())
         };
@@ -108,19 +183,15 @@ fn chain_answers<'a, R: Host>(
     Ok(answers)
 }
 
-/// Whether a client tracks the chain at a place.
-pub fn is_tracked(setup: &Setup, chain: usize) -> bool {
-    setup.clients.iter().any(|client| client.tracks == chain)
-}
-
 fn client_answers<'a, R: Host>(
     rt: &R,
     setup: &Setup,
-    folder: &str,
+    source: Answers<'_>,
+    failures: &mut Vec<Failure<'a>>,
 ) -> Result<Vec<Vec<Saved>>, ProgramError<'a>> {
     let mut answers = Vec::new(rt.alloc());
     for client in &setup.clients {
-        let saved = read_folder(rt, folder, client.id.as_str())?;
+        let saved = answers_of(rt, source, client.id.as_str(), failures)?;
         add(&mut answers, saved)?;
     }
     Ok(answers)
@@ -129,14 +200,41 @@ fn client_answers<'a, R: Host>(
 fn path_answers<'a, R: Host>(
     rt: &R,
     setup: &Setup,
-    folder: &str,
+    source: Answers<'_>,
+    failures: &mut Vec<Failure<'a>>,
 ) -> Result<Vec<Vec<Saved>>, ProgramError<'a>> {
     let mut answers = Vec::new(rt.alloc());
     for path in &setup.paths {
-        let saved = read_folder(rt, folder, path.config.id.as_str())?;
+        let saved = answers_of(rt, source, path.config.id.as_str(), failures)?;
         add(&mut answers, saved)?;
     }
     Ok(answers)
+}
+
+/// The answers of a chain, a client or a path; none where they are refused, which is then a failure of it.
+fn answers_of<'a, R: Host>(
+    rt: &R,
+    source: Answers<'_>,
+    id: &str,
+    failures: &mut Vec<Failure<'a>>,
+) -> Result<Vec<Saved>, ProgramError<'a>> {
+    match read_folder(rt, source.folder, id) {
+        Ok(saved) => Ok(saved),
+        Err(error) if source.is_all_or_nothing || !is_of_answers(&error) => Err(error),
+        Err(error) => {
+            add(failures, failure_at(rt.alloc(), id, error)?)?;
+            Ok(Vec::new(rt.alloc()))
+        }
+    }
+}
+
+/// Whether an error is one of the answers in a folder: they are refused, or aren't there.
+fn is_of_answers(error: &ProgramError<'_>) -> bool {
+    match error {
+        ProgramError::RefusedAnswers(_) => true,
+        ProgramError::UnreadableAnswers { error, .. } => error.kind() == io::ErrorKind::NotFound,
+        _ => false,
+    }
 }
 
 pub fn add<'a, T: Drop>(items: &mut Vec<T>, item: T) -> Result<(), ProgramError<'a>> {

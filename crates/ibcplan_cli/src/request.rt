@@ -1,4 +1,5 @@
 //! The command line: what the program is asked to do.
+use crate::importing::Answers;
 use crate::input::STANDARD_INPUT;
 use crate::worker_count::WorkerCount;
 use clap::error::ErrorKind;
@@ -29,7 +30,7 @@ pub enum Request<'a> {
     /// Write the script that a setup and the answers in a folder make.
     Import {
         setup: &'a str,
-        folder: &'a str,
+        answers: Answers<'a>,
     },
     /// Write what is to be fetched next for a setup, by the answers in a folder.
     Want {
@@ -82,6 +83,8 @@ const SETUP: &str = "SETUP";
 
 const FOLDER: &str = "FOLDER";
 
+const ALL_OR_NOTHING: &str = "all-or-nothing";
+
 const CERT: &str = "CERT";
 
 const AFTER_HELP: &str = "Examples (in the folder of the repository):
@@ -101,7 +104,9 @@ Exit status:
   5  of ./ibcplan: the program isn't built, and can't be
   6  of plan and run with --strict: the report is written, and a window, an event
      or a settlement in it is refused; unless it is JSON, its lines that begin
-     with 'refused' say which";
+     with 'refused' say which
+  7  of import: the script is written, but without the clients and the paths whose
+     answers are refused; standard error says which";
 
 const AFTER_PLAN: &str = "Examples (in the folder of the repository):
   ./ibcplan plan examples/smallest.toml
@@ -130,9 +135,15 @@ are valid.";
 const AFTER_IMPORT: &str = "Examples (in the folder of the repository):
   ./ibcplan import examples/import/setup.toml examples/import/answers > script.toml
   ./ibcplan import setup.toml answers | ./ibcplan plan -
+  ./ibcplan import --all-or-nothing setup.toml answers > script.toml
 
 FOLDER has a folder for each client, each path and each chain that is tracked, by
-its identifier, with saved answers in files *.json. Signatures aren't verified.";
+its identifier, with saved answers in files *.json. Signatures aren't verified.
+
+Where answers of a client or a path are refused, it is left out, and the others
+are written (exit status 7). With a chain go all clients that track it, with a
+client the paths that it serves and the goals that name it. Where no client is
+left, nothing is written (exit status 1).";
 
 const AFTER_WANT: &str = "Examples (in the folder of the repository):
   ./ibcplan want setup.toml answers
@@ -246,7 +257,12 @@ fn import_command<'a>(alloc: Global) -> Result<Command<'a>, AllocError> {
             SETUP,
             "A script without events; - for standard input",
         ))?
-        .arg(path(alloc, FOLDER, "The folder of the answers of nodes"))
+        .arg(path(alloc, FOLDER, "The folder of the answers of nodes"))?
+        .arg(flag(
+            alloc,
+            ALL_OR_NOTHING,
+            "Writes nothing where answers of one client or path are refused",
+        ))
 }
 
 fn want_command<'a>(alloc: Global) -> Result<Command<'a>, AllocError> {
@@ -323,11 +339,15 @@ fn task_of<'a>(matches: &ArgMatches<'a>) -> Option<Request<'a>> {
     if name == IMPORT || name == WANT {
         let setup = given.get_str(SETUP)?;
         let folder = given.get_str(FOLDER)?;
-        return Some(if name == WANT {
-            Request::Want { setup, folder }
-        } else {
-            Request::Import { setup, folder }
-        });
+        if name == WANT {
+            return Some(Request::Want { setup, folder });
+        }
+        let is_all_or_nothing = given.get_flag(ALL_OR_NOTHING);
+        let answers = Answers {
+            folder,
+            is_all_or_nothing,
+        };
+        return Some(Request::Import { setup, answers });
     }
     let script = given.get_str(SCRIPT)?;
     if name == CERTIFY {

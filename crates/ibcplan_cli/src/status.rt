@@ -17,3 +17,6 @@ pub const FAILED: u8 = 4;
 
 /// Of a strict plan: the report is written, and tells of something that is refused.
 pub const PARTLY_REFUSED: u8 = 6;
+
+/// Of an import: the script is written, and a client or a path is left out.
+pub const PARTLY_LEFT_OUT: u8 = 7;

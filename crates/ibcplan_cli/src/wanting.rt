@@ -1,8 +1,9 @@
 //! What is to be fetched next: the files of a folder are read, as far as they are there.
 use crate::error::ProgramError;
 use crate::host::Host;
-use crate::importing::{add, is_tracked, path_in, read_bytes};
+use crate::importing::{add, path_in, read_bytes};
 use crate::input::Input;
+use crate::left_out::is_tracked;
 use rb_import_setup::{Setup, read_setup};
 use rb_want::{Folder, Folders, Wanted, content_of, wanted_of};
 use std::alloc::{AllocError, Global};

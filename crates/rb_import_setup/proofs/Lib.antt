@@ -1,2 +1,4 @@
 pub mod PathsLemmas
 pub mod PlacesLemmas
+pub mod RestsLemmas
+pub mod RestsPlaces

@@ -68,7 +68,7 @@ path-places chains clients before s p h =
       back = omega (arith, named.3, count);
     })))))))
 
-all-views : {A B : Type 0} (P : B → Type 0) (view : A → B) (xs : List A) → All P (map view xs) → All (λ x. P (view x)) xs
+pub all-views : {A B : Type 0} (P : B → Type 0) (view : A → B) (xs : List A) → All P (map view xs) → All (λ x. P (view x)) xs
 all-views P view xs all k d lt = subst P (get_or-map view xs k d (view d) lt) (all k (view d) (omega (arith, lt, length-map xs view)))
 
 pub paths-places : (chains : List (List ℕ)) (clients : List ClientSetup) (ds : Items) (paths : List PathSetup) → elements (path chains clients) (codes "path") [] ds ≡ Ok (map path_view paths)
@@ -102,9 +102,9 @@ settlement-places clients before s x h =
     subst (λ (y : Settlement). y.client < length clients) (same_ok _ x same) (place-within (codes "client") clients s i e1)))))
 
 -- the clients of a turn's goals and settlements are among so many
-record IsPlacedTurn (clients : ℕ) (t : Turn) : Type 0 where
-  goals : All (λ (g : Asked). g.client < clients) t.goals
-  settlements : All (λ (x : Settlement). x.client < clients) t.settlements
+pub record IsPlacedTurn (clients : ℕ) (t : Turn) : Type 0 where
+  pub goals : All (λ (g : Asked). g.client < clients) t.goals
+  pub settlements : All (λ (x : Settlement). x.client < clients) t.settlements
 
 turn-places : (clients : List ClientSetup) (before : List Turn) (s : Section) (t : Turn) → turn clients before s ≡ Ok t → IsPlacedTurn (length (client_ids clients)) t
 unfolding turn
@@ -122,7 +122,7 @@ turn-places clients before s t h =
           (child s.path (codes "settle")) [] f.settlements settlements (λ k d lt. absurd (omega arith)) e2;
     }))))
 
-turn-view : (n : ℕ) (t : TurnSetup) → IsPlacedTurn n (turn_view t) → IsTurnOf n t
+pub turn-view : (n : ℕ) (t : TurnSetup) → IsPlacedTurn n (turn_view t) → IsTurnOf n t
 turn-view n t placed = record { goals = placed.goals; settlements = placed.settlements }
 
 pub turns-places : (clients : List ClientSetup) (ds : Items) (turns : List TurnSetup) → elements (turn clients) (codes "turn") [] ds ≡ Ok (map turn_view turns)

@@ -5,3 +5,4 @@ pub mod Paths
 pub mod Turns
 pub mod Places
 pub mod Setups
+pub mod Rests
