@@ -2,6 +2,8 @@ use crate::make::assert_same;
 use crate::run::{Deed, Row, Run, start, start_dear};
 use rb_base::Part;
 use rb_book::Vote;
+use rb_core_model::CoreError;
+use rb_script_types::Refusal;
 use std::test::Fail;
 
 const THREE: &[Vote] = &[Vote::Commit, Vote::Commit, Vote::Commit, Vote::Absent];
@@ -133,6 +135,20 @@ fn refuses_plans_of_another_machine(rt: HostRuntime) -> Result<(), Fail> {
     run.go(&rt, alloc, ELSEWHERE)?;
     run.core = start(alloc, 3, &["third"]).ok_or("start")?;
     run.go(&rt, alloc, OF_ANOTHER)
+}
+
+/// A follower without a window replays no plan that was made in one.
+#[test]
+fn a_follower_replays_no_plan_before_a_window(rt: HostRuntime) -> Result<(), Fail> {
+    let alloc = rt.alloc();
+    let core = start(alloc, 3, &["third"]).ok_or("start")?;
+    let mut follower = core.follower()?;
+    let mut run = Run::new(alloc, core);
+    run.go(&rt, alloc, ELSEWHERE)?;
+    let told = run.told().ok_or("told")?;
+    let answer = follower.follow(&told);
+    assert!(rt; matches!(answer, Err(CoreError::Refused(Refusal::OutOfOrder))));
+    Ok(())
 }
 
 /// Sets and headers of both chains, of which each client has stored height 1, and can be brought to

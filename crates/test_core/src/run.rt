@@ -7,7 +7,7 @@ use crate::make::{
 use crate::tell::{answer_text, reply_text, scan_text};
 use rb_base::{FeeTable, Height, Part, Window};
 use rb_book::{ChainBook, Vote};
-use rb_core::Core;
+use rb_core::{Core, Told};
 use rb_core_model::{CoreError, Event, Reply, scan};
 use rb_graph::Graph;
 use rb_plan_client::{Draft, JobView, draft};
@@ -284,6 +284,13 @@ impl Run {
         let other = self.aside.as_mut()?;
         mem::swap(&mut self.core, other);
         Some(())
+    }
+
+    /// What followers are told of the last scan or plan that was made.
+    pub fn told(&mut self) -> Option<Told> {
+        let event = self.event(Deed::Last)?;
+        let ready = self.core.judge(event).ok()?;
+        Told::of(&ready).ok()
     }
 
     /// What comes out where this is done; none where no memory is left.

@@ -2,15 +2,15 @@
 //! leaves each job what was found of it first, in every order.
 use crate::make::assert_same;
 use crate::run::{Deed, draft_of, event_of, learn, offer, start, table_of};
-use crate::tell::reply_text;
+use crate::tell::{answer_text, reply_text};
 use crossbeam_utils::sync::Parker;
 use rb_base::{OpenGate, Part, WorkItem};
-use rb_board::Note;
+use rb_board::{Desk, Note, open};
 use rb_book::Vote;
 use rb_core::Core;
 use rb_core_model::{Event, scan};
 use rb_graph::SharedGraph;
-use rb_super_worker::{Finding, Inbox, Order, Team, Worker};
+use rb_super_worker::{Finding, Inbox, Order, Team, Worker, work};
 use rb_wire::{Rx, Tx, lane};
 use std::alloc::Global;
 use std::process::Abort;
@@ -31,13 +31,18 @@ const EVENTS: &[Deed] = &[
     Deed::Sent(0, 1, 5, 0),
 ];
 
-/// The core that has taken so many of these in.
-fn make_core(alloc: Global, events: usize) -> Option<Core> {
+/// The core that has taken these in.
+fn make_core_of(alloc: Global, events: &[Deed]) -> Option<Core> {
     let mut core = start(alloc, 12, &[])?;
-    for deed in EVENTS.iter().take(events) {
+    for deed in events {
         learn(&mut core, event_of(alloc, *deed)?)?;
     }
     Some(core)
+}
+
+/// The core that has taken so many of those in.
+fn make_core(alloc: Global, events: usize) -> Option<Core> {
+    make_core_of(alloc, EVENTS.get(..events)?)
 }
 
 /// What a worker is told to do: a part of a path, or a client.
@@ -457,5 +462,47 @@ fn findings_come_in_any_order(rt: HostRuntime) -> Result<(), Fail> {
         let ordered = fakes.end(&rt);
         assert!(rt; is_done && ordered == (3, 3), "{order:?} {ordered:?}");
     }
+    Ok(())
+}
+
+/// A set, a header, and a client that is asked for a height that the header reaches.
+const ASKED: &[Deed] = &[
+    Deed::Set(0, 0xa1),
+    Deed::Header(0, 7, 70, 0xa1, THREE),
+    Deed::Stored(0, 1, 10),
+    Deed::Window(200, 200),
+    Deed::Asked(0, 5),
+];
+
+/// The set alone.
+const WITHOUT_HEADERS: &[Deed] = &[Deed::Set(0, 0xa1), Deed::Window(200, 200)];
+
+/// What a worker that looks at this desk plans for the client, by the table of a light store without headers.
+fn plan_by_older_table(alloc: Global, desk: &mut Desk) -> Option<String> {
+    let older = make_core_of(alloc, WITHOUT_HEADERS)?;
+    let order = Job::Plan(0).order(alloc, &older)?;
+    match work(alloc, desk, order, &OpenGate)? {
+        Finding::Planned(draft) => answer_text(alloc, draft.answer()).ok(),
+        _ => None,
+    }
+}
+
+/// What a worker plans so on the board of a core.
+fn plan_on_board<R: Wait>(rt: &R, alloc: Global, core: Core) -> Option<String> {
+    let (pen, mut desks) = open(rt, alloc, core, 1).ok()?;
+    let text = match desks.pop() {
+        Some(mut desk) => plan_by_older_table(alloc, &mut desk),
+        None => None,
+    };
+    pen.close(rt);
+    text
+}
+
+#[test]
+fn a_worker_plans_by_no_other_table(rt: HostRuntime) -> Result<(), Fail> {
+    let alloc = rt.alloc();
+    let core = make_core_of(alloc, ASKED).ok_or("core")?;
+    let text = plan_on_board(&rt, alloc, core).ok_or("plan")?;
+    assert!(rt; text.as_str() == "at least 5 | 7<1 | batch 7: 0+1 111", "{text}");
     Ok(())
 }
