@@ -11,8 +11,8 @@ use crate::forms::{commands_of_script, json_of_script};
 use crate::progress::Progress;
 use crate::reporting::{plan_status, refused_events};
 use ibcplan_cli::{
-    Answers, Host, ImportedText, Input, ProgramError, Request, WantedText, WantedTurns, WorkerCount,
-    imported, status, wanted,
+    Answers, Host, ImportedText, Input, ProgramError, Request, WantedText, WantedTurns,
+    WorkerCount, imported, status, wanted,
 };
 use rb_base::{Counted, Gate, Sink, write_whole};
 use rb_text::{Source, certify_texts, report_over};

@@ -503,6 +503,9 @@ fn a_worker_plans_by_no_other_table(rt: HostRuntime) -> Result<(), Fail> {
     let alloc = rt.alloc();
     let core = make_core_of(alloc, ASKED).ok_or("core")?;
     let text = plan_on_board(&rt, alloc, core).ok_or("plan")?;
-    assert!(rt; text.as_str() == "at least 5 | 7<1 | batch 7: 0+1 111", "{text}");
+    assert!(rt;
+        text.as_str() == "at least 5 | 7<1 | batch 7: 0+1 111",
+        "{text}"
+    );
     Ok(())
 }
