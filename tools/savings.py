@@ -60,6 +60,8 @@ def planned(script):
                 yield number, client.id, goal, view
             relayer.plan(client)
         relayer.settle_all(turn.settlements)
+        if turn.taken:
+            relayer.settle_all(relayer.all_open())
 
 
 def tell(name):

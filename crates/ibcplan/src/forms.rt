@@ -87,7 +87,7 @@ pub fn commands_of_script<
 }
 
 /// The number of the turn that is wanted, from 1, of so many; none where all are.
-fn number_of(turns: WantedTurns, count: usize) -> Option<u64> {
+pub(crate) fn number_of(turns: WantedTurns, count: usize) -> Option<u64> {
     match turns {
         WantedTurns::Every => None,
         WantedTurns::Last => Some(count as u64),
@@ -96,7 +96,7 @@ fn number_of(turns: WantedTurns, count: usize) -> Option<u64> {
 }
 
 /// What is wrong where the script of a file, of so many turns, doesn't have a turn.
-fn no_such_turn<'a>(turn: u64, input: &Input<'a>, count: usize) -> ProgramError<'a> {
+pub(crate) fn no_such_turn<'a>(turn: u64, input: &Input<'a>, count: usize) -> ProgramError<'a> {
     let file = input.name();
     ProgramError::NoSuchTurn {
         turn,

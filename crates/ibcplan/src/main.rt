@@ -4,6 +4,7 @@
 //! `--strict` goes by whether its report tells of something refused.
 #![tactic(auto)]
 
+mod explain;
 mod explained;
 mod forms;
 mod perform;

@@ -6,6 +6,7 @@ ghost use Rattle.rb_text.specs.Verdicts.{IsFaultFor, BeginsVerdict};
 ghost use Rattle.ibcplan_cli.specs.Failures.{failure_status, told_fault, is_unwritten};
 ghost use Rattle.ibcplan.specs.Status.{IsPlanWritten, IsConfirmed, IsDenied};
 
+use crate::explain::{AskedExplanation, Form, explain};
 use crate::explained::Explained;
 use crate::forms::{commands_of_script, json_of_script};
 use crate::progress::Progress;
@@ -107,6 +108,38 @@ fn done_of<'a, R: Host, W: Sink>(
             is_strict,
         } => json_file(rt, script, workers, is_strict, is_watched, output),
         Request::Commands { script, turns } => commands_file(rt, script, turns, is_watched, output),
+        Request::Explain {
+            script,
+            turns,
+            client,
+            is_whole,
+            is_json,
+        } => {
+            let form = if is_json {
+                Form::Json { is_whole }
+            } else {
+                Form::Text { is_whole }
+            };
+            let asked = AskedExplanation {
+                turns,
+                client,
+                form,
+            };
+            explain_file(rt, script, asked, is_watched, output)
+        }
+        Request::Picture {
+            script,
+            turns,
+            client,
+        } => {
+            let form = Form::Picture;
+            let asked = AskedExplanation {
+                turns,
+                client,
+                form,
+            };
+            explain_file(rt, script, asked, is_watched, output)
+        }
         Request::Import { setup, answers } => import_files(rt, setup, answers, output),
         Request::Want { setup, folder } => want_files(rt, setup, folder, output),
         Request::Certify {
@@ -169,6 +202,21 @@ fn commands_file<'a, R: Host, W: Sink>(
     let progress = Progress::new(*rt, is_watched);
     let text = commands_of_script(rt, rt.alloc(), &script, turns, progress)?;
     write(text.as_str(), output)?;
+    Ok(Done::quietly(status::DONE))
+}
+
+fn explain_file<'a, R: Host, W: Sink>(
+    rt: &R,
+    script: &'a str,
+    asked: AskedExplanation<'a>,
+    is_watched: bool,
+    output: &mut W,
+) -> Result<Done, ProgramError<'a>>
+    requires { W.is_broken output.old ≡ false }
+{
+    let script = Input::read(rt, script)?;
+    let progress = Progress::new(*rt, is_watched);
+    explain(rt, rt.alloc(), &script, asked, progress, output)?;
     Ok(Done::quietly(status::DONE))
 }
 

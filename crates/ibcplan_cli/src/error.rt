@@ -61,6 +61,12 @@ pub enum ProgramError<'a> {
         turn: u64,
         turns: Turns<'a>,
     },
+    /// The script doesn't have the client that was asked for.
+    #[error("error: invalid value '{client}' for '--client <ID>': {file} has no such client\n\nFor more information, try '--help'.")]
+    NoSuchClient {
+        client: Shown<'a>,
+        file: Shown<'a>,
+    },
     /// Standard output fails.
     #[error("device\nstandard output: {error}\nIt can't be written; what it took may be only a beginning.")]
     Unwritten {
@@ -125,7 +131,9 @@ impl<'a> ProgramError<'a> {
     {
         match self {
             ProgramError::Refused { .. } | ProgramError::RefusedAnswers(_) => status::REFUSED,
-            ProgramError::NoSuchTurn { .. } => status::COMMAND_LINE,
+            ProgramError::NoSuchTurn { .. } | ProgramError::NoSuchClient { .. } => {
+                status::COMMAND_LINE
+            }
             ProgramError::Unreadable { .. }
             | ProgramError::UnreadableAnswers { .. }
             | ProgramError::Unwritten { .. }

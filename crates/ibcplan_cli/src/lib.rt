@@ -5,6 +5,7 @@
 mod advice;
 mod command_line;
 mod error;
+mod explain_request;
 mod host;
 mod importing;
 mod input;

@@ -1,4 +1,7 @@
 //! The command line: what the program is asked to do.
+use crate::explain_request::{
+    EXPLAIN, PICTURE, explain_command, explain_of, picture_command, picture_of,
+};
 use crate::importing::Answers;
 use crate::input::STANDARD_INPUT;
 use crate::worker_count::WorkerCount;
@@ -26,6 +29,20 @@ pub enum Request<'a> {
     Commands {
         script: &'a str,
         turns: WantedTurns,
+    },
+    /// Write why a script's plans are as they are; of one client, where it is given; all of their steps, or the first ones.
+    Explain {
+        script: &'a str,
+        turns: WantedTurns,
+        client: Option<&'a str>,
+        is_whole: bool,
+        is_json: bool,
+    },
+    /// Draw a turn of a script: the last one, where none is given; of one client, where it is given.
+    Picture {
+        script: &'a str,
+        turns: WantedTurns,
+        client: Option<&'a str>,
     },
     /// Write the script that a setup and the answers in a folder make.
     Import {
@@ -61,7 +78,7 @@ const RUN: &str = "run";
 
 const COMMANDS: &str = "commands";
 
-const JSON: &str = "json";
+pub(crate) const JSON: &str = "json";
 
 const WORKERS: &str = "workers";
 
@@ -77,7 +94,7 @@ const WANT: &str = "want";
 
 const CERTIFY: &str = "certify";
 
-const SCRIPT: &str = "SCRIPT";
+pub(crate) const SCRIPT: &str = "SCRIPT";
 
 const SETUP: &str = "SETUP";
 
@@ -166,7 +183,7 @@ fn path<'a>(alloc: Global, name: &'static str, help: &'static str) -> Arg<'a> {
 }
 
 /// An option without a value.
-fn flag<'a>(alloc: Global, name: &'static str, help: &'static str) -> Arg<'a> {
+pub(crate) fn flag<'a>(alloc: Global, name: &'static str, help: &'static str) -> Arg<'a> {
     Arg::new(alloc, name)
         .long(name)
         .action(ArgAction::SetTrue)
@@ -194,7 +211,7 @@ fn workers<'a>(alloc: Global) -> Arg<'a> {
         .help("How many threads make step tables, scan the paths and plan for the clients, 1 to 64")
 }
 
-fn turn<'a>(alloc: Global) -> Arg<'a> {
+pub(crate) fn turn<'a>(alloc: Global) -> Arg<'a> {
     Arg::new(alloc, TURN)
         .long(TURN)
         .value_name("N")
@@ -202,12 +219,12 @@ fn turn<'a>(alloc: Global) -> Arg<'a> {
         .help("Writes those of this turn alone, from 1")
 }
 
-fn last<'a>(alloc: Global) -> Result<Arg<'a>, AllocError> {
+pub(crate) fn last<'a>(alloc: Global) -> Result<Arg<'a>, AllocError> {
     flag(alloc, LAST, "Writes those of the last turn alone").conflicts_with(TURN)
 }
 
 /// A command that takes a script first.
-fn script_command<'a>(
+pub(crate) fn script_command<'a>(
     alloc: Global,
     name: &'static str,
     about: &'static str,
@@ -288,6 +305,8 @@ fn command_line<'a>(alloc: Global) -> Result<Command<'a>, AllocError> {
         .subcommand(run_command(alloc)?)?
         .subcommand(commands_command(alloc)?)?
         .subcommand(want_command(alloc)?)?
+        .subcommand(explain_command(alloc)?)?
+        .subcommand(picture_command(alloc)?)?
         .subcommand(import_command(alloc)?)?
         .subcommand(certify_command(alloc)?)
 }
@@ -323,7 +342,7 @@ fn plan_of<'a>(name: &str, script: &'a str, given: &ArgMatches<'a>) -> Option<Re
 }
 
 /// The turns whose commands are wanted.
-fn turns_of(given: &ArgMatches<'_>) -> WantedTurns {
+pub(crate) fn turns_of(given: &ArgMatches<'_>) -> WantedTurns {
     if given.get_flag(LAST) {
         return WantedTurns::Last;
     }
@@ -348,6 +367,12 @@ fn task_of<'a>(matches: &ArgMatches<'a>) -> Option<Request<'a>> {
             is_all_or_nothing,
         };
         return Some(Request::Import { setup, answers });
+    }
+    if name == EXPLAIN {
+        return explain_of(given);
+    }
+    if name == PICTURE {
+        return picture_of(given);
     }
     let script = given.get_str(SCRIPT)?;
     if name == CERTIFY {

@@ -33,9 +33,9 @@ use Rattle.rb_script_config.specs.Paths.{path, path_ids, sequence}
 use Rattle.rb_script_read.specs.Packets.{block, height_or_none, time_or_none, sent, sent_keys, received, ack_written, packet_keys, cleared, cleared_keys, closed, closed_keys}
 use Rattle.rb_script_read.specs.Events.{kind, votes, set_seen, set_keys, header_seen, header_keys, stored_seen, stored_keys, tracked_by, unnamed, event_of_kind, event}
 use Rattle.rb_script_config.specs.Goals.{asked, goal_keys, goal_of, one_goal, is_asked, settlement, settlement_keys}
-use Rattle.rb_script_read.specs.Turns.{TurnHead, Reading, entries, is_taken, frame, turn_keys, turn}
+use Rattle.rb_script_read.specs.Turns.{TurnHead, Reading, opening, entries, is_taken, frame, turn_keys, turn}
 use Rattle.rb_script_config.specs.Tables.{tables, config}
-use Rattle.rb_script_read.specs.Scripts.{opening, script}
+use Rattle.rb_script_read.specs.Scripts.{script}
 use Rattle.rb_script_config.proofs.ConfigForms.{pass, same_ok, check-passed, needs-field, elements-keep, elements-count, reference-within, client-within, place-within, tables-few, config-form}
 
 -- ---- tables in sequence
@@ -276,11 +276,11 @@ head-form ver room s f h =
     }))))))))))
 
 -- a turn keeps what every turn keeps, and takes room for its entries
-record IsTaken (c : Config) (reading : Reading) (x : Turn Global × Reading) : Type 0 where
-  turn : IsReadTurn (length c.chains) (length c.clients) (length c.paths) x.0
-  room : entry_count x.0 + x.1.room ≡ reading.room
+pub record IsTaken (c : Config) (reading : Reading) (x : Turn Global × Reading) : Type 0 where
+  pub turn : IsReadTurn (length c.chains) (length c.clients) (length c.paths) x.0
+  pub room : entry_count x.0 + x.1.room ≡ reading.room
 
-turn-form : (c : Config) (reading : Reading) (s : Section) (x : Turn Global × Reading) → turn c reading s ≡ Ok x → IsTaken c reading x
+pub turn-form : (c : Config) (reading : Reading) (s : Section) (x : Turn Global × Reading) → turn c reading s ≡ Ok x → IsTaken c reading x
 unfolding turn
 turn-form c reading s x h =
     let ids = client_ids c.clients in

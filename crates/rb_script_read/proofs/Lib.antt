@@ -1,4 +1,6 @@
 pub mod NamesLemmas
+pub mod TurnNamesLemmas
 pub mod SetsLemmas
 pub mod EventsLemmas
 pub mod Forms
+pub mod DocumentsLemmas

@@ -47,3 +47,18 @@ module _ (maps : List (BTreeMap (String Global) (List ℕ))) (chain : ℕ) (m n 
   -- a key that is put into a chain's map is one more name
   pub names_in-insert : names_in (slice_set maps chain n) ≡ with_name chain (string_bytes key) hash (names_in maps)
   names_in-insert = λ i c name. at_any c name (c == chain) refl i
+
+module _ (maps : List (BTreeMap (String Global) (List ℕ))) (chain : ℕ) (m n : BTreeMap (String Global) (List ℕ))
+    (here : slice_get maps chain ≡ Some m) (within : chain < length maps) (same : n.entries ≡ m.entries) where
+  kept_at : (name : List ℕ) → names_in (slice_set maps chain n) chain name ≡ names_in maps chain name
+  kept_at name = rw (slice_get-set_same maps chain n within, here, same) refl
+
+  kept_any : (c : ℕ) (name : List ℕ) (b : Bool) → (c == chain) ≡ b → names_in (slice_set maps chain n) c name ≡ names_in maps c name
+  kept_any c name true e = subst (λ x. names_in (slice_set maps chain n) x name ≡ names_in maps x name) (sym (eqb-true c chain e)) (kept_at name)
+  kept_any c name false e =
+      let other : c ≢ chain = λ q. true≢false (sym (eq-eqb c chain q) ∙ e) in
+      ap (option_and_then (λ x. get_by_text x name)) (slice_get-set_other maps chain c n other)
+
+  -- a map with the same entries in the place of a chain's changes no name
+  pub names_in-kept : names_in (slice_set maps chain n) ≡ names_in maps
+  names_in-kept = λ i c name. kept_any c name (c == chain) refl i

@@ -2,8 +2,10 @@ pub use Rattle.rb_script_types.specs.Config
 pub use Rattle.rb_script_types.specs.Script
 pub use Rattle.rb_script_toml.specs.Faults
 pub mod Names
+pub mod TurnNames
 pub mod Sets
 pub mod Packets
 pub mod Events
 pub mod Turns
+pub mod NextTurns
 pub mod Scripts

@@ -1,5 +1,5 @@
 -- Names of validator sets: each stands for the hash of a set of one chain.
-use Rattle.std.specs.Prelude.{ℕ, ◌==◌, ◌&&◌, nat_le, Bool, if◌then◌else◌, List, length, Option, Some, None, is_none, option_and_then, slice_get, String, Result, Ok}
+use Rattle.std.specs.Prelude.{◌≡◌, ℕ, ◌==◌, ◌&&◌, nat_le, Bool, if◌then◌else◌, List, length, Option, Some, None, is_none, option_and_then, slice_get, fold, String, string_bytes, Result, Ok}
 use Rattle.std.specs.BTreeMap.{BTreeMap, get_by_text}
 use Rattle.std.specs.Str.{bytes_eq, chars}
 use Rattle.std.specs.declared.alloc.Global.{Global}
@@ -9,6 +9,7 @@ use Rattle.rb_script_toml.specs.Fields.{Field, text, hash_of}
 use Rattle.rb_script_toml.specs.Identifiers.{is_identifier}
 use Rattle.rb_script_toml.specs.declared.fault.FaultName.TheVariants.{BadIdentifier, UnknownSetName, DuplicateSetName}
 use Rattle.rb_script_read.specs.declared.names.SetNames.{SetNames}
+use Rattle.rb_script_read.specs.declared.names.Naming.{Naming}
 
 -- for a chain and a name the hash, if the name was given
 abbrev pub Names : Type 0
@@ -27,6 +28,18 @@ names_in maps chain name = option_and_then (λ m. get_by_text m name) (slice_get
 
 abbrev pub names_of : SetNames → Names
 names_of s = names_in s.chains.items
+
+-- a naming is one more name
+abbrev pub with_naming : Names → Naming → Names
+with_naming names n = with_name n.chain (string_bytes n.name) n.hash names
+
+-- the names after these namings, in their order
+abbrev pub with_namings : Names → List Naming → Names
+with_namings names ns = fold with_naming names ns
+
+-- the names are those of these namings alone
+abbrev pub AreNamed : SetNames → List Naming → Type 0
+AreNamed s ns = (chain : ℕ) (name : List ℕ) → names_of s chain name ≡ with_namings no_names ns chain name
 
 -- 1 to 32 characters of an identifier
 abbrev pub is_set_name : List ℕ → Bool

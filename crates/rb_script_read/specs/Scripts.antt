@@ -1,18 +1,12 @@
 -- The script of a text.
 use Rattle.std.specs.Prelude.{ℕ, List, Result, Ok}
 use Rattle.std.specs.declared.alloc.Global.{Global}
-use Rattle.rb_script_types.specs.Limits.{max_entries}
 use Rattle.rb_script_types.specs.Script.{Script}
 use Rattle.rb_script_toml.specs.Faults.{Fault, ◌>>=◌}
 use Rattle.rb_script_toml.specs.Fields.{Section}
 use Rattle.rb_script_toml.specs.Documents.{document}
-use Rattle.rb_script_read.specs.Names.{no_names}
-use Rattle.rb_script_read.specs.Turns.{Reading, turns_of}
+use Rattle.rb_script_read.specs.Turns.{opening, turns_of}
 use Rattle.rb_script_config.specs.Tables.{tables, config}
-
--- before the first turn no set has a name
-abbrev pub opening : Reading
-opening = record { names = no_names; room = max_entries }
 
 unfoldable pub script : Section → Result (Script Global) Fault
 script s = do

@@ -7,6 +7,7 @@ use Rattle.rb_base.specs.Window.{Span}
 use Rattle.rb_script_types.specs.Config.{Config}
 use Rattle.rb_script_types.specs.declared.version.Version.{Version}
 use Rattle.rb_script_types.specs.declared.version.Version.TheVariants.{One, Two, Three}
+use Rattle.rb_script_types.specs.Limits.{max_entries}
 use Rattle.rb_script_types.specs.Script.{Turn}
 use Rattle.rb_script_toml.specs.Faults.{Fault, ◌>>=◌, check}
 use Rattle.rb_script_toml.specs.KeyPaths.{child}
@@ -14,7 +15,7 @@ use Rattle.rb_script_toml.specs.Fields.{Section, items, items_count, only, needs
 use Rattle.rb_script_toml.specs.declared.fault.FaultName.TheVariants.{TooManyEvents, BadWindow}
 use Rattle.rb_script_read.specs.declared.turn.Reading.{Reading as CodeReading}
 use Rattle.rb_script_read.specs.declared.turn.TurnHead.{TurnHead as CodeTurnHead}
-use Rattle.rb_script_read.specs.Names.{Names, names_of}
+use Rattle.rb_script_read.specs.Names.{Names, no_names, names_of}
 use Rattle.rb_script_config.specs.Clients.{client_ids}
 use Rattle.rb_script_config.specs.Goals.{asked, settlement}
 use Rattle.rb_script_read.specs.Events.{event}
@@ -82,6 +83,10 @@ pub record Reading : Type 0 where
 
 abbrev pub reading_view : CodeReading → Reading
 reading_view r = record { names = names_of r.names; room = r.room }
+
+-- before the first turn no set has a name
+abbrev pub opening : Reading
+opening = record { names = no_names; room = max_entries }
 
 unfoldable pub turn : Config → Reading → Section → Result (Turn Global × Reading) Fault
 turn c reading s = do

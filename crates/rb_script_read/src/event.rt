@@ -3,13 +3,14 @@ ghost use Rattle.std.specs.Prelude.{◌≡◌, ◌<◌, [], codes, length};
 ghost use Rattle.toml.specs.View.{view, items_view};
 ghost use Rattle.rb_script_toml.specs.Faults.{Gives};
 ghost use Rattle.rb_script_toml.specs.Fields.{field_view, section_view, only, needs, next_in_sequence, in_sequence};
-ghost use Rattle.rb_script_read.specs.Names.{names_of};
+ghost use Rattle.rb_script_read.specs.TurnNames.{names_now};
 ghost use Rattle.rb_script_read.specs.Events.{kind, vote_of, votes, votes_after, set_seen, set_keys, header_seen, header_keys, stored_seen, stored_keys, tracked_by, event};
 ghost use Rattle.rb_script_config.specs.Setups.{setup_view};
 
-use crate::names::{SetNames, needed_set_hash, needed_set_name};
+use crate::names::{needed_set_hash, needed_set_name};
 use crate::packet::{read_ack, read_cleared, read_closed, read_received, read_sent};
 use crate::set::needed_validators;
+use crate::turn_names::TurnNames;
 use rb_base::ChainId;
 use rb_book::{Header, Record, Vote};
 use rb_script_config::{Directory, Setup, reference};
@@ -106,9 +107,10 @@ fn only_set_keys(section: &Section<'_>) -> Result<(), RunError>
 fn read_set(
     section: &Section<'_>,
     chains: &Directory<ChainId>,
-    names: &mut SetNames,
+    names: &mut TurnNames<'_>,
 ) -> Result<Observation, RunError>
-    ensures { Gives (λ e. (e, names_of names.new)) result (set_seen chains.now (names_of names.old) (section_view section.now)) }
+    ensures read { Gives (λ e. (e, names_now names.new)) result (set_seen chains.now (names_now names.old) (section_view section.now)) }
+    ensures earlier { names.new.earlier.now ≡ names.old.earlier.now }
 {
     only_set_keys(section)?;
     let chain = reference(section, "chain", chains)?;
@@ -130,9 +132,9 @@ fn only_header_keys(section: &Section<'_>) -> Result<(), RunError>
 fn read_header(
     section: &Section<'_>,
     chains: &Directory<ChainId>,
-    names: &SetNames,
+    names: &TurnNames<'_>,
 ) -> Result<Observation, RunError>
-    ensures { Gives (λ e. e) result (header_seen chains.now (names_of names.now) (section_view section.now)) }
+    ensures { Gives (λ e. e) result (header_seen chains.now (names_now names.now) (section_view section.now)) }
 {
     only_header_keys(section)?;
     let chain = reference(section, "chain", chains)?;
@@ -164,9 +166,9 @@ fn tracked_by(clients: &Directory<ClientConfig>, client: usize) -> usize
 fn read_stored(
     section: &Section<'_>,
     clients: &Directory<ClientConfig>,
-    names: &SetNames,
+    names: &TurnNames<'_>,
 ) -> Result<Observation, RunError>
-    ensures { Gives (λ e. e) result (stored_seen clients.now (names_of names.now) (section_view section.now)) }
+    ensures { Gives (λ e. e) result (stored_seen clients.now (names_now names.now) (section_view section.now)) }
 {
     only_stored_keys(section)?;
     let client = reference(section, "client", clients)?;
@@ -187,9 +189,10 @@ fn read_stored(
 fn read_event(
     section: &Section<'_>,
     setup: &Setup,
-    names: &mut SetNames,
+    names: &mut TurnNames<'_>,
 ) -> Result<Observation, RunError>
-    ensures { Gives (λ e. (e, names_of names.new)) result (event (setup_view setup.now) (names_of names.old) (section_view section.now)) }
+    ensures read { Gives (λ e. (e, names_now names.new)) result (event (setup_view setup.now) (names_now names.old) (section_view section.now)) }
+    ensures earlier { names.new.earlier.now ≡ names.old.earlier.now }
 {
     match needed_kind(section)? {
         EventKind::Set => read_set(section, &setup.chains, names),
@@ -209,9 +212,10 @@ fn read_event_at(
     index: usize,
     value: &Value,
     setup: &Setup,
-    names: &mut SetNames,
+    names: &mut TurnNames<'_>,
 ) -> Result<Observation, RunError>
-    ensures { Gives (λ e. (e, names_of names.new)) result (next_in_sequence (event (setup_view setup.now)) path.now index (names_of names.old) (view value.now)) }
+    ensures read { Gives (λ e. (e, names_now names.new)) result (next_in_sequence (event (setup_view setup.now)) path.now index (names_now names.old) (view value.now)) }
+    ensures earlier { names.new.earlier.now ≡ names.old.earlier.now }
 {
     let alloc = names.alloc;
     let path = element_path(alloc, path, index)?;
@@ -224,9 +228,10 @@ pub fn read_events(
     path: &str,
     items: &[Value],
     setup: &Setup,
-    names: &mut SetNames,
+    names: &mut TurnNames<'_>,
 ) -> Result<Vec<Observation>, RunError>
-    ensures { Gives (λ v. (v.items, names_of names.new)) result (in_sequence (event (setup_view setup.now)) path.now (names_of names.old) [] (items_view items.now)) }
+    ensures read { Gives (λ v. (v.items, names_now names.new)) result (in_sequence (event (setup_view setup.now)) path.now (names_now names.old) [] (items_view items.now)) }
+    ensures earlier { names.new.earlier.now ≡ names.old.earlier.now }
 {
     let mut events = Vec::with_capacity(names.alloc, items.len())?;
     for value in items {

@@ -1,12 +1,18 @@
 //! A script from its bytes: its configuration (`rb_script_config`) and its turns with their goals, events
-//! and settlements, or its first fault.
+//! and settlements, or its first fault; and a turn from the bytes
+//! of a document of its own (`read_turn_document`).
 #![tactic(auto)]
 
+mod document;
 mod event;
 mod names;
 mod packet;
 mod script;
 mod set;
 mod turn;
+mod turn_names;
 
+pub use document::read_turn_document;
+pub use names::{Naming, SetNames};
 pub use script::read_script;
+pub use turn::{NextTurn, Reading, ReadingChange};

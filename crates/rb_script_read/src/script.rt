@@ -6,24 +6,14 @@ ghost use Rattle.rb_script_toml.specs.Faults.{Gives};
 ghost use Rattle.rb_script_toml.specs.Documents.{whole};
 ghost use Rattle.rb_script_read.specs.Turns.{turns_of, reading_view};
 ghost use Rattle.rb_script_config.specs.Setups.{setup_view};
-ghost use Rattle.rb_script_read.specs.Scripts.{script, script_of, opening};
+ghost use Rattle.rb_script_read.specs.Scripts.{script, script_of};
 
-use crate::names::SetNames;
 use crate::turn::{Reading, read_turn_at};
 use rb_script_config::{Setup, read_setup, read_tables};
 use rb_script_toml::{RunError, Section, read_table};
-use rb_script_types::{MAX_ENTRIES, Script, Turn};
+use rb_script_types::{Script, Turn};
 use std::alloc::Global;
 use toml::{Table, Value};
-
-fn opening(alloc: Global) -> Reading
-    ensures { reading_view result ≡ opening }
-{
-    Reading {
-        names: SetNames::new(alloc),
-        room: MAX_ENTRIES,
-    }
-}
 
 fn read_turns(
     alloc: Global,
@@ -52,7 +42,7 @@ fn read_document(alloc: Global, table: &Table) -> Result<Script, RunError>
     };
     let tables = read_tables(section)?;
     let setup = read_setup(alloc, tables)?;
-    let turns = read_turns(alloc, tables.turns, &setup, &mut opening(alloc))?;
+    let turns = read_turns(alloc, tables.turns, &setup, &mut Reading::opening(alloc))?;
     Ok(Script {
         config: setup.into_config(),
         turns,

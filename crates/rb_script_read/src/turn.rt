@@ -1,18 +1,21 @@
 //! The turns of a script.
-ghost use Rattle.std.specs.Prelude.{◌≡◌, ◌+◌, ◌-◌, ◌≤◌, SomeIff};
+ghost use Rattle.std.specs.Prelude.{◌≡◌, ◌+◌, ◌-◌, ◌≤◌, OnOk, SomeIff};
 ghost use Rattle.toml.specs.View.{view};
 ghost use Rattle.rb_script_types.specs.Script.{turn_view};
 ghost use Rattle.rb_script_toml.specs.Faults.{Gives};
 ghost use Rattle.rb_script_toml.specs.Fields.{section_view, only};
-ghost use Rattle.rb_script_read.specs.Turns.{turn, turn_at, turn_keys, is_taken, frame, head_view, reading_view};
+ghost use Rattle.rb_script_read.specs.Turns.{turn, turn_at, turn_keys, is_taken, frame, head_view, opening, reading_view};
+ghost use Rattle.rb_script_read.specs.NextTurns.{next_turn_view, reading_after};
 ghost use Rattle.rb_script_config.specs.Setups.{setup_view};
 
 use crate::event::read_events;
-use crate::names::SetNames;
+use crate::names::{Naming, SetNames};
+use crate::turn_names::TurnNames;
 use rb_base::Window;
 use rb_script_config::{Setup, read_goals, read_settlements};
 use rb_script_toml::{FaultName, RunError, Section, child_path, element_path, section_at};
-use rb_script_types::{Turn, Version};
+use rb_script_types::{MAX_ENTRIES, Turn, Version};
+use std::alloc::{AllocError, Global};
 use toml::Value;
 
 /// What a turn's own keys hold, and the room that it leaves.
@@ -32,6 +35,44 @@ pub struct TurnHead<'a> {
 pub struct Reading {
     pub names: SetNames,
     pub room: usize,
+}
+
+/// A turn that was read, and what reading it changes for the next: the names that it gives, and the room
+/// that it leaves.
+#[derive(Drop)]
+pub struct NextTurn {
+    pub turn: Turn,
+    pub change: ReadingChange,
+}
+
+/// What reading a turn changes for the next.
+#[derive(Drop)]
+pub struct ReadingChange {
+    pub namings: Vec<Naming>,
+    pub room: usize,
+}
+
+impl Reading {
+    /// Before the first turn: no name was given, and there is room for all goals, events and settlements.
+    pub fn opening(alloc: Global) -> Reading
+        ensures { reading_view result ≡ opening }
+    {
+        Reading {
+            names: SetNames::new(alloc),
+            room: MAX_ENTRIES,
+        }
+    }
+
+    /// Goes on behind a turn that was read: what it gave names to is known to the next. An error comes only where
+    /// a growth is refused.
+    pub fn take(&mut self, change: ReadingChange) -> Result<(), AllocError>
+        ensures { OnOk result (reading_view self.new ≡ reading_after (reading_view self.old) change) }
+    {
+        let ReadingChange { namings, room } = change;
+        self.names.add_all(namings.as_slice())?;
+        self.room = room;
+        Ok(())
+    }
 }
 
 fn only_turn_keys(version: Version, section: &Section<'_>) -> Result<(), RunError>
@@ -95,16 +136,21 @@ fn read_head<'a>(
     }
 }
 
+/// Reads a turn from its table, after those before it, which stay as they are.
 #[tactic(auto, using(rb_script_toml::proofs::Steps::steps), unfolding(crate::specs::Turns::turn))]
-fn read_turn(section: &Section<'_>, setup: &Setup, reading: &mut Reading) -> Result<Turn, RunError>
-    ensures { Gives (λ t. (turn_view t, reading_view reading.new)) result (turn (setup_view setup.now) (reading_view reading.old) (section_view section.now)) }
+pub(crate) fn read_turn(
+    section: &Section<'_>,
+    setup: &Setup,
+    reading: &Reading,
+) -> Result<NextTurn, RunError>
+    ensures { Gives (next_turn_view (reading_view reading.now)) result (turn (setup_view setup.now) (reading_view reading.now) (section_view section.now)) }
 {
     let frame = read_head(setup.version, *section, reading.room)?;
-    reading.room = frame.room;
     let path = child_path(section.alloc, section.path, "goal")?;
     let goals = read_goals(section.alloc, path.as_str(), frame.goals, &setup.clients)?;
     let path = child_path(section.alloc, section.path, "event")?;
-    let events = read_events(path.as_str(), frame.events, setup, &mut reading.names)?;
+    let mut names = TurnNames::after(&reading.names);
+    let events = read_events(path.as_str(), frame.events, setup, &mut names)?;
     let path = child_path(section.alloc, section.path, "settle")?;
     let settlements = read_settlements(
         section.alloc,
@@ -112,18 +158,23 @@ fn read_turn(section: &Section<'_>, setup: &Setup, reading: &mut Reading) -> Res
         frame.settlements,
         &setup.clients,
     )?;
-    Ok(Turn {
+    let turn = Turn {
         window: frame.window,
         goals,
         events,
         settlements,
         taken: frame.taken,
-    })
+    };
+    let change = ReadingChange {
+        namings: names.into_namings(),
+        room: frame.room,
+    };
+    Ok(NextTurn { turn, change })
 }
 
 /// Reads the turn of this number, after those before it.
 #[tactic(auto, using(rb_script_toml::proofs::Steps::steps))]
-pub fn read_turn_at(
+pub(crate) fn read_turn_at(
     index: usize,
     value: &Value,
     setup: &Setup,
@@ -134,5 +185,7 @@ pub fn read_turn_at(
     let alloc = reading.names.alloc;
     let path = element_path(alloc, "turn", index)?;
     let section = section_at(alloc, path.as_str(), value)?;
-    read_turn(&section, setup, reading)
+    let next = read_turn(&section, setup, reading)?;
+    reading.take(next.change)?;
+    Ok(next.turn)
 }

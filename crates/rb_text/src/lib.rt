@@ -17,5 +17,6 @@ pub use certificate::{Certificate, read_certificate};
 pub use certifying::certify_texts;
 pub use moment::moments_are_read;
 pub use refusal::{CertifyError, Source};
+pub use report::push_turn;
 pub use running::{report_of, report_over, run_over};
-pub use write::write_report;
+pub use write::{first_line, write_report};

@@ -321,7 +321,7 @@ fn push_head(text: &mut String, number: u64, window_back: bool) -> Result<(), Al
 }
 
 /// Adds the lines of a turn, by its number from 1, with the identifiers of the paths by their places.
-pub(crate) fn push_turn(
+pub fn push_turn(
     text: &mut String,
     version: Version,
     paths: &[PathId],

@@ -73,7 +73,7 @@ fn put_turns<W: Sink>(
 }
 
 /// The first line of a report: the format of versions 1 and 2 is one.
-fn first_line(version: Version) -> &'static [u8]
+pub fn first_line(version: Version) -> &'static [u8]
     ensures { result.now ≡ first_line version }
 {
     match version {

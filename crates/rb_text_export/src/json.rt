@@ -25,6 +25,20 @@ pub fn json_of(alloc: Global, report: &Report) -> Result<String, AllocError> {
     Ok(text)
 }
 
+/// The report of a turn as one object of JSON, as it stands in that of the script, and a line feed. The
+/// identifiers of the paths are by their places.
+pub fn json_of_turn(
+    alloc: Global,
+    version: Version,
+    paths: &[PathId],
+    turn: &TurnReport,
+) -> Result<String, AllocError> {
+    let mut text = String::new(alloc);
+    push_turn(&mut text, version, paths, turn)?;
+    text.push_str("\n")?;
+    Ok(text)
+}
+
 /// The number of the format: that of versions 1 and 2 is 1.
 fn format_of(version: Version) -> u64 {
     match version {

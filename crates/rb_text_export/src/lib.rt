@@ -5,4 +5,4 @@ mod commands;
 mod json;
 
 pub use commands::{Setting, commands_of};
-pub use json::json_of;
+pub use json::{json_of, json_of_turn};

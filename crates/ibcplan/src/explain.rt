@@ -1,0 +1,199 @@
+//! Why the plans of a script are as they are, as text, as JSON and as a picture.
+ghost use Rattle.rb_script_types.specs.Script.{script_view, IsReadScript};
+
+use crate::forms::{no_such_turn, number_of};
+use ibcplan_cli::{Input, ProgramError, Shown, WantedTurns};
+use rb_base::{Gate, Sink};
+use rb_explain::{Detail, Listener, TurnExplanation, Wanted, explain_script};
+use rb_explain_picture::picture_of;
+use rb_explain_text::{put, put_json, put_json_beginning, put_json_end, put_text};
+use rb_script_read::read_script;
+use rb_script_types::{Config, Script};
+use std::alloc::{AllocError, Global};
+use std::thread::Threads;
+
+/// So many lines of steps are told of a client, unless all are.
+const MOST_LINES: usize = 20;
+
+/// As what an explanation is written.
+#[derive(Clone, Copy, Debug, PartialEq, Eq)]
+pub enum Form {
+    /// As text; all steps, or the first ones.
+    Text { is_whole: bool },
+    /// As JSON; all steps to a height that can't be reached, or the first ones.
+    Json { is_whole: bool },
+    /// As a picture of a turn.
+    Picture,
+}
+
+impl Form {
+    /// How much is to be explained of a client.
+    fn detail(self) -> Detail {
+        let most = match self {
+            Form::Text { is_whole: true } | Form::Json { is_whole: true } => usize::MAX,
+            _ => MOST_LINES,
+        };
+        Detail {
+            most,
+            has_heights: self == Form::Picture,
+        }
+    }
+}
+
+/// What is asked for: turns, a client by its identifier, and in which form.
+#[derive(Clone, Copy, Debug)]
+pub struct AskedExplanation<'a> {
+    pub turns: WantedTurns,
+    pub client: Option<&'a str>,
+    pub form: Form,
+}
+
+/// The place of a client by its identifier.
+fn place_of(config: &Config, id: &str) -> Option<usize> {
+    config
+        .clients
+        .iter()
+        .position(|client| client.id.as_str() == id)
+}
+
+/// The place of the client that is asked for, which has to be there; none where all are.
+fn client_of<'a>(
+    asked: AskedExplanation<'a>,
+    config: &Config,
+    input: &Input<'a>,
+) -> Result<Option<usize>, ProgramError<'a>> {
+    let Some(id) = asked.client else {
+        return Ok(None);
+    };
+    match place_of(config, id) {
+        Some(client) => Ok(Some(client)),
+        None => Err(ProgramError::NoSuchClient {
+            client: Shown { name: id },
+            file: input.name(),
+        }),
+    }
+}
+
+/// What is wanted of a script: a turn that is numbered, and a client that is named, have to be there. A picture is of one turn, the last
+/// one where none is named.
+fn wanted_of<'a>(
+    asked: AskedExplanation<'a>,
+    script: &Script,
+    input: &Input<'a>,
+) -> Result<Wanted, ProgramError<'a>> {
+    let count = script.turns.len();
+    let turns = match asked.turns {
+        WantedTurns::Every if asked.form == Form::Picture => WantedTurns::Last,
+        turns => turns,
+    };
+    let turn = number_of(turns, count);
+    match turn {
+        Some(turn) if turn > count as u64 => return Err(no_such_turn(turn, input, count)),
+        _ => {}
+    }
+    Ok(Wanted {
+        turn: turn.map(|turn| turn as usize),
+        client: client_of(asked, &script.config, input)?,
+        detail: asked.form.detail(),
+    })
+}
+
+/// Writes the explanation of the script that a file holds, each turn once it is explained; the plans are made through a gate. Nothing is
+/// written where the file is refused, or hasn't what is asked for.
+pub fn explain<'a, R: Threads + Sync, G: Gate + Sync + Drop, W: Sink>(
+    rt: &R,
+    alloc: Global,
+    input: &Input<'a>,
+    asked: AskedExplanation<'a>,
+    gate: G,
+    output: &mut W,
+) -> Result<(), ProgramError<'a>> {
+    let script = match read_script(alloc, input.bytes()) {
+        Ok(script) => script,
+        Err(error) => return Err(ProgramError::of_run(error, input)),
+    };
+    let wanted = wanted_of(asked, &script, input)?;
+    match explain_by(rt, alloc, script, &wanted, asked.form, &gate, output) {
+        Ok(true) => Ok(()),
+        Ok(false) => Err(ProgramError::untaken()),
+        Err(_) => Err(ProgramError::NoMemory),
+    }
+}
+
+/// Writes the explanation of a script; answers whether all of it was taken.
+fn explain_by<R: Threads + Sync, G: Gate + Sync, W: Sink>(
+    rt: &R,
+    alloc: Global,
+    script: Script,
+    wanted: &Wanted,
+    form: Form,
+    gate: &G,
+    output: &mut W,
+) -> Result<bool, AllocError>
+    requires { IsReadScript (script_view script) }
+{
+    let config = script.config.copy()?;
+    if let Form::Json { .. } = form {
+        put_json_beginning(alloc, config.version, output)?;
+    }
+    let mut teller = Teller {
+        alloc,
+        config,
+        form,
+        count: 0,
+        output,
+    };
+    explain_script(rt, alloc, script, wanted, gate, &mut teller)?;
+    teller.end()
+}
+
+/// Writes each turn once it is explained.
+#[derive(Drop)]
+struct Teller<'a, W> {
+    alloc: Global,
+    config: Config,
+    form: Form,
+    /// How many turns were explained.
+    count: usize,
+    output: &'a mut W,
+}
+
+impl<W: Sink> Teller<'_, W> {
+    /// Writes what stands behind the last turn; answers whether all was taken.
+    fn end(self) -> Result<bool, AllocError> {
+        match self.form {
+            Form::Text { .. } => Ok(!self.output.failed()),
+            Form::Json { .. } => put_json_end(self.alloc, self.output),
+            Form::Picture if self.count == 0 => {
+                let mut picture = picture_of(self.alloc, &self.config, None)?;
+                Ok(put(&mut picture, self.output))
+            }
+            Form::Picture => Ok(!self.output.failed()),
+        }
+    }
+}
+
+impl<W: Sink> Listener<Global> for Teller<'_, W> {
+    ghost use Rattle.rb_explain.specs.Turn.{IsExplanation};
+
+    fn explained(&mut self, turn: &TurnExplanation) -> Result<bool, AllocError>
+        requires { IsExplanation turn.now }
+    {
+        let place = self.count;
+        self.count = place.saturating_add(1);
+        match self.form {
+            Form::Text { .. } => put_text(
+                self.alloc,
+                &self.config,
+                turn,
+                self.form.detail().most,
+                self.output,
+            ),
+            Form::Json { .. } => put_json(self.alloc, &self.config, turn, place, self.output),
+            Form::Picture => {
+                let mut picture = picture_of(self.alloc, &self.config, Some(turn))?;
+                Ok(put(&mut picture, self.output))
+            }
+        }
+    }
+}

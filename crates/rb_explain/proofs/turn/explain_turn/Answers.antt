@@ -1,0 +1,115 @@
+use Rattle.std.proofs.Common.{◌≡◌, ◌<◌, List, length, map, sym, ap, ◌∙◌, subst, arith}
+use Rattle.std.specs.List.{All}
+use Rattle.std.proofs.lemmas.List.{length-map}
+use Rattle.rb_core.specs.Core.{Core, state_in}
+use Rattle.rb_script_types.specs.Config.{Config}
+use Rattle.rb_script_types.specs.declared.script.Asked.{Asked}
+use Rattle.rb_script_types.specs.declared.script.Settlement.{Settlement}
+use Rattle.rb_super.specs.AsEvents.{code_turn_as_events}
+use Rattle.rb_super_turn.specs.Phases.{standing_in, turn_heard, IsPlannable}
+use Rattle.rb_super_turn.specs.Turns.{before_plans, IsTurnReport}
+use Rattle.rb_super_turn.specs.Views.{refused_view, client_report_view, settlement_view}
+use Rattle.rb_super.proofs.Whole.{turn_done}
+use Rattle.rb_explain.proofs.Jobs.{as_many, explained_as, jobs_right, reports_here, right_as, turn_explained}
+use Rattle.rb_explain.proofs.turn.explain_turn.Goals as goal
+
+pub prepare-requires-clause-goals : goal.prepare-requires-clause-goals
+prepare-requires-clause-goals g c = λ ks _.
+    subst (λ (gs : List Asked). All (λ (x : Asked). x.client < length c.args.relayer.now.config.clients) gs) (sym c.as_slice-2.ensures.value) c.requires.turn.goals
+
+pub prepare-requires-clause-events : goal.prepare-requires-clause-events
+prepare-requires-clause-events g c = λ ks _. c.requires.turn.events
+
+pub see_all-requires-clause-window : goal.see_all-requires-clause-window
+see_all-requires-clause-window g c = λ ks _. c.in_ok-window_back.ensures.ready.window
+
+pub plan_all-requires-clause-ready : goal.plan_all-requires-clause-ready
+plan_all-requires-clause-ready g c = λ ks _. subst IsPlannable (sym c.see_all.ensures.same) c.in_ok-window_back.ensures.ready
+
+pub plan_all-requires-clause-room : goal.plan_all-requires-clause-room
+plan_all-requires-clause-room g c = λ ks _.
+    let room = c.requires.room in
+    let p = c.in_ok-window_back.ensures.later.front in
+    let clients = ap (λ (k : Config). length k.clients) c.in_ok-window_back.ensures.later.config in
+    let goals = ap length c.as_slice-2.ensures.value in
+    let front = ap (λ (k : Core). (state_in k).front) c.see_all.ensures.same in
+    let seen = ap (λ (k : Core). length k.config.clients) c.see_all.ensures.same in
+    omega arith
+
+pub settle_turn-requires-clause-clients : goal.settle_turn-requires-clause-clients
+settle_turn-requires-clause-clients g c =
+    let same : c.plan_all.new.relayer.config ≡ c.args.relayer.now.config = c.in_ok-clients.ensures.later.config ∙ ap (λ (k : Core). k.config) c.see_all.ensures.same ∙ c.in_ok-window_back.ensures.later.config in
+    subst (λ (xs : List Settlement). All (λ (x : Settlement). x.client < length c.plan_all.new.relayer.config.clients) xs) (sym c.as_slice-3.ensures.value)
+    (subst (λ (k : Config). All (λ (x : Settlement). x.client < length k.clients) c.args.turn.settlements.items) (sym same) c.requires.turn.settlements)
+
+pub settle_turn-requires-clause-room : goal.settle_turn-requires-clause-room
+settle_turn-requires-clause-room g c =
+    let room = c.requires.room in
+    let p = c.in_ok-window_back.ensures.later.front in
+    let q = c.in_ok-clients.ensures.later.front in
+    let clients = ap (λ (k : Config). length k.clients) c.in_ok-window_back.ensures.later.config in
+    let planned = ap (λ (k : Config). length k.clients) c.in_ok-clients.ensures.later.config in
+    let goals = ap length c.as_slice-2.ensures.value in
+    let front = ap (λ (k : Core). (state_in k).front) c.see_all.ensures.same in
+    let seen = ap (λ (k : Core). length k.config.clients) c.see_all.ensures.same in
+    let settlements = ap length c.as_slice-3.ensures.value in
+    omega arith
+
+pub explain_all-requires-clause-long : goal.explain_all-requires-clause-long
+explain_all-requires-clause-long g c =
+    ap length c.as_slice-4.ensures.value
+    ∙ as_many c.prepare.new.relayer c.in_ok-seen.seen.items c.in_ok-clients.clients.items c.in_ok-seen.ensures.seen
+    (c.in_ok-clients.ensures.count ∙ ap (λ (k : Core). length k.config.clients) c.see_all.ensures.same)
+    ∙ sym (ap length c.as_slice-5.ensures.value)
+
+pub explain_all-requires-clause-right : goal.explain_all-requires-clause-right
+explain_all-requires-clause-right g c =
+    let s = standing_in c.args.relayer.now in
+    let turn = code_turn_as_events c.args.turn in
+    let done = (turn_done c.args.relayer.now c.see_all.new.relayer c.plan_all.new.relayer c.settle_turn.new.relayer c.args.turn c.as_slice-2.result.now c.as_slice-3.result.now
+    c.in_ok-window_back.window_back (map refused_view c.in_ok-window_back.refused.items) (map client_report_view c.in_ok-clients.clients.items) (map settlement_view c.in_ok-settled.settled.items)
+    c.as_slice-2.ensures.value c.as_slice-3.ensures.value c.in_ok-window_back.ensures.back c.in_ok-window_back.ensures.refused
+    (ap standing_in c.see_all.ensures.same ∙ c.in_ok-window_back.ensures.standing)
+    (length-map c.in_ok-clients.clients.items client_report_view ∙ c.in_ok-clients.ensures.count ∙ ap (λ (k : Core). length k.config.clients) c.see_all.ensures.same
+    ∙ ap (λ (k : Config). length k.clients) c.in_ok-window_back.ensures.later.config)
+    c.in_ok-clients.ensures.reports
+    c.in_ok-settled.ensures.reports c.in_ok-settled.ensures.standing).0 in
+    let stands : standing_in c.prepare.new.relayer ≡ before_plans s turn = c.in_ok-window_back.ensures.standing ∙ ap (λ (gs : List Asked). before_plans s (turn_heard c.args.turn.window gs c.args.turn.events.items)) c.as_slice-2.ensures.value in
+    right_as (sym c.as_slice-4.ensures.value) (sym c.as_slice-5.ensures.value)
+    (jobs_right c.prepare.new.relayer c.in_ok-seen.seen.items c.in_ok-clients.clients.items c.in_ok-window_back.ensures.ready c.in_ok-seen.ensures.seen
+    (reports_here c.prepare.new.relayer s turn (map client_report_view c.in_ok-clients.clients.items) stands done.clients))
+
+pub returns-clause-right : goal.returns-clause-right
+returns-clause-right g c =
+    let s = standing_in c.args.relayer.now in
+    let turn = code_turn_as_events c.args.turn in
+    let x = c.new-explanation.result in
+    let done = (turn_done c.args.relayer.now c.see_all.new.relayer c.plan_all.new.relayer c.settle_turn.new.relayer c.args.turn c.as_slice-2.result.now c.as_slice-3.result.now
+    c.in_ok-window_back.window_back (map refused_view c.in_ok-window_back.refused.items) (map client_report_view c.in_ok-clients.clients.items) (map settlement_view c.in_ok-settled.settled.items)
+    c.as_slice-2.ensures.value c.as_slice-3.ensures.value c.in_ok-window_back.ensures.back c.in_ok-window_back.ensures.refused
+    (ap standing_in c.see_all.ensures.same ∙ c.in_ok-window_back.ensures.standing)
+    (length-map c.in_ok-clients.clients.items client_report_view ∙ c.in_ok-clients.ensures.count ∙ ap (λ (k : Core). length k.config.clients) c.see_all.ensures.same
+    ∙ ap (λ (k : Config). length k.clients) c.in_ok-window_back.ensures.later.config)
+    c.in_ok-clients.ensures.reports
+    c.in_ok-settled.ensures.reports c.in_ok-settled.ensures.standing).0 in
+    let stands : standing_in c.prepare.new.relayer ≡ before_plans s turn = c.in_ok-window_back.ensures.standing ∙ ap (λ (gs : List Asked). before_plans s (turn_heard c.args.turn.window gs c.args.turn.events.items)) c.as_slice-2.ensures.value in
+    turn_explained c.prepare.new.relayer s turn c.in_ok-seen.seen.items x c.in_ok-window_back.ensures.ready stands c.in_ok-seen.ensures.seen
+    (subst (IsTurnReport s turn) (sym (c.new-explanation.ensures.report ∙ c.report_of-report.ensures.view)) done)
+    (explained_as c.as_slice-4.ensures.value (c.as_slice-5.ensures.value ∙ sym (c.new-explanation.ensures.reports ∙ c.report_of-report.ensures.clients)) (sym c.new-explanation.ensures.clients)
+    c.in_ok-explained.ensures)
+
+pub returns-clause-later : goal.returns-clause-later
+returns-clause-later g c =
+    let p = c.in_ok-window_back.ensures.later.front in
+    let q = c.in_ok-clients.ensures.later.front in
+    let r = c.in_ok-settled.ensures.later.front in
+    let clients = ap (λ (k : Config). length k.clients) c.in_ok-window_back.ensures.later.config in
+    let planned = ap (λ (k : Config). length k.clients) c.in_ok-clients.ensures.later.config in
+    let goals = ap length c.as_slice-2.ensures.value in
+    let front = ap (λ (k : Core). (state_in k).front) c.see_all.ensures.same in
+    let seen = ap (λ (k : Core). length k.config.clients) c.see_all.ensures.same in
+    let settlements = ap length c.as_slice-3.ensures.value in
+    record {
+      config = c.in_ok-settled.ensures.later.config ∙ c.in_ok-clients.ensures.later.config ∙ ap (λ (k : Core). k.config) c.see_all.ensures.same ∙ c.in_ok-window_back.ensures.later.config;
+      front = omega arith;
+    }

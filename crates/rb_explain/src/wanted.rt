@@ -1,0 +1,42 @@
+//! What is to be explained.
+
+/// How much is told of a client: of an unreachable goal up to so many steps, and whether the known heights of the chain are.
+#[derive(Clone, Copy, Debug)]
+pub struct Detail {
+    pub most: usize,
+    pub has_heights: bool,
+}
+
+/// What is to be explained: one turn, by its number from 1, or each; one client, by its place, or each; and how much of it.
+#[derive(Clone, Copy, Debug)]
+pub struct Wanted {
+    pub turn: Option<usize>,
+    pub client: Option<usize>,
+    pub detail: Detail,
+}
+
+impl Wanted {
+    /// Whether a turn is wanted, by its number from 1.
+    pub(crate) fn has_turn(&self, number: usize) -> bool {
+        match self.turn {
+            Some(turn) => turn == number,
+            None => true,
+        }
+    }
+
+    /// Whether a client is wanted in a turn, by its place and the turn's number.
+    pub(crate) fn has_client(&self, number: usize, client: usize) -> bool {
+        match self.client {
+            Some(wanted) => self.has_turn(number) && wanted == client,
+            None => self.has_turn(number),
+        }
+    }
+
+    /// Whether no turn from this number on is wanted.
+    pub(crate) fn ends_before(&self, number: usize) -> bool {
+        match self.turn {
+            Some(turn) => turn < number,
+            None => false,
+        }
+    }
+}

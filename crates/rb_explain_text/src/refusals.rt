@@ -1,0 +1,187 @@
+//! Refused events as text.
+use crate::names::{chain_name, client_name, path_name};
+use rb_explain::{Subject, TurnExplanation};
+use rb_script_types::{Config, Refusal};
+use rb_super_turn::{RefusedEvent, SettlementReport};
+use std::alloc::AllocError;
+
+/// Adds a turn's refused settlements, a line each.
+pub(crate) fn push_settlements(
+    text: &mut String,
+    turn: &TurnExplanation,
+) -> Result<(), AllocError> {
+    for (place, settlement) in turn.report.settlements.iter().enumerate() {
+        if let Some(refusal) = &settlement.refusal {
+            push_refused_settlement(text, turn.turn, place, settlement, refusal)?;
+        }
+    }
+    Ok(())
+}
+
+fn push_refused_settlement(
+    text: &mut String,
+    turn: usize,
+    place: usize,
+    settlement: &SettlementReport,
+    refusal: &Refusal,
+) -> Result<(), AllocError> {
+    let id = settlement.id.as_str();
+    let batch = settlement.batch;
+    let number = refusal.number();
+    let name = refusal.name();
+    let clash = match refusal {
+        Refusal::Repeat => "it was settled before",
+        _ => "it isn't the open one, or has fewer transactions",
+    };
+    writeln!(
+        text,
+        "turn {turn}, settlement {place} (from 0): refused, {number} {name}: batch {batch} of {id}; {clash}"
+    )
+}
+
+/// Adds a turn's refused window and events, a line each.
+pub(crate) fn push_refusals(
+    text: &mut String,
+    config: &Config,
+    turn: &TurnExplanation,
+) -> Result<(), AllocError> {
+    let number = turn.turn;
+    if turn.report.window_back {
+        let refusal = Refusal::WindowBack.number();
+        let name = Refusal::WindowBack.name();
+        writeln!(
+            text,
+            "turn {number}: its window is refused, {refusal} {name}: it begins or ends before the one in force, which stays"
+        )?;
+    }
+    for refused in &turn.report.refused {
+        let event = refused.event;
+        write!(text, "turn {number}, event {event} (from 0): refused, ")?;
+        push_refused(text, config, turn.subjects.as_slice(), refused)?;
+        text.push_str("\n")?;
+    }
+    Ok(())
+}
+
+fn push_refused(
+    text: &mut String,
+    config: &Config,
+    subjects: &[Subject],
+    refused: &RefusedEvent,
+) -> Result<(), AllocError> {
+    let number = refused.refusal.number();
+    let name = refused.refusal.name();
+    write!(text, "{number} {name}: ")?;
+    match subjects.get(refused.event) {
+        Some(subject) => {
+            push_subject(text, config, subject)?;
+            text.push_str("; ")?;
+            match packet_clash(subject, refused.refusal) {
+                Some(clash) => text.push_str(clash),
+                None => push_clash(text, refused.refusal),
+            }
+        }
+        None => push_clash(text, refused.refusal),
+    }
+}
+
+/// Adds what an event tells of.
+fn push_subject(text: &mut String, config: &Config, subject: &Subject) -> Result<(), AllocError> {
+    match subject {
+        Subject::Set { chain } => {
+            let chain = chain_name(config, *chain);
+            write!(text, "a set of {chain}")
+        }
+        Subject::Header { chain, height } => {
+            let chain = chain_name(config, *chain);
+            write!(text, "header {height} of {chain}")
+        }
+        Subject::Stored { client, height } => {
+            let client = client_name(config, *client);
+            write!(text, "stored record {height} of {client}")
+        }
+        Subject::Sent { path, sequence } => {
+            let path = path_name(config, *path);
+            write!(text, "sent packet {sequence} of {path}")
+        }
+        Subject::Received { path, sequence } => {
+            let path = path_name(config, *path);
+            write!(text, "received packet {sequence} of {path}")
+        }
+        Subject::AckWritten { path, sequence } => {
+            let path = path_name(config, *path);
+            write!(text, "acknowledgement of packet {sequence} of {path}")
+        }
+        Subject::Cleared { path, sequence } => {
+            let path = path_name(config, *path);
+            write!(text, "cleared packet {sequence} of {path}")
+        }
+        Subject::Closed { path } => {
+            let path = path_name(config, *path);
+            write!(text, "closed path {path}")
+        }
+    }
+}
+
+/// What clashes with a packet, or with a path that was closed.
+fn packet_clash(subject: &Subject, refusal: Refusal) -> Option<&'static str> {
+    match (subject, refusal) {
+        (Subject::Sent { .. }, Refusal::OutOfOrder) => {
+            Some("its sequence is below the path's first one")
+        }
+        (Subject::Sent { .. }, Refusal::Repeat) => Some("it was seen as sent before"),
+        (Subject::Sent { .. }, Refusal::Full) => Some("the path has as many packets as may be"),
+        (Subject::Received { .. }, Refusal::OutOfOrder) => Some(
+            "it wasn't seen as sent; or the path is ordered, and one before it wasn't, or is neither received nor cleared",
+        ),
+        (Subject::Received { .. }, Refusal::Repeat) => Some("it was seen as received before"),
+        (Subject::AckWritten { .. }, Refusal::OutOfOrder) => {
+            Some("the packet wasn't seen as received, or only in a later block")
+        }
+        (Subject::AckWritten { .. }, Refusal::Repeat) => Some("it was seen before"),
+        (Subject::Cleared { .. }, Refusal::OutOfOrder) => Some("it wasn't seen as sent"),
+        (Subject::Cleared { .. }, Refusal::Repeat) => Some("its commitment is gone already"),
+        (Subject::Closed { .. }, Refusal::Repeat) => Some("it is closed already"),
+        _ => None,
+    }
+}
+
+/// Adds what something that is refused clashes with.
+fn push_clash(text: &mut String, refusal: Refusal) -> Result<(), AllocError> {
+    match refusal {
+        Refusal::UnknownSet => text.push_str(
+            "the book has no set of the hash that it gives for its own",
+        ),
+        Refusal::WrongVerdictCount => {
+            text.push_str("its votes are more or fewer than the members of its set")
+        }
+        Refusal::BadVote(index) => write!(text, "its vote {index} (from 0) is bad"),
+        Refusal::Conflict(height) => {
+            write!(
+                text,
+                "the book has another record or header at height {height}"
+            )
+        }
+        Refusal::TimeOrder(height) => {
+            write!(
+                text,
+                "its time and that of height {height} aren't in the order of the heights"
+            )
+        }
+        Refusal::Full => text.push_str("there is no room for more"),
+        Refusal::HashClash => text.push_str("the book has another set of this hash"),
+        Refusal::UnknownObject => text.push_str("there is no such chain, client or path"),
+        Refusal::Stale { front } => {
+            write!(
+                text,
+                "it was made for an earlier view; {front} events were taken in since"
+            )
+        }
+        Refusal::Busy => text.push_str("a batch of the client is open"),
+        Refusal::Repeat => text.push_str("it was taken in already"),
+        Refusal::OutOfOrder => text.push_str("its turn hasn't come, or never will"),
+        Refusal::WindowBack => text.push_str("the window goes back"),
+        Refusal::NotOwed => text.push_str("something that it stands on was not scanned"),
+        Refusal::LogFull => text.push_str("as many events were taken in as may be"),
+    }
+}

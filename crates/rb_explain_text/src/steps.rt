@@ -1,0 +1,159 @@
+//! Steps as text.
+use crate::moments::push_moment;
+use rb_base::Window;
+use rb_explain::{Charges, Power, StepExplanation};
+use rb_plan::Update;
+use rb_step::{Reason, Verdict};
+use std::alloc::AllocError;
+
+/// Adds heights as a chain: each update from the one before, and where it trusts another height, from that.
+pub(crate) fn push_route(text: &mut String, updates: &[Update]) -> Result<(), AllocError> {
+    let mut before = None;
+    for update in updates {
+        let trusted = update.trusted();
+        let height = update.height();
+        if before == Some(trusted) {
+            write!(text, " -> {height}")?;
+        } else {
+            let comma = if before.is_none() { "" } else { ", " };
+            write!(text, "{comma}{trusted} -> {height}")?;
+        }
+        before = Some(height);
+    }
+    Ok(())
+}
+
+/// Adds a number of things, which are called this where there is one.
+pub fn push_count(text: &mut String, count: usize, thing: &str) -> Result<(), AllocError> {
+    let plural = if count == 1 { "" } else { "s" };
+    write!(text, "{count} {thing}{plural}")
+}
+
+/// Adds what a step costs, and of what: a base, and so much for each vote and each validator.
+pub(crate) fn push_fee(
+    text: &mut String,
+    charges: &Charges,
+    step: &StepExplanation,
+) -> Result<(), AllocError> {
+    let fee = step.fee;
+    let base = charges.base;
+    let signature = charges.signature;
+    let validator = charges.validator;
+    write!(text, "{fee} = {base} + ")?;
+    push_count(text, step.votes, "vote")?;
+    write!(text, " x {signature} + ")?;
+    push_count(text, step.validators, "validator")?;
+    write!(text, " x {validator}")
+}
+
+/// Adds the powers that an accepted step goes by.
+pub(crate) fn push_powers(text: &mut String, step: &StepExplanation) -> Result<(), AllocError> {
+    let trusted = step.trusted;
+    let height = step.height;
+    if trusted.get().saturating_add(1) == height.get() {
+        write!(text, "adjacent: the set that {trusted} names; own set: ")?;
+    } else if let Some(power) = &step.trusted_power {
+        write!(text, "set that {trusted} names: ")?;
+        push_power(text, power)?;
+        text.push_str("; own set: ")?;
+    }
+    push_power(text, &step.own_power)
+}
+
+fn push_power(text: &mut String, power: &Power) -> Result<(), AllocError> {
+    let signed = power.signed;
+    let total = power.total;
+    let threshold = power.threshold;
+    write!(
+        text,
+        "{signed} of {total} signed, more than {threshold} is needed"
+    )
+}
+
+/// Adds how much power is missing.
+fn push_short(text: &mut String, power: &Power) -> Result<(), AllocError> {
+    let short = power
+        .threshold
+        .saturating_add(1)
+        .saturating_sub(power.signed);
+    write!(text, " ({short} short)")
+}
+
+/// Adds what the client answers to a step in a window.
+pub(crate) fn push_answer(
+    text: &mut String,
+    window: &Window,
+    step: &StepExplanation,
+) -> Result<(), AllocError> {
+    match step.answer {
+        Verdict::Success => {
+            let fee = step.fee;
+            write!(text, "accepted, fee {fee}: ")?;
+            push_powers(text, step)
+        }
+        Verdict::NotEnoughTrust { .. } => push_too_little(text, step),
+        Verdict::Invalid(reason) => {
+            let name = reason.name();
+            write!(text, "refused, {name}: ")?;
+            push_reason(text, window, step, reason)
+        }
+    }
+}
+
+fn push_too_little(text: &mut String, step: &StepExplanation) -> Result<(), AllocError> {
+    let trusted = step.trusted;
+    write!(text, "refused, NotEnoughTrust: set that {trusted} names: ")?;
+    match &step.trusted_power {
+        Some(power) => {
+            push_power(text, power)?;
+            push_short(text, power)
+        }
+        None => Ok(()),
+    }
+}
+
+fn push_reason(
+    text: &mut String,
+    window: &Window,
+    step: &StepExplanation,
+    reason: Reason,
+) -> Result<(), AllocError> {
+    let trusted = step.trusted;
+    let height = step.height;
+    match reason {
+        Reason::HeightOrder => write!(text, "{height} isn't higher than {trusted}"),
+        Reason::Expired => {
+            write!(text, "the record of {trusted} has expired since ")?;
+            push_moment(text, step.expiry)?;
+            if step.expiry > window.from().nanoseconds() {
+                text.push_str(", within the window")?;
+            }
+            Ok(())
+        }
+        Reason::TimeNotLater => {
+            write!(
+                text,
+                "the time of {height} isn't later than that of {trusted}"
+            )
+        }
+        Reason::FromFuture => {
+            write!(text, "the time of {height}, ")?;
+            push_moment(text, step.time.nanoseconds())?;
+            text.push_str(", is ahead of the window's first moment by the clock drift or more")
+        }
+        Reason::TrustedSetUnknown => {
+            write!(text, "the book hasn't the set that {trusted} names")
+        }
+        Reason::WrongNextSet => {
+            write!(
+                text,
+                "the set of {height} isn't the one that {trusted} names"
+            )
+        }
+        Reason::NotTwoThirds => {
+            text.push_str("own set: ")?;
+            push_power(text, &step.own_power)?;
+            push_short(text, &step.own_power)
+        }
+    }
+}
