@@ -8,6 +8,7 @@ ghost use Rattle.ibcplan.specs.Status.{IsPlanWritten, IsConfirmed, IsDenied};
 
 use crate::explain::{AskedExplanation, Form, explain};
 use crate::explained::Explained;
+use crate::following::follow;
 use crate::forms::{commands_of_script, json_of_script};
 use crate::progress::Progress;
 use crate::reporting::{plan_status, refused_events};
@@ -16,6 +17,7 @@ use ibcplan_cli::{
     WorkerCount, imported, status, wanted,
 };
 use rb_base::{Counted, Gate, Sink, write_whole};
+use rb_follow::Form as AnswerForm;
 use rb_text::{Source, certify_texts, report_over};
 use std::alloc::Global;
 use std::io;
@@ -108,6 +110,11 @@ fn done_of<'a, R: Host, W: Sink>(
             is_strict,
         } => json_file(rt, script, workers, is_strict, is_watched, output),
         Request::Commands { script, turns } => commands_file(rt, script, turns, is_watched, output),
+        Request::Follow {
+            setup,
+            workers,
+            is_json,
+        } => follow_input(rt, setup, workers, is_json, is_watched, output),
         Request::Explain {
             script,
             turns,
@@ -258,6 +265,37 @@ fn want_files<'a, R: Host, W: Sink>(
         refused_events: 0,
         notices: Some(ends),
     })
+}
+
+fn follow_input<'a, R: Host, W: Sink>(
+    rt: &R,
+    setup: &'a str,
+    workers: WorkerCount,
+    is_json: bool,
+    is_watched: bool,
+    output: &mut W,
+) -> Result<Done, ProgramError<'a>>
+    requires { W.is_broken output.old ≡ false }
+{
+    let setup = Input::read(rt, setup)?;
+    let progress = Progress::new(*rt, is_watched);
+    let form = if is_json {
+        AnswerForm::Json
+    } else {
+        AnswerForm::Text
+    };
+    let mut input = rt.reader();
+    follow(
+        rt,
+        rt.alloc(),
+        &setup,
+        &mut input,
+        workers,
+        form,
+        progress,
+        output,
+    )?;
+    Ok(Done::quietly(status::DONE))
 }
 
 fn certify_files<'a, R: Host, W: Sink>(

@@ -32,6 +32,9 @@ impl<'a> Model for Input<'a> {
 }
 
 impl<'a> Input<'a> {
+    ghost use Rattle.std.specs.Prelude.{false, None};
+    ghost use Rattle.ibcplan_cli.specs.Failures.{failure_status, told_fault, is_unwritten};
+
     /// Reads a file, or standard input.
     pub fn read<R: Host>(rt: &R, path: &'a str) -> Result<Input<'a>, ProgramError<'a>> {
         match bytes_at(rt, path) {
@@ -44,6 +47,22 @@ impl<'a> Input<'a> {
                 error,
                 advice: advice_for(path),
             }),
+        }
+    }
+
+    /// That standard input can't be read.
+    pub fn unread(error: io::Error) -> ProgramError<'a>
+        ensures status { failure_status result ≡ 4 }
+        ensures fault { told_fault result ≡ None }
+        ensures device { is_unwritten result ≡ false }
+    {
+        if error.kind() == io::ErrorKind::OutOfMemory {
+            return ProgramError::NoMemory;
+        }
+        ProgramError::Unreadable {
+            file: name_of(STANDARD_INPUT),
+            error,
+            advice: advice_for(STANDARD_INPUT),
         }
     }
 

@@ -54,6 +54,12 @@ pub enum Request<'a> {
         setup: &'a str,
         folder: &'a str,
     },
+    /// Answer turns as they come, of a setup, by so many workers.
+    Follow {
+        setup: &'a str,
+        workers: WorkerCount,
+        is_json: bool,
+    },
     /// Judge a certificate.
     Certify {
         script: &'a str,
@@ -91,6 +97,8 @@ const LAST: &str = "last";
 const IMPORT: &str = "import";
 
 const WANT: &str = "want";
+
+const FOLLOW: &str = "follow";
 
 const CERTIFY: &str = "certify";
 
@@ -171,6 +179,16 @@ chain whose node is to be asked, the path, and the file in FOLDER; then lines th
 say why. It writes nothing where no more is needed. A request that a node refused
 is not written again where its file is there with the ending .refused.";
 
+const AFTER_FOLLOW: &str = "Examples (in the folder of the repository):
+  ./ibcplan follow examples/follow/setup.toml < examples/follow/turns.txt
+  ./ibcplan follow --json --workers 4 setup.toml
+
+Each turn comes on standard input as a document of TOML with the turn's keys at its
+top, ended by a line ---. The answer, the turn's report or its fault, is written at
+once, with a line --- after it; with --json it is an object on a line. A document
+with a fault changes nothing. What is written is the report that plan writes for the
+script of the setup and the turns.";
+
 const AFTER_CERTIFY: &str = "Examples (in the folder of the repository):
   ./ibcplan certify examples/smallest.toml examples/smallest.certificate
   ./ibcplan certify examples/smallest.toml - < examples/smallest.certificate
@@ -209,6 +227,17 @@ fn workers<'a>(alloc: Global) -> Arg<'a> {
         .value_parser(value_parser!(usize).range(1..=64))
         .default_value("1")
         .help("How many threads make step tables, scan the paths and plan for the clients, 1 to 64")
+}
+
+/// The workers of a follower: none where the option isn't given.
+fn follow_workers<'a>(alloc: Global) -> Arg<'a> {
+    Arg::new(alloc, WORKERS)
+        .long(WORKERS)
+        .value_name("K")
+        .value_parser(value_parser!(usize).range(1..=64))
+        .help(
+            "How many threads make step tables, scan the paths and plan for the clients, 1 to 64; without it none but the program's own",
+        )
 }
 
 pub(crate) fn turn<'a>(alloc: Global) -> Arg<'a> {
@@ -294,6 +323,15 @@ fn want_command<'a>(alloc: Global) -> Result<Command<'a>, AllocError> {
         .arg(path(alloc, FOLDER, "The folder of the answers that are there"))
 }
 
+fn follow_command<'a>(alloc: Global) -> Result<Command<'a>, AllocError> {
+    Command::new(alloc, FOLLOW)
+        .about("Answers turns as they come on standard input, each by its report")
+        .after_help(AFTER_FOLLOW)
+        .arg(path(alloc, SETUP, "The file of a script without turns"))?
+        .arg(follow_workers(alloc))?
+        .arg(flag(alloc, JSON, "Writes each answer as JSON"))
+}
+
 fn command_line<'a>(alloc: Global) -> Result<Command<'a>, AllocError> {
     Command::new(alloc, "ibcplan")
         .version("0.1.0")
@@ -308,6 +346,7 @@ fn command_line<'a>(alloc: Global) -> Result<Command<'a>, AllocError> {
         .subcommand(explain_command(alloc)?)?
         .subcommand(picture_command(alloc)?)?
         .subcommand(import_command(alloc)?)?
+        .subcommand(follow_command(alloc)?)?
         .subcommand(certify_command(alloc)?)
 }
 
@@ -317,6 +356,29 @@ fn twice_standard_input(alloc: Global) -> Result<Error, AllocError> {
         ErrorKind::ArgumentConflict,
         "only one of <SCRIPT> and <CERT> can be standard input",
     )
+}
+
+/// What is wrong where the setup of a follower is standard input, from which the turns come.
+fn setup_is_input(alloc: Global) -> Result<Error, AllocError> {
+    follow_command(alloc)?.bin_name("ibcplan follow")?.error(
+        ErrorKind::ArgumentConflict,
+        "<SETUP> can't be standard input: the turns come from there",
+    )
+}
+
+/// The request of `follow`, or none where a word is missing.
+fn follow_of<'a>(given: &ArgMatches<'a>) -> Option<Request<'a>> {
+    let setup = given.get_str(SETUP)?;
+    let is_json = given.get_flag(JSON);
+    let workers = match given.get_one(WORKERS) {
+        Some(count) => WorkerCount::new(count)?,
+        None => WorkerCount::none(),
+    };
+    Some(Request::Follow {
+        setup,
+        workers,
+        is_json,
+    })
 }
 
 /// The request of `plan` or `run`, or none where a word is missing.
@@ -374,6 +436,9 @@ fn task_of<'a>(matches: &ArgMatches<'a>) -> Option<Request<'a>> {
     if name == PICTURE {
         return picture_of(given);
     }
+    if name == FOLLOW {
+        return follow_of(given);
+    }
     let script = given.get_str(SCRIPT)?;
     if name == CERTIFY {
         let certificate = given.get_str(CERT)?;
@@ -402,6 +467,9 @@ pub fn read_request<'a>(alloc: Global, words: &'a [String]) -> Result<Request<'a
             },
         ) if script == STANDARD_INPUT && certificate == STANDARD_INPUT => {
             Err(twice_standard_input(alloc)?)
+        }
+        Some(Request::Follow { setup, .. }) if setup == STANDARD_INPUT => {
+            Err(setup_is_input(alloc)?)
         }
         Some(request) => Ok(request),
         None => Err(command.error(ErrorKind::MissingSubcommand, "a command is missing")?),

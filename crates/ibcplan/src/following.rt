@@ -1,0 +1,71 @@
+//! Turns as they come.
+ghost use Rattle.std.specs.Prelude.{◌≡◌, ◌⊎◌, false, Err, IfErr, IsErr, OnOk, OnErr, IfSome, MatchResult};
+ghost use Rattle.rb_follow.specs.Setups.{setup_of};
+ghost use Rattle.rb_follow.specs.Headline.{Follows, BeginsFollowing};
+ghost use Rattle.ibcplan_cli.specs.Failures.{failure_status, told_fault, is_unwritten};
+
+use ibcplan_cli::{Host, Input, ProgramError, WorkerCount};
+use rb_base::{Gate, Sink};
+use rb_follow::{FollowError, Form, Watcher, follow_over};
+use rb_script_toml::{Fault, FaultName};
+use std::alloc::Global;
+use std::io::Read;
+use std::sync::Arc;
+
+/// Tells on standard error what the answer to a document that is refused doesn't say.
+#[derive(Drop)]
+struct Notices<'a, R> {
+    rt: &'a R,
+}
+
+impl<R: Eprint> Watcher for Notices<'_, R> {
+    fn refused(&self, fault: &Fault) {
+        match (fault.name, fault.path.as_str(), &fault.reason) {
+            (FaultName::NotToml, _, Some(reason)) => {
+                let _ = eprint!(self.rt; "{fault}\n{reason}");
+            }
+            (FaultName::TooManyObjects | FaultName::TooManyEvents, "-", _) => {
+                let _ = eprintln!(self.rt;
+                    "{fault}\nThis process takes no more of them: begin anew, with the records that clients have stored by now"
+                );
+            }
+            _ => {}
+        }
+    }
+}
+
+/// Answers the turns that come from an input, of a relayer that a file sets up, by so many workers, through a
+/// gate. Nothing is written where the file is refused, and a beginning of the answers, or nothing, where it
+/// fails otherwise.
+pub fn follow<'a, R: Host, G: Gate + Send + Sync + Drop + 'static, I: Read, W: Sink>(
+    rt: &R,
+    alloc: Global,
+    setup: &Input<'a>,
+    input: &mut I,
+    workers: WorkerCount,
+    form: Form,
+    gate: G,
+    output: &mut W,
+) -> Result<(), ProgramError<'a>>
+    requires { W.is_broken output.old ≡ false }
+    ensures followed { OnOk result (IfSome (I.remaining input.old) (λ bytes. Follows form setup.now bytes (W.taken output.old) (W.taken output.new))) }
+    ensures refused { IfErr result (λ failure. failure_status failure ≡ 1 → IsErr (setup_of setup.now)) }
+    ensures fault { IfErr result (λ failure. IfSome (told_fault failure) (λ fault. setup_of setup.now ≡ Err fault)) }
+    ensures nothing_written { IfErr result (λ failure. failure_status failure ≡ 1 → output.new ≡ output.old) }
+    ensures device { MatchResult result (λ _. W.is_broken output.new ≡ false) (λ failure. W.is_broken output.new ≡ is_unwritten failure) }
+    ensures begun { OnErr result ((output.new ≡ output.old) ⊎ IfSome (I.remaining input.old) (λ bytes. BeginsFollowing form setup.now bytes (W.taken output.old) (W.taken output.new))) }
+{
+    let Ok(gate) = Arc::new(alloc, gate) else {
+        return Err(ProgramError::NoMemory);
+    };
+    let workers = workers.count();
+    let notices = Notices { rt };
+    let bytes = setup.bytes();
+    match follow_over(
+        rt, alloc, bytes, input, form, output, workers, &gate, &notices,
+    ) {
+        Ok(()) => Ok(()),
+        Err(FollowError::Run(error)) => Err(ProgramError::of_run(error, setup)),
+        Err(FollowError::Input(error)) => Err(Input::unread(error)),
+    }
+}

@@ -1,0 +1,122 @@
+-- A follower's steps, over what it is made of.
+use Rattle.std.proofs.Common.{◌≡◌, ℕ, ◌+◌, ◌<◌, ◌≤◌, List, [], Result, Ok, Err, IfOk, OnOk, refl, sym, ap, subst, ◌∙◌, arith}
+use Rattle.std.specs.declared.alloc.Global.{Global}
+use Rattle.rb_core.specs.Core.{Core, state_in}
+use Rattle.rb_core_model.specs.Machine.{max_events}
+use Rattle.rb_script_types.specs.Config.{Config}
+use Rattle.rb_script_types.specs.Script.{Turn, turn_view}
+use Rattle.rb_script_types.specs.declared.script.Turn.{Turn as CodeTurn}
+use Rattle.rb_script_toml.specs.declared.fault.RunError.{RunError}
+use Rattle.rb_script_toml.specs.Faults.{Fault, ◌>>=◌, Fails}
+use Rattle.rb_script_toml.proofs.Steps.{fails-first}
+use Rattle.rb_script_config.specs.Paths.{path_ids}
+use Rattle.rb_script_read.specs.Turns.{Reading, opening}
+use Rattle.rb_super.specs.AsEvents.{code_turn_as_events, IsTurnFor, most_events as most_of_turn}
+use Rattle.rb_super.proofs.Runs.{opened_front, opened_standing}
+use Rattle.rb_super_turn.specs.Phases.{standing_in, HasLogRoom, IsLater}
+use Rattle.rb_super_turn.specs.Report.{TurnReport}
+use Rattle.rb_super_turn.specs.Turns.{IsTurnReport, after_turn}
+use Rattle.rb_follow.specs.Setups.{setup_of}
+use Rattle.rb_follow.specs.Followers.{Following, begun_with, beginning, max_turns, most_events, next_turn, Answer, planned, refused, IsRight, IsAnswerFor, IsAnswer}
+use Rattle.rb_follow.specs.Seen.{IsInOrder}
+
+-- ---- the beginning
+
+begun_from : (setup : List ℕ) (c : Config) (f : Following) → setup_of setup ≡ Ok c → f ≡ begun_with c → beginning setup ≡ Ok f
+unfolding beginning
+begun_from setup c f read is = ap (λ (r : Result Config Fault). r >>= (λ x. Ok (begun_with x))) read ∙ ap Ok (sym is)
+
+pub begun : (setup : List ℕ) (c : Config) (core : Core) (reading : Reading) → setup_of setup ≡ Ok c → core.config ≡ c → core.log ≡ [] → reading ≡ opening
+    → beginning setup ≡ Ok (record { config = c; turns = 0; reading = reading; events = 0; standing = standing_in core })
+begun setup c core reading read config log opened =
+    begun_from setup c (record { config = c; turns = 0; reading = reading; events = 0; standing = standing_in core }) read
+    (λ i. record { config = c; turns = 0; reading = opened i; events = 0; standing = opened_standing core c config log i })
+
+pub begins-refused : (setup : List ℕ) (e : RunError) → Fails e (setup_of setup) → Fails e (beginning setup)
+unfolding beginning
+begins-refused setup e h = fails-first e (setup_of setup) (λ c. Ok (begun_with c)) h
+
+pub begins_in_order : (c : Config) (core : Core) (paths : List (List ℕ)) → core.config ≡ c → core.log ≡ [] → paths ≡ path_ids c.paths → IsInOrder c core paths 0 0
+begins_in_order c core paths config log are =
+    let opened = opened_front core log in
+    record { config = config; paths_are = are; few_turns = omega arith; front = omega arith; few_events = omega arith }
+
+-- ---- a turn
+
+pub in_order : (c : Config) (core : Core) (paths : List (List ℕ)) (turns events : ℕ) → core.config ≡ c → paths ≡ path_ids c.paths → turns ≤ max_turns c.version
+    → (state_in core).front ≤ events → events ≤ max_events → IsInOrder c core paths turns events
+in_order c core paths turns events config are few front room = record { config = config; paths_are = are; few_turns = few; front = front; few_events = room }
+
+-- of a relayer that is the same as the follower's
+pub turn_for : (c : Config) (core same : Core) (paths : List (List ℕ)) (turns events : ℕ) (t : CodeTurn Global) → same ≡ core → IsInOrder c core paths turns events
+    → IsTurnFor c t → IsTurnFor same.config t
+turn_for c core same paths turns events t e order is = subst (λ (k : Config). IsTurnFor k t) (sym (ap (λ (k : Core). k.config) e ∙ order.config)) is
+
+room_here : (c : Config) (core : Core) (paths : List (List ℕ)) (turns events : ℕ) (t : CodeTurn Global) → IsInOrder c core paths turns events
+    → events + most_events c (turn_view t) ≤ max_events → HasLogRoom core (most_of_turn core.config t)
+room_here c core paths turns events t order room =
+    let front = order.front in
+    subst (λ (k : Config). (state_in core).front + most_of_turn k t ≤ max_events) (sym order.config) (omega (arith, front, room))
+
+pub room_for : (c : Config) (core same : Core) (paths : List (List ℕ)) (turns events : ℕ) (t : CodeTurn Global) → same ≡ core → IsInOrder c core paths turns events
+    → events + most_events c (turn_view t) ≤ max_events → HasLogRoom same (most_of_turn same.config t)
+room_for c core same paths turns events t e order room =
+    subst (λ (k : Core). HasLogRoom k (most_of_turn k.config t)) (sym e) (room_here c core paths turns events t order room)
+
+goes_on : (c : Config) (core next : Core) (paths : List (List ℕ)) (turns events count : ℕ) (t : CodeTurn Global) → IsInOrder c core paths turns events
+    → turns < max_turns c.version → events + most_events c (turn_view t) ≤ max_events → count ≡ events + most_events c (turn_view t)
+    → IsLater (most_of_turn core.config t) core next → IsInOrder c next paths (turns + 1) count
+goes_on c core next paths turns events count t order few room is later =
+    let config = order.config in
+    let front : (state_in next).front ≤ (state_in core).front + most_events c (turn_view t) =
+    subst (λ (k : Config). (state_in next).front ≤ (state_in core).front + most_of_turn k t) config later.front in
+    let before = order.front in
+    record {
+      config = later.config ∙ config;
+      paths_are = order.paths_are;
+      few_turns = omega (arith, few);
+      front = omega (arith, front, before, is);
+      few_events = omega (arith, room, is);
+    }
+
+pub stays_in_order : (c : Config) (core same next : Core) (paths : List (List ℕ)) (turns events count : ℕ) (t : CodeTurn Global) → same ≡ core → IsInOrder c core paths turns events
+    → turns < max_turns c.version → events + most_events c (turn_view t) ≤ max_events → count ≡ events + most_events c (turn_view t)
+    → IsLater (most_of_turn same.config t) same next → IsInOrder c next paths (turns + 1) count
+stays_in_order c core same next paths turns events count t e order few room is later =
+    goes_on c core next paths turns events count t order few room is (subst (λ (k : Core). IsLater (most_of_turn k.config t) k next) e later)
+
+-- ---- an answer
+
+-- a follower that is made of these
+abbrev pub made_of : Config → Core → Reading → ℕ → ℕ → Following
+made_of c core reading turns events = record { config = c; turns = turns; reading = reading; events = events; standing = standing_in core }
+
+-- the answer to a turn
+pub answers : (c : Config) (core same next : Core) (turns events count : ℕ) (reading read left : Reading) (t : CodeTurn Global) (r : TurnReport)
+    → same ≡ core → left ≡ read → count ≡ events + most_events c (turn_view t)
+    → IsTurnReport (standing_in same) (code_turn_as_events t) r → standing_in next ≡ after_turn (standing_in same) (code_turn_as_events t) r
+    → IsAnswerFor (made_of c core reading turns events) (Ok (turn_view t, read)) (planned (turns + 1) r) (made_of c next left (turns + 1) count)
+answers c core same next turns events count reading read left t r e l n report standing =
+    let after : standing_in next ≡ after_turn (standing_in core) (code_turn_as_events t) r =
+    subst (λ (k : Core). standing_in next ≡ after_turn (standing_in k) (code_turn_as_events t) r) e standing in (
+      refl,
+      subst (λ (k : Core). IsTurnReport (standing_in k) (code_turn_as_events t) r) e report,
+      (λ i. record { config = c; turns = turns + 1; reading = l i; events = n i; standing = after i }),
+    )
+
+-- the answer to a document that was read so
+pub answers_document : {X : Type 0} (told : X → Answer) (after : X → Following) (f : Following) (bytes : List ℕ) (read : Result (Turn Global × Reading) Fault) (r : Result X RunError)
+    → next_turn f bytes ≡ read → IfOk r (λ x. IsAnswerFor f read (told x) (after x)) → IfOk r (λ x. IsAnswer f bytes (told x) (after x))
+answers_document told after f bytes read r e h =
+    subst (λ (y : Result (Turn Global × Reading) Fault). IfOk r (λ x. IsAnswerFor f y (told x) (after x))) (sym e) h
+
+pub right_document : {X : Type 0} (f : Following) (bytes : List ℕ) (read : Result (Turn Global × Reading) Fault) (r : Result X RunError)
+    → next_turn f bytes ≡ read → OnOk r (IsRight f read) → OnOk r (IsRight f (next_turn f bytes))
+right_document f bytes read r e h = subst (λ (y : Result (Turn Global × Reading) Fault). OnOk r (IsRight f y)) (sym e) h
+
+-- the answer to one that was refused
+pub refuses : (f : Following) (bytes : List ℕ) (fault : Fault) → next_turn f bytes ≡ Err fault → IsAnswer f bytes (refused fault) f
+refuses f bytes fault e = subst (λ (y : Result (Turn Global × Reading) Fault). IsAnswerFor f y (refused fault) f) (sym e) (refl, refl)
+
+pub right_refused : (f : Following) (bytes : List ℕ) (fault : Fault) → next_turn f bytes ≡ Err fault → IsRight f (next_turn f bytes)
+right_refused f bytes fault e = subst (IsRight f) (sym e) tt

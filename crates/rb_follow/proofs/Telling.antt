@@ -1,0 +1,209 @@
+-- Answers to documents, one after the other.
+use Rattle.std.proofs.Common.{◌≡◌, ℕ, ◌+◌, List, [], ◌∷◌, ◌++◌, map, All, Option, Result, Ok, Err, IfOk, OnOk, OnErr, refl, sym, ap, subst, ◌∙◌, append_assoc, arith}
+use Rattle.std.proofs.lemmas.List.{append-nil}
+use Rattle.std.proofs.lemmas.List.Elements.{All-cons, All-append}
+use Rattle.std.specs.declared.alloc.Global.{Global}
+use Rattle.rb_script_types.specs.Config.{Config}
+use Rattle.rb_script_types.specs.Script.{Turn}
+use Rattle.rb_script_config.specs.Paths.{path_ids}
+use Rattle.rb_script_read.specs.Turns.{Reading}
+use Rattle.rb_script_toml.specs.Faults.{Fault}
+use Rattle.rb_script_toml.specs.declared.fault.RunError.{RunError}
+use Rattle.rb_super.specs.AsEvents.{turn_as_events}
+use Rattle.rb_super_turn.specs.Script.{IsTurn}
+use Rattle.rb_text.proofs.Beginnings.{appends-then, appends-none, beginning-none, beginning-first, beginning-then}
+use Rattle.rb_follow.specs.declared.told.Form.{Form}
+use Rattle.rb_follow.specs.declared.told.Form.TheVariants.{Text, Json}
+use Rattle.rb_follow.specs.Documents.{Document}
+use Rattle.rb_follow.specs.Followers.{Following, Answer, planned, refused, after_report, turn_in, IsAnswerFor, IsRight}
+use Rattle.rb_follow.specs.Answers.{answer_text, Takes, TakesBeginning}
+use Rattle.rb_follow.specs.Headline.{AreAnswers, Answered, answers_text, Told, BeginsTelling}
+
+-- ---- what a writer takes
+
+pub takes-none : (form : Form) (old : Option (List ℕ)) → Takes form old old []
+takes-none Text old = appends-none old
+takes-none Json old = tt
+
+pub takes-then : (form : Form) (old mid new : Option (List ℕ)) (a b : List ℕ) → Takes form old mid a → Takes form mid new b → Takes form old new (a ++ b)
+takes-then Text old mid new a b p q = appends-then old mid new a b p q
+takes-then Json old mid new a b p q = tt
+
+pub begins-none : (form : Form) (old : Option (List ℕ)) (text : List ℕ) → TakesBeginning form old old text
+begins-none Text old text = beginning-none old text
+begins-none Json old text = tt
+
+pub begins-first : (form : Form) (old new : Option (List ℕ)) (a b : List ℕ) → TakesBeginning form old new a → TakesBeginning form old new (a ++ b)
+begins-first Text old new a b h = beginning-first old new a b h
+begins-first Json old new a b h = tt
+
+pub begins-then : (form : Form) (old mid new : Option (List ℕ)) (a b : List ℕ) → Takes form old mid a → TakesBeginning form mid new b
+    → TakesBeginning form old new (a ++ b)
+begins-then Text old mid new a b p h = beginning-then old mid new a b p h
+begins-then Json old mid new a b p h = tt
+
+-- ---- answers
+
+-- a follower keeps what it is set up with
+pub answers-config : (f : Following) (ds : List Document) (answers : List Answer) (ts : List (Turn Global)) (g : Following)
+    → AreAnswers f ds answers ts g → g.config ≡ f.config
+answers-config f [] [] [] g h = ap (λ (x : Following). x.config) (sym h)
+answers-config f [] [] (t ∷ ts) g h = absurd h
+answers-config f [] (a ∷ rest) ts g h = absurd h
+answers-config f (d ∷ ds) [] ts g h = absurd h
+answers-config f (d ∷ ds) (planned number r ∷ rest) [] g h = absurd h
+answers-config f (d ∷ ds) (planned number r ∷ rest) (t ∷ ts) g h = answers-config (after_report f (t, h.0) r) ds rest ts g h.4
+answers-config f (d ∷ ds) (refused fault ∷ rest) ts g h = answers-config f ds rest ts g h.1
+
+-- answers to more documents
+pub answers-then : (f : Following) (ds : List Document) (answers : List Answer) (ts : List (Turn Global)) (g : Following)
+    (es : List Document) (more : List Answer) (us : List (Turn Global)) (k : Following)
+    → AreAnswers f ds answers ts g → AreAnswers g es more us k → AreAnswers f (ds ++ es) (answers ++ more) (ts ++ us) k
+answers-then f [] [] [] g es more us k h p = subst (λ x. AreAnswers x es more us k) (sym h) p
+answers-then f [] [] (t ∷ ts) g es more us k h p = absurd h
+answers-then f [] (a ∷ rest) ts g es more us k h p = absurd h
+answers-then f (d ∷ ds) [] ts g es more us k h p = absurd h
+answers-then f (d ∷ ds) (planned number r ∷ rest) [] g es more us k h p = absurd h
+answers-then f (d ∷ ds) (planned number r ∷ rest) (t ∷ ts) g es more us k h p =
+    (h.0, h.1, h.2, h.3, answers-then (after_report f (t, h.0) r) ds rest ts g es more us k h.4 p)
+answers-then f (d ∷ ds) (refused fault ∷ rest) ts g es more us k h p = (h.0, answers-then f ds rest ts g es more us k h.1 p)
+
+pub answers_text-then : (c : Config) (answers more : List Answer) → answers_text c (answers ++ more) ≡ answers_text c answers ++ answers_text c more
+answers_text-then c [] more = refl
+answers_text-then c (a ∷ rest) more = ap (λ text. answer_text c.version (path_ids c.paths) a ++ text) (answers_text-then c rest more) ∙ sym (append_assoc (answer_text c.version (path_ids c.paths) a) (answers_text c rest) (answers_text c more))
+
+pub as_events-then : (ts us : List (Turn Global)) → map turn_as_events (ts ++ us) ≡ map turn_as_events ts ++ map turn_as_events us
+as_events-then [] us = refl
+as_events-then (t ∷ ts) us = ap (λ rest. turn_as_events t ∷ rest) (as_events-then ts us)
+
+pub none_right : (c : Config) → All (IsTurn c) []
+none_right c k d lt = absurd (omega arith)
+
+abbrev pub answered-none : (f : Following) → Answered f [] f
+answered-none f = record { answers = []; turns = []; answered = refl; right = none_right f.config }
+
+abbrev pub answered-then : (f : Following) (ds es : List Document) (g k : Following) → Answered f ds g → Answered g es k → Answered f (ds ++ es) k
+answered-then f ds es g k p q = record {
+  answers = p.answers ++ q.answers;
+  turns = p.turns ++ q.turns;
+  answered = answers-then f ds p.answers p.turns g es q.answers q.turns k p.answered q.answered;
+  right = subst (All (IsTurn f.config)) (sym (as_events-then p.turns q.turns))
+      (All-append (IsTurn f.config) (map turn_as_events p.turns) (map turn_as_events q.turns) p.right
+      (subst (λ (c : Config). All (IsTurn c) (map turn_as_events q.turns)) (answers-config f ds p.answers p.turns g p.answered) q.right));
+}
+
+-- ---- one answer
+
+-- the answer to one document, and its text
+pub record IsOne (f : Following) (d : Document) (a : Answer) (g : Following) : Type 0 where
+  pub all : Answered f (d ∷ []) g
+  pub text : answers_text f.config all.answers ≡ answer_text g.config.version (path_ids g.config.paths) a
+
+pub one_by : (f : Following) (d : Document) (r : Result (Turn Global × Reading) Fault) (a : Answer) (g : Following) → turn_in f d ≡ r → IsAnswerFor f r a g → IsRight f r
+    → IsOne f d a g
+one_by f d (Ok x) (planned number report) g e h right = record {
+  all = record {
+    answers = planned number report ∷ [];
+    turns = x.0 ∷ [];
+    answered = (x.1, e, h.0, h.1, sym h.2);
+    right = All-cons (IsTurn f.config) (turn_as_events x.0) [] right (none_right f.config);
+  };
+  text = append-nil _ ∙ ap (λ (y : Following). answer_text y.config.version (path_ids y.config.paths) (planned number report)) (sym h.2);
+}
+one_by f d (Ok x) (refused fault) g e h right = absurd h
+one_by f d (Err x) (planned number report) g e h right = absurd h
+one_by f d (Err x) (refused fault) g e h right = record {
+  all = record {
+    answers = refused fault ∷ [];
+    turns = [];
+    answered = (e ∙ ap Err (sym h.0), sym h.1);
+    right = none_right f.config;
+  };
+  text = append-nil _ ∙ ap (λ (y : Following). answer_text y.config.version (path_ids y.config.paths) (refused fault)) (sym h.1);
+}
+
+pub told-one : (form : Form) (f : Following) (d : Document) (a : Answer) (g : Following) (old new : Option (List ℕ))
+    → IsAnswerFor f (turn_in f d) a g → IsRight f (turn_in f d) → Takes form old new (answer_text g.config.version (path_ids g.config.paths) a)
+    → Told form f (d ∷ []) old new g
+told-one form f d a g old new h right w =
+    let one = one_by f d (turn_in f d) a g refl h right in record { all = one.all; written = subst (Takes form old new) (sym one.text) w }
+
+pub begins-one : (form : Form) (f : Following) (d : Document) (a : Answer) (g : Following) (old new : Option (List ℕ))
+    → IsAnswerFor f (turn_in f d) a g → IsRight f (turn_in f d) → TakesBeginning form old new (answer_text g.config.version (path_ids g.config.paths) a)
+    → BeginsTelling form f (d ∷ []) old new
+begins-one form f d a g old new h right w =
+    let one = one_by f d (turn_in f d) a g refl h right in
+    record { first = d ∷ []; later = []; are_first = refl; last = g; all = one.all; begun = subst (TakesBeginning form old new) (sym one.text) w }
+
+-- ---- several
+
+pub told-none : (form : Form) (f : Following) (old : Option (List ℕ)) → Told form f [] old old f
+told-none form f old = record { all = answered-none f; written = takes-none form old }
+
+pub told-then : (form : Form) (f : Following) (ds es : List Document) (old mid new : Option (List ℕ)) (g k : Following)
+    → Told form f ds old mid g → Told form g es mid new k → Told form f (ds ++ es) old new k
+told-then form f ds es old mid new g k p q = record {
+  all = answered-then f ds es g k p.all q.all;
+  written = subst (Takes form old new) (sym (answers_text-then f.config p.all.answers q.all.answers))
+      (takes-then form old mid new (answers_text f.config p.all.answers) (answers_text f.config q.all.answers) p.written
+      (subst (λ (c : Config). Takes form mid new (answers_text c q.all.answers)) (answers-config f ds p.all.answers p.all.turns g p.all.answered) q.written));
+}
+
+pub begins-nothing : (form : Form) (f : Following) (ds : List Document) (old : Option (List ℕ)) → BeginsTelling form f ds old old
+begins-nothing form f ds old = record { first = []; later = ds; are_first = refl; last = f; all = answered-none f; begun = begins-none form old [] }
+
+pub begins-later : (form : Form) (f : Following) (ds es : List Document) (old new : Option (List ℕ)) → BeginsTelling form f ds old new → BeginsTelling form f (ds ++ es) old new
+begins-later form f ds es old new b = record {
+  first = b.first;
+  later = b.later ++ es;
+  are_first = ap (λ (xs : List Document). xs ++ es) b.are_first ∙ append_assoc b.first b.later es;
+  last = b.last;
+  all = b.all;
+  begun = b.begun;
+}
+
+pub begins-after : (form : Form) (f : Following) (ds es : List Document) (old mid new : Option (List ℕ)) (g : Following)
+    → Told form f ds old mid g → BeginsTelling form g es mid new → BeginsTelling form f (ds ++ es) old new
+begins-after form f ds es old mid new g p b = record {
+  first = ds ++ b.first;
+  later = b.later;
+  are_first = ap (λ (xs : List Document). ds ++ xs) b.are_first ∙ sym (append_assoc ds b.first b.later);
+  last = b.last;
+  all = answered-then f ds b.first g b.last p.all b.all;
+  begun = subst (TakesBeginning form old new) (sym (answers_text-then f.config p.all.answers b.all.answers))
+      (begins-then form old mid new (answers_text f.config p.all.answers) (answers_text f.config b.all.answers) p.written
+      (subst (λ (c : Config). TakesBeginning form mid new (answers_text c b.all.answers)) (answers-config f ds p.all.answers p.all.turns g p.all.answered) b.begun));
+}
+
+-- all that was told is a beginning
+pub begins-told : (form : Form) (f : Following) (ds es : List Document) (old new : Option (List ℕ)) (g : Following)
+    → Told form f ds old new g → BeginsTelling form f (ds ++ es) old new
+begins-told form f ds es old new g p = begins-after form f ds es old new new g p (begins-nothing form g es new)
+
+-- said of an error
+pub on_err : {T E P : Type 0} (r : Result T E) → P → OnErr r P
+on_err (Ok x) p = tt
+on_err (Err e) p = p
+
+-- ---- what was told of an answer
+
+pub told-tell : {X : Type 0} (see : X → Following) (form : Form) (f : Following) (d : Document) (a : Answer) (k : X) (old new : Option (List ℕ)) (r : Result X RunError)
+    → IsAnswerFor f (turn_in f d) a (see k) → IsRight f (turn_in f d) → IfOk r (λ g. g ≡ k)
+    → OnOk r (Takes form old new (answer_text (see k).config.version (path_ids (see k).config.paths) a)) → IfOk r (λ g. Told form f (d ∷ []) old new (see g))
+told-tell see form f d a k old new (Ok g) h right s w = subst (λ x. Told form f (d ∷ []) old new (see x)) (sym s) (told-one form f d a (see k) old new h right w)
+told-tell see form f d a k old new (Err e) h right s w = tt
+
+pub begins-tell : {X : Type 0} (form : Form) (f : Following) (d : Document) (a : Answer) (k : Following) (old new : Option (List ℕ)) (r : Result X RunError)
+    → IsAnswerFor f (turn_in f d) a k → IsRight f (turn_in f d)
+    → OnErr r (TakesBeginning form old new (answer_text k.config.version (path_ids k.config.paths) a)) → OnErr r (BeginsTelling form f (d ∷ []) old new)
+begins-tell form f d a k old new (Ok g) h right w = tt
+begins-tell form f d a k old new (Err e) h right w = begins-one form f d a k old new h right w
+
+-- of as many documents as are told of
+pub told-of : {X : Type 0} (see : X → Following) (form : Form) (f : Following) (ds es : List Document) (old new : Option (List ℕ)) (r : Result X RunError) → ds ≡ es
+    → IfOk r (λ g. Told form f ds old new (see g)) → IfOk r (λ g. Told form f es old new (see g))
+told-of see form f ds es old new r e h = subst (λ (xs : List Document). IfOk r (λ g. Told form f xs old new (see g))) e h
+
+pub begins-told-of : {X : Type 0} (form : Form) (f : Following) (ds es : List Document) (old new : Option (List ℕ)) (r : Result X RunError) → ds ≡ es
+    → OnErr r (BeginsTelling form f ds old new) → OnErr r (BeginsTelling form f es old new)
+begins-told-of form f ds es old new r e h = subst (λ (xs : List Document). OnErr r (BeginsTelling form f xs old new)) e h

@@ -1,0 +1,75 @@
+use Rattle.std.proofs.Common.{ℕ, List, IfSome, inr, ap, subst}
+use Rattle.std.proofs.lemmas.Result.{err_from_is_err_and}
+use Rattle.rb_follow.specs.Documents.{documents}
+use Rattle.rb_follow.specs.Followers.{Following}
+use Rattle.rb_follow.specs.Headline.{Told, BeginsTelling}
+use Rattle.rb_follow.specs.Views.{following}
+use Rattle.rb_follow.proofs.Telling.{on_err}
+use Rattle.rb_follow.proofs.Whole.{is_begun, setup-fault, setup-device, follows, follows-head, follows-begins, follows-end}
+use Rattle.rb_follow.proofs.following.follow_over.Goals as goal
+
+-- ---- the setup was refused
+
+pub returns-in_err-follower-clause-fault : goal.returns-in_err-follower-clause-fault
+returns-in_err-follower-clause-fault g c f =
+    let p = err_from_is_err_and c.from_residual.result c.from_residual.ensures.1 in
+    rw (p.1, p.2) (setup-fault c.args.setup.now _ f c.in_err-follower.ensures.begun)
+
+pub returns-in_err-follower-clause-device : goal.returns-in_err-follower-clause-device
+returns-in_err-follower-clause-device g c =
+    let p = err_from_is_err_and c.from_residual.result c.from_residual.ensures.1 in
+    rw (p.1, p.2) (setup-device c.args.setup.now _ _ c.in_err-follower.ensures.begun c.requires.works)
+
+-- ---- the first line failed
+
+pub returns-in_err-follower-2-clause-begun : goal.returns-in_err-follower-2-clause-begun
+returns-in_err-follower-2-clause-begun g c =
+    let f = following c.in_ok-follower.follower in
+    let b = is_begun c.args.setup.now f c.in_ok-follower.ensures.begun c.in_ok-follower.ensures.set_up in
+    on_err c.from_residual-in_err-follower-2.result
+    (inr (follows-head c.args.form c.args.setup.now f (g.I.Read.remaining c.args.input.now) (g.W.Sink.taken c.args.writer.now) (g.W.Sink.taken c.begin.new.writer) b c.in_err-follower-2.ensures.begun))
+
+-- ---- an answer failed, or the input
+
+pub returns-in_err-follower-3-clause-begun : goal.returns-in_err-follower-3-clause-begun
+returns-in_err-follower-3-clause-begun g c =
+    let f = following c.in_ok-follower.follower in
+    let b = is_begun c.args.setup.now f c.in_ok-follower.ensures.begun c.in_ok-follower.ensures.set_up in
+    let known = g.I.Read.remaining c.args.input.now in
+    let old = g.W.Sink.taken c.args.writer.now in
+    let mid = g.W.Sink.taken c.begin.new.writer in
+    let new = g.W.Sink.taken c.answer_all.new.writer in
+    let told = subst (λ (x : Following). IfSome known (λ (bytes : List ℕ). BeginsTelling c.args.form x (documents bytes) mid new)) (ap (λ x. following x) c.in_ok-follower-2.ensures.same) c.in_err-follower-3.ensures.begun in
+    on_err c.from_residual-in_err-follower-3.result
+    (inr (follows-begins c.args.form c.args.setup.now f known old mid new b c.in_ok-follower-2.ensures.written told))
+
+-- ---- the last line failed
+
+pub returns-in_err-put_end-clause-begun : goal.returns-in_err-put_end-clause-begun
+returns-in_err-put_end-clause-begun g c =
+    let f = following c.in_ok-follower.follower in
+    let b = is_begun c.args.setup.now f c.in_ok-follower.ensures.begun c.in_ok-follower.ensures.set_up in
+    let known = g.I.Read.remaining c.args.input.now in
+    let old = g.W.Sink.taken c.args.writer.now in
+    let mid = g.W.Sink.taken c.begin.new.writer in
+    let last = g.W.Sink.taken c.answer_all.new.writer in
+    let new = g.W.Sink.taken c.put_end.new.writer in
+    let k = following c.in_ok-follower-3.follower in
+    let told = subst (λ (x : Following). IfSome known (λ (bytes : List ℕ). Told c.args.form x (documents bytes) mid last k)) (ap (λ x. following x) c.in_ok-follower-2.ensures.same) c.in_ok-follower-3.ensures.told in
+    on_err c.from_residual-in_err-put_end.result
+    (inr (follows-end c.args.form c.args.setup.now f known old mid last new k b c.in_ok-follower-2.ensures.written told c.in_err-put_end.ensures.begun))
+
+-- ---- all was followed
+
+pub returns-clause-followed : goal.returns-clause-followed
+returns-clause-followed g c =
+    let f = following c.in_ok-follower.follower in
+    let b = is_begun c.args.setup.now f c.in_ok-follower.ensures.begun c.in_ok-follower.ensures.set_up in
+    let known = g.I.Read.remaining c.args.input.now in
+    let old = g.W.Sink.taken c.args.writer.now in
+    let mid = g.W.Sink.taken c.begin.new.writer in
+    let last = g.W.Sink.taken c.answer_all.new.writer in
+    let new = g.W.Sink.taken c.put_end.new.writer in
+    let k = following c.in_ok-follower-3.follower in
+    let told = subst (λ (x : Following). IfSome known (λ (bytes : List ℕ). Told c.args.form x (documents bytes) mid last k)) (ap (λ x. following x) c.in_ok-follower-2.ensures.same) c.in_ok-follower-3.ensures.told in
+    follows c.args.form c.args.setup.now f known old mid last new k b c.in_ok-follower-2.ensures.written told c.in_ok-put_end.ensures.written

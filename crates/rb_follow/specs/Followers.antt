@@ -1,0 +1,100 @@
+-- A follower as contracts see it, and what a document does to it.
+use Rattle.std.specs.Prelude.{◌≡◌, ℕ, ◌+◌, ◌*◌, nat_le, nat_lt, List, length, codes, Result, Ok, Err}
+use Rattle.std.specs.declared.alloc.Global.{Global}
+use Rattle.rb_core_model.specs.Machine.{max_events}
+use Rattle.rb_core_model.specs.Standing.{Standing, opening_standing}
+use Rattle.rb_script_types.specs.Config.{Config}
+use Rattle.rb_script_types.specs.Limits.{max_turns as most_of_old}
+use Rattle.rb_script_types.specs.Script.{Turn, entry_count}
+use Rattle.rb_script_types.specs.declared.version.Version.{Version}
+use Rattle.rb_script_types.specs.declared.version.Version.TheVariants.{One, Two, Three}
+use Rattle.rb_script_toml.specs.Faults.{Fault, ◌>>=◌, fault, check}
+use Rattle.rb_script_toml.specs.declared.fault.FaultName.TheVariants.{NotToml, TooManyObjects, TooManyEvents}
+use Rattle.rb_script_read.specs.Turns.{Reading, opening}
+use Rattle.rb_script_read.specs.NextTurns.{turn_of_document}
+use Rattle.rb_super.specs.AsEvents.{turn_as_events}
+use Rattle.rb_super_turn.specs.Report.{TurnReport}
+use Rattle.rb_super_turn.specs.Script.{IsTurn}
+use Rattle.rb_super_turn.specs.Turns.{IsTurnReport, after_turn}
+use Rattle.rb_follow.specs.Setups.{setup_of}
+use Rattle.rb_follow.specs.Documents.{Document, document, cut}
+
+-- what it is set up with, how many turns were taken, what reading them left to the next, how many events they can have given, and how
+-- things stand
+pub record Following : Type 0 where
+  pub config : Config
+  pub turns : ℕ
+  pub reading : Reading
+  pub events : ℕ
+  pub standing : Standing
+
+-- before the first turn
+abbrev pub begun_with : Config → Following
+begun_with c = record { config = c; turns = 0; reading = opening; events = 0; standing = opening_standing c }
+
+-- the follower that a setup begins, or the setup's first fault
+unfoldable pub beginning : List ℕ → Result Following Fault
+beginning setup = do
+  c ← setup_of setup
+  Ok (begun_with c)
+
+-- ---- a document
+
+-- how many turns there may be (own choice): 500, and 10,000 from version 3 on
+abbrev pub max_turns : Version → ℕ
+max_turns One = most_of_old
+max_turns Two = most_of_old
+max_turns Three = 10000
+
+-- the most events that a turn gives: its window, its entries, the scans of both parts of each path, and a plan for each client and the taking
+-- of its batch
+abbrev pub most_events : Config → Turn Global → ℕ
+most_events c t = 1 + entry_count t + 2 * length c.paths + 2 * length c.clients
+
+-- the turn that a document holds, after so many turns, which can have given so many events, and what reading it leaves to the next, where
+-- there is room for it
+unfoldable pub turn_after : Config → ℕ → ℕ → Reading → List ℕ → Result (Turn Global × Reading) Fault
+turn_after c turns events reading bytes = do
+  _ ← check (nat_lt turns (max_turns c.version)) TooManyObjects (codes "-")
+  x ← turn_of_document c reading bytes
+  _ ← check (nat_le (events + most_events c x.0) max_events) TooManyEvents (codes "-")
+  Ok x
+
+-- the same of a follower
+abbrev pub next_turn : Following → List ℕ → Result (Turn Global × Reading) Fault
+next_turn f bytes = turn_after f.config f.turns f.events f.reading bytes
+
+-- the turn that a document of an input holds: the beginning of one is no TOML
+abbrev pub turn_in : Following → Document → Result (Turn Global × Reading) Fault
+turn_in f (document d) = next_turn f d
+turn_in f cut = fault NotToml (codes "-")
+
+-- a turn that was read keeps what every turn of a script keeps
+abbrev pub IsRight : Following → Result (Turn Global × Reading) Fault → Type 0
+IsRight f (Ok x) = IsTurn f.config (turn_as_events x.0)
+IsRight f (Err e) = Unit {0}
+
+-- what a document is answered by: the report of the turn that it holds, by its number from 1, or the fault for which it holds none
+pub data Answer : Type 0 where
+  planned : ℕ → TurnReport → Answer
+  refused : Fault → Answer
+
+-- the follower after a turn that was reported so
+abbrev pub after_report : Following → Turn Global × Reading → TurnReport → Following
+after_report f x r = record {
+  config = f.config;
+  turns = f.turns + 1;
+  reading = x.1;
+  events = f.events + most_events f.config x.0;
+  standing = after_turn f.standing (turn_as_events x.0) r;
+}
+
+abbrev pub IsAnswerFor : Following → Result (Turn Global × Reading) Fault → Answer → Following → Type 0
+IsAnswerFor f (Ok x) (planned number r) g = (number ≡ f.turns + 1) × IsTurnReport f.standing (turn_as_events x.0) r × (g ≡ after_report f x r)
+IsAnswerFor f (Ok x) (refused fault) g = ⊥
+IsAnswerFor f (Err e) (planned number r) g = ⊥
+IsAnswerFor f (Err e) (refused fault) g = (fault ≡ e) × (g ≡ f)
+
+-- a document's answer, and the follower then: a fault leaves it as it was
+abbrev pub IsAnswer : Following → List ℕ → Answer → Following → Type 0
+IsAnswer f bytes answer g = IsAnswerFor f (next_turn f bytes) answer g

@@ -1,0 +1,31 @@
+-- What reports have to do with reports of beginnings of their scripts, and answers with reports.
+use Rattle.std.specs.Prelude.{◌≡◌, ℕ, ◌+◌, List, map, take}
+use Rattle.std.specs.List.{flat_map}
+use Rattle.std.specs.declared.alloc.Global.{Global}
+use Rattle.rb_script_types.specs.Script.{Turn as SeenTurn}
+use Rattle.rb_script_types.specs.declared.version.Version.{Version}
+use Rattle.rb_super.specs.AsEvents.{turn_as_events}
+use Rattle.rb_super_turn.specs.Report.{Report}
+use Rattle.rb_super_turn.specs.Script.{Script}
+use Rattle.rb_super_turn.specs.Turns.{AreTurnReports, IsReportOf}
+use Rattle.rb_text.specs.Report.{turn_text, numbered_lines}
+use Rattle.rb_follow.specs.Documents.{Document}
+use Rattle.rb_follow.specs.Followers.{Following, Answer}
+use Rattle.rb_follow.specs.Answers.{report_lines, reports_in}
+use Rattle.rb_follow.specs.Headline.{AreAnswers}
+
+-- the reports of a script's beginnings are beginnings of its report
+abbrev pub BeginningsAreReported : Type 0
+BeginningsAreReported = (script : Script) (report : Report) (count : ℕ) → IsReportOf script report
+    → IsReportOf (record { config = script.config; turns = take count script.turns }) (take count report)
+
+-- the reports among answers are those of the turns that were taken
+abbrev pub AnswersAreReports : Type 0
+AnswersAreReports = (f : Following) (documents : List Document) (answers : List Answer) (turns : List (SeenTurn Global)) (g : Following)
+    → AreAnswers f documents answers turns g → AreTurnReports f.standing (map turn_as_events turns) (reports_in answers)
+
+-- what answers have of the report is the report's lines from there on: those without the lines `---` and the faults
+abbrev pub AnswersAreLines : Type 0
+AnswersAreLines = (version : Version) (paths : List (List ℕ)) (f : Following) (documents : List Document) (answers : List Answer)
+    (turns : List (SeenTurn Global)) (g : Following) → AreAnswers f documents answers turns g
+    → flat_map (report_lines version paths) answers ≡ numbered_lines (turn_text version paths) (f.turns + 1) (reports_in answers)

@@ -1,0 +1,12 @@
+pub use Rattle.rb_text.specs.Report
+pub use Rattle.rb_super_turn.specs.Turns as PhasesTurns
+pub use Rattle.rb_script_read.specs.NextTurns
+pub mod Setups
+pub mod Drivers
+pub mod Documents
+pub mod Followers
+pub mod Seen
+pub mod Views
+pub mod Answers
+pub mod Headline
+pub mod Laws

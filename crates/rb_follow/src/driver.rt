@@ -1,0 +1,83 @@
+//! Who leads a relayer through turns.
+ghost use Rattle.std.specs.Prelude.{◌≡◌, ◌≤◌, [], IfOk};
+ghost use Rattle.rb_script_types.specs.Config.{config_view, IsConfig};
+ghost use Rattle.rb_super_turn.specs.Turns.{IsTurnReport, after_turn};
+ghost use Rattle.rb_super_turn.specs.Phases.{standing_in, HasLogRoom, IsLater};
+ghost use Rattle.rb_super_turn.specs.Views.{turn_report_view};
+ghost use Rattle.rb_super.specs.AsEvents.{code_turn_as_events, IsTurnFor, most_events};
+ghost use Rattle.rb_follow.specs.Drivers.{core_of};
+
+use rb_base::Gate;
+use rb_script_types::{Config, Turn};
+use rb_super::{ParallelSupervisor, Supervisor};
+use rb_super_turn::{Crew, TurnReport};
+use rb_super_worker::Team;
+use std::alloc::{AllocError, Global};
+use std::sync::{Arc, Wait};
+use std::thread::Threads;
+
+/// Who leads a relayer through turns: the calling thread alone, or with workers in threads of their own. It
+/// is not `Drop`, as workers aren't: end it by `stop`.
+pub enum Driver<G: Gate> {
+    Alone(Supervisor),
+    WithWorkers(ParallelSupervisor<G>),
+}
+
+impl<G: Gate + Send + Sync + Drop + 'static> Driver<G> {
+    /// A relayer that has taken in nothing, with so many workers, at most 64; with none the calling thread does
+    /// all. An error comes only where a growth is refused.
+    pub fn new<R: Threads + Wait + Copy + Send + Sync + 'static>(
+        rt: &R,
+        alloc: Global,
+        config: Config,
+        workers: usize,
+        gate: &Arc<G, Global>,
+    ) -> Result<Driver<G>, AllocError>
+        requires config { IsConfig (config_view config) }
+        requires workers { workers ≤ 64 }
+        ensures config { IfOk result (λ d. (core_of d).config ≡ config_view config) }
+        ensures log { IfOk result (λ d. (core_of d).log ≡ []) }
+    {
+        if workers == 0 {
+            let supervisor = Supervisor::new(alloc, config)?;
+            return Ok(Driver::Alone(supervisor));
+        }
+        let supervisor = ParallelSupervisor::new(rt, alloc, config, workers, |desks| {
+            Team::start(rt, alloc, desks, gate)
+        })?;
+        Ok(Driver::WithWorkers(supervisor))
+    }
+
+    /// Leads the relayer through a turn; tells its report. An error comes only where a growth is refused, also
+    /// to a worker; all workers have then ended.
+    pub fn turn<R: Threads + Sync + Wait>(
+        self,
+        crew: &Crew<R, G>,
+        turn: Turn,
+    ) -> Result<(Driver<G>, TurnReport), AllocError>
+        requires turn { IsTurnFor (core_of self).config turn }
+        requires room { HasLogRoom (core_of self) (most_events (core_of self).config turn) }
+        ensures report { IfOk result (λ r. IsTurnReport (standing_in (core_of self)) (code_turn_as_events turn) (turn_report_view r.1)) }
+        ensures standing { IfOk result (λ r. standing_in (core_of r.0) ≡ after_turn (standing_in (core_of self)) (code_turn_as_events turn) (turn_report_view r.1)) }
+        ensures later { IfOk result (λ r. IsLater (most_events (core_of self).config turn) (core_of self) (core_of r.0)) }
+    {
+        match self {
+            Driver::Alone(supervisor) => {
+                let (next, report) = supervisor.turn(crew, turn)?;
+                Ok((Driver::Alone(next), report))
+            }
+            Driver::WithWorkers(supervisor) => {
+                let (next, report) = supervisor.turn(crew, turn)?;
+                Ok((Driver::WithWorkers(next), report))
+            }
+        }
+    }
+
+    /// Ends the workers.
+    pub fn stop<R: Threads + Wait>(self, rt: &R) {
+        match self {
+            Driver::Alone(_) => {}
+            Driver::WithWorkers(supervisor) => supervisor.stop(rt),
+        }
+    }
+}

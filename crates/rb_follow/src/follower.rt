@@ -1,0 +1,278 @@
+//! A follower of turns.
+ghost use Rattle.std.specs.Prelude.{◌≡◌, ◌<◌, ◌≤◌, ◌+◌, Ok, IfOk, IfErr, OnOk};
+ghost use Rattle.rb_script_types.specs.Script.{turn_view};
+ghost use Rattle.rb_core_model.specs.Config.{IsSetUp};
+ghost use Rattle.rb_core_model.specs.Machine.{max_events};
+ghost use Rattle.rb_script_toml.specs.Faults.{Gives};
+ghost use Rattle.rb_script_read.specs.Turns.{reading_view};
+ghost use Rattle.rb_script_read.specs.NextTurns.{next_turn_view, reading_after};
+ghost use Rattle.rb_script_config.specs.Setups.{setup_view};
+ghost use Rattle.rb_script_config.specs.Paths.{path_ids};
+ghost use Rattle.rb_super.specs.AsEvents.{IsTurnFor};
+ghost use Rattle.rb_follow.specs.Followers.{beginning, turn_after, next_turn, max_turns, most_events, IsAnswerFor, IsAnswer, IsRight};
+ghost use Rattle.rb_core.specs.Core.{state_in};
+ghost use Rattle.rb_follow.specs.Drivers.{core_of};
+ghost use Rattle.rb_follow.specs.Answers.{answer_view};
+
+use crate::answer::Answer;
+use crate::driver::Driver;
+use crate::setup::{path_ids, read_setup_text};
+use crate::turns::read_turn_is_turn;
+use rb_base::{Gate, PathId};
+use rb_core_model::rules::fee_tables;
+use rb_script_config::Setup;
+use rb_script_read::{NextTurn, Reading, ReadingChange, read_turn_document};
+use rb_script_toml::{FaultName, RunError, fault_at};
+use rb_script_types::{MAX_TURNS, Turn, Version};
+use rb_super_turn::Crew;
+use std::alloc::{AllocError, Global};
+use std::sync::{Arc, Wait};
+use std::thread::Threads;
+
+/// The most turns of a follower from version 3 on.
+const MOST_TURNS: usize = 10_000;
+
+/// The most events of a relayer's log.
+const MAX_EVENTS: usize = 1_000_000;
+
+/// A relayer that is led through turns, each read from a document of its own. A contract sees what it is set
+/// up with, the turns' number, what reading them left to the next, how many events they can have given, and
+/// how things stand (`following` in specs/Views.antt). It keeps the turns' names, books and step tables, and
+/// not the turns or their reports. It is not `Drop`, as workers aren't: end it by `stop`.
+pub struct Follower<G: Gate> {
+    pub alloc: Global,
+    pub setup: Setup,
+    pub paths: Vec<PathId>,
+    pub reading: Reading,
+    pub driver: Driver<G>,
+    pub turns: usize,
+    pub events: usize,
+    pub ghost config: { (core_of driver).config ≡ setup_view setup },
+    pub ghost ids: { paths.items ≡ path_ids (setup_view setup).paths },
+    pub ghost few_turns: { turns ≤ max_turns setup.version },
+    pub ghost front: { (state_in (core_of driver)).front ≤ events },
+    pub ghost few_events: { events ≤ max_events },
+}
+
+/// The most turns of this version.
+fn max_turns(version: Version) -> usize
+    ensures { result ≡ max_turns version }
+{
+    match version {
+        Version::One | Version::Two => MAX_TURNS,
+        Version::Three => MOST_TURNS,
+    }
+}
+
+/// The most events that a turn gives: its window, its goals, events and settlements, the scans of both parts of
+/// each path, and a plan for each client and the taking of its batch.
+fn most_events(setup: &Setup, turn: &Turn) -> u128
+    ensures most { result ≡ most_events (setup_view setup.now) (turn_view turn.now) }
+    ensures fits { result ≤ 147573952589676412928 }
+{
+    let goals = turn.goals.len() as u128;
+    let events = turn.events.len() as u128;
+    let settlements = turn.settlements.len() as u128;
+    let paths = setup.paths.as_slice().len() as u128;
+    let clients = setup.clients.as_slice().len() as u128;
+    1 + goals + events + settlements + 2 * paths + 2 * clients
+}
+
+/// How many events can have been given after one more turn, if there is room for them.
+fn events_after(setup: &Setup, events: usize, turn: &Turn) -> usize
+    requires { events + most_events (setup_view setup.now) (turn_view turn.now) ≤ max_events }
+    ensures { result ≡ events + most_events (setup_view setup.now) (turn_view turn.now) }
+{
+    events + most_events(setup, turn) as usize
+}
+
+/// Reads the turn that a document holds, after so many turns, which can have given so many events, if there is
+/// room for one more.
+#[tactic(auto, using(rb_script_toml::proofs::Steps::steps), unfolding(crate::specs::Followers::turn_after))]
+fn read_next(
+    alloc: Global,
+    setup: &Setup,
+    reading: &Reading,
+    turns: usize,
+    events: usize,
+    document: &[u8],
+) -> Result<NextTurn, RunError>
+    requires { events ≤ max_events }
+    ensures read { Gives (next_turn_view (reading_view reading.now)) result (turn_after (setup_view setup.now) turns events (reading_view reading.now) document.now) }
+    ensures form { IfOk result (λ n. IsTurnFor (setup_view setup.now) n.turn) }
+    ensures turns { OnOk result (turns < max_turns setup.now.version) }
+    ensures room { IfOk result (λ n. events + most_events (setup_view setup.now) (turn_view n.turn) ≤ max_events) }
+{
+    if turns >= max_turns(setup.version) {
+        return Err(fault_at(alloc, "-", FaultName::TooManyObjects));
+    }
+    let next = read_turn_document(alloc, document, setup, reading)?;
+    if events as u128 + most_events(setup, &next.turn) > MAX_EVENTS as u128 {
+        return Err(fault_at(alloc, "-", FaultName::TooManyEvents));
+    }
+    Ok(next)
+}
+
+/// Goes on behind a turn that was read, or ends the workers.
+fn read_on<R: Threads + Wait, G: Gate + Send + Sync + Drop + 'static>(
+    rt: &R,
+    driver: Driver<G>,
+    reading: Reading,
+    change: ReadingChange,
+) -> Result<(Driver<G>, Reading), AllocError>
+    ensures same { IfOk result (λ r. r.0 ≡ driver) }
+    ensures reading { IfOk result (λ r. reading_view r.1 ≡ reading_after (reading_view reading) change) }
+{
+    let mut reading = reading;
+    match reading.take(change) {
+        Ok(()) => Ok((driver, reading)),
+        Err(error) => {
+            driver.stop(rt);
+            Err(error)
+        }
+    }
+}
+
+impl<G: Gate + Send + Sync + Drop + 'static> Follower<G> {
+    ghost use Rattle.rb_follow.specs.Views.{following};
+
+    /// A follower that is set up with a script without turns, with so many workers in threads of their own, at
+    /// most 64, or with none: the calling thread then does all. `Fault` is the first fault of the setup,
+    /// `TooManyObjects` at `turn` where it has turns; `NoMemory` comes where a growth is refused.
+    pub fn new<R: Threads + Wait + Copy + Send + Sync + 'static>(
+        rt: &R,
+        alloc: Global,
+        setup: &[u8],
+        workers: usize,
+        gate: &Arc<G, Global>,
+    ) -> Result<Follower<G>, RunError>
+        requires workers { workers ≤ 64 }
+        ensures begun { Gives (λ f. following f) result (beginning setup.now) }
+        ensures set_up { IfOk result (λ f. IsSetUp (following f).config) }
+    {
+        let (setup, config) = read_setup_text(alloc, setup)?;
+        fee_tables(config.clients.as_slice());
+        let paths = path_ids(alloc, config.paths.as_slice())?;
+        let driver = Driver::new(rt, alloc, config, workers, gate)?;
+        Ok(Follower {
+            alloc,
+            setup,
+            paths,
+            reading: Reading::opening(alloc),
+            driver,
+            turns: 0,
+            events: 0,
+        })
+    }
+
+    /// The version of the setup.
+    pub fn version(&self) -> Version
+        ensures { result ≡ (following self.now).config.version }
+    {
+        self.setup.version
+    }
+
+    /// The identifiers of the paths, by their places.
+    pub fn paths(&self) -> &[PathId]
+        ensures { result.now ≡ path_ids (following self.now).config.paths }
+    {
+        self.paths.as_slice()
+    }
+
+    /// Reads the turn that a document holds, if there is room for one more.
+    fn read(&self, document: &[u8]) -> Result<NextTurn, RunError>
+        ensures read { Gives (next_turn_view (reading_view self.now.reading)) result (next_turn (following self.now) document.now) }
+        ensures form { IfOk result (λ n. IsTurnFor (setup_view self.now.setup) n.turn) }
+        ensures turns { OnOk result (self.now.turns < max_turns self.now.setup.version) }
+        ensures room { IfOk result (λ n. self.now.events + most_events (setup_view self.now.setup) (turn_view n.turn) ≤ max_events) }
+    {
+        read_next(
+            self.alloc,
+            &self.setup,
+            &self.reading,
+            self.turns,
+            self.events,
+            document,
+        )
+    }
+
+    /// Leads the relayer through a turn that was read.
+    fn take<R: Threads + Sync + Wait>(
+        self,
+        crew: &Crew<R, G>,
+        next: NextTurn,
+    ) -> Result<(Follower<G>, Answer), RunError>
+        requires form { IsTurnFor (setup_view self.setup) next.turn }
+        requires turns { self.turns < max_turns self.setup.version }
+        requires room { self.events + most_events (setup_view self.setup) (turn_view next.turn) ≤ max_events }
+        ensures answer { IfOk result (λ r. IsAnswerFor (following self) (Ok (next_turn_view (reading_view self.reading) next)) (answer_view r.1) (following r.0)) }
+        ensures right { OnOk result (IsRight (following self) (Ok (next_turn_view (reading_view self.reading) next))) }
+        ensures memory { IfErr result (λ e. e ≡ RunError.NoMemory) }
+    {
+        let Follower {
+            alloc,
+            setup,
+            paths,
+            reading,
+            driver,
+            turns,
+            events,
+        } = self;
+        let NextTurn { turn, change } = next;
+        let events = events_after(&setup, events, &turn);
+        read_turn_is_turn(&setup, &turn);
+        let (driver, reading) = read_on(crew.rt(), driver, reading, change)?;
+        let (driver, report) = driver.turn(crew, turn)?;
+        let turns = turns + 1;
+        let follower = Follower {
+            alloc,
+            setup,
+            paths,
+            reading,
+            driver,
+            turns,
+            events,
+        };
+        let number = turns as u64;
+        Ok((follower, Answer::Planned { number, report }))
+    }
+
+    /// Answers a document: by the report of the turn that it holds, or by the fault for which it holds none, and
+    /// then all stays as it was. A fault is the first of: `TooManyObjects` at `-` where there are as many turns as
+    /// are allowed, those of a turn's text (`rb_script_read::read_turn_document`), and `TooManyEvents` at `-` where
+    /// the log has no room for all that the turn may give. An error is `NoMemory`, where a growth is refused, also
+    /// to a worker; all workers have then ended. It may wait for workers and for the gate; what is said holds if it
+    /// returns.
+    pub fn answer<R: Threads + Sync + Wait>(
+        self,
+        crew: &Crew<R, G>,
+        document: &[u8],
+    ) -> Result<(Follower<G>, Answer), RunError>
+        ensures answer { IfOk result (λ r. IsAnswer (following self) document.now (answer_view r.1) (following r.0)) }
+        ensures right { OnOk result (IsRight (following self) (next_turn (following self) document.now)) }
+        ensures memory { IfErr result (λ e. e ≡ RunError.NoMemory) }
+    {
+        match self.read(document) {
+            Ok(next) => self.take(crew, next),
+            Err(RunError::Fault(fault)) => Ok((self, Answer::Refused(fault))),
+            Err(_) => {
+                self.stop(crew.rt());
+                Err(RunError::NoMemory)
+            }
+        }
+    }
+
+    /// Ends the workers.
+    pub fn stop<R: Threads + Wait>(self, rt: &R) {
+        let Follower {
+            alloc: _,
+            setup: _setup,
+            paths: _paths,
+            reading: _reading,
+            driver,
+            turns: _,
+            events: _,
+        } = self;
+        driver.stop(rt);
+    }
+}

@@ -1,0 +1,348 @@
+//! Following an input to its end.
+ghost use Rattle.std.specs.Prelude.{◌≡◌, ◌≤◌, ◌++◌, ◌∷◌, ◌↔◌, ◌⊎◌, List, ℕ, [], true, false, Err, IfOk, IfErr, IfSome, OnOk, OnErr, IsErrOf, codes};
+ghost use Rattle.rb_script_config.specs.Paths.{path_ids};
+ghost use Rattle.rb_script_toml.specs.declared.fault.Fault.{Fault as CodeFault};
+ghost use Rattle.rb_script_toml.specs.Faults.{fault_view};
+ghost use Rattle.rb_text.specs.Report.{first_line};
+ghost use Rattle.rb_text.specs.Written.{IsWriteError};
+ghost use Rattle.rb_follow.specs.Setups.{setup_of};
+ghost use Rattle.rb_follow.specs.Documents.{nothing_read, all_read, document, documents_from, last_of, documents};
+ghost use Rattle.rb_follow.specs.Answers.{answer_view, answer_text, Takes, TakesBeginning};
+ghost use Rattle.rb_follow.specs.Views.{following};
+ghost use Rattle.rb_follow.specs.Headline.{Told, ToldPiece, BeginsTelling, IsFollowError, Follows, BeginsFollowing};
+
+use crate::answer::Answer;
+use crate::error::FollowError;
+use crate::follower::Follower;
+use crate::gathering::Gathering;
+use crate::told::{Form, put, put_answer};
+use rb_base::{Gate, Sink};
+use rb_script_toml::{Fault, FaultName, RunError, fault_at};
+use rb_super_turn::Crew;
+use rb_text::first_line;
+use std::alloc::Global;
+use std::io;
+use std::io::Read;
+use std::sync::{Arc, Wait};
+use std::thread::Threads;
+
+/// How many bytes are read at once.
+const PIECE: usize = 4096;
+
+/// Who is told of documents that are refused.
+pub trait Watcher {
+    /// A document was answered by this fault.
+    fn refused(&self, fault: &Fault);
+}
+
+/// How answers are told.
+#[derive(Clone, Copy)]
+struct Teller<'a, N> {
+    alloc: Global,
+    form: Form,
+    watcher: &'a N,
+}
+
+impl<N: Watcher> Teller<'_, N> {
+    /// Writes an answer of a follower.
+    fn put<G: Gate + Send + Sync + Drop + 'static, W: Sink>(
+        &self,
+        follower: &Follower<G>,
+        answer: &Answer,
+        writer: &mut W,
+    ) -> Result<(), RunError>
+        requires { W.is_broken writer.old ≡ false }
+        ensures written { OnOk result (Takes self.now.form (W.taken writer.old) (W.taken writer.new) (answer_text (following follower.now).config.version (path_ids (following follower.now).config.paths) (answer_view answer.now))) }
+        ensures works { OnOk result (W.is_broken writer.new ≡ false) }
+        ensures begun { OnErr result (TakesBeginning self.now.form (W.taken writer.old) (W.taken writer.new) (answer_text (following follower.now).config.version (path_ids (following follower.now).config.paths) (answer_view answer.now))) }
+        ensures failed { IfErr result (λ e. IsWriteError e (W.is_broken writer.new)) }
+    {
+        let paths = follower.paths();
+        put_answer(
+            self.alloc,
+            follower.version(),
+            paths,
+            answer,
+            self.form,
+            writer,
+        )?;
+        if let Answer::Refused(fault) = answer {
+            self.watcher.refused(fault);
+        }
+        Ok(())
+    }
+}
+
+/// Writes an answer of a follower, or ends it.
+fn tell<R, G, W, N>(
+    crew: &Crew<R, G>,
+    follower: Follower<G>,
+    answer: &Answer,
+    teller: &Teller<'_, N>,
+    writer: &mut W,
+) -> Result<Follower<G>, RunError>
+where
+    R: Threads + Sync + Wait,
+    G: Gate + Send + Sync + Drop + 'static,
+    W: Sink,
+    N: Watcher,
+    requires { W.is_broken writer.old ≡ false }
+    ensures same { IfOk result (λ g. g ≡ follower) }
+    ensures written { OnOk result (Takes teller.now.form (W.taken writer.old) (W.taken writer.new) (answer_text (following follower).config.version (path_ids (following follower).config.paths) (answer_view answer.now))) }
+    ensures works { OnOk result (W.is_broken writer.new ≡ false) }
+    ensures begun { OnErr result (TakesBeginning teller.now.form (W.taken writer.old) (W.taken writer.new) (answer_text (following follower).config.version (path_ids (following follower).config.paths) (answer_view answer.now))) }
+    ensures failed { IfErr result (λ e. IsWriteError e (W.is_broken writer.new)) }
+{
+    match teller.put(&follower, answer, writer) {
+        Ok(()) => Ok(follower),
+        Err(error) => {
+            follower.stop(crew.rt());
+            Err(error)
+        }
+    }
+}
+
+/// Answers the document that was gathered.
+fn answer_document<R, G, W, N>(
+    crew: &Crew<R, G>,
+    follower: Follower<G>,
+    gathering: &mut Gathering,
+    teller: &Teller<'_, N>,
+    writer: &mut W,
+) -> Result<Follower<G>, RunError>
+where
+    R: Threads + Sync + Wait,
+    G: Gate + Send + Sync + Drop + 'static,
+    W: Sink,
+    N: Watcher,
+    requires works { W.is_broken writer.old ≡ false }
+    ensures works { OnOk result (W.is_broken writer.new ≡ false) }
+    ensures failed { IfErr result (λ e. IsWriteError e (W.is_broken writer.new)) }
+    ensures told { IfOk result (λ g. Told teller.now.form (following follower) (document (all_read gathering.old) ∷ []) (W.taken writer.old) (W.taken writer.new) (following g)) }
+    ensures cleared { OnOk result (gathering.new ≡ nothing_read) }
+    ensures begun { OnErr result (BeginsTelling teller.now.form (following follower) (document (all_read gathering.old) ∷ []) (W.taken writer.old) (W.taken writer.new)) }
+{
+    let (follower, answer) = follower.answer(crew, gathering.document())?;
+    gathering.clear();
+    tell(crew, follower, &answer, teller, writer)
+}
+
+/// Answers the documents that end in a piece of the input, and gathers what the piece has of the next.
+fn answer_piece<R, G, W, N>(
+    crew: &Crew<R, G>,
+    follower: Follower<G>,
+    gathering: &mut Gathering,
+    piece: &[u8],
+    teller: &Teller<'_, N>,
+    writer: &mut W,
+) -> Result<Follower<G>, RunError>
+where
+    R: Threads + Sync + Wait,
+    G: Gate + Send + Sync + Drop + 'static,
+    W: Sink,
+    N: Watcher,
+    requires works { W.is_broken writer.old ≡ false }
+    ensures works { OnOk result (W.is_broken writer.new ≡ false) }
+    ensures failed { IfErr result (λ e. IsWriteError e (W.is_broken writer.new)) }
+    ensures told { IfOk result (λ g. ToldPiece teller.now.form (following follower) gathering.old piece.now gathering.new [] (W.taken writer.old) (W.taken writer.new) (following g)) }
+    ensures begun { (more : List ℕ) → OnErr result (BeginsTelling teller.now.form (following follower) (documents_from gathering.old (piece.now ++ more)) (W.taken writer.old) (W.taken writer.new)) }
+{
+    let mut follower = follower;
+    let mut rest = piece;
+    loop {
+        match gathering.gather(rest) {
+            Ok(Some(end)) => {
+                follower = answer_document(crew, follower, gathering, teller, writer)?;
+                rest = &rest[end..];
+            }
+            Ok(None) => return Ok(follower),
+            Err(_) => {
+                follower.stop(crew.rt());
+                return Err(RunError::NoMemory);
+            }
+        }
+    }
+}
+
+/// Answers what an input that ended has after its last document: nothing, a document whose last line ends with
+/// the input, or the beginning of one, which is refused.
+fn answer_rest<R, G, W, N>(
+    crew: &Crew<R, G>,
+    follower: Follower<G>,
+    gathering: &mut Gathering,
+    teller: &Teller<'_, N>,
+    writer: &mut W,
+) -> Result<Follower<G>, RunError>
+where
+    R: Threads + Sync + Wait,
+    G: Gate + Send + Sync + Drop + 'static,
+    W: Sink,
+    N: Watcher,
+    requires works { W.is_broken writer.old ≡ false }
+    ensures works { OnOk result (W.is_broken writer.new ≡ false) }
+    ensures failed { IfErr result (λ e. IsWriteError e (W.is_broken writer.new)) }
+    ensures told { IfOk result (λ g. Told teller.now.form (following follower) (last_of gathering.old) (W.taken writer.old) (W.taken writer.new) (following g)) }
+    ensures begun { OnErr result (BeginsTelling teller.now.form (following follower) (last_of gathering.old) (W.taken writer.old) (W.taken writer.new)) }
+{
+    if gathering.finish() {
+        return answer_document(crew, follower, gathering, teller, writer);
+    }
+    if gathering.document().is_empty() {
+        return Ok(follower);
+    }
+    match fault_at(teller.alloc, "-", FaultName::NotToml) {
+        RunError::Fault(fault) => tell(crew, follower, &Answer::Refused(fault), teller, writer),
+        error => {
+            follower.stop(crew.rt());
+            Err(error)
+        }
+    }
+}
+
+/// Answers the documents of an input to its end.
+fn answer_all<R, G, I, W, N>(
+    crew: &Crew<R, G>,
+    follower: Follower<G>,
+    input: &mut I,
+    teller: &Teller<'_, N>,
+    writer: &mut W,
+) -> Result<Follower<G>, FollowError>
+where
+    R: Threads + Sync + Wait,
+    G: Gate + Send + Sync + Drop + 'static,
+    I: Read,
+    W: Sink,
+    N: Watcher,
+    requires works { W.is_broken writer.old ≡ false }
+    ensures works { OnOk result (W.is_broken writer.new ≡ false) }
+    ensures failed { IfErr result (λ e. IsFollowError e (W.is_broken writer.new)) }
+    ensures told { IfOk result (λ g. IfSome (I.remaining input.old) (λ bytes. Told teller.now.form (following follower) (documents bytes) (W.taken writer.old) (W.taken writer.new) (following g))) }
+    ensures begun { OnErr result (IfSome (I.remaining input.old) (λ bytes. BeginsTelling teller.now.form (following follower) (documents bytes) (W.taken writer.old) (W.taken writer.new))) }
+{
+    let mut follower = follower;
+    let mut gathering = Gathering::new(teller.alloc);
+    let mut piece = [0u8; PIECE];
+    'pieces: for _ in 0..u64::MAX {
+        match input.read(&mut piece) {
+            Ok(count) => {
+                if count == 0 {
+                    let last = answer_rest(crew, follower, &mut gathering, teller, writer)?;
+                    return Ok(last);
+                }
+                let read = &piece[..count];
+                follower = answer_piece(crew, follower, &mut gathering, read, teller, writer)?;
+            }
+            Err(error) => {
+                if error.kind() != io::ErrorKind::Interrupted {
+                    follower.stop(crew.rt());
+                    return Err(FollowError::Input(error));
+                }
+            }
+        }
+    }
+    follower.stop(crew.rt());
+    Err(FollowError::Input(io::Error::from(io::ErrorKind::FileTooLarge)))
+}
+
+/// The first line of a report, where lines of one are written.
+fn put_head<W: Sink, G: Gate + Send + Sync + Drop + 'static>(
+    follower: &Follower<G>,
+    form: Form,
+    writer: &mut W,
+) -> Result<(), RunError>
+    requires { W.is_broken writer.old ≡ false }
+    ensures written { OnOk result (Takes form (W.taken writer.old) (W.taken writer.new) (first_line (following follower.now).config.version)) }
+    ensures works { OnOk result (W.is_broken writer.new ≡ false) }
+    ensures begun { OnErr result (TakesBeginning form (W.taken writer.old) (W.taken writer.new) (first_line (following follower.now).config.version)) }
+    ensures failed { IfErr result (λ e. IsWriteError e (W.is_broken writer.new)) }
+{
+    match form {
+        Form::Text => put(writer, first_line(follower.version())),
+        Form::Json => Ok(()),
+    }
+}
+
+/// Writes the first line for a follower, or ends it.
+fn begin<R: Threads + Wait, G: Gate + Send + Sync + Drop + 'static, W: Sink>(
+    rt: &R,
+    follower: Follower<G>,
+    form: Form,
+    writer: &mut W,
+) -> Result<Follower<G>, RunError>
+    requires { W.is_broken writer.old ≡ false }
+    ensures same { IfOk result (λ g. g ≡ follower) }
+    ensures written { OnOk result (Takes form (W.taken writer.old) (W.taken writer.new) (first_line (following follower).config.version)) }
+    ensures works { OnOk result (W.is_broken writer.new ≡ false) }
+    ensures begun { OnErr result (TakesBeginning form (W.taken writer.old) (W.taken writer.new) (first_line (following follower).config.version)) }
+    ensures failed { IfErr result (λ e. IsWriteError e (W.is_broken writer.new)) }
+{
+    match put_head(&follower, form, writer) {
+        Ok(()) => Ok(follower),
+        Err(error) => {
+            follower.stop(rt);
+            Err(error)
+        }
+    }
+}
+
+/// The last line of a report, where lines of one are written.
+fn put_end<W: Sink>(form: Form, writer: &mut W) -> Result<(), RunError>
+    requires { W.is_broken writer.old ≡ false }
+    ensures written { OnOk result (Takes form (W.taken writer.old) (W.taken writer.new) (codes "end\n")) }
+    ensures works { OnOk result (W.is_broken writer.new ≡ false) }
+    ensures begun { OnErr result (TakesBeginning form (W.taken writer.old) (W.taken writer.new) (codes "end\n")) }
+    ensures failed { IfErr result (λ e. IsWriteError e (W.is_broken writer.new)) }
+{
+    match form {
+        Form::Text => put(writer, b"end\n"),
+        Form::Json => Ok(()),
+    }
+}
+
+/// Reads turns from an input as they come, each a document that a line `---` ends, and writes the answer to
+/// each at once: its report and a line `---`, or the fault for which it is no turn and that line; with
+/// `Form::Json` an object on a line. The first line of a report stands before them, and `end` behind them,
+/// where the input has ended. So what was written, without the lines `---` and the faults, is the report of
+/// the script that consists of the setup and the documents that were no fault, in whatever pieces the input
+/// comes and however many workers there are, at most 64 (with 0 the calling thread does all). `Run` is the
+/// first fault of the setup, and nothing is then written; `Device`, where the writer fails, and `NoMemory`,
+/// where a growth is refused; `Input` where the input fails. It may wait for the input, for workers and for
+/// the gate; what is said holds if it returns. The writer must not have failed before.
+pub fn follow_over<R, G, I, W, N>(
+    rt: &R,
+    alloc: Global,
+    setup: &[u8],
+    input: &mut I,
+    form: Form,
+    writer: &mut W,
+    workers: usize,
+    gate: &Arc<G, Global>,
+    watcher: &N,
+) -> Result<(), FollowError>
+where
+    R: Threads + Wait + Copy + Send + Sync + 'static,
+    G: Gate + Send + Sync + Drop + 'static,
+    I: Read,
+    W: Sink,
+    N: Watcher,
+    requires works { W.is_broken writer.old ≡ false }
+    requires workers { workers ≤ 64 }
+    ensures followed { OnOk result (IfSome (I.remaining input.old) (λ bytes. Follows form setup.now bytes (W.taken writer.old) (W.taken writer.new))) }
+    ensures fault { (f : CodeFault) → IsErrOf result (FollowError.Run (RunError.Fault f)) → setup_of setup.now ≡ Err (fault_view f) }
+    ensures nothing_written { (f : CodeFault) → IsErrOf result (FollowError.Run (RunError.Fault f)) → writer.new ≡ writer.old }
+    ensures device { IsErrOf result (FollowError.Run RunError.Device) ↔ (W.is_broken writer.new ≡ true) }
+    ensures begun { OnErr result ((writer.new ≡ writer.old) ⊎ IfSome (I.remaining input.old) (λ bytes. BeginsFollowing form setup.now bytes (W.taken writer.old) (W.taken writer.new))) }
+{
+    let crew = Crew::new(rt, workers, &**gate);
+    let follower = Follower::new(rt, alloc, setup, workers, gate)?;
+    let follower = begin(rt, follower, form, writer)?;
+    let teller = Teller {
+        alloc,
+        form,
+        watcher,
+    };
+    let follower = answer_all(&crew, follower, input, &teller, writer)?;
+    follower.stop(rt);
+    put_end(form, writer)?;
+    Ok(())
+}

@@ -1,0 +1,23 @@
+//! Turns as they come: a `Follower` reads each from a document of its own, leads a relayer through it and
+//! answers by its report, or by the fault of the document, which then changes nothing. `follow_over` goes
+//! over an input to its end: its documents end by lines `---`.
+#![tactic(auto)]
+
+mod answer;
+mod driver;
+mod error;
+mod follower;
+mod following;
+mod gathering;
+pub mod laws;
+mod setup;
+mod told;
+mod turns;
+
+pub use answer::Answer;
+pub use driver::Driver;
+pub use error::FollowError;
+pub use follower::Follower;
+pub use following::{Watcher, follow_over};
+pub use gathering::Gathering;
+pub use told::{Form, put_answer};

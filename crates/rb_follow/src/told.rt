@@ -1,0 +1,177 @@
+//! Answers as texts.
+ghost use Rattle.std.specs.Prelude.{◌≡◌, ◌++◌, false, codes, IfOk, IfErr, OnOk, OnErr, string_bytes};
+ghost use Rattle.std.specs.Io.KnownBytes.{Appends};
+ghost use Rattle.rb_base.specs.Sink.{AppendsBeginning};
+ghost use Rattle.rb_script_toml.specs.Faults.{fault_line, fault_view};
+ghost use Rattle.rb_super_turn.specs.Views.{turn_report_view};
+ghost use Rattle.rb_text.specs.Report.{turn_text};
+ghost use Rattle.rb_text.specs.Written.{IsWriteError};
+ghost use Rattle.rb_follow.specs.Answers.{mark, answer_view, answer_text, Takes, TakesBeginning};
+
+use crate::answer::Answer;
+use rb_base::{Device, PathId, Sink, write_whole};
+use rb_script_toml::{Fault, RunError};
+use rb_script_types::Version;
+use rb_super_turn::TurnReport;
+use rb_text::push_turn;
+use rb_text_export::json_of_turn;
+use std::alloc::{AllocError, Global};
+
+/// What answers are written as: lines of a report, with a line `---` after each answer, or objects of JSON, each
+/// on a line.
+#[derive(Clone, Copy, Debug, PartialEq, Eq)]
+pub enum Form {
+    Text,
+    Json,
+}
+
+/// The lines of a turn's report, and the line `---`.
+fn text_of_turn(
+    alloc: Global,
+    version: Version,
+    paths: &[PathId],
+    number: u64,
+    report: &TurnReport,
+) -> Result<String, AllocError>
+    ensures { IfOk result (λ text. string_bytes text ≡ turn_text version paths.now number (turn_report_view report.now) ++ mark) }
+{
+    let mut text = String::new(alloc);
+    push_turn(&mut text, version, paths, number, report)?;
+    text.push_str("---\n")?;
+    Ok(text)
+}
+
+/// The line of a fault, and the line `---`.
+fn text_of_fault(alloc: Global, fault: &Fault) -> Result<String, AllocError>
+    ensures { IfOk result (λ text. string_bytes text ≡ fault_line (fault_view fault.now) ++ codes "\n" ++ mark) }
+{
+    let mut text = String::new(alloc);
+    write!(text, "{fault}\n---\n")?;
+    Ok(text)
+}
+
+/// An answer in the lines of a report, and the line `---`.
+fn text_of(
+    alloc: Global,
+    version: Version,
+    paths: &[PathId],
+    answer: &Answer,
+) -> Result<String, AllocError>
+    ensures { IfOk result (λ text. string_bytes text ≡ answer_text version paths.now (answer_view answer.now)) }
+{
+    match answer {
+        Answer::Planned { number, report } => text_of_turn(alloc, version, paths, *number, report),
+        Answer::Refused(fault) => text_of_fault(alloc, fault),
+    }
+}
+
+/// Adds a text as a string of JSON. Paths of faults have no character that does something to a terminal.
+fn push_string(text: &mut String, value: &str) -> Result<(), AllocError> {
+    text.push_str("\"")?;
+    for character in value.chars() {
+        if character == '"' || character == '\\' {
+            text.push_str("\\")?;
+        }
+        text.push(character)?;
+    }
+    text.push_str("\"")
+}
+
+/// A fault as an object of JSON, and a line feed.
+fn json_of_fault(alloc: Global, fault: &Fault) -> Result<String, AllocError> {
+    let mut text = String::new(alloc);
+    let number = fault.name.number();
+    let name = fault.name.name();
+    write!(
+        text,
+        "{{\"fault\": {number}, \"name\": \"{name}\", \"path\": "
+    )?;
+    push_string(&mut text, fault.path.as_str())?;
+    text.push_str("}\n")?;
+    Ok(text)
+}
+
+fn json_of_answer(
+    alloc: Global,
+    version: Version,
+    paths: &[PathId],
+    answer: &Answer,
+) -> Result<String, AllocError> {
+    match answer {
+        Answer::Planned { report, .. } => json_of_turn(alloc, version, paths, report),
+        Answer::Refused(fault) => json_of_fault(alloc, fault),
+    }
+}
+
+/// Writes all of the bytes, or fails with the writer.
+pub(crate) fn put<W: Sink>(writer: &mut W, bytes: &[u8]) -> Result<(), RunError>
+    requires { W.is_broken writer.old ≡ false }
+    ensures written { OnOk result (Appends (W.taken writer.old) (W.taken writer.new) bytes.now) }
+    ensures works { OnOk result (W.is_broken writer.new ≡ false) }
+    ensures begun { OnErr result (AppendsBeginning (W.taken writer.old) (W.taken writer.new) bytes.now) }
+    ensures failed { IfErr result (λ e. IsWriteError e (W.is_broken writer.new)) }
+{
+    match write_whole(writer, bytes) {
+        Ok(()) => Ok(()),
+        Err(Device) => Err(RunError::Device),
+    }
+}
+
+/// Writes an answer in the lines of a report, and the line `---`.
+#[tactic(auto, using(rb_text::proofs::Beginnings::beginnings))]
+fn put_text<W: Sink>(
+    alloc: Global,
+    version: Version,
+    paths: &[PathId],
+    answer: &Answer,
+    writer: &mut W,
+) -> Result<(), RunError>
+    requires { W.is_broken writer.old ≡ false }
+    ensures written { OnOk result (Appends (W.taken writer.old) (W.taken writer.new) (answer_text version paths.now (answer_view answer.now))) }
+    ensures works { OnOk result (W.is_broken writer.new ≡ false) }
+    ensures begun { OnErr result (AppendsBeginning (W.taken writer.old) (W.taken writer.new) (answer_text version paths.now (answer_view answer.now))) }
+    ensures failed { IfErr result (λ e. IsWriteError e (W.is_broken writer.new)) }
+{
+    let text = text_of(alloc, version, paths, answer)?;
+    put(writer, text.as_bytes())
+}
+
+/// Writes an answer as an object of JSON, and a line feed.
+fn put_json<W: Sink>(
+    alloc: Global,
+    version: Version,
+    paths: &[PathId],
+    answer: &Answer,
+    writer: &mut W,
+) -> Result<(), RunError>
+    requires { W.is_broken writer.old ≡ false }
+    ensures works { OnOk result (W.is_broken writer.new ≡ false) }
+    ensures failed { IfErr result (λ e. IsWriteError e (W.is_broken writer.new)) }
+{
+    let text = json_of_answer(alloc, version, paths, answer)?;
+    put(writer, text.as_bytes())
+}
+
+/// Writes an answer, with the identifiers of the paths by their places, whole or as the writer takes it: of a
+/// writer that holds nothing back who reads has it at once. `Device` where the writer fails, and `NoMemory`
+/// where a growth is refused; either way a beginning of the answer was taken. The writer must not have failed
+/// before.
+pub fn put_answer<W: Sink>(
+    alloc: Global,
+    version: Version,
+    paths: &[PathId],
+    answer: &Answer,
+    form: Form,
+    writer: &mut W,
+) -> Result<(), RunError>
+    requires { W.is_broken writer.old ≡ false }
+    ensures written { OnOk result (Takes form (W.taken writer.old) (W.taken writer.new) (answer_text version paths.now (answer_view answer.now))) }
+    ensures works { OnOk result (W.is_broken writer.new ≡ false) }
+    ensures begun { OnErr result (TakesBeginning form (W.taken writer.old) (W.taken writer.new) (answer_text version paths.now (answer_view answer.now))) }
+    ensures failed { IfErr result (λ e. IsWriteError e (W.is_broken writer.new)) }
+{
+    match form {
+        Form::Text => put_text(alloc, version, paths, answer, writer),
+        Form::Json => put_json(alloc, version, paths, answer, writer),
+    }
+}
