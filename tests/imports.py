@@ -17,7 +17,7 @@ import tomllib
 from datetime import timedelta
 
 import answers
-from program import TOP, Case, SafeCase
+from program import TOP, Case
 
 sys.path.insert(0, str(TOP / "tests" / "reference"))
 import reference
@@ -716,52 +716,6 @@ def taken_cases(top):
         yield Case(f"taken answers {number}", ["import", str(setup), str(folder)], b"", script, b"", 0, reader=values_of)
 
 
-STEERING = "\x1b]0;title\x07\x1b[31m\x9b2J\u202e"
-
-
-def places_in(value, path=()):
-    """The places of the members and texts of a value, of arrays those of the first element."""
-    if isinstance(value, dict):
-        for key, inner in value.items():
-            yield (*path, key), True
-            yield from places_in(inner, (*path, key))
-    elif isinstance(value, list):
-        yield from places_in(value[0], (*path, 0)) if value else ()
-    else:
-        yield path, False
-
-
-def steered(value, path, is_key):
-    """A value with control characters in the member or before the text at a place."""
-    value = json.loads(json.dumps(value))
-    holder = value
-    for step in path[:-1]:
-        holder = holder[step]
-    if is_key:
-        holder[STEERING + path[-1]] = holder.pop(path[-1])
-    else:
-        holder[path[-1]] = STEERING + str(holder[path[-1]])
-    return value
-
-
-def steering_cases(top):
-    """Answers with control characters in each member's name and in each value: none of them comes to an output. The setup names a counterparty in half of them."""
-    whole, texts = top / "steering", [mend(setups(2)[1]) for mend in (str, BOTH_NAMED)]
-    answers.make(whole, 1, between=0)
-    judged((1, [1], [2], 4), (80, [], [], 6))(whole)
-    for number, text in enumerate(texts):
-        (top / f"steering-{number}.toml").write_text(text)
-    found = {file: json.loads((whole / file).read_text()) for file in (COMMIT_FILE, PAGE_FILE, STATE_FILE, STORED_FILE, SENT_FILE, RECEIVED_FILE, CLEARED_FILE, VERDICTS)}
-    errors = {"error": {"code": -32603, "message": "Internal error", "data": "height 80 is not available"}}, {"error": "out of order"}, {"code": 5, "message": "not found", "details": []}
-    values = [(file, steered(value, *place)) for file, value in found.items() for place in places_in(value)]
-    values += [(COMMIT_FILE, steered(value, *place)) for value in (*errors, *map(in_result, CHAIN_QUERIES.values())) for place in places_in(value)]
-    for number, (file, value) in enumerate(values):
-        folder = top / "steered" / str(number)
-        shutil.copytree(whole, folder)
-        answers.write(folder / file, value)
-        yield SafeCase(f"control characters {number} in {file}", ["import", str(top / f"steering-{number % 2}.toml"), str(folder)], b"", b"", b"", 0)
-
-
 def import_cases(top, seeds):
     """The runs of `import`; the files that they read are written below a folder."""
     for seed in range(1, seeds + 1):
@@ -773,7 +727,6 @@ def import_cases(top, seeds):
     yield from spoiled_cases(top)
     yield from taken_cases(top)
     yield from opening_cases(top)
-    yield from steering_cases(top)
 
 
 NEXT = """notice MissingNextSet at hub-on-zone 1: %s/hub-on-zone/consensus_states-1.json: no answer has the next validators, \

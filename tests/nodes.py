@@ -10,6 +10,7 @@ import urllib.parse
 from datetime import timedelta
 
 import answers
+from program import STEERING
 
 BLOCK = timedelta(seconds=6)
 
@@ -86,7 +87,7 @@ class LongChain:
         return {"jsonrpc": "2.0", "id": -1, "result": {"node_info": {"network": self.name}, "sync_info": {"latest_block_height": str(self.blocks), "catching_up": False}}}
 
     def error(self, data):
-        return {"jsonrpc": "2.0", "id": -1, "error": {"code": -32603, "message": "Internal error", "data": data}}
+        return {"jsonrpc": "2.0", "id": -1, "error": {"code": -32603, "message": "Internal error", "data": STEERING + data}}
 
     def at(self, height):
         return {"revision_number": self.name.rsplit("-", 1)[1], "revision_height": str(height)}

@@ -47,15 +47,17 @@ class Case:
         return got == wanted
 
 
-CONTROL = re.compile("[\x00-\x09\x0b-\x1f\x7f-\x9f\u200e\u200f\u202a-\u202e\u2066-\u2069]")
+# characters that set a terminal's title, its colours, clear it and turn the direction of a text; and all that do something like it
+STEERING = "\x1b]0;title\x07\x1b[31m\x9b2J\u202e"
+CONTROL = re.compile("[\x00-\x09\x0b-\x1f\x7f-\x9f\u061c\u200e\u200f\u2028-\u202e\u2066-\u2069]")
 
 
 class SafeCase(Case):
-    """A run that ends with 0, 1 or 7, and writes nothing that would do something to a terminal."""
+    """A run that ends with 0, 1, 3 or 7, and writes nothing that would do something to a terminal."""
 
     def is_met_by(self, output, error, status):
         found = [CONTROL.findall(written.decode(errors="replace")) for written in (output, error)]
-        if status not in (0, 1, 7) or any(found):
+        if status not in (0, 1, 3, 7) or any(found):
             print(f"== {self.what}\n-- status {status}, control characters {found!r}")
             return False
         return True

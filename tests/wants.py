@@ -9,7 +9,7 @@ import tomllib
 import answers
 import nodes
 from nodes import Host, LongChain, least_fee, serve
-from program import TOP, Case
+from program import CONTROL, TOP, Case
 
 CLIENT, FEE = "07-tendermint-3", (118_400, 1_087, 771)
 HEAD = f'''version = 1
@@ -132,6 +132,15 @@ def collected(folder, chain, stored, goal, program, page=1000):
     return asked, done
 
 
+def refusal_flaws(program, folder):
+    """What is wrong with a run of `examples/collect` whose node refuses a height, in words with control characters."""
+    _, done = collected(folder, LongChain("hub-4", "switch", 100, 6, 70, lowest=60), [52], "", program)
+    told = done.stderr.decode()
+    flaws = [] if done.returncode == 0 else [f"status {done.returncode}: {told}"]
+    flaws += ["control characters are told"] if CONTROL.search(told) else []
+    return flaws + ([] if "height 53 is not available" in told else [f"not told that a height isn't available, but {told}"])
+
+
 def run_collects(program, top, is_told=False):
     """Runs of `examples/collect` with this program: how many there were, and how many didn't go as they have to."""
     wrong = 0
@@ -153,7 +162,10 @@ def run_collects(program, top, is_told=False):
             print(f"== collect, {name}: {len(asked)} requests, {len(plan[1]) if plan else 'no'} updates", *flaws, sep="\n-- ")
         wrong += bool(flaws)
         shutil.rmtree(folder)
-    return len(COLLECTS), wrong
+    flaws = refusal_flaws(program, top / "collect, refused")
+    if flaws:
+        print("== collect, a height refused", *flaws, sep="\n-- ")
+    return len(COLLECTS) + 1, wrong + bool(flaws)
 
 
 if __name__ == "__main__":  # tests/wants.py PROGRAM
