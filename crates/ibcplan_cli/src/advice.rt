@@ -65,6 +65,14 @@ pub fn advice_for(name: FaultName, path: &str) -> &'static str {
     }
 }
 
+/// What should stand at the path of a fault of a setup.
+pub fn setup_advice_for(name: FaultName, path: &str) -> &'static str {
+    match name {
+        FaultName::UnknownKey => setup_keys_at(path),
+        _ => advice_for(name, path),
+    }
+}
+
 /// The path of the table in which a path's last key stands, and that key.
 fn table_and_key(path: &str) -> (&str, &str) {
     path.rsplit_once('.').unwrap_or(("", path))
@@ -79,12 +87,32 @@ fn key_of(table: &str) -> &str {
     }
 }
 
+/// Which keys the table of a setup has in which an unknown one stands.
+fn setup_keys_at(path: &str) -> &'static str {
+    let (table, _) = table_and_key(path);
+    match key_of(table) {
+        "" => {
+            "there is no such key here; a setup has version, chain, client, path and turn; goal and settle belong into a turn, as [[turn.goal]]"
+        }
+        "chain" => {
+            "a chain of a setup has id alone; TOML puts a key that stands after [[chain]] into that chain"
+        }
+        "path" => {
+            "a path of a setup has id, source, dest, order, first, forward, back, gas, wait_ns, port, channel, counterparty_port and counterparty_channel"
+        }
+        "turn" => {
+            "a turn of a setup has from, until, goal and settle; its events are made of the answers of nodes"
+        }
+        _ => keys_at(path),
+    }
+}
+
 /// Which keys the table has in which an unknown one stands.
 fn keys_at(path: &str) -> &'static str {
     let (table, _) = table_and_key(path);
     match key_of(table) {
         "" => {
-            "there is no such key here; a script or a setup has version, chain, client, path and turn, a certificate version, turn, client, answer, updates and labels; goal, event and settle belong into a turn, as [[turn.goal]]"
+            "there is no such key here; a script has version, chain, client, path and turn, a certificate version, turn, client, answer, updates and labels; goal, event and settle belong into a turn, as [[turn.goal]]"
         }
         "chain" => {
             "a chain has id and, from version 2 on, defaults; TOML puts a key that stands after [[chain]] into that chain"
@@ -92,11 +120,9 @@ fn keys_at(path: &str) -> &'static str {
         "defaults" => DEFAULT_KEY_LIST,
         "client" => CLIENT_KEY_LIST,
         "path" => {
-            "a path has id, source, dest, order, first, forward, back and gas, from version 3 on and in a setup wait_ns, and in a setup port, channel, counterparty_port and counterparty_channel"
+            "a path has id, source, dest, order, first, forward, back, gas and, from version 3 on, wait_ns"
         }
-        "turn" => {
-            "a turn has from, until, goal, event (in a setup none), settle and, from version 3 on, taken (in a setup none)"
-        }
+        "turn" => { "a turn has from, until, goal, event, settle and, from version 3 on, taken" }
         "goal" => "a goal has client, and at_least or exactly",
         "event" => {
             "an event has kind and the keys of its kind: set has chain, name, validators; header chain, height, time, root, set, next, votes; stored client, height, time, root, next; sent path, seq, height, timeout_height, timeout_time; received and ack path, seq, height; cleared path, seq; closed path"

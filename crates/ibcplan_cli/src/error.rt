@@ -3,6 +3,7 @@ ghost use Rattle.std.specs.Prelude.{◌≡◌, true, None};
 ghost use Rattle.rb_script_toml.specs.Faults.{status_of};
 ghost use Rattle.ibcplan_cli.specs.Failures.{failure_status, IsFailureStatus, told_fault, is_unwritten, error_fault, is_device};
 
+use crate::advice::{advice_for, setup_advice_for};
 use crate::input::Input;
 use crate::input_error::{InputError, input_error_of};
 use crate::shown::{Shown, shown_text};
@@ -86,11 +87,28 @@ impl<'a> ProgramError<'a> {
     {
         match error {
             RunError::Fault(mut fault) => {
-                let flaw = input_error_of(&mut fault, input);
+                let advice = advice_for(fault.name, fault.path.as_str());
+                let flaw = input_error_of(&mut fault, input, advice);
                 ProgramError::Refused { fault, flaw }
             }
             RunError::Device => ProgramError::untaken(),
             RunError::NoMemory => ProgramError::NoMemory,
+        }
+    }
+
+    /// Why a setup gave no result.
+    pub fn of_setup(error: RunError, input: &Input<'a>) -> ProgramError<'a>
+        ensures status { failure_status result ≡ status_of error }
+        ensures fault { told_fault result ≡ error_fault error }
+        ensures device { is_unwritten result ≡ is_device error }
+    {
+        match error {
+            RunError::Fault(mut fault) => {
+                let advice = setup_advice_for(fault.name, fault.path.as_str());
+                let flaw = input_error_of(&mut fault, input, advice);
+                ProgramError::Refused { fault, flaw }
+            }
+            error => ProgramError::of_run(error, input),
         }
     }
 

@@ -39,7 +39,7 @@ pub fn imported<'a, R: Host>(
 ) -> Result<ImportedText, ProgramError<'a>> {
     let setup = match read_setup(rt.alloc(), input.bytes()) {
         Ok(setup) => setup,
-        Err(error) => return Err(ProgramError::of_run(error, input)),
+        Err(error) => return Err(ProgramError::of_setup(error, input)),
     };
     let mut left_out = LeftOut::nothing(rt.alloc());
     let fleet = read_fleet(rt, setup, answers, &mut left_out)?;

@@ -2,7 +2,7 @@
 ghost use Rattle.std.specs.Prelude.{◌≡◌};
 ghost use Rattle.rb_script_toml.specs.Faults.{fault_view};
 
-use crate::advice::{advice_for, type_words};
+use crate::advice::type_words;
 use crate::input::Input;
 use crate::shown::Shown;
 use rb_script_toml::{Fault, FaultName};
@@ -51,8 +51,13 @@ pub enum InputError<'a> {
     },
 }
 
-/// The flaw of a file that is refused for a fault, from which it takes the reason.
-pub fn input_error_of<'a>(fault: &mut Fault, input: &Input<'a>) -> InputError<'a>
+/// The flaw of a file that is refused for a fault, from which it takes the reason; the advice says what
+/// should stand at the fault's path.
+pub fn input_error_of<'a>(
+    fault: &mut Fault,
+    input: &Input<'a>,
+    advice: &'static str,
+) -> InputError<'a>
     ensures { fault_view fault.new ≡ fault_view fault.old }
 {
     let file = input.name();
@@ -66,7 +71,6 @@ pub fn input_error_of<'a>(fault: &mut Fault, input: &Input<'a>) -> InputError<'a
             return InputError::Grammar { file, reason };
         }
     }
-    let advice = advice_for(fault.name, fault.path.as_str());
     match (fault.name, fault.found) {
         (FaultName::MissingKey, _) if is_blank(input.bytes()) => InputError::Empty { file },
         (FaultName::MissingKey, _) => InputError::Missing { file, advice },

@@ -25,7 +25,7 @@ pub fn wanted<'a, R: Host>(
 ) -> Result<WantedText, ProgramError<'a>> {
     let setup = match read_setup(rt.alloc(), input.bytes()) {
         Ok(setup) => setup,
-        Err(error) => return Err(ProgramError::of_run(error, input)),
+        Err(error) => return Err(ProgramError::of_setup(error, input)),
     };
     let folders = read_folders(rt, &setup, folder)?;
     match texts_of(rt.alloc(), &setup, &folders) {
