@@ -1,4 +1,4 @@
-//! Names of files as messages show them.
+//! Names of files, and words of the command line, as messages show them.
 use rb_script_toml::is_active;
 use std::alloc::{AllocError, Global};
 use std::fmt;
