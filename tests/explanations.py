@@ -15,6 +15,7 @@ import xml.etree.ElementTree as ElementTree
 
 sys.dont_write_bytecode = True
 from program import TOP, Case, run_program
+from script_text import LATER, a_set, chains, client, members, packet, path, stored, turn
 
 sys.path.insert(0, str(TOP / "tests" / "reference"))
 import explain
@@ -64,6 +65,7 @@ def explain_cases():
         yield Case(f"{file.name}, explained as JSON", ["explain", "--json", "-"], file.read_bytes(), value, b"", 0, reader=json.loads)
     yield from chosen_cases()
     yield from whole_cases()
+    yield from refused_cases()
 
 
 def chosen_cases():
@@ -106,6 +108,24 @@ def whole_cases():
     text = explain.text_of(explain.value_of(script))
     explain.MOST = most
     yield Case("thirty updates, all", ["explain", "--all", "-"], given, text.encode(), b"", 0)
+
+
+def refused_cases():
+    """The last set, stored consensus state and packet, each one too many; and a stored consensus state beside another one at its height."""
+    events = {
+        "a set too many": (406, [a_set(f"s{power}", members([0], lambda _: power)) for power in range(1, 1026)]),
+        "a stored consensus state too many": (406, [a_set("s", members([0])), *(stored("c", height) for height in range(1, 1026))]),
+        "a packet too many": (406, [packet("sent", "p", seq) for seq in range(1, 4098)]),
+        "another consensus state at a height": (404, [a_set("s", members([0])), a_set("t", members([1])), stored("c", 1), stored("c", 1, "t")]),
+    }
+    for name, (number, texts) in events.items():
+        given = (chains(2) + client("c", "a1", "a0") + client("d", "a0", "a1") + path("p", "a0", "a1", "c", "d") + turn(LATER, texts)).encode()
+        value = explain.value_of(reference.read_script(given))
+        if [refused["number"] for refused in value["turns"][0]["refused"]] != [number]:
+            print(f"== {name}: the second planner doesn't refuse the last event alone")
+            value = None
+        yield Case(f"{name}, explained", ["explain", "-"], given, explain.text_of(value).encode() if value else b"", b"", 0)
+        yield Case(f"{name}, explained as JSON", ["explain", "--json", "-"], given, value, b"", 0, reader=json.loads)
 
 
 # ---- pictures
