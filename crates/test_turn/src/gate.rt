@@ -34,15 +34,28 @@ impl Pair {
         }
     }
 
-    /// Counts one more for an object; tells how many these are, and shows the other object's count.
-    fn count(&self, object: usize) -> (u64, &AtomicU64) {
-        let (own, other) = if object == 0 {
-            (&self.first, &self.second)
+    /// An object's count.
+    fn own(&self, object: usize) -> &AtomicU64 {
+        if object == 0 {
+            &self.first
         } else {
-            (&self.second, &self.first)
-        };
-        let earlier = own.fetch_add(1, Ordering::SeqCst);
-        (earlier.saturating_add(1), other)
+            &self.second
+        }
+    }
+
+    /// The other object's count.
+    fn other(&self, object: usize) -> &AtomicU64 {
+        if object == 0 {
+            &self.second
+        } else {
+            &self.first
+        }
+    }
+
+    /// Counts one more for an object; tells how many these are.
+    fn count(&self, object: usize) -> u64 {
+        let earlier = self.own(object).fetch_add(1, Ordering::SeqCst);
+        earlier.saturating_add(1)
     }
 
     fn is_once_a_turn(&self) -> bool {
@@ -114,19 +127,20 @@ impl<R: Clock> Watch<R> {
     }
 
     fn begin_scan(&self, path: usize, part: Part) {
-        let (number, other) = match part {
-            Part::Packets => self.packets.count(path),
-            Part::Channel => self.channels.count(path),
+        let pair = match part {
+            Part::Packets => &self.packets,
+            Part::Channel => &self.channels,
         };
+        let number = pair.count(path);
         if self.are_several {
-            self.hold(other, number);
+            self.hold(pair.other(path), number);
         } else {
             self.take_a_while();
         }
     }
 
     fn begin_plan(&self, client: usize) {
-        let (number, _) = self.plans.count(client);
+        let number = self.plans.count(client);
         if !self.are_several {
             self.take_a_while();
         } else if client == 0 {
@@ -135,7 +149,7 @@ impl<R: Clock> Watch<R> {
     }
 
     fn take(&self, client: usize) {
-        let (number, _) = self.taken.count(client);
+        let number = self.taken.count(client);
         if client == 0 {
             self.hold(&self.plans.second, number);
         }
