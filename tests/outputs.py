@@ -3,6 +3,7 @@ import json
 import shlex
 import tomllib
 
+from healths import clients_of
 from program import TOP, Case
 
 MESSAGES = ("recv", "ack", "timeout")
@@ -54,6 +55,11 @@ def value_of(script, report):
         elif kind == "next":
             client["next"] = words[0]
     return {"ibcplan": int(report.split()[1]), "turns": turns}
+
+
+def json_of(script, report):
+    """The value that `plan --json` writes for the text of a script whose report this is."""
+    return value_of(tomllib.loads(script), report) | {"clients": clients_of(script)}
 
 
 def word(identifier):
@@ -129,7 +135,7 @@ def strict_cases(are_few):
     for number, (script, report) in enumerate(stored_texts(are_few)):
         words = [*commands[number % len(commands)], "--strict", "-"]
         is_json, status = "--json" in words, 6 if "\nrefused " in report else 0
-        output = value_of(tomllib.loads(script), report) if is_json else report.encode()
+        output = json_of(script, report) if is_json else report.encode()
         what = f"{' '.join(words)} of {' '.join(report.split()[:9])}"
         yield Case(what, words, script.encode(), output, b"", status, reader=json.loads if is_json else None)
     yield Case("a fault of plan --strict", ["plan", "--strict", "-"], b"version =", b"", b"fault 1001 NotToml at -\n", 1)
@@ -163,7 +169,7 @@ def output_cases(are_few):
     for script, report in stored:
         table, given, what = tomllib.loads(script), script.encode(), " ".join(report.split()[:9])
         value = value_of(table, report)
-        yield Case(f"JSON of {what}", ["plan", "--json", "-"], given, value, b"", 0, reader=json.loads)
+        yield Case(f"JSON of {what}", ["plan", "--json", "-"], given, json_of(script, report), b"", 0, reader=json.loads)
         yield Case(f"commands of {what}", ["commands", "-"], given, commands_of(table, value).encode(), b"", 0)
     for words in ["plan", "--json", "-"], ["commands", "-"]:
         yield Case(f"a fault of {words[0]}", words, b"version =", b"", b"fault 1001 NotToml at -\n", 1)
@@ -173,6 +179,6 @@ def jq_cases(program):
     """The JSON of the examples, by a program that the shell runs, as `jq` reads and writes it."""
     line = f'{" ".join(map(shlex.quote, program))} plan --json "$0" | jq -c .'
     for example in sorted((TOP / "examples").glob("*.toml")):
-        table, report = tomllib.loads(example.read_text()), example.with_suffix(".report").read_text()
-        value = json.dumps(value_of(table, report), separators=(",", ":"))
+        value = json_of(example.read_text(), example.with_suffix(".report").read_text())
+        value = json.dumps(value, separators=(",", ":"))
         yield Case(f"JSON of {example.name} by jq", ["sh", "-c", line, str(example)], b"", f"{value}\n".encode(), b"", 0)

@@ -4,6 +4,7 @@ ghost use Rattle.rb_script_types.specs.Script.{script_view, IsReadScript};
 use crate::reporting::plan_status;
 use ibcplan_cli::{Input, ProgramError, Turns, WantedTurns, WorkerCount};
 use rb_base::Gate;
+use rb_health::{healths_of, run_to_end, with_health};
 use rb_script_read::read_script;
 use rb_script_toml::RunError;
 use rb_script_types::Script;
@@ -20,12 +21,9 @@ pub struct JsonText {
     pub status: u8,
 }
 
-/// The report of the script that a file holds, as JSON; its plans are made by so many workers, through a gate.
-pub fn json_of_script<
-    'a,
-    R: Threads + Wait + Copy + Send + Sync + 'static,
-    G: Gate + Send + Sync + Drop + 'static,
->(
+/// The report of the script that a file holds, as JSON, with when its clients expire; its step tables are made by so many workers,
+/// its plans by the calling thread, through a gate.
+pub fn json_of_script<'a, R: Threads + Sync, G: Gate + Sync + Drop>(
     rt: &R,
     alloc: Global,
     input: &Input<'a>,
@@ -33,28 +31,26 @@ pub fn json_of_script<
     is_strict: bool,
     gate: G,
 ) -> Result<JsonText, ProgramError<'a>> {
-    match json_of_bytes(rt, alloc, input.bytes(), workers, is_strict, gate) {
+    match json_of_bytes(rt, alloc, input.bytes(), workers, is_strict, &gate) {
         Ok(json) => Ok(json),
         Err(error) => Err(ProgramError::of_run(error, input)),
     }
 }
 
-fn json_of_bytes<
-    R: Threads + Wait + Copy + Send + Sync + 'static,
-    G: Gate + Send + Sync + Drop + 'static,
->(
+fn json_of_bytes<R: Threads + Sync, G: Gate + Sync>(
     rt: &R,
     alloc: Global,
     bytes: &[u8],
     workers: WorkerCount,
     is_strict: bool,
-    gate: G,
+    gate: &G,
 ) -> Result<JsonText, RunError> {
     let script = read_script(alloc, bytes)?;
-    let gate = Arc::new(alloc, gate)?;
-    let report = report_of(rt, alloc, script, workers.count(), &gate)?;
+    let (report, relayer) = run_to_end(rt, alloc, script, workers.count(), gate)?;
+    let clients = healths_of(alloc, &relayer)?;
+    let json = json_of(alloc, &report)?;
     Ok(JsonText {
-        text: json_of(alloc, &report)?,
+        text: with_health(alloc, json.as_str(), clients.as_slice())?,
         status: plan_status(is_strict, &report),
     })
 }

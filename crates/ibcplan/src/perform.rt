@@ -10,6 +10,7 @@ use crate::explain::{AskedExplanation, Form, explain};
 use crate::explained::Explained;
 use crate::following::follow;
 use crate::forms::{commands_of_script, json_of_script};
+use crate::health::health_of_script;
 use crate::progress::Progress;
 use crate::reporting::{plan_status, refused_events};
 use ibcplan_cli::{
@@ -147,6 +148,10 @@ fn done_of<'a, R: Host, W: Sink>(
             };
             explain_file(rt, script, asked, is_watched, output)
         }
+        Request::Health {
+            script,
+            are_metrics,
+        } => health_file(rt, script, are_metrics, is_watched, output),
         Request::Import { setup, answers } => import_files(rt, setup, answers, output),
         Request::Want { setup, folder } => want_files(rt, setup, folder, output),
         Request::Certify {
@@ -224,6 +229,22 @@ fn explain_file<'a, R: Host, W: Sink>(
     let script = Input::read(rt, script)?;
     let progress = Progress::new(*rt, is_watched);
     explain(rt, rt.alloc(), &script, asked, progress, output)?;
+    Ok(Done::quietly(status::DONE))
+}
+
+fn health_file<'a, R: Host, W: Sink>(
+    rt: &R,
+    script: &'a str,
+    are_metrics: bool,
+    is_watched: bool,
+    output: &mut W,
+) -> Result<Done, ProgramError<'a>>
+    requires { W.is_broken output.old ≡ false }
+{
+    let script = Input::read(rt, script)?;
+    let progress = Progress::new(*rt, is_watched);
+    let text = health_of_script(rt, rt.alloc(), &script, are_metrics, &progress)?;
+    write(text.as_str(), output)?;
     Ok(Done::quietly(status::DONE))
 }
 

@@ -6,6 +6,7 @@ mod advice;
 mod command_line;
 mod error;
 mod explain_request;
+mod health_request;
 mod host;
 mod importing;
 mod input;

@@ -2,6 +2,7 @@
 use crate::explain_request::{
     EXPLAIN, PICTURE, explain_command, explain_of, picture_command, picture_of,
 };
+use crate::health_request::{HEALTH, health_command, health_of};
 use crate::importing::Answers;
 use crate::input::STANDARD_INPUT;
 use crate::worker_count::WorkerCount;
@@ -43,6 +44,11 @@ pub enum Request<'a> {
         script: &'a str,
         turns: WantedTurns,
         client: Option<&'a str>,
+    },
+    /// Write when each client of a script expires; as metrics, or as lines.
+    Health {
+        script: &'a str,
+        are_metrics: bool,
     },
     /// Write the script that a setup and the answers in a folder make.
     Import {
@@ -345,6 +351,7 @@ fn command_line<'a>(alloc: Global) -> Result<Command<'a>, AllocError> {
         .subcommand(want_command(alloc)?)?
         .subcommand(explain_command(alloc)?)?
         .subcommand(picture_command(alloc)?)?
+        .subcommand(health_command(alloc)?)?
         .subcommand(import_command(alloc)?)?
         .subcommand(follow_command(alloc)?)?
         .subcommand(certify_command(alloc)?)
@@ -438,6 +445,9 @@ fn task_of<'a>(matches: &ArgMatches<'a>) -> Option<Request<'a>> {
     }
     if name == FOLLOW {
         return follow_of(given);
+    }
+    if name == HEALTH {
+        return health_of(given);
     }
     let script = given.get_str(SCRIPT)?;
     if name == CERTIFY {

@@ -1,0 +1,27 @@
+-- What a relayer shows of a client, and where it shows none.
+use Rattle.std.proofs.Common.{◌≡◌, ◌⊎◌, ℕ, ◌<◌, ◌≤◌, not, List, length, get_or, Option, Some, None, is_none, slice_get, nat_lt, refl, sym, ap, ◌∙◌, inl, inr}
+use Rattle.std.specs.Option.{option_map, option_and_then}
+use Rattle.std.proofs.lemmas.Bool.{lt-ltb}
+use Rattle.std.proofs.lemmas.Option.{none-some, slice_get_cases}
+use Rattle.rb_core_model.specs.Machine.{State, client_view, client_view_refusal, job_of}
+use Rattle.rb_core_model.specs.Refusal.{refused_if}
+use Rattle.rb_plan_client.specs.Draft.{Job}
+use Rattle.rb_script_types.specs.declared.refusal.Refusal.{Refusal}
+use Rattle.rb_script_types.specs.declared.refusal.Refusal.TheVariants.{UnknownObject, OutOfOrder}
+use Rattle.rb_health.specs.Health.{newest_expiry, expiry_in}
+
+unshown : {X Y W : Type 0} (xs : List X) (i : ℕ) (w : Option W) (f : W → X → Y) (r : Refusal)
+    → refused_if (not (nat_lt i (length xs))) UnknownObject (refused_if (is_none w) OutOfOrder None) ≡ Some r → option_and_then (λ v. option_map (f v) (slice_get xs i)) w ≡ None
+unshown xs i None f r e = refl
+unshown {X} xs i (Some v) f r e = go (slice_get_cases xs i).1
+  where
+    go : ((x : X) × (i < length xs) × (slice_get xs i ≡ Some x) × (get_or xs i x ≡ x)) ⊎ ((length xs ≤ i) × (slice_get xs i ≡ None)) → option_map (f v) (slice_get xs i) ≡ None
+    go (inl found) = absurd (none-some r (sym (ap (λ b. refused_if (not b) UnknownObject None) (lt-ltb i (length xs) found.1)) ∙ e))
+    go (inr past) = ap (option_map (f v)) past.1
+
+pub refused_expiry : (s : State) (client : ℕ) (r : Refusal) → client_view_refusal s client ≡ Some r → expiry_in s client ≡ None
+refused_expiry s client r e =
+    ap (λ (o : Option Job). option_and_then (λ (job : Job). newest_expiry job.task) o) (unshown s.standing.clients client s.standing.window (job_of s client) r e)
+
+pub shown_expiry : (s : State) (client : ℕ) (job : Job) → client_view s client ≡ Some job → expiry_in s client ≡ newest_expiry job.task
+shown_expiry s client job e = ap (λ (o : Option Job). option_and_then (λ (job : Job). newest_expiry job.task) o) e

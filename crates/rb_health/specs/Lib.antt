@@ -1,0 +1,3 @@
+pub mod Health
+pub mod Run
+pub mod Metrics
