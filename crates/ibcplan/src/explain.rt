@@ -176,8 +176,8 @@ impl<W: Sink> Teller<'_, W> {
 impl<W: Sink> Listener<Global> for Teller<'_, W> {
     ghost use Rattle.rb_explain.specs.Turn.{IsExplanation};
 
-    fn explained(&mut self, turn: &TurnExplanation) -> Result<bool, AllocError>
-        requires { IsExplanation turn.now }
+    fn explained(&mut self, wanted: &Wanted, turn: &TurnExplanation) -> Result<bool, AllocError>
+        requires { IsExplanation wanted.now turn.now }
     {
         let place = self.count;
         self.count = place.saturating_add(1);
@@ -186,7 +186,7 @@ impl<W: Sink> Listener<Global> for Teller<'_, W> {
                 self.alloc,
                 &self.config,
                 turn,
-                self.form.detail().most,
+                wanted.detail.most,
                 self.output,
             ),
             Form::Json { .. } => put_json(self.alloc, &self.config, turn, place, self.output),

@@ -1,5 +1,5 @@
 -- Clients as they are planned for, one after another.
-use Rattle.std.proofs.Common.{◌≡◌, ℕ, zero, suc, ◌+◌, ◌<◌, ◌⊎◌, true, List, [], ◌∷◌, ◌++◌, Option, Some, None, IfSome, length, map, get_or, refl, sym, ap, ◌∙◌, subst, inl, inr, arith, add-zero}
+use Rattle.std.proofs.Common.{◌≡◌, ℕ, zero, suc, ◌+◌, ◌<◌, ◌⊎◌, Bool, true, List, [], ◌∷◌, ◌++◌, Option, Some, None, IfSome, IsSomeAnd, is_some, length, map, get_or, refl, sym, ap, ◌∙◌, subst, inl, inr, arith, add-zero}
 use Rattle.std.specs.List.{AllZip, slice_get, filter_map, cons_option, enumerate_from}
 use Rattle.std.specs.Option.{option_map}
 use Rattle.std.proofs.lemmas.Bool.{cond-true}
@@ -24,9 +24,12 @@ use Rattle.rb_super_turn.specs.declared.report.ClientReport.{ClientReport as Cod
 use Rattle.rb_super_turn.proofs.Sizes.{at_place}
 use Rattle.rb_super_turn.proofs.Steps.{sizes_in}
 use Rattle.rb_explain.specs.Client.{IsRight}
-use Rattle.rb_explain.specs.Turn.{AreExplained, AreJobs, AreRight, IsExplainedAt, IsExplainedIn, IsJobFor, IsRightFor, IsTurnExplained}
+use Rattle.rb_explain.specs.Turn.{AreExplained, AreJobs, AreRight, IsExplainedAt, IsJobFor, IsRightFor, IsToldIn, IsTurnExplained}
+use Rattle.rb_explain.specs.Wanted.{has_client}
 use Rattle.rb_explain.specs.declared.client.ClientExplanation.{ClientExplanation}
 use Rattle.rb_explain.specs.declared.turn.TurnExplanation.{TurnExplanation}
+use Rattle.rb_explain.specs.declared.wanted.Detail.{Detail}
+use Rattle.rb_explain.specs.declared.wanted.Wanted.{Wanted}
 
 -- ---- what is owed, where all is scanned
 
@@ -96,29 +99,36 @@ pub at_index : {X : Type 0} (xs : List X) (i : ℕ) (x : X) → i < length xs �
 at_index xs i x lt is = slice_get-get_or xs i x lt ∙ ap (λ y. Some y) (sym is)
 
 -- the jobs of the first clients
-pub record AreFirstJobs (s : State) (n : ℕ) (jobs : List (Option Job)) : Type 0 where
+pub record AreFirstJobs (s : State) (asked : ℕ → Bool) (n : ℕ) (jobs : List (Option Job)) : Type 0 where
   pub count : length jobs ≡ n
   pub each : (place : ℕ) (job : Job) → slice_get jobs place ≡ Some (Some job) → client_view s place ≡ Some job
+  pub seen : (place : ℕ) (o : Option Job) → slice_get jobs place ≡ Some o → is_some o ≡ asked place
 
-pub jobs_none : (s : State) → AreFirstJobs s 0 []
-jobs_none s = record { count = refl; each = λ place job at. absurd (none-some (Some job) at) }
+pub jobs_none : (s : State) (asked : ℕ → Bool) → AreFirstJobs s asked 0 []
+jobs_none s asked = record { count = refl; each = λ place job at. absurd (none-some (Some job) at); seen = λ place o at. absurd (none-some o at) }
 
 some_job : (s : State) (n : ℕ) (o : Option Job) (job : Job) → IfSome o (λ j. client_view s n ≡ Some j) → o ≡ Some job → client_view s n ≡ Some job
 some_job s n None job is e = absurd (none-some job e)
 some_job s n (Some j) job is e = is ∙ e
 
-pub jobs_more : (s : State) (n : ℕ) (jobs : List (Option Job)) (o : Option Job) → AreFirstJobs s n jobs → IfSome o (λ j. client_view s n ≡ Some j) → AreFirstJobs s (n + 1) (jobs ++ o ∷ [])
-jobs_more s n jobs o first next = record {
+pub jobs_more : (s : State) (asked : ℕ → Bool) (n : ℕ) (jobs : List (Option Job)) (o : Option Job) → AreFirstJobs s asked n jobs → IfSome o (λ j. client_view s n ≡ Some j) → is_some o ≡ asked n
+    → AreFirstJobs s asked (n + 1) (jobs ++ o ∷ [])
+jobs_more s asked n jobs o first next here_asked = record {
   count = let count = first.count in omega (arith, length-append jobs (o ∷ []));
   each = λ place job at. go place job (get_grown jobs o (Some job) place at);
+  seen = λ place p at. see place p (get_grown jobs o p place at);
 }
   where
+    see : (place : ℕ) (p : Option Job) → (slice_get jobs place ≡ Some p) ⊎ ((place ≡ length jobs) × (o ≡ p)) → is_some p ≡ asked place
+    see place p (inl at) = first.seen place p at
+    see place p (inr here) = ap (λ (q : Option Job). is_some q) (sym here.1) ∙ here_asked ∙ ap asked (sym (here.0 ∙ first.count))
+
     go : (place : ℕ) (job : Job) → (slice_get jobs place ≡ Some (Some job)) ⊎ ((place ≡ length jobs) × (o ≡ Some job)) → client_view s place ≡ Some job
     go place job (inl at) = first.each place job at
     go place job (inr here) = subst (λ k. client_view s k ≡ Some job) (sym (here.0 ∙ first.count)) (some_job s n o job next here.1)
 
-pub jobs_all : (s : State) (n : ℕ) (jobs : List (Option Job)) → n ≡ length s.standing.clients → AreFirstJobs s n jobs → AreJobs s jobs
-jobs_all s n jobs all first = record { count = first.count ∙ all; each = first.each }
+pub jobs_all : (s : State) (asked : ℕ → Bool) (n : ℕ) (jobs : List (Option Job)) → n ≡ length s.standing.clients → AreFirstJobs s asked n jobs → AreJobs s asked jobs
+jobs_all s asked n jobs all first = record { count = first.count ∙ all; each = first.each; seen = first.seen }
 
 -- ---- their outcomes are right
 
@@ -144,9 +154,9 @@ right_here s place known job r is report =
     let task : task_in s report.window place known ≡ job.task = ap (λ (w : Span). task_in s w place known) window ∙ sym is.task in
     (known, subst (λ (t : Task). IsOutcome t known r.outcome) task report.outcome)
 
-pub jobs_right : {A : Type 0} (core : Core) (jobs : List (Option Job)) (rs : List (CodeReport A)) → IsPlannable core → AreJobs (state_in core) jobs
+pub jobs_right : {A : Type 0} (core : Core) (asked : ℕ → Bool) (jobs : List (Option Job)) (rs : List (CodeReport A)) → IsPlannable core → AreJobs (state_in core) asked jobs
     → AllZip (IsClientReport (standing_in core)) (enumerate_from 0 (standing_in core).clients) (map client_report_view rs) → AreRight jobs rs
-jobs_right core jobs rs ready are reports = λ place job r at is.
+jobs_right core asked jobs rs ready are reports = λ place job r at is.
     let view = are.each place job at in
     let k = known_of (state_in core) place job view in
     let first : 0 + place ≡ place = omega arith in
@@ -157,29 +167,29 @@ jobs_right core jobs rs ready are reports = λ place job r at is.
 -- ---- they are explained
 
 -- the first of them are
-pub record AreFirstExplained {A : Type 0} (jobs : List (Option Job)) (rs : List (CodeReport A)) (n : ℕ) (xs : List (Option (ClientExplanation A))) : Type 0 where
+pub record AreFirstExplained {A : Type 0} (detail : Detail) (jobs : List (Option Job)) (rs : List (CodeReport A)) (n : ℕ) (xs : List (Option (ClientExplanation A))) : Type 0 where
   pub count : length xs ≡ n
-  pub each : AreExplained jobs rs xs
+  pub each : AreExplained detail jobs rs xs
 
-module _ {A : Type 0} (jobs : List (Option Job)) (rs : List (CodeReport A)) where
-  pub explained_none : AreFirstExplained jobs rs 0 []
+module _ {A : Type 0} (detail : Detail) (jobs : List (Option Job)) (rs : List (CodeReport A)) where
+  pub explained_none : AreFirstExplained detail jobs rs 0 []
   explained_none = record { count = refl; each = λ place job r x at is told. absurd (none-some x told) }
 
   pub explained_more : (n : ℕ) (xs : List (Option (ClientExplanation A))) (job : Option Job) (r : CodeReport A) (x : Option (ClientExplanation A)) → slice_get jobs n ≡ Some job → slice_get rs n ≡ Some r
-      → IsExplainedAt job r x → AreFirstExplained jobs rs n xs → AreFirstExplained jobs rs (n + 1) (xs ++ x ∷ [])
+      → IsExplainedAt detail job r x → AreFirstExplained detail jobs rs n xs → AreFirstExplained detail jobs rs (n + 1) (xs ++ x ∷ [])
   explained_more n xs job r x job_at r_at told first = record {
     count = let count = first.count in omega (arith, length-append xs (x ∷ []));
     each = λ place j q y j_at q_at y_at. go place j q y j_at q_at (get_grown xs x y place y_at);
   }
     where
       go : (place : ℕ) (j : Option Job) (q : CodeReport A) (y : Option (ClientExplanation A)) → slice_get jobs place ≡ Some j → slice_get rs place ≡ Some q
-          → (slice_get xs place ≡ Some y) ⊎ ((place ≡ length xs) × (x ≡ y)) → IsExplainedAt j q y
+          → (slice_get xs place ≡ Some y) ⊎ ((place ≡ length xs) × (x ≡ y)) → IsExplainedAt detail j q y
       go place j q y j_at q_at (inl at) = first.each place j q y j_at q_at at
       go place j q y j_at q_at (inr here) =
           let place_is : place ≡ n = here.0 ∙ first.count in
           let job_is_j : job ≡ j = same_Some job j (sym job_at ∙ ap (slice_get jobs) (sym place_is) ∙ j_at) in
           let r_is_q : r ≡ q = same_Some r q (sym r_at ∙ ap (slice_get rs) (sym place_is) ∙ q_at) in
-          subst (λ (p : Option Job × CodeReport A × Option (ClientExplanation A)). IsExplainedAt p.0 p.1 p.2) (λ i. (job_is_j i, r_is_q i, here.1 i)) told
+          subst (λ (p : Option Job × CodeReport A × Option (ClientExplanation A)). IsExplainedAt detail p.0 p.1 p.2) (λ i. (job_is_j i, r_is_q i, here.1 i)) told
 
   pub right_at : (n : ℕ) (job : Option Job) (r : CodeReport A) → AreRight jobs rs → slice_get jobs n ≡ Some job → slice_get rs n ≡ Some r → IfSome job (λ j. IsRightFor j r)
   right_at n None r right job_at r_at = tt
@@ -188,30 +198,44 @@ module _ {A : Type 0} (jobs : List (Option Job)) (rs : List (CodeReport A)) wher
 -- ---- a turn is explained
 
 module _ {A : Type 0} where
-  explained_in : (core : Core) (place : ℕ) (known : ClientState) (r : CodeReport A) (y : ClientExplanation A) (jobs : List (Option Job)) (o : Option Job) → IsPlannable core → AreJobs (state_in core) jobs
-      → slice_get (standing_in core).clients place ≡ Some known → slice_get jobs place ≡ Some o → IsExplainedAt o r (Some y) → IsExplainedIn (standing_in core) place known r y
-  explained_in core place known r y jobs None ready are here at told = absurd (none-some y (sym told))
-  explained_in core place known r y jobs (Some job) ready are here at told = record {
+  told_in : (core : Core) (asked : ℕ → Bool) (detail : Detail) (place : ℕ) (known : ClientState) (r : CodeReport A) (jobs : List (Option Job)) (o : Option Job) (y : Option (ClientExplanation A))
+      → IsPlannable core → AreJobs (state_in core) asked jobs → slice_get (standing_in core).clients place ≡ Some known → slice_get jobs place ≡ Some o → IsExplainedAt detail o r y
+      → IsToldIn (standing_in core) detail place known r (is_some o) y
+  told_in core asked detail place known r jobs None y ready are here at told = told
+  told_in core asked detail place known r jobs (Some job) None ready are here at told = absurd told
+  told_in core asked detail place known r jobs (Some job) (Some x) ready are here at told = record {
     job = job;
     is_job = job_is core place job ready (are.each place job at) known here;
     explained = told;
   }
 
-  pub turn_explained : (core : Core) (s : Standing) (turn : Turn) (jobs : List (Option Job)) (x : TurnExplanation A) → IsPlannable core → standing_in core ≡ before_plans s turn → AreJobs (state_in core) jobs
-      → IsTurnReport s turn (turn_report_view x.report) → AreExplained jobs x.report.clients.items x.clients.items → IsTurnExplained s turn x
-  turn_explained core s turn jobs x ready is are report explained = record {
+  -- what stands in the list of explanations at a client's place
+  told_at : (core : Core) (asked : ℕ → Bool) (detail : Detail) (place : ℕ) (known : ClientState) (r : CodeReport A) (jobs : List (Option Job)) (rs : List (CodeReport A)) (ys : List (Option (ClientExplanation A)))
+      → IsPlannable core → AreJobs (state_in core) asked jobs → length ys ≡ length jobs → slice_get (standing_in core).clients place ≡ Some known → slice_get rs place ≡ Some r → AreExplained detail jobs rs ys
+      → IsSomeAnd (slice_get ys place) (IsToldIn (standing_in core) detail place known r (asked place))
+  told_at core asked detail place known r jobs rs ys ready are long here r_at explained =
+      let within = slice_get_within (standing_in core).clients place known here in
+      let count = are.count in
+      let o = at_place jobs place (omega arith) in
+      let y = at_place ys place (omega arith) in
+      let told = told_in core asked detail place known r jobs o.0 y.0 ready are here o.1 (explained place o.0 r y.0 o.1 r_at y.1) in
+      subst (λ (z : Option (Option (ClientExplanation A))). IsSomeAnd z (IsToldIn (standing_in core) detail place known r (asked place))) (sym y.1)
+      (subst (λ b. IsToldIn (standing_in core) detail place known r b y.0) (are.seen place o.0 o.1) told)
+
+  pub turn_explained : (core : Core) (s : Standing) (turn : Turn) (wanted : Wanted) (jobs : List (Option Job)) (x : TurnExplanation A) → IsPlannable core → standing_in core ≡ before_plans s turn
+      → AreJobs (state_in core) (has_client wanted x.turn) jobs → IsTurnReport s turn (turn_report_view x.report) → length x.clients.items ≡ length jobs
+      → AreExplained wanted.detail jobs x.report.clients.items x.clients.items → IsTurnExplained s turn wanted x
+  turn_explained core s turn wanted jobs x ready is are report long explained = record {
     report = report;
-    clients = λ place known r y at r_at y_at.
+    clients = λ place known r at r_at.
         let here : slice_get (standing_in core).clients place ≡ Some known = ap (λ (t : Standing). slice_get t.clients place) is ∙ at in
-        let within = slice_get_within (standing_in core).clients place known here in
-        let count = are.count in
-        let o = at_place jobs place (omega arith) in
-        subst (λ (t : Standing). IsExplainedIn t place known r y) is (explained_in core place known r y jobs o.0 ready are here o.1 (explained place o.0 r (Some y) o.1 r_at y_at));
+        subst (λ (t : Standing). IsSomeAnd (slice_get x.clients.items place) (IsToldIn t wanted.detail place known r (has_client wanted x.turn place))) is
+        (told_at core (has_client wanted x.turn) wanted.detail place known r jobs x.report.clients.items x.clients.items ready are long here r_at explained);
   }
 
-  pub explained_as : {jobs others : List (Option Job)} {rs qs : List (CodeReport A)} {xs ys : List (Option (ClientExplanation A))} → jobs ≡ others → rs ≡ qs → xs ≡ ys → AreExplained jobs rs xs → AreExplained others qs ys
-  explained_as same_jobs same_reports same told =
-      subst (λ (p : List (Option Job) × List (CodeReport A) × List (Option (ClientExplanation A))). AreExplained p.0 p.1 p.2) (λ i. (same_jobs i, same_reports i, same i)) told
+  pub explained_as : {detail : Detail} {jobs others : List (Option Job)} {rs qs : List (CodeReport A)} {xs ys : List (Option (ClientExplanation A))} → jobs ≡ others → rs ≡ qs → xs ≡ ys → AreExplained detail jobs rs xs → AreExplained detail others qs ys
+  explained_as {detail} same_jobs same_reports same told =
+      subst (λ (p : List (Option Job) × List (CodeReport A) × List (Option (ClientExplanation A))). AreExplained detail p.0 p.1 p.2) (λ i. (same_jobs i, same_reports i, same i)) told
 
   pub right_as : {jobs others : List (Option Job)} {rs qs : List (CodeReport A)} → jobs ≡ others → rs ≡ qs → AreRight jobs rs → AreRight others qs
   right_as same_jobs same_reports right = subst (λ (p : List (Option Job) × List (CodeReport A)). AreRight p.0 p.1) (λ i. (same_jobs i, same_reports i)) right
@@ -222,5 +246,5 @@ pub reports_here : (core : Core) (s : Standing) (turn : Turn) (rs : List ClientR
 reports_here core s turn rs is all = subst (λ (t : Standing). AllZip (IsClientReport t) (enumerate_from 0 t.clients) rs) (sym is) all
 
 -- as many are seen as are reported
-pub as_many : {A : Type 0} (core : Core) (jobs : List (Option Job)) (rs : List (CodeReport A)) → AreJobs (state_in core) jobs → length rs ≡ length core.config.clients → length jobs ≡ length rs
-as_many core jobs rs are count = are.count ∙ (sizes_in core).clients ∙ sym count
+pub as_many : {A : Type 0} (core : Core) (asked : ℕ → Bool) (jobs : List (Option Job)) (rs : List (CodeReport A)) → AreJobs (state_in core) asked jobs → length rs ≡ length core.config.clients → length jobs ≡ length rs
+as_many core asked jobs rs are count = are.count ∙ (sizes_in core).clients ∙ sym count

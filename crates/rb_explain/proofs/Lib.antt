@@ -1,9 +1,3 @@
-pub mod Thresholds
-pub mod Bounds
-pub mod Shifted
-pub mod Bisected
-pub mod Told
-pub mod KnownSteps
 pub mod Readiness
 pub mod Reasons
 pub mod Jobs

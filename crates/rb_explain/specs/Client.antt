@@ -9,14 +9,16 @@ use Rattle.rb_plan_client.specs.Task.{Task, view_of}
 use Rattle.rb_step.specs.View.{View, client_of}
 use Rattle.rb_super_turn.specs.Report.{Outcome, PlanReport, held, idle, planned}
 use Rattle.rb_super_turn.specs.Turns.{update_of, IsOutcome}
-use Rattle.rb_explain.specs.Charges.{IsChargesOf}
+use Rattle.rb_explain_plan.specs.Charges.{IsChargesOf}
+use Rattle.rb_explain.specs.Heights.{known_heights}
 use Rattle.rb_explain.specs.Idle.{IsIdleReason, OwesAny}
-use Rattle.rb_explain.specs.Plan.{IsPlanExplained}
-use Rattle.rb_explain.specs.Unreachable.{IsUnreachableExplained}
+use Rattle.rb_explain_plan.specs.Plan.{IsPlanExplained}
+use Rattle.rb_explain_plan.specs.Unreachable.{IsUnreachableExplained}
 use Rattle.rb_explain.specs.declared.client.ClientExplanation.{ClientExplanation}
 use Rattle.rb_explain.specs.declared.client.StoredHeight.{StoredHeight}
 use Rattle.rb_explain.specs.declared.client.Why.{Why}
 use Rattle.rb_explain.specs.declared.client.Why.TheVariants.{Held, Idle, Planned, Unreachable}
+use Rattle.rb_explain.specs.declared.wanted.Detail.{Detail}
 
 -- a stored height's record has expired from this moment on
 abbrev pub IsExpiry : View → StoredHeight → Type 0
@@ -37,22 +39,23 @@ IsReachFor t (held number) reach = reach ≡ None
 IsReachFor t (idle next) reach = (OwesAny t → IsReach (client_of (view_of t)) reach) × ((OwesAny t → ⊥) → reach ≡ None)
 IsReachFor t (planned p) reach = IsReach (client_of (view_of t)) reach
 
--- why an outcome is as it is
-abbrev pub IsWhy : {A : Type 0} → Task → Outcome → Why A → Type 0
-IsWhy t (held number) Held = Unit {0}
-IsWhy t (held number) _ = ⊥
-IsWhy t (idle next) (Idle reason) = IsIdleReason t reason
-IsWhy t (idle next) _ = ⊥
-IsWhy t (planned p) (Planned x) = IsSomeAnd p.plan (λ (q : PlanReport). IsPlanExplained (view_of t) p.goal (map update_of q.updates) x)
-IsWhy t (planned p) (Unreachable x) = (p.plan ≡ None) × IsUnreachableExplained (view_of t) p.goal x
-IsWhy t (planned p) _ = ⊥
+-- why an outcome is as it is; of an unreachable goal up to so many steps, by the labels of the report
+abbrev pub IsWhy : {A : Type 0} → Task → Outcome → ℕ → Why A → Type 0
+IsWhy t (held number) most Held = Unit {0}
+IsWhy t (held number) most _ = ⊥
+IsWhy t (idle next) most (Idle reason) = IsIdleReason t reason
+IsWhy t (idle next) most _ = ⊥
+IsWhy t (planned p) most (Planned x) = IsSomeAnd p.plan (λ (q : PlanReport). IsPlanExplained (view_of t) p.goal (map update_of q.updates) x)
+IsWhy t (planned p) most (Unreachable x) = (p.plan ≡ None) × IsUnreachableExplained (view_of t) p.goal p.labels most x
+IsWhy t (planned p) most _ = ⊥
 
--- what came of a client that was as in this job
-pub record IsClientExplained {A : Type 0} (j : Job) (outcome : Outcome) (x : ClientExplanation A) : Type 0 where
+-- what came of a client that was as in this job, and as much as the detail asks: the known heights, and so many steps
+pub record IsClientExplained {A : Type 0} (j : Job) (outcome : Outcome) (detail : Detail) (x : ClientExplanation A) : Type 0 where
   pub client : x.client ≡ j.client
   pub window : x.window ≡ j.task.window
   pub charges : IsChargesOf j.task.config.fees x.charges
   pub asked : x.is_asked ≡ is_some j.task.asked
   pub stored : AreStored (view_of j.task) x.stored.items
   pub reach : IsReachFor j.task outcome x.reach
-  pub why : IsWhy j.task outcome x.why
+  pub heights : x.heights.items ≡ known_heights j.task.book detail.has_heights
+  pub why : IsWhy j.task outcome detail.most x.why

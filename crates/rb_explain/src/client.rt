@@ -5,15 +5,15 @@ ghost use Rattle.rb_super_turn.specs.Report.{planned};
 ghost use Rattle.rb_super_turn.specs.Views.{outcome_view, planned_view};
 ghost use Rattle.rb_explain.specs.Client.{AreStored, IsClientExplained, IsExpiry, IsReachFor, IsRight, IsWhy};
 
-use crate::charges::{Charges, charges_of};
 use crate::heights::{KnownHeight, known_heights};
 use crate::idle::{IdleReason, idle_reason, owes};
-use crate::plan::{PlanExplanation, explain_plan};
 use crate::reach::reach_of;
-use crate::unreachable::{UnreachableExplanation, explain_unreachable};
 use crate::waiting::{WaitingMessage, waiting};
 use crate::wanted::Detail;
 use rb_base::{Height, Window};
+use rb_explain_plan::{
+    Charges, PlanExplanation, UnreachableExplanation, charges_of, explain_plan, explain_unreachable,
+};
 use rb_graph::Graph;
 use rb_plan::{Update, top_reachable};
 use rb_plan_client::JobView;
@@ -111,7 +111,6 @@ fn reach_for<A: Allocator + Copy>(
 }
 
 /// Why what was planned is as it is; of an unreachable goal up to so many steps.
-#[tactic(auto, using(crate::proofs::Reasons::why_planned))]
 fn explain_planned<A: Allocator + Copy>(
     alloc: A,
     job: &JobView<A>,
@@ -121,7 +120,7 @@ fn explain_planned<A: Allocator + Copy>(
 ) -> Result<Why<A>, AllocError>
     requires table { graph.now ≡ job.now.task.book }
     requires right { IsRight job.now.task (planned (planned_view report.now)) }
-    ensures { IfOk result (IsWhy job.now.task (planned (planned_view report.now))) }
+    ensures { IfOk result (IsWhy job.now.task (planned (planned_view report.now)) most) }
 {
     let view = job.view();
     match &report.plan {
@@ -152,7 +151,7 @@ fn explain_outcome<A: Allocator + Copy>(
     requires table { graph.now ≡ job.now.task.book }
     requires reach { IsReachFor job.now.task (outcome_view outcome.now) reach.now }
     requires right { IsRight job.now.task (outcome_view outcome.now) }
-    ensures { IfOk result (IsWhy job.now.task (outcome_view outcome.now)) }
+    ensures { IfOk result (IsWhy job.now.task (outcome_view outcome.now) most) }
 {
     match outcome {
         Outcome::Held(_) => Ok(Why::Held),
@@ -180,7 +179,8 @@ pub struct ClientExplanation<A: Allocator = Global> {
     pub why: Why<A>,
 }
 
-/// What came of a client that was as in this job, and why. The outcome is right for the job, and `graph` the table of its book.
+/// What came of a client that was as in this job, and why, as much as the detail asks. The outcome is right for the job, and `graph` the
+/// table of its book.
 pub fn explain_client<A: Allocator + Copy>(
     alloc: A,
     job: &JobView<A>,
@@ -190,7 +190,7 @@ pub fn explain_client<A: Allocator + Copy>(
 ) -> Result<ClientExplanation<A>, AllocError>
     requires table { graph.now ≡ job.now.task.book }
     requires right { IsRight job.now.task (outcome_view outcome.now) }
-    ensures { IfOk result (IsClientExplained job.now (outcome_view outcome.now)) }
+    ensures { IfOk result (IsClientExplained job.now (outcome_view outcome.now) detail) }
 {
     let view = job.view();
     let reach = reach_for(alloc, job, graph, outcome)?;

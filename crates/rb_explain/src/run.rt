@@ -16,10 +16,11 @@ use std::thread::Threads;
 
 /// Who is told of turns that were explained, each as it comes.
 pub trait Listener<A: Allocator> {
-    /// A turn was explained, its report and each of its clients by what it was where clients were planned; answers whether the
-    /// next one is wanted. An error comes only where a growth is refused.
-    fn explained(&mut self, turn: &TurnExplanation<A>) -> Result<bool, AllocError>
-        requires { IsExplanation turn.now };
+    /// A turn that is wanted was explained: its report, and each of its clients that is wanted, by what it was where clients were
+    /// planned, in as much detail as is wanted. Answers whether the next turn is to be explained. An error comes only where a growth is
+    /// refused.
+    fn explained(&mut self, wanted: &Wanted, turn: &TurnExplanation<A>) -> Result<bool, AllocError>
+        requires { IsExplanation wanted.now turn.now };
 }
 
 /// Leads a relayer through turns, and tells of those that are wanted, each once it is explained.
@@ -48,7 +49,7 @@ fn explain_turns<
             break;
         }
         let one = explain_turn(crew, alloc, &mut relayer, number, turn, wanted)?;
-        if wanted.has_turn(number) && !listener.explained(&one)? {
+        if wanted.has_turn(number) && !listener.explained(wanted, &one)? {
             break;
         }
     }

@@ -5,6 +5,7 @@ ghost use Rattle.rb_core.specs.Core.{state_in};
 ghost use Rattle.rb_core_model.specs.Machine.{client_view};
 ghost use Rattle.rb_super_turn.specs.Phases.{standing_in};
 ghost use Rattle.rb_explain.specs.Turn.{AreExplained, AreJobs, AreRight, IsExplainedAt, IsRightFor};
+ghost use Rattle.rb_explain.specs.Wanted.{has_client};
 
 use crate::client::{ClientExplanation, explain_client};
 use crate::wanted::{Detail, Wanted};
@@ -64,6 +65,7 @@ fn see_wanted<R: Threads + Sync, G: Gate + Sync, A: Allocator + Copy + Send + Sy
     requires window { is_some (standing_in relayer.old).window ≡ true }
     requires alloc { Frees A.Allocator A.dealloc_token }
     ensures seen { IfOk result (λ o. IfSome o (λ seen. client_view (state_in relayer.old) client ≡ Some seen)) }
+    ensures wanted { IfOk result (λ o. is_some o ≡ is_wanted) }
     ensures same { relayer.new ≡ relayer.old }
 {
     if !is_wanted {
@@ -82,7 +84,7 @@ pub(crate) fn see_all<R: Threads + Sync, G: Gate + Sync, A: Allocator + Copy + S
 ) -> Result<Vec<Option<Seen<A>>, A>, AllocError>
     requires window { is_some (standing_in relayer.old).window ≡ true }
     requires alloc { Frees A.Allocator A.dealloc_token }
-    ensures seen { IfOk result (λ seen. AreJobs (state_in relayer.old) seen.items) }
+    ensures seen { IfOk result (λ seen. AreJobs (state_in relayer.old) (has_client wanted.now number) seen.items) }
     ensures same { relayer.new ≡ relayer.old }
 {
     let clients = relayer.config().clients.len();
@@ -103,7 +105,7 @@ fn explain_seen<A: Allocator + Copy>(
     detail: Detail,
 ) -> Result<Option<ClientExplanation<A>>, AllocError>
     requires right { IfSome seen.now (λ job. IsRightFor job report.now) }
-    ensures { IfOk result (λ o. IsExplainedAt seen.now report.now o) }
+    ensures { IfOk result (λ o. IsExplainedAt detail seen.now report.now o) }
 {
     match seen {
         Some(seen) => {
@@ -124,7 +126,8 @@ pub(crate) fn explain_all<A: Allocator + Copy>(
 ) -> Result<Vec<Option<ClientExplanation<A>>, A>, AllocError>
     requires long { length seen.now ≡ length reports.now }
     requires right { AreRight seen.now reports.now }
-    ensures { IfOk result (λ xs. AreExplained seen.now reports.now xs.items) }
+    ensures count { IfOk result (λ xs. length xs.items ≡ length seen.now) }
+    ensures explained { IfOk result (λ xs. AreExplained detail seen.now reports.now xs.items) }
 {
     let mut explained = Vec::with_capacity(alloc, seen.len())?;
     for place in 0..seen.len() {

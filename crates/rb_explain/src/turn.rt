@@ -116,7 +116,8 @@ pub(crate) fn explain_turn<R: Threads + Sync, G: Gate + Sync, A: Allocator + Cop
     requires turn { IsTurnFor relayer.old.config turn }
     requires room { HasLogRoom relayer.old (most_events relayer.old.config turn) }
     requires alloc { Frees A.Allocator A.dealloc_token }
-    ensures right { IfOk result (IsTurnExplained (standing_in relayer.old) (code_turn_as_events turn)) }
+    ensures number { IfOk result (λ x. x.turn ≡ number) }
+    ensures right { IfOk result (IsTurnExplained (standing_in relayer.old) (code_turn_as_events turn) wanted.now) }
     ensures later { OnOk result (IsLater (most_events relayer.old.config turn) relayer.old relayer.new) }
 {
     let Turn {

@@ -1,4 +1,6 @@
 //! What is to be explained.
+ghost use Rattle.std.specs.Prelude.{◌≡◌};
+ghost use Rattle.rb_explain.specs.Wanted.{has_client, has_turn};
 
 /// How much is told of a client: of an unreachable goal up to so many steps, and whether the known heights of the chain are.
 #[derive(Clone, Copy, Debug)]
@@ -17,7 +19,9 @@ pub struct Wanted {
 
 impl Wanted {
     /// Whether a turn is wanted, by its number from 1.
-    pub(crate) fn has_turn(&self, number: usize) -> bool {
+    pub(crate) fn has_turn(&self, number: usize) -> bool
+        ensures { result ≡ has_turn self.now number }
+    {
         match self.turn {
             Some(turn) => turn == number,
             None => true,
@@ -25,11 +29,14 @@ impl Wanted {
     }
 
     /// Whether a client is wanted in a turn, by its place and the turn's number.
-    pub(crate) fn has_client(&self, number: usize, client: usize) -> bool {
-        match self.client {
-            Some(wanted) => self.has_turn(number) && wanted == client,
-            None => self.has_turn(number),
-        }
+    pub(crate) fn has_client(&self, number: usize, client: usize) -> bool
+        ensures { result ≡ has_client self.now number client }
+    {
+        let is_among = match self.client {
+            Some(wanted) => wanted == client,
+            None => true,
+        };
+        self.has_turn(number) && is_among
     }
 
     /// Whether no turn from this number on is wanted.

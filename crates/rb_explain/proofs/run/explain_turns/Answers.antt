@@ -9,6 +9,7 @@ use Rattle.rb_core.specs.Core.{state_in}
 use Rattle.rb_script_types.specs.Config.{Config}
 use Rattle.rb_super.specs.AsEvents.{code_turn_as_events, IsTurnFor, most_events}
 use Rattle.rb_super_turn.specs.Phases.{standing_in}
+use Rattle.rb_explain.specs.Wanted.{has_turn}
 use Rattle.rb_explain.proofs.run.explain_turns.Goals as goal
 
 pub explain_turn-requires-clause-turn : goal.explain_turn-requires-clause-turn
@@ -61,4 +62,5 @@ explained-requires g c = record {
   start = standing_in c.loop-turn.relayer;
   turn = code_turn_as_events c.in-Some.turn;
   right = c.in_ok-one.ensures.right;
+  is_wanted = ap (has_turn c.args.wanted.now) c.in_ok-one.ensures.number ∙ sym c.has_turn.ensures ∙ c.if-has_turn.true;
 }

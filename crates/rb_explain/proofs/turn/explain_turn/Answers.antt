@@ -10,6 +10,8 @@ use Rattle.rb_super_turn.specs.Phases.{standing_in, turn_heard, IsPlannable}
 use Rattle.rb_super_turn.specs.Turns.{before_plans, IsTurnReport}
 use Rattle.rb_super_turn.specs.Views.{refused_view, client_report_view, settlement_view}
 use Rattle.rb_super.proofs.Whole.{turn_done}
+use Rattle.rb_explain.specs.Turn.{AreJobs}
+use Rattle.rb_explain.specs.Wanted.{has_client}
 use Rattle.rb_explain.proofs.Jobs.{as_many, explained_as, jobs_right, reports_here, right_as, turn_explained}
 use Rattle.rb_explain.proofs.turn.explain_turn.Goals as goal
 
@@ -58,7 +60,7 @@ settle_turn-requires-clause-room g c =
 pub explain_all-requires-clause-long : goal.explain_all-requires-clause-long
 explain_all-requires-clause-long g c =
     ap length c.as_slice-4.ensures.value
-    ∙ as_many c.prepare.new.relayer c.in_ok-seen.seen.items c.in_ok-clients.clients.items c.in_ok-seen.ensures.seen
+    ∙ as_many c.prepare.new.relayer (has_client c.args.wanted.now c.args.number) c.in_ok-seen.seen.items c.in_ok-clients.clients.items c.in_ok-seen.ensures.seen
     (c.in_ok-clients.ensures.count ∙ ap (λ (k : Core). length k.config.clients) c.see_all.ensures.same)
     ∙ sym (ap length c.as_slice-5.ensures.value)
 
@@ -76,7 +78,7 @@ explain_all-requires-clause-right g c =
     c.in_ok-settled.ensures.reports c.in_ok-settled.ensures.standing).0 in
     let stands : standing_in c.prepare.new.relayer ≡ before_plans s turn = c.in_ok-window_back.ensures.standing ∙ ap (λ (gs : List Asked). before_plans s (turn_heard c.args.turn.window gs c.args.turn.events.items)) c.as_slice-2.ensures.value in
     right_as (sym c.as_slice-4.ensures.value) (sym c.as_slice-5.ensures.value)
-    (jobs_right c.prepare.new.relayer c.in_ok-seen.seen.items c.in_ok-clients.clients.items c.in_ok-window_back.ensures.ready c.in_ok-seen.ensures.seen
+    (jobs_right c.prepare.new.relayer (has_client c.args.wanted.now c.args.number) c.in_ok-seen.seen.items c.in_ok-clients.clients.items c.in_ok-window_back.ensures.ready c.in_ok-seen.ensures.seen
     (reports_here c.prepare.new.relayer s turn (map client_report_view c.in_ok-clients.clients.items) stands done.clients))
 
 pub returns-clause-right : goal.returns-clause-right
@@ -93,10 +95,12 @@ returns-clause-right g c =
     c.in_ok-clients.ensures.reports
     c.in_ok-settled.ensures.reports c.in_ok-settled.ensures.standing).0 in
     let stands : standing_in c.prepare.new.relayer ≡ before_plans s turn = c.in_ok-window_back.ensures.standing ∙ ap (λ (gs : List Asked). before_plans s (turn_heard c.args.turn.window gs c.args.turn.events.items)) c.as_slice-2.ensures.value in
-    turn_explained c.prepare.new.relayer s turn c.in_ok-seen.seen.items x c.in_ok-window_back.ensures.ready stands c.in_ok-seen.ensures.seen
+    turn_explained c.prepare.new.relayer s turn c.args.wanted.now c.in_ok-seen.seen.items x c.in_ok-window_back.ensures.ready stands
+    (subst (λ n. AreJobs (state_in c.prepare.new.relayer) (has_client c.args.wanted.now n) c.in_ok-seen.seen.items) (sym c.new-explanation.ensures.turn) c.in_ok-seen.ensures.seen)
     (subst (IsTurnReport s turn) (sym (c.new-explanation.ensures.report ∙ c.report_of-report.ensures.view)) done)
+    (ap length c.new-explanation.ensures.clients ∙ c.in_ok-explained.ensures.count ∙ ap length c.as_slice-4.ensures.value)
     (explained_as c.as_slice-4.ensures.value (c.as_slice-5.ensures.value ∙ sym (c.new-explanation.ensures.reports ∙ c.report_of-report.ensures.clients)) (sym c.new-explanation.ensures.clients)
-    c.in_ok-explained.ensures)
+    c.in_ok-explained.ensures.explained)
 
 pub returns-clause-later : goal.returns-clause-later
 returns-clause-later g c =

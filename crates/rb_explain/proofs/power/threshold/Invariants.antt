@@ -1,9 +1,0 @@
-use Rattle.std.proofs.Common.{◌-◌}
-use Rattle.rb_explain.specs.Halves.{IsHalved}
-use Rattle.rb_explain.proofs.power.threshold.Given as goal
-
-abbrev pub invariant-halves : goal.invariant-halves
-invariant-halves l = IsHalved l.total l.within l.beyond l.fraction
-
-abbrev pub decreases-halves : goal.decreases-halves
-decreases-halves l = l.beyond - l.within

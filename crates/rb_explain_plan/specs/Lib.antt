@@ -1,0 +1,10 @@
+pub mod Halves
+pub mod Power
+pub mod Step
+pub mod Steps
+pub mod Charges
+pub mod Fewest
+pub mod Bisection
+pub mod Search
+pub mod Plan
+pub mod Unreachable

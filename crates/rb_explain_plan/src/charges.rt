@@ -1,0 +1,26 @@
+//! What a client's fees are made of.
+ghost use Rattle.rb_base.specs.Fee.{IsFeeTable};
+ghost use Rattle.rb_explain_plan.specs.Charges.{IsChargesOf};
+
+use rb_base::FeeTable;
+
+/// What a client's fees are made of.
+#[derive(Clone, Copy, Debug, PartialEq, Eq)]
+pub struct Charges {
+    pub base: u64,
+    pub signature: u64,
+    pub validator: u64,
+}
+
+/// The three numbers of a fee table.
+pub fn charges_of(fees: &FeeTable) -> Charges
+    ensures charges { IsChargesOf fees.now result }
+    ensures table { IsFeeTable fees.now }
+{
+    let base = fees.charge(0, 0);
+    Charges {
+        base,
+        signature: fees.charge(1, 0) - base,
+        validator: fees.charge(0, 1) - base,
+    }
+}
