@@ -15,10 +15,11 @@ use crate::progress::Progress;
 use crate::reporting::{plan_status, refused_events};
 use ibcplan_cli::{
     Answers, Host, ImportedText, Input, ProgramError, Request, WantedText, WantedTurns,
-    WorkerCount, imported, status, wanted,
+    WorkerCount, imported, setup_for, status, wanted,
 };
 use rb_base::{Counted, Gate, Sink, write_whole};
 use rb_follow::Form as AnswerForm;
+use rb_hermes::NamedClient;
 use rb_text::{Source, certify_texts, report_over};
 use std::alloc::Global;
 use std::io;
@@ -153,6 +154,7 @@ fn done_of<'a, R: Host, W: Sink>(
             are_metrics,
         } => health_file(rt, script, are_metrics, is_watched, output),
         Request::Import { setup, answers } => import_files(rt, setup, answers, output),
+        Request::Setup { config, clients } => setup_file(rt, config, clients.as_slice(), output),
         Request::Want { setup, folder } => want_files(rt, setup, folder, output),
         Request::Certify {
             script,
@@ -268,6 +270,20 @@ fn import_files<'a, R: Host, W: Sink>(
         refused_events: 0,
         notices: Some(notices),
     })
+}
+
+fn setup_file<'a, R: Host, W: Sink>(
+    rt: &R,
+    config: &'a str,
+    clients: &[NamedClient],
+    output: &mut W,
+) -> Result<Done, ProgramError<'a>>
+    requires { W.is_broken output.old ≡ false }
+{
+    let config = Input::read(rt, config)?;
+    let text = setup_for(rt.alloc(), &config, clients)?;
+    write(text.as_str(), output)?;
+    Ok(Done::quietly(status::DONE))
 }
 
 fn want_files<'a, R: Host, W: Sink>(

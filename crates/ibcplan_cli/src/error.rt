@@ -8,6 +8,7 @@ use crate::input::Input;
 use crate::input_error::{InputError, input_error_of};
 use crate::shown::{Shown, shown_text};
 use crate::status;
+use rb_hermes::NamedClient;
 use rb_script_toml::{Fault, RunError};
 use std::alloc::Global;
 use std::{fmt, io};
@@ -67,6 +68,12 @@ pub enum ProgramError<'a> {
     NoSuchClient {
         client: Shown<'a>,
         file: Shown<'a>,
+    },
+    /// A configuration makes no setup for a client.
+    #[error("error: invalid value '{client}' for '<CLIENT>...': {reason}\n\nFor more information, try '--help'.")]
+    BadClient {
+        client: NamedClient,
+        reason: &'static str,
     },
     /// Standard output fails.
     #[error("device\nstandard output: {error}\nIt can't be written; what it took may be only a beginning.")]
@@ -149,9 +156,9 @@ impl<'a> ProgramError<'a> {
     {
         match self {
             ProgramError::Refused { .. } | ProgramError::RefusedAnswers(_) => status::REFUSED,
-            ProgramError::NoSuchTurn { .. } | ProgramError::NoSuchClient { .. } => {
-                status::COMMAND_LINE
-            }
+            ProgramError::NoSuchTurn { .. }
+            | ProgramError::NoSuchClient { .. }
+            | ProgramError::BadClient { .. } => status::COMMAND_LINE,
             ProgramError::Unreadable { .. }
             | ProgramError::UnreadableAnswers { .. }
             | ProgramError::Unwritten { .. }

@@ -5,14 +5,16 @@ use crate::explain_request::{
 use crate::health_request::{HEALTH, health_command, health_of};
 use crate::importing::Answers;
 use crate::input::STANDARD_INPUT;
+use crate::setup_request::{HERMES, SETUP_COMMAND, clients_of, setup_command};
 use crate::worker_count::WorkerCount;
 use clap::error::ErrorKind;
 use clap::{Arg, ArgAction, ArgMatches, Command, Error, value_parser};
+use rb_hermes::NamedClient;
 use rb_script_types::MAX_TURNS;
 use std::alloc::{AllocError, Global};
 
 /// What the program is asked to do, with the paths of its files.
-#[derive(Clone, Copy, Debug)]
+#[derive(Debug, Drop)]
 pub enum Request<'a> {
     /// Write a script's report, by so many workers.
     Plan {
@@ -54,6 +56,11 @@ pub enum Request<'a> {
     Import {
         setup: &'a str,
         answers: Answers<'a>,
+    },
+    /// Write a setup for clients, of the configuration of Hermes.
+    Setup {
+        config: &'a str,
+        clients: Vec<NamedClient>,
     },
     /// Write what is to be fetched next for a setup, by the answers in a folder.
     Want {
@@ -348,6 +355,7 @@ fn command_line<'a>(alloc: Global) -> Result<Command<'a>, AllocError> {
         .subcommand(plan_command(alloc)?)?
         .subcommand(run_command(alloc)?)?
         .subcommand(commands_command(alloc)?)?
+        .subcommand(setup_command(alloc)?)?
         .subcommand(want_command(alloc)?)?
         .subcommand(explain_command(alloc)?)?
         .subcommand(picture_command(alloc)?)?
@@ -464,11 +472,26 @@ fn task_of<'a>(matches: &ArgMatches<'a>) -> Option<Request<'a>> {
     }
 }
 
+/// The request of `setup`, or none where another is asked for.
+fn setup_of<'a>(alloc: Global, matches: &ArgMatches<'a>) -> Result<Option<Request<'a>>, Error> {
+    let Some(given) = matches.subcommand_matches(SETUP_COMMAND) else {
+        return Ok(None);
+    };
+    let Some(config) = given.get_str(HERMES) else {
+        return Ok(None);
+    };
+    let clients = clients_of(alloc, given)?;
+    Ok(Some(Request::Setup { config, clients }))
+}
+
 /// Reads the command line. An error is the text to show: what is wrong, or the help that was asked
 /// for.
 pub fn read_request<'a>(alloc: Global, words: &'a [String]) -> Result<Request<'a>, Error> {
     let mut command = command_line(alloc)?.bin_name("ibcplan")?;
     let matches = command.try_get_matches_from_mut(words)?;
+    if let Some(request) = setup_of(alloc, &matches)? {
+        return Ok(request);
+    }
     match task_of(&matches) {
         Some(
             Request::Certify {

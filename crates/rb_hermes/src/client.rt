@@ -1,0 +1,55 @@
+//! The clients that a setup is made for.
+ghost use Rattle.std.specs.Prelude.{◌≡◌, ◌≢◌, IfSome};
+ghost use Rattle.rb_hermes.specs.Clients.{word_of};
+
+use rb_base::{ChainId, ClientId};
+use std::alloc::{AllocError, Global};
+use std::fmt;
+
+/// A client as it is named: its host, its identifier there, and the chain that it tracks.
+#[derive(Clone, Copy, Debug)]
+pub struct NamedClient {
+    pub host: ChainId,
+    pub id: ClientId,
+    pub chain: ChainId,
+}
+
+/// As it is named.
+impl fmt::Display for NamedClient {
+    ghost use Rattle.std.specs.Prelude.{Some};
+    ghost use Rattle.rb_hermes.specs.Clients.{word_of};
+
+    ghost output = { λ client. Some (word_of client) };
+
+    fn fmt<W: fmt::Write>(&self, f: &mut fmt::Formatter<W>) -> fmt::Result {
+        let NamedClient { host, id, chain } = *self;
+        write!(f, "{host}:{id}:{chain}")
+    }
+}
+
+impl NamedClient {
+    /// The client that a word `HOST:ID:CHAIN` names; none where the word isn't of that form, or both chains are one.
+    pub fn of_word(word: &str) -> Option<NamedClient>
+        ensures word { IfSome result (λ client. word.now ≡ word_of client) }
+        ensures chains { IfSome result (λ client. client.host ≢ client.chain) }
+    {
+        let (host, rest) = word.split_once(':')?;
+        let (id, chain) = rest.split_once(':')?;
+        if host == chain {
+            return None;
+        }
+        Some(NamedClient {
+            host: ChainId::new(host)?,
+            id: ClientId::new(id)?,
+            chain: ChainId::new(chain)?,
+        })
+    }
+
+    /// The identifier in a setup, `HOST.ID`; none where that is too long.
+    pub(crate) fn setup_id(&self, alloc: Global) -> Result<Option<ClientId>, AllocError> {
+        let host = self.host.as_str();
+        let id = self.id.as_str();
+        let text = format!(in alloc; "{host}.{id}")?;
+        Ok(ClientId::new(text.as_str()))
+    }
+}
