@@ -1,2 +1,5 @@
 pub mod Closings
 pub mod Letters
+pub mod Starting
+pub mod Parting
+pub mod Serving

@@ -1,2 +1,6 @@
 pub mod Texts
 pub mod Openings
+pub mod Steps
+pub mod Starts
+pub mod Parts
+pub mod Finding

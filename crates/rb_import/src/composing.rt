@@ -7,10 +7,11 @@ ghost use Rattle.rb_import_notices.specs.Whole.{AreNoticesOf};
 ghost use Rattle.rb_import.specs.Openings.{Opens, hold_verdicts};
 ghost use Rattle.rb_import.specs.Texts.{heading};
 
+use crate::needed::needed_sets;
 use crate::opening::opening_of;
 use crate::text::push_tables;
 use rb_import_check::{CheckErrorName, ImportError, SavedAnswers};
-use rb_import_merge::seen_in;
+use rb_import_merge::{Seen, seen_in};
 use rb_import_notices::{Notices, notices_of};
 use rb_import_setup::Setup;
 use rb_script_toml::MAX_BYTES;
@@ -25,9 +26,9 @@ pub struct Composed<'a> {
 
 /// The text of the script of version 3 that a setup and the answers of its chains, clients and paths make,
 /// which begins with a line that says who verified signatures, or that nobody did; and what isn't among the
-/// answers, though the script stands without it, or isn't written, since no book has room for it. The first
-/// problem is answered: of the chains, of the clients, then of the paths, each in order. `NoMemory` comes
-/// where a growth is refused.
+/// answers, though the script stands without it, or isn't written, since no book has room for it. A script that
+/// would be too big has the validator sets alone that its plans need. The first problem is answered: of the chains,
+/// of the clients, then of the paths, each in order. `NoMemory` comes where a growth is refused.
 pub fn compose<'a>(
     alloc: Global,
     setup: &'a Setup,
@@ -39,18 +40,48 @@ pub fn compose<'a>(
     ensures told { IfErr result (IsToldIn setup.entry.now) }
 {
     let seen = seen_in(alloc, setup, answers)?;
-    let mut tables = String::new(alloc);
-    push_tables(&mut tables, setup, &seen)?;
-    let opening = opening_of(alloc, answers, &seen)?;
-    let text = with_opening(opening, tables.as_str())?;
+    let notices = notices_of(alloc, setup, answers, &seen)?;
+    let text = fitting_text(alloc, setup, answers, seen)?;
     if text.len() > MAX_BYTES {
         return Err(ImportError::of(CheckErrorName::ScriptTooBig, "-"));
     }
-    let notices = notices_of(alloc, setup, answers, &seen)?;
     Ok(Composed { text, notices })
 }
 
+/// A script's text, which has the sets alone that its plans need where it would be too big with all of them.
+fn fitting_text(
+    alloc: Global,
+    setup: &Setup,
+    answers: &SavedAnswers,
+    seen: Seen<'_>,
+) -> Result<String, AllocError>
+    ensures { IfOk result (λ text. Opens (hold_verdicts answers.now) (string_bytes text)) }
+{
+    let whole = text_of(alloc, setup, answers, &seen)?;
+    if whole.len() <= MAX_BYTES {
+        return Ok(whole);
+    }
+    let sets = needed_sets(alloc, setup, &seen)?;
+    text_of(alloc, setup, answers, &Seen { sets, ..seen })
+}
+
 /// A script's text: the line that it begins with, who wrote it and its version, and its tables.
+fn text_of(
+    alloc: Global,
+    setup: &Setup,
+    answers: &SavedAnswers,
+    seen: &Seen<'_>,
+) -> Result<String, AllocError>
+    ensures { IfOk result (λ text. Opens (hold_verdicts answers.now) (string_bytes text)) }
+{
+    let mut tables = String::new(alloc);
+    push_tables(&mut tables, setup, seen)?;
+    let opening = opening_of(alloc, answers, seen)?;
+    let text = with_opening(opening, tables.as_str())?;
+    Ok(text)
+}
+
+/// A script's text with the line that it begins with and its tables.
 fn with_opening(opening: String, tables: &str) -> Result<String, AllocError>
     ensures { IfOk result (λ text. string_bytes text ≡ string_bytes opening ++ heading ++ tables.now) }
 {

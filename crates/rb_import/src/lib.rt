@@ -4,7 +4,11 @@
 
 mod composing;
 mod event_text;
+mod needed;
 mod opening;
+mod order;
+mod starts;
+mod steps;
 mod text;
 
 pub use composing::{Composed, compose};

@@ -6,6 +6,3 @@ returns-clause-notices c = (
   c.in_ok-seen.ensures.seen,
   (c.in_ok-notices.ensures.missing, c.in_ok-notices.ensures.excess, c.in_ok-notices.ensures.unusable, c.in_ok-notices.ensures.unsure, c.in_ok-notices.ensures.passed, c.in_ok-notices.ensures.unverified),
 )
-
-pub returns-clause-opening : goal.returns-clause-opening
-returns-clause-opening c = (_, _, c.in_ok-opening.ensures, c.in_ok-text.ensures)

@@ -1,0 +1,8 @@
+use Rattle.std.proofs.Common.{take}
+use Rattle.rb_import.specs.Finding.{IsOther}
+use Rattle.rb_import.proofs.Starting.{HasAll}
+use Rattle.rb_import.proofs.starts.other_starts.Given as goal
+
+-- the starts of the headers so far are there
+abbrev pub invariant-loop-target : goal.invariant-loop-target
+invariant-loop-target l = HasAll (IsOther l.stored) (take l.target-index l.targets) l.starts.items
