@@ -1,10 +1,11 @@
 #!/usr/bin/env python3
 """A relayer's loop over `ibcplan follow`, by Python's standard library alone.
 
-    examples/follow/client.py ./ibcplan examples/follow/setup.toml examples/follow/turns.txt
+    examples/follow/client.py ./ibcplan examples/follow/setup.toml examples/follow/turns.txt [JOURNAL]
 
 It tells each turn of the file to one process, shows what is to be sent, and tells in a turn of its own that all of it
-was taken. A real relayer makes the turns of what it sees, and sends the updates and the messages in between."""
+was taken. A real relayer makes the turns of what it sees, and sends the updates and the messages in between. With a
+journal it goes on where an earlier run ended."""
 import re
 import subprocess
 import sys
@@ -15,15 +16,25 @@ MARK = "---\n"
 class Engine:
     """A process that is told turns, and answers each."""
 
-    def __init__(self, program, setup):
-        words = [program, "follow", setup]
+    def __init__(self, program, setup, journal=None):
+        words = [program, "follow", setup, *(["--journal", journal] if journal else [])]
         self.process = subprocess.Popen(words, stdin=subprocess.PIPE, stdout=subprocess.PIPE, text=True)
         self.format = self.process.stdout.readline()  # "ibcplan 1" or "ibcplan 3"
+        self.tell("")  # the fault of an empty turn stands behind the answers to the journal's turns
+        self.old = list(iter(self.read, ["fault 1002 MissingKey at from"]))
 
     def answer(self, turn):
-        """The lines of the answer to a turn."""
+        """The lines of the answer to a turn, which the journal may have."""
+        if self.old:
+            return self.old.pop(0)
+        self.tell(turn)
+        return self.read()
+
+    def tell(self, turn):
         self.process.stdin.write(turn + MARK)
         self.process.stdin.flush()
+
+    def read(self):
         lines = []
         for line in self.process.stdout:
             if line == MARK:
@@ -50,8 +61,8 @@ def batches_of(lines):
     return batches
 
 
-def main(program, setup, turns):
-    engine = Engine(program, setup)
+def main(program, setup, turns, journal=None):
+    engine = Engine(program, setup, journal)
     for turn in open(turns).read().split(MARK)[:-1]:
         lines = engine.answer(turn)
         print(*lines, sep="\n")

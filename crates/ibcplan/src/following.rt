@@ -1,16 +1,21 @@
 //! Turns as they come.
 ghost use Rattle.std.specs.Prelude.{◌≡◌, ◌⊎◌, false, Err, IfErr, IsErr, OnOk, OnErr, IfSome, MatchResult};
 ghost use Rattle.rb_follow.specs.Setups.{setup_of};
+ghost use Rattle.rb_follow.specs.Journals.{outs};
 ghost use Rattle.rb_follow.specs.Headline.{Follows, BeginsFollowing};
 ghost use Rattle.ibcplan_cli.specs.Failures.{failure_status, told_fault, is_unwritten};
 
 use ibcplan_cli::{Host, Input, ProgramError, WorkerCount};
 use rb_base::{Gate, Sink};
-use rb_follow::{FollowError, Form, Watcher, follow_over};
+use rb_follow::{FollowError, Form, Journal, Watcher, follow_over};
 use rb_script_toml::{Fault, FaultName};
 use std::alloc::Global;
 use std::io::Read;
 use std::sync::Arc;
+
+/// What to do where a turn can't be stored.
+const UNSTORED: &str =
+    "The turn that was to be stored there isn't answered. Make room, and go on with the same --journal: it has all turns that were answered.";
 
 /// Tells on standard error what the answer to a document that is refused doesn't say.
 #[derive(Drop)]
@@ -35,9 +40,9 @@ impl<R: Eprint> Watcher for Notices<'_, R> {
 }
 
 /// Answers the turns that come from an input, of a relayer that a file sets up, by so many workers, through a
-/// gate. Nothing is written where the file is refused, and a beginning of the answers, or nothing, where it
-/// fails otherwise.
-pub fn follow<'a, R: Host, G: Gate + Send + Sync + Drop + 'static, I: Read, W: Sink>(
+/// gate; each is stored in a journal before it is answered. Nothing is written where the file is refused, and a
+/// beginning of the answers, or nothing, where it fails otherwise.
+pub fn follow<'a, R: Host, G: Gate + Send + Sync + Drop + 'static, I: Read, J: Journal, W: Sink>(
     rt: &R,
     alloc: Global,
     setup: &Input<'a>,
@@ -45,15 +50,16 @@ pub fn follow<'a, R: Host, G: Gate + Send + Sync + Drop + 'static, I: Read, W: S
     workers: WorkerCount,
     form: Form,
     gate: G,
+    journal: &mut J,
     output: &mut W,
 ) -> Result<(), ProgramError<'a>>
     requires { W.is_broken output.old ≡ false }
-    ensures followed { OnOk result (IfSome (I.remaining input.old) (λ bytes. Follows form setup.now bytes (W.taken output.old) (W.taken output.new))) }
+    ensures followed { OnOk result (IfSome (I.remaining input.old) (λ bytes. Follows form setup.now bytes (outs (W.taken output.old) (J.documents journal.old)) (outs (W.taken output.new) (J.documents journal.new)))) }
     ensures refused { IfErr result (λ failure. failure_status failure ≡ 1 → IsErr (setup_of setup.now)) }
     ensures fault { IfErr result (λ failure. IfSome (told_fault failure) (λ fault. setup_of setup.now ≡ Err fault)) }
     ensures nothing_written { IfErr result (λ failure. failure_status failure ≡ 1 → output.new ≡ output.old) }
     ensures device { MatchResult result (λ _. W.is_broken output.new ≡ false) (λ failure. W.is_broken output.new ≡ is_unwritten failure) }
-    ensures begun { OnErr result ((output.new ≡ output.old) ⊎ IfSome (I.remaining input.old) (λ bytes. BeginsFollowing form setup.now bytes (W.taken output.old) (W.taken output.new))) }
+    ensures begun { OnErr result (((output.new ≡ output.old) × (J.documents journal.new ≡ J.documents journal.old)) ⊎ IfSome (I.remaining input.old) (λ bytes. BeginsFollowing form setup.now bytes (outs (W.taken output.old) (J.documents journal.old)) (outs (W.taken output.new) (J.documents journal.new)))) }
 {
     let Ok(gate) = Arc::new(alloc, gate) else {
         return Err(ProgramError::NoMemory);
@@ -62,10 +68,13 @@ pub fn follow<'a, R: Host, G: Gate + Send + Sync + Drop + 'static, I: Read, W: S
     let notices = Notices { rt };
     let bytes = setup.bytes();
     match follow_over(
-        rt, alloc, bytes, input, form, output, workers, &gate, &notices,
+        rt, alloc, bytes, input, form, output, workers, &gate, &notices, journal,
     ) {
         Ok(()) => Ok(()),
         Err(FollowError::Run(error)) => Err(ProgramError::of_run(error, setup)),
         Err(FollowError::Input(error)) => Err(Input::unread(error)),
+        Err(FollowError::Journal(error)) => {
+            Err(ProgramError::of_journal(setup.name(), error, UNSTORED))
+        }
     }
 }

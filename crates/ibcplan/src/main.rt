@@ -9,6 +9,7 @@ mod explained;
 mod following;
 mod forms;
 mod health;
+mod journal;
 mod perform;
 mod progress;
 mod reporting;

@@ -11,6 +11,7 @@ use crate::explained::Explained;
 use crate::following::follow;
 use crate::forms::{commands_of_script, json_of_script};
 use crate::health::health_of_script;
+use crate::journal::{OpenedJournal, open_journal};
 use crate::progress::Progress;
 use crate::reporting::{plan_status, refused_events};
 use ibcplan_cli::{
@@ -18,12 +19,12 @@ use ibcplan_cli::{
     WorkerCount, imported, setup_for, status, wanted,
 };
 use rb_base::{Counted, Gate, Sink, write_whole};
-use rb_follow::Form as AnswerForm;
+use rb_follow::{Form as AnswerForm, NoJournal};
 use rb_hermes::NamedClient;
 use rb_text::{Source, certify_texts, report_over};
 use std::alloc::Global;
 use std::io;
-use std::io::{Printer, Write};
+use std::io::{Cursor, Printer, Read, Write};
 use std::sync::{Arc, Wait};
 use std::thread::Threads;
 
@@ -117,6 +118,12 @@ fn done_of<'a, R: Host, W: Sink>(
             workers,
             is_json,
         } => follow_input(rt, setup, workers, is_json, is_watched, output),
+        Request::FollowJournal {
+            setup,
+            journal,
+            workers,
+            is_json,
+        } => follow_journal(rt, setup, journal, workers, is_json, is_watched, output),
         Request::Explain {
             script,
             turns,
@@ -316,23 +323,58 @@ fn follow_input<'a, R: Host, W: Sink>(
 {
     let setup = Input::read(rt, setup)?;
     let progress = Progress::new(*rt, is_watched);
-    let form = if is_json {
-        AnswerForm::Json
-    } else {
-        AnswerForm::Text
-    };
-    let mut input = rt.reader();
+    follow(
+        rt,
+        rt.alloc(),
+        &setup,
+        &mut rt.reader(),
+        workers,
+        answer_form(is_json),
+        progress,
+        &mut NoJournal,
+        output,
+    )?;
+    Ok(Done::quietly(status::DONE))
+}
+
+fn follow_journal<'a, R: Host, W: Sink>(
+    rt: &R,
+    setup: Option<&'a str>,
+    journal: &'a str,
+    workers: WorkerCount,
+    is_json: bool,
+    is_watched: bool,
+    output: &mut W,
+) -> Result<Done, ProgramError<'a>>
+    requires { W.is_broken output.old ≡ false }
+{
+    let OpenedJournal {
+        mut journal,
+        setup,
+        past,
+    } = open_journal(rt, setup, journal)?;
+    let progress = Progress::new(*rt, is_watched);
+    let mut input = Cursor::new(past).chain(rt.reader());
     follow(
         rt,
         rt.alloc(),
         &setup,
         &mut input,
         workers,
-        form,
+        answer_form(is_json),
         progress,
+        &mut journal,
         output,
     )?;
     Ok(Done::quietly(status::DONE))
+}
+
+fn answer_form(is_json: bool) -> AnswerForm {
+    if is_json {
+        AnswerForm::Json
+    } else {
+        AnswerForm::Text
+    }
 }
 
 fn certify_files<'a, R: Host, W: Sink>(

@@ -1,5 +1,5 @@
 //! Why the program gave no result: the line that says so, and what to do about it.
-ghost use Rattle.std.specs.Prelude.{◌≡◌, true, None};
+ghost use Rattle.std.specs.Prelude.{◌≡◌, true, false, None};
 ghost use Rattle.rb_script_toml.specs.Faults.{status_of};
 ghost use Rattle.ibcplan_cli.specs.Failures.{failure_status, IsFailureStatus, told_fault, is_unwritten, error_fault, is_device};
 
@@ -47,6 +47,19 @@ pub enum ProgramError<'a> {
     UnreadableAnswers {
         file: String,
         error: io::Error,
+    },
+    /// A journal can't be read or written.
+    #[error("device\n{file}: {error}\n{advice}")]
+    JournalFails {
+        file: Shown<'a>,
+        error: io::Error,
+        advice: &'static str,
+    },
+    /// A file can't be the journal.
+    #[error("error: invalid value '{file}' for '--journal <FILE>': {reason}\n\nFor more information, try '--help'.")]
+    NoJournal {
+        file: Shown<'a>,
+        reason: &'static str,
     },
     /// Answers are refused.
     #[error("{0}")]
@@ -139,6 +152,22 @@ impl<'a> ProgramError<'a> {
         }
     }
 
+    /// That the journal in a file fails, and what to do.
+    pub fn of_journal(file: Shown<'a>, error: io::Error, advice: &'static str) -> ProgramError<'a>
+        ensures status { failure_status result ≡ 4 }
+        ensures fault { told_fault result ≡ None }
+        ensures device { is_unwritten result ≡ false }
+    {
+        if error.kind() == io::ErrorKind::OutOfMemory {
+            return ProgramError::NoMemory;
+        }
+        ProgramError::JournalFails {
+            file,
+            error,
+            advice,
+        }
+    }
+
     /// Why a file or a folder of answers isn't read.
     pub fn of_file(alloc: Global, file: &str, error: io::Error) -> ProgramError<'a> {
         match shown_text(alloc, file) {
@@ -158,8 +187,10 @@ impl<'a> ProgramError<'a> {
             ProgramError::Refused { .. } | ProgramError::RefusedAnswers(_) => status::REFUSED,
             ProgramError::NoSuchTurn { .. }
             | ProgramError::NoSuchClient { .. }
-            | ProgramError::BadClient { .. } => status::COMMAND_LINE,
+            | ProgramError::BadClient { .. }
+            | ProgramError::NoJournal { .. } => status::COMMAND_LINE,
             ProgramError::Unreadable { .. }
+            | ProgramError::JournalFails { .. }
             | ProgramError::UnreadableAnswers { .. }
             | ProgramError::Unwritten { .. }
             | ProgramError::NoMemory => status::FAILED,

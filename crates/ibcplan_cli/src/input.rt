@@ -66,6 +66,13 @@ impl<'a> Input<'a> {
         }
     }
 
+    /// These bytes, which a file begins with.
+    pub fn beginning(path: &'a str, bytes: Vec<u8>) -> Input<'a>
+        ensures { result ≡ bytes.items }
+    {
+        Input { path, bytes }
+    }
+
     /// What to call the file.
     pub fn name(&self) -> Shown<'a> {
         name_of(self.path)

@@ -73,6 +73,13 @@ pub enum Request<'a> {
         workers: WorkerCount,
         is_json: bool,
     },
+    /// The same, and store each turn in a journal before it is answered; of the journal's own setup where none is given.
+    FollowJournal {
+        setup: Option<&'a str>,
+        journal: &'a str,
+        workers: WorkerCount,
+        is_json: bool,
+    },
     /// Judge a certificate.
     Certify {
         script: &'a str,
@@ -118,6 +125,8 @@ const CERTIFY: &str = "certify";
 pub(crate) const SCRIPT: &str = "SCRIPT";
 
 const SETUP: &str = "SETUP";
+
+const JOURNAL: &str = "journal";
 
 const FOLDER: &str = "FOLDER";
 
@@ -195,12 +204,17 @@ is not written again where its file is there with the ending .refused.";
 const AFTER_FOLLOW: &str = "Examples (in the folder of the repository):
   ./ibcplan follow examples/follow/setup.toml < examples/follow/turns.txt
   ./ibcplan follow --json --workers 4 setup.toml
+  ./ibcplan follow setup.toml --journal journal.toml
 
 Each turn comes on standard input as a document of TOML with the turn's keys at its
 top, ended by a line ---. The answer, the turn's report or its fault, is written at
 once, with a line --- after it; with --json it is an object on a line. A document
 with a fault changes nothing. What is written is the report that plan writes for the
-script of the setup and the turns.";
+script of the setup and the turns.
+
+With --journal each turn is on the disk before it is answered. The file is a script
+that plan reads. Where it has turns their answers come first, and then those to new
+ones; its setup is then taken, and SETUP needn't be given.";
 
 const AFTER_CERTIFY: &str = "Examples (in the folder of the repository):
   ./ibcplan certify examples/smallest.toml examples/smallest.certificate
@@ -251,6 +265,21 @@ fn follow_workers<'a>(alloc: Global) -> Arg<'a> {
         .help(
             "How many threads make step tables, scan the paths and plan for the clients, 1 to 64; without it none but the program's own",
         )
+}
+
+/// The setup of a follower, which may come from its journal.
+fn follow_setup<'a>(alloc: Global) -> Result<Arg<'a>, AllocError> {
+    Arg::new(alloc, SETUP)
+        .help("The file of a script without turns")
+        .required_unless_present(JOURNAL)
+}
+
+fn journal<'a>(alloc: Global) -> Arg<'a> {
+    Arg::new(alloc, JOURNAL)
+        .long(JOURNAL)
+        .value_name("FILE")
+        .action(ArgAction::Set)
+        .help("Stores each turn in this file before it is answered, and goes on from there")
 }
 
 pub(crate) fn turn<'a>(alloc: Global) -> Arg<'a> {
@@ -340,7 +369,8 @@ fn follow_command<'a>(alloc: Global) -> Result<Command<'a>, AllocError> {
     Command::new(alloc, FOLLOW)
         .about("Answers turns as they come on standard input, each by its report")
         .after_help(AFTER_FOLLOW)
-        .arg(path(alloc, SETUP, "The file of a script without turns"))?
+        .arg(follow_setup(alloc)?)?
+        .arg(journal(alloc))?
         .arg(follow_workers(alloc))?
         .arg(flag(alloc, JSON, "Writes each answer as JSON"))
 }
@@ -383,14 +413,22 @@ fn setup_is_input(alloc: Global) -> Result<Error, AllocError> {
 
 /// The request of `follow`, or none where a word is missing.
 fn follow_of<'a>(given: &ArgMatches<'a>) -> Option<Request<'a>> {
-    let setup = given.get_str(SETUP)?;
     let is_json = given.get_flag(JSON);
     let workers = match given.get_one(WORKERS) {
         Some(count) => WorkerCount::new(count)?,
         None => WorkerCount::none(),
     };
+    let setup = given.get_str(SETUP);
+    if let Some(journal) = given.get_str(JOURNAL) {
+        return Some(Request::FollowJournal {
+            setup,
+            journal,
+            workers,
+            is_json,
+        });
+    }
     Some(Request::Follow {
-        setup,
+        setup: setup?,
         workers,
         is_json,
     })
@@ -504,6 +542,12 @@ pub fn read_request<'a>(alloc: Global, words: &'a [String]) -> Result<Request<'a
         Some(Request::Follow { setup, .. }) if setup == STANDARD_INPUT => {
             Err(setup_is_input(alloc)?)
         }
+        Some(
+            Request::FollowJournal {
+                setup: Some(setup),
+                ..
+            },
+        ) if setup == STANDARD_INPUT => Err(setup_is_input(alloc)?),
         Some(request) => Ok(request),
         None => Err(command.error(ErrorKind::MissingSubcommand, "a command is missing")?),
     }

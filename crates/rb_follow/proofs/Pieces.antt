@@ -7,10 +7,11 @@ use Rattle.std.specs.Io.KnownBytes.{Consumes, Keeps, IsAtEnd}
 use Rattle.rb_follow.specs.declared.told.Form.{Form}
 use Rattle.rb_follow.specs.Documents.{Gathered, Document, document, cut, nothing_read, all_read, documents_from, left_from, IsGathered, finished, cut_in, last_of, documents}
 use Rattle.rb_follow.specs.Followers.{Following}
+use Rattle.rb_follow.specs.Journals.{Outs}
 use Rattle.rb_follow.specs.Headline.{Told, ToldPiece, BeginsTelling}
 use Rattle.rb_follow.proofs.Telling.{told-none, told-then, begins-told, begins-later, begins-after}
 
-pub begins-of : (form : Form) (f : Following) (ds es : List Document) (old new : Option (List ℕ)) → es ≡ ds → BeginsTelling form f ds old new → BeginsTelling form f es old new
+pub begins-of : (form : Form) (f : Following) (ds es : List Document) (old new : Outs) → es ≡ ds → BeginsTelling form f ds old new → BeginsTelling form f es old new
 begins-of form f ds es old new e b = subst (λ (xs : List Document). BeginsTelling form f xs old new) (sym e) b
 
 -- ---- a piece
@@ -19,10 +20,10 @@ begins-of form f ds es old new e b = subst (λ (xs : List Document). BeginsTelli
 pub slice_to_end : (n : ℕ) (xs : List ℕ) → take (length xs - n) (drop n xs) ≡ drop n xs
 slice_to_end n xs = ap (λ (m : ℕ). take m (drop n xs)) (sym (length-drop n xs)) ∙ take-length (drop n xs)
 
-pub piece-none : (form : Form) (f : Following) (r : Gathered) (piece : List ℕ) (old : Option (List ℕ)) → ToldPiece form f r piece r piece old old f
+pub piece-none : (form : Form) (f : Following) (r : Gathered) (piece : List ℕ) (old : Outs) → ToldPiece form f r piece r piece old old f
 piece-none form f r piece old = record { documents = []; ended = λ more. refl; left = λ more. refl; told = told-none form f old }
 
-pub piece-end : (form : Form) (f : Following) (r0 : Gathered) (piece : List ℕ) (r s : Gathered) (rest : List ℕ) (old new : Option (List ℕ)) (g : Following)
+pub piece-end : (form : Form) (f : Following) (r0 : Gathered) (piece : List ℕ) (r s : Gathered) (rest : List ℕ) (old new : Outs) (g : Following)
     → ToldPiece form f r0 piece r rest old new g → IsGathered r rest None s → ToldPiece form f r0 piece s [] old new g
 piece-end form f r0 piece r s rest old new g p q = record {
   documents = p.documents;
@@ -31,7 +32,7 @@ piece-end form f r0 piece r s rest old new g p q = record {
   told = p.told;
 }
 
-pub piece-then : (form : Form) (f : Following) (r0 : Gathered) (piece : List ℕ) (r s : Gathered) (rest : List ℕ) (count : ℕ) (old mid new : Option (List ℕ)) (g k : Following)
+pub piece-then : (form : Form) (f : Following) (r0 : Gathered) (piece : List ℕ) (r s : Gathered) (rest : List ℕ) (count : ℕ) (old mid new : Outs) (g k : Following)
     → ToldPiece form f r0 piece r rest old mid g → IsGathered r rest (Some count) s → Told form g (document (all_read s) ∷ []) mid new k
     → ToldPiece form f r0 piece nothing_read (drop count rest) old new k
 piece-then form f r0 piece r s rest count old mid new g k p q t = record {
@@ -41,13 +42,13 @@ piece-then form f r0 piece r s rest count old mid new g k p q t = record {
   told = told-then form f p.documents (document (all_read s) ∷ []) old mid new g k p.told t;
 }
 
-pub piece-begins : (form : Form) (f : Following) (r0 : Gathered) (piece : List ℕ) (r : Gathered) (rest : List ℕ) (old new : Option (List ℕ)) (g : Following)
+pub piece-begins : (form : Form) (f : Following) (r0 : Gathered) (piece : List ℕ) (r : Gathered) (rest : List ℕ) (old new : Outs) (g : Following)
     → ToldPiece form f r0 piece r rest old new g → (more : List ℕ) → BeginsTelling form f (documents_from r0 (piece ++ more)) old new
 piece-begins form f r0 piece r rest old new g p more =
     begins-of form f (p.documents ++ documents_from r (rest ++ more)) (documents_from r0 (piece ++ more)) old new (p.ended more)
     (begins-told form f p.documents (documents_from r (rest ++ more)) old new g p.told)
 
-pub piece-begins-then : (form : Form) (f : Following) (r0 : Gathered) (piece : List ℕ) (r s : Gathered) (rest : List ℕ) (count : ℕ) (old mid new : Option (List ℕ)) (g : Following)
+pub piece-begins-then : (form : Form) (f : Following) (r0 : Gathered) (piece : List ℕ) (r s : Gathered) (rest : List ℕ) (count : ℕ) (old mid new : Outs) (g : Following)
     → ToldPiece form f r0 piece r rest old mid g → IsGathered r rest (Some count) s → BeginsTelling form g (document (all_read s) ∷ []) mid new
     → (more : List ℕ) → BeginsTelling form f (documents_from r0 (piece ++ more)) old new
 piece-begins-then form f r0 piece r s rest count old mid new g p q b more =
@@ -59,30 +60,30 @@ piece-begins-then form f r0 piece r s rest count old mid new g p q b more =
 -- ---- an input that is read piece by piece
 
 -- what ended of it was told, and what is read of the next document goes on with what is left
-pub record ToldFrom (form : Form) (f : Following) (bytes : List ℕ) (r : Gathered) (rest : List ℕ) (old new : Option (List ℕ)) (g : Following) : Type 0 where
+pub record ToldFrom (form : Form) (f : Following) (bytes : List ℕ) (r : Gathered) (rest : List ℕ) (old new : Outs) (g : Following) : Type 0 where
   pub done : List Document
   pub ended : documents_from nothing_read bytes ≡ done ++ documents_from r rest
   pub left : left_from nothing_read bytes ≡ left_from r rest
   pub told : Told form f done old new g
 
 -- the same where the bytes of the input are known
-abbrev pub HasTold : Form → Following → Option (List ℕ) → Gathered → Option (List ℕ) → Option (List ℕ) → Option (List ℕ) → Following → Type 0
+abbrev pub HasTold : Form → Following → Option (List ℕ) → Gathered → Option (List ℕ) → Outs → Outs → Following → Type 0
 HasTold form f None r left old new g = Unit {0}
 HasTold form f (Some bytes) r None old new g = ⊥
 HasTold form f (Some bytes) r (Some rest) old new g = ToldFrom form f bytes r rest old new g
 
-pub has-none : (form : Form) (f : Following) (known : Option (List ℕ)) (old : Option (List ℕ)) → HasTold form f known nothing_read known old old f
+pub has-none : (form : Form) (f : Following) (known : Option (List ℕ)) (old : Outs) → HasTold form f known nothing_read known old old f
 has-none form f None old = tt
 has-none form f (Some bytes) old = record { done = []; ended = refl; left = refl; told = told-none form f old }
 
-pub has-kept : (form : Form) (f : Following) (known a b : Option (List ℕ)) (r : Gathered) (old new : Option (List ℕ)) (g : Following)
+pub has-kept : (form : Form) (f : Following) (known a b : Option (List ℕ)) (r : Gathered) (old new : Outs) (g : Following)
     → Keeps a b → HasTold form f known r a old new g → HasTold form f known r b old new g
 has-kept form f None a b r old new g k h = tt
 has-kept form f (Some bytes) None b r old new g k h = absurd h
 has-kept form f (Some bytes) (Some rest) None r old new g k h = absurd k
 has-kept form f (Some bytes) (Some rest) (Some x) r old new g k h = subst (λ (xs : List ℕ). ToldFrom form f bytes r xs old new g) (sym k) h
 
-pub has-then : (form : Form) (f : Following) (known a b : Option (List ℕ)) (r s : Gathered) (p : List ℕ) (old mid new : Option (List ℕ)) (g k : Following)
+pub has-then : (form : Form) (f : Following) (known a b : Option (List ℕ)) (r s : Gathered) (p : List ℕ) (old mid new : Outs) (g k : Following)
     → Consumes a b p → HasTold form f known r a old mid g → ToldPiece form g r p s [] mid new k → HasTold form f known s b old new k
 has-then form f None a b r s p old mid new g k e h t = tt
 has-then form f (Some bytes) None b r s p old mid new g k e h t = absurd h
@@ -95,12 +96,12 @@ has-then form f (Some bytes) (Some rest) (Some x) r s p old mid new g k e h t = 
 }
 
 -- the documents of the input, after those that were told
-after : (form : Form) (f : Following) (bytes : List ℕ) (r : Gathered) (rest : List ℕ) (old new : Option (List ℕ)) (g : Following) (h : ToldFrom form f bytes r rest old new g)
+after : (form : Form) (f : Following) (bytes : List ℕ) (r : Gathered) (rest : List ℕ) (old new : Outs) (g : Following) (h : ToldFrom form f bytes r rest old new g)
     → documents bytes ≡ h.done ++ (documents_from r rest ++ last_of (left_from nothing_read bytes))
 after form f bytes r rest old new g h =
     ap (λ (xs : List Document). xs ++ last_of (left_from nothing_read bytes)) h.ended ∙ append_assoc h.done (documents_from r rest) (last_of (left_from nothing_read bytes))
 
-pub has-begins : (form : Form) (f : Following) (known a : Option (List ℕ)) (r : Gathered) (old new : Option (List ℕ)) (g : Following)
+pub has-begins : (form : Form) (f : Following) (known a : Option (List ℕ)) (r : Gathered) (old new : Outs) (g : Following)
     → HasTold form f known r a old new g → IfSome known (λ (bytes : List ℕ). BeginsTelling form f (documents bytes) old new)
 has-begins form f None a r old new g h = tt
 has-begins form f (Some bytes) None r old new g h = absurd h
@@ -108,7 +109,7 @@ has-begins form f (Some bytes) (Some rest) r old new g h =
     let later = documents_from r rest ++ last_of (left_from nothing_read bytes) in
     begins-of form f (h.done ++ later) (documents bytes) old new (after form f bytes r rest old new g h) (begins-told form f h.done later old new g h.told)
 
-pub has-begins-then : (form : Form) (f : Following) (known a b : Option (List ℕ)) (r : Gathered) (p : List ℕ) (old mid new : Option (List ℕ)) (g : Following)
+pub has-begins-then : (form : Form) (f : Following) (known a b : Option (List ℕ)) (r : Gathered) (p : List ℕ) (old mid new : Outs) (g : Following)
     → Consumes a b p → HasTold form f known r a old mid g → ((more : List ℕ) → BeginsTelling form g (documents_from r (p ++ more)) mid new)
     → IfSome known (λ (bytes : List ℕ). BeginsTelling form f (documents bytes) old new)
 has-begins-then form f None a b r p old mid new g e h t = tt
@@ -123,13 +124,13 @@ has-begins-then form f (Some bytes) (Some rest) (Some x) r p old mid new g e h t
 -- ---- its end
 
 -- nothing is left of the input
-at_end : (form : Form) (f : Following) (bytes : List ℕ) (r : Gathered) (rest : List ℕ) (old new : Option (List ℕ)) (g : Following) (h : ToldFrom form f bytes r rest old new g)
+at_end : (form : Form) (f : Following) (bytes : List ℕ) (r : Gathered) (rest : List ℕ) (old new : Outs) (g : Following) (h : ToldFrom form f bytes r rest old new g)
     → rest ≡ [] → documents bytes ≡ h.done ++ last_of r
 at_end form f bytes r rest old new g h e =
     ap (λ (xs : List Document). xs ++ last_of (left_from nothing_read bytes)) (h.ended ∙ ap (λ (xs : List ℕ). h.done ++ documents_from r xs) e ∙ append-nil h.done)
     ∙ ap (λ (x : Gathered). h.done ++ last_of x) (h.left ∙ ap (λ (xs : List ℕ). left_from r xs) e)
 
-pub has-end : (form : Form) (f : Following) (known a b : Option (List ℕ)) (r : Gathered) (old mid new : Option (List ℕ)) (g k : Following)
+pub has-end : (form : Form) (f : Following) (known a b : Option (List ℕ)) (r : Gathered) (old mid new : Outs) (g k : Following)
     → Consumes a b [] → IsAtEnd b → HasTold form f known r a old mid g → Told form g (last_of r) mid new k
     → IfSome known (λ (bytes : List ℕ). Told form f (documents bytes) old new k)
 has-end form f None a b r old mid new g k e z h t = tt
@@ -138,7 +139,7 @@ has-end form f (Some bytes) (Some rest) None r old mid new g k e z h t = absurd 
 has-end form f (Some bytes) (Some rest) (Some x) r old mid new g k e z h t =
     subst (λ (ds : List Document). Told form f ds old new k) (sym (at_end form f bytes r rest old mid g h (e ∙ z))) (told-then form f h.done (last_of r) old mid new g k h.told t)
 
-pub has-end-begins : (form : Form) (f : Following) (known a b : Option (List ℕ)) (r : Gathered) (old mid new : Option (List ℕ)) (g : Following)
+pub has-end-begins : (form : Form) (f : Following) (known a b : Option (List ℕ)) (r : Gathered) (old mid new : Outs) (g : Following)
     → Consumes a b [] → IsAtEnd b → HasTold form f known r a old mid g → BeginsTelling form g (last_of r) mid new
     → IfSome known (λ (bytes : List ℕ). BeginsTelling form f (documents bytes) old new)
 has-end-begins form f None a b r old mid new g e z h t = tt

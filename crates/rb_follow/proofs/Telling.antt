@@ -1,5 +1,5 @@
 -- Answers to documents, one after the other.
-use Rattle.std.proofs.Common.{◌≡◌, ℕ, ◌+◌, List, [], ◌∷◌, ◌++◌, map, All, Option, Result, Ok, Err, IfOk, OnOk, OnErr, refl, sym, ap, subst, ◌∙◌, append_assoc, arith}
+use Rattle.std.proofs.Common.{◌≡◌, ℕ, List, [], ◌∷◌, ◌++◌, map, All, Option, Some, None, Result, Ok, Err, IfOk, OnOk, OnErr, refl, sym, ap, subst, ◌∙◌, append_assoc, arith}
 use Rattle.std.proofs.lemmas.List.{append-nil}
 use Rattle.std.proofs.lemmas.List.Elements.{All-cons, All-append}
 use Rattle.std.specs.declared.alloc.Global.{Global}
@@ -8,7 +8,6 @@ use Rattle.rb_script_types.specs.Script.{Turn}
 use Rattle.rb_script_config.specs.Paths.{path_ids}
 use Rattle.rb_script_read.specs.Turns.{Reading}
 use Rattle.rb_script_toml.specs.Faults.{Fault}
-use Rattle.rb_script_toml.specs.declared.fault.RunError.{RunError}
 use Rattle.rb_super.specs.AsEvents.{turn_as_events}
 use Rattle.rb_super_turn.specs.Script.{IsTurn}
 use Rattle.rb_text.proofs.Beginnings.{appends-then, appends-none, beginning-none, beginning-first, beginning-then}
@@ -17,6 +16,7 @@ use Rattle.rb_follow.specs.declared.told.Form.TheVariants.{Text, Json}
 use Rattle.rb_follow.specs.Documents.{Document}
 use Rattle.rb_follow.specs.Followers.{Following, Answer, planned, refused, after_report, turn_in, IsAnswerFor, IsRight}
 use Rattle.rb_follow.specs.Answers.{answer_text, Takes, TakesBeginning}
+use Rattle.rb_follow.specs.Journals.{Outs, StoresAll, whole_of, accepted}
 use Rattle.rb_follow.specs.Headline.{AreAnswers, Answered, answers_text, Told, BeginsTelling}
 
 -- ---- what a writer takes
@@ -92,11 +92,35 @@ answered-then f ds es g k p q = record {
       (subst (λ (c : Config). All (IsTurn c) (map turn_as_events q.turns)) (answers-config f ds p.answers p.turns g p.answered) q.right));
 }
 
+-- ---- what a journal has stored
+
+pub stores_none : (old : Option (List (List ℕ))) → StoresAll old old []
+stores_none None = tt
+stores_none (Some before) = ap Some (sym (append-nil before))
+
+pub stores-then : (old mid new : Option (List (List ℕ))) (a b : List (List ℕ)) → StoresAll old mid a → StoresAll mid new b → StoresAll old new (a ++ b)
+stores-then None mid new a b p q = tt
+stores-then (Some before) mid new a b p q =
+    subst (λ (m : Option (List (List ℕ))). StoresAll m new b) p q ∙ ap Some (append_assoc before a b)
+
+pub accepted-then : (f : Following) (ds : List Document) (answers : List Answer) (ts : List (Turn Global)) (g : Following) (es : List Document) (more : List Answer)
+    → AreAnswers f ds answers ts g → accepted (ds ++ es) (answers ++ more) ≡ accepted ds answers ++ accepted es more
+accepted-then f [] [] [] g es more h = refl
+accepted-then f [] [] (t ∷ ts) g es more h = absurd h
+accepted-then f [] (a ∷ rest) ts g es more h = absurd h
+accepted-then f (d ∷ ds) [] ts g es more h = absurd h
+accepted-then f (d ∷ ds) (planned number r ∷ rest) [] g es more h = absurd h
+accepted-then f (d ∷ ds) (planned number r ∷ rest) (t ∷ ts) g es more h =
+    ap (λ (xs : List (List ℕ)). whole_of d ++ xs) (accepted-then (after_report f (t, h.0) r) ds rest ts g es more h.4)
+    ∙ sym (append_assoc (whole_of d) (accepted ds rest) (accepted es more))
+accepted-then f (d ∷ ds) (refused fault ∷ rest) ts g es more h = accepted-then f ds rest ts g es more h.1
+
 -- ---- one answer
 
 -- the answer to one document, and its text
 pub record IsOne (f : Following) (d : Document) (a : Answer) (g : Following) : Type 0 where
   pub all : Answered f (d ∷ []) g
+  pub one : all.answers ≡ a ∷ []
   pub text : answers_text f.config all.answers ≡ answer_text g.config.version (path_ids g.config.paths) a
 
 pub one_by : (f : Following) (d : Document) (r : Result (Turn Global × Reading) Fault) (a : Answer) (g : Following) → turn_in f d ≡ r → IsAnswerFor f r a g → IsRight f r
@@ -108,6 +132,7 @@ one_by f d (Ok x) (planned number report) g e h right = record {
     answered = (x.1, e, h.0, h.1, sym h.2);
     right = All-cons (IsTurn f.config) (turn_as_events x.0) [] right (none_right f.config);
   };
+  one = refl;
   text = append-nil _ ∙ ap (λ (y : Following). answer_text y.config.version (path_ids y.config.paths) (planned number report)) (sym h.2);
 }
 one_by f d (Ok x) (refused fault) g e h right = absurd h
@@ -119,50 +144,77 @@ one_by f d (Err x) (refused fault) g e h right = record {
     answered = (e ∙ ap Err (sym h.0), sym h.1);
     right = none_right f.config;
   };
+  one = refl;
   text = append-nil _ ∙ ap (λ (y : Following). answer_text y.config.version (path_ids y.config.paths) (refused fault)) (sym h.1);
 }
 
-pub told-one : (form : Form) (f : Following) (d : Document) (a : Answer) (g : Following) (old new : Option (List ℕ))
-    → IsAnswerFor f (turn_in f d) a g → IsRight f (turn_in f d) → Takes form old new (answer_text g.config.version (path_ids g.config.paths) a)
-    → Told form f (d ∷ []) old new g
-told-one form f d a g old new h right w =
-    let one = one_by f d (turn_in f d) a g refl h right in record { all = one.all; written = subst (Takes form old new) (sym one.text) w }
+stored-one : (f : Following) (d : Document) (a : Answer) (g : Following) (one : IsOne f d a g) (old new : Outs)
+    → StoresAll old.stored new.stored (accepted (d ∷ []) (a ∷ [])) → StoresAll old.stored new.stored (accepted (d ∷ []) one.all.answers)
+stored-one f d a g one old new s = subst (λ (xs : List Answer). StoresAll old.stored new.stored (accepted (d ∷ []) xs)) (sym one.one) s
 
-pub begins-one : (form : Form) (f : Following) (d : Document) (a : Answer) (g : Following) (old new : Option (List ℕ))
-    → IsAnswerFor f (turn_in f d) a g → IsRight f (turn_in f d) → TakesBeginning form old new (answer_text g.config.version (path_ids g.config.paths) a)
-    → BeginsTelling form f (d ∷ []) old new
-begins-one form f d a g old new h right w =
+pub told-one : (form : Form) (f : Following) (d : Document) (a : Answer) (g : Following) (old new : Outs)
+    → IsAnswerFor f (turn_in f d) a g → IsRight f (turn_in f d) → StoresAll old.stored new.stored (accepted (d ∷ []) (a ∷ []))
+    → Takes form old.taken new.taken (answer_text g.config.version (path_ids g.config.paths) a)
+    → Told form f (d ∷ []) old new g
+told-one form f d a g old new h right s w =
     let one = one_by f d (turn_in f d) a g refl h right in
-    record { first = d ∷ []; later = []; are_first = refl; last = g; all = one.all; begun = subst (TakesBeginning form old new) (sym one.text) w }
+    record { all = one.all; stored = stored-one f d a g one old new s; written = subst (Takes form old.taken new.taken) (sym one.text) w }
+
+pub begins-one : (form : Form) (f : Following) (d : Document) (a : Answer) (g : Following) (old new : Outs)
+    → IsAnswerFor f (turn_in f d) a g → IsRight f (turn_in f d) → StoresAll old.stored new.stored (accepted (d ∷ []) (a ∷ []))
+    → TakesBeginning form old.taken new.taken (answer_text g.config.version (path_ids g.config.paths) a)
+    → BeginsTelling form f (d ∷ []) old new
+begins-one form f d a g old new h right s w =
+    let one = one_by f d (turn_in f d) a g refl h right in
+    record {
+      first = d ∷ [];
+      later = [];
+      are_first = refl;
+      last = g;
+      all = one.all;
+      stored = stored-one f d a g one old new s;
+      begun = subst (TakesBeginning form old.taken new.taken) (sym one.text) w;
+    }
 
 -- ---- several
 
-pub told-none : (form : Form) (f : Following) (old : Option (List ℕ)) → Told form f [] old old f
-told-none form f old = record { all = answered-none f; written = takes-none form old }
+pub told-none : (form : Form) (f : Following) (old : Outs) → Told form f [] old old f
+told-none form f old = record { all = answered-none f; stored = stores_none old.stored; written = takes-none form old.taken }
 
-pub told-then : (form : Form) (f : Following) (ds es : List Document) (old mid new : Option (List ℕ)) (g k : Following)
+pub told-then : (form : Form) (f : Following) (ds es : List Document) (old mid new : Outs) (g k : Following)
     → Told form f ds old mid g → Told form g es mid new k → Told form f (ds ++ es) old new k
 told-then form f ds es old mid new g k p q = record {
   all = answered-then f ds es g k p.all q.all;
-  written = subst (Takes form old new) (sym (answers_text-then f.config p.all.answers q.all.answers))
-      (takes-then form old mid new (answers_text f.config p.all.answers) (answers_text f.config q.all.answers) p.written
-      (subst (λ (c : Config). Takes form mid new (answers_text c q.all.answers)) (answers-config f ds p.all.answers p.all.turns g p.all.answered) q.written));
+  stored = subst (StoresAll old.stored new.stored) (sym (accepted-then f ds p.all.answers p.all.turns g es q.all.answers p.all.answered))
+      (stores-then old.stored mid.stored new.stored (accepted ds p.all.answers) (accepted es q.all.answers) p.stored q.stored);
+  written = subst (Takes form old.taken new.taken) (sym (answers_text-then f.config p.all.answers q.all.answers))
+      (takes-then form old.taken mid.taken new.taken (answers_text f.config p.all.answers) (answers_text f.config q.all.answers) p.written
+      (subst (λ (c : Config). Takes form mid.taken new.taken (answers_text c q.all.answers)) (answers-config f ds p.all.answers p.all.turns g p.all.answered) q.written));
 }
 
-pub begins-nothing : (form : Form) (f : Following) (ds : List Document) (old : Option (List ℕ)) → BeginsTelling form f ds old old
-begins-nothing form f ds old = record { first = []; later = ds; are_first = refl; last = f; all = answered-none f; begun = begins-none form old [] }
+pub begins-nothing : (form : Form) (f : Following) (ds : List Document) (old : Outs) → BeginsTelling form f ds old old
+begins-nothing form f ds old = record {
+  first = [];
+  later = ds;
+  are_first = refl;
+  last = f;
+  all = answered-none f;
+  stored = stores_none old.stored;
+  begun = begins-none form old.taken [];
+}
 
-pub begins-later : (form : Form) (f : Following) (ds es : List Document) (old new : Option (List ℕ)) → BeginsTelling form f ds old new → BeginsTelling form f (ds ++ es) old new
+pub begins-later : (form : Form) (f : Following) (ds es : List Document) (old new : Outs) → BeginsTelling form f ds old new → BeginsTelling form f (ds ++ es) old new
 begins-later form f ds es old new b = record {
   first = b.first;
   later = b.later ++ es;
   are_first = ap (λ (xs : List Document). xs ++ es) b.are_first ∙ append_assoc b.first b.later es;
   last = b.last;
   all = b.all;
+  stored = b.stored;
   begun = b.begun;
 }
 
-pub begins-after : (form : Form) (f : Following) (ds es : List Document) (old mid new : Option (List ℕ)) (g : Following)
+pub begins-after : (form : Form) (f : Following) (ds es : List Document) (old mid new : Outs) (g : Following)
     → Told form f ds old mid g → BeginsTelling form g es mid new → BeginsTelling form f (ds ++ es) old new
 begins-after form f ds es old mid new g p b = record {
   first = ds ++ b.first;
@@ -170,13 +222,15 @@ begins-after form f ds es old mid new g p b = record {
   are_first = ap (λ (xs : List Document). ds ++ xs) b.are_first ∙ sym (append_assoc ds b.first b.later);
   last = b.last;
   all = answered-then f ds b.first g b.last p.all b.all;
-  begun = subst (TakesBeginning form old new) (sym (answers_text-then f.config p.all.answers b.all.answers))
-      (begins-then form old mid new (answers_text f.config p.all.answers) (answers_text f.config b.all.answers) p.written
-      (subst (λ (c : Config). TakesBeginning form mid new (answers_text c b.all.answers)) (answers-config f ds p.all.answers p.all.turns g p.all.answered) b.begun));
+  stored = subst (StoresAll old.stored new.stored) (sym (accepted-then f ds p.all.answers p.all.turns g b.first b.all.answers p.all.answered))
+      (stores-then old.stored mid.stored new.stored (accepted ds p.all.answers) (accepted b.first b.all.answers) p.stored b.stored);
+  begun = subst (TakesBeginning form old.taken new.taken) (sym (answers_text-then f.config p.all.answers b.all.answers))
+      (begins-then form old.taken mid.taken new.taken (answers_text f.config p.all.answers) (answers_text f.config b.all.answers) p.written
+      (subst (λ (c : Config). TakesBeginning form mid.taken new.taken (answers_text c b.all.answers)) (answers-config f ds p.all.answers p.all.turns g p.all.answered) b.begun));
 }
 
 -- all that was told is a beginning
-pub begins-told : (form : Form) (f : Following) (ds es : List Document) (old new : Option (List ℕ)) (g : Following)
+pub begins-told : (form : Form) (f : Following) (ds es : List Document) (old new : Outs) (g : Following)
     → Told form f ds old new g → BeginsTelling form f (ds ++ es) old new
 begins-told form f ds es old new g p = begins-after form f ds es old new new g p (begins-nothing form g es new)
 
@@ -187,23 +241,23 @@ on_err (Err e) p = p
 
 -- ---- what was told of an answer
 
-pub told-tell : {X : Type 0} (see : X → Following) (form : Form) (f : Following) (d : Document) (a : Answer) (k : X) (old new : Option (List ℕ)) (r : Result X RunError)
-    → IsAnswerFor f (turn_in f d) a (see k) → IsRight f (turn_in f d) → IfOk r (λ g. g ≡ k)
-    → OnOk r (Takes form old new (answer_text (see k).config.version (path_ids (see k).config.paths) a)) → IfOk r (λ g. Told form f (d ∷ []) old new (see g))
-told-tell see form f d a k old new (Ok g) h right s w = subst (λ x. Told form f (d ∷ []) old new (see x)) (sym s) (told-one form f d a (see k) old new h right w)
-told-tell see form f d a k old new (Err e) h right s w = tt
+pub told-tell : {X E : Type 0} (see : X → Following) (form : Form) (f : Following) (d : Document) (a : Answer) (k : X) (old new : Outs) (r : Result X E)
+    → IsAnswerFor f (turn_in f d) a (see k) → IsRight f (turn_in f d) → StoresAll old.stored new.stored (accepted (d ∷ []) (a ∷ [])) → IfOk r (λ g. g ≡ k)
+    → OnOk r (Takes form old.taken new.taken (answer_text (see k).config.version (path_ids (see k).config.paths) a)) → IfOk r (λ g. Told form f (d ∷ []) old new (see g))
+told-tell see form f d a k old new (Ok g) h right stored s w = subst (λ x. Told form f (d ∷ []) old new (see x)) (sym s) (told-one form f d a (see k) old new h right stored w)
+told-tell see form f d a k old new (Err e) h right stored s w = tt
 
-pub begins-tell : {X : Type 0} (form : Form) (f : Following) (d : Document) (a : Answer) (k : Following) (old new : Option (List ℕ)) (r : Result X RunError)
-    → IsAnswerFor f (turn_in f d) a k → IsRight f (turn_in f d)
-    → OnErr r (TakesBeginning form old new (answer_text k.config.version (path_ids k.config.paths) a)) → OnErr r (BeginsTelling form f (d ∷ []) old new)
-begins-tell form f d a k old new (Ok g) h right w = tt
-begins-tell form f d a k old new (Err e) h right w = begins-one form f d a k old new h right w
+pub begins-tell : {X E : Type 0} (form : Form) (f : Following) (d : Document) (a : Answer) (k : Following) (old new : Outs) (r : Result X E)
+    → IsAnswerFor f (turn_in f d) a k → IsRight f (turn_in f d) → StoresAll old.stored new.stored (accepted (d ∷ []) (a ∷ []))
+    → OnErr r (TakesBeginning form old.taken new.taken (answer_text k.config.version (path_ids k.config.paths) a)) → OnErr r (BeginsTelling form f (d ∷ []) old new)
+begins-tell form f d a k old new (Ok g) h right stored w = tt
+begins-tell form f d a k old new (Err e) h right stored w = begins-one form f d a k old new h right stored w
 
 -- of as many documents as are told of
-pub told-of : {X : Type 0} (see : X → Following) (form : Form) (f : Following) (ds es : List Document) (old new : Option (List ℕ)) (r : Result X RunError) → ds ≡ es
+pub told-of : {X E : Type 0} (see : X → Following) (form : Form) (f : Following) (ds es : List Document) (old new : Outs) (r : Result X E) → ds ≡ es
     → IfOk r (λ g. Told form f ds old new (see g)) → IfOk r (λ g. Told form f es old new (see g))
 told-of see form f ds es old new r e h = subst (λ (xs : List Document). IfOk r (λ g. Told form f xs old new (see g))) e h
 
-pub begins-told-of : {X : Type 0} (form : Form) (f : Following) (ds es : List Document) (old new : Option (List ℕ)) (r : Result X RunError) → ds ≡ es
+pub begins-told-of : {X E : Type 0} (form : Form) (f : Following) (ds es : List Document) (old new : Outs) (r : Result X E) → ds ≡ es
     → OnErr r (BeginsTelling form f ds old new) → OnErr r (BeginsTelling form f es old new)
 begins-told-of form f ds es old new r e h = subst (λ (xs : List Document). OnErr r (BeginsTelling form f xs old new)) e h

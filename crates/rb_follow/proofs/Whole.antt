@@ -16,9 +16,10 @@ use Rattle.rb_follow.specs.Setups.{setup_of}
 use Rattle.rb_follow.specs.Documents.{Document, documents}
 use Rattle.rb_follow.specs.Followers.{Following, begun_with, beginning}
 use Rattle.rb_follow.specs.Answers.{Takes, TakesBeginning}
+use Rattle.rb_follow.specs.Journals.{outs}
 use Rattle.rb_follow.specs.Headline.{Answered, answers_text, Told, BeginsTelling, IsFollowed, Follows, BeginsFollowing}
 use Rattle.rb_follow.proofs.LawsLemmas.{answers_reports}
-use Rattle.rb_follow.proofs.Telling.{takes-then, begins-then, begins-first, answered-none}
+use Rattle.rb_follow.proofs.Telling.{stores_none, takes-then, begins-then, begins-first, answered-none}
 
 -- ---- the setup
 
@@ -73,27 +74,28 @@ followed_by setup c ds g read s p = record {
   reported = answers_reports (begun_with c) ds p.answers p.turns g p.answered;
 }
 
-pub follows : (form : Form) (setup : List ℕ) (f : Following) (known : Option (List ℕ)) (old mid last new : Option (List ℕ)) (g : Following) → IsBegun setup f
-    → Takes form old mid (first_line f.config.version) → IfSome known (λ (bytes : List ℕ). Told form f (documents bytes) mid last g) → Takes form last new (codes "end\n")
-    → IfSome known (λ (bytes : List ℕ). Follows form setup bytes old new)
-follows form setup f None old mid last new g b h t e = tt
-follows form setup f (Some bytes) old mid last new g b h t e =
+pub follows : (form : Form) (setup : List ℕ) (f : Following) (known : Option (List ℕ)) (old mid last new : Option (List ℕ)) (before after : Option (List (List ℕ))) (g : Following) → IsBegun setup f
+    → Takes form old mid (first_line f.config.version) → IfSome known (λ (bytes : List ℕ). Told form f (documents bytes) (outs mid before) (outs last after) g) → Takes form last new (codes "end\n")
+    → IfSome known (λ (bytes : List ℕ). Follows form setup bytes (outs old before) (outs new after))
+follows form setup f None old mid last new before after g b h t e = tt
+follows form setup f (Some bytes) old mid last new before after g b h t e =
     let c = b.config in
     let head : Takes form old mid (first_line c.version) = subst (λ (x : Following). Takes form old mid (first_line x.config.version)) b.is h in
-    let told : Told form (begun_with c) (documents bytes) mid last g = subst (λ (x : Following). Told form x (documents bytes) mid last g) b.is t in
+    let told : Told form (begun_with c) (documents bytes) (outs mid before) (outs last after) g = subst (λ (x : Following). Told form x (documents bytes) (outs mid before) (outs last after) g) b.is t in
     record {
       config = c;
       answers = told.all.answers;
       followed = followed_by setup c (documents bytes) g b.read b.set_up told.all;
+      stored = told.stored;
       written = takes-then form old mid new (first_line c.version) (answers_text c told.all.answers ++ codes "end\n") head
           (takes-then form mid last new (answers_text c told.all.answers) (codes "end\n") told.written e);
     }
 
 -- the first line failed
-pub follows-head : (form : Form) (setup : List ℕ) (f : Following) (known : Option (List ℕ)) (old new : Option (List ℕ)) → IsBegun setup f
-    → TakesBeginning form old new (first_line f.config.version) → IfSome known (λ (bytes : List ℕ). BeginsFollowing form setup bytes old new)
-follows-head form setup f None old new b h = tt
-follows-head form setup f (Some bytes) old new b h =
+pub follows-head : (form : Form) (setup : List ℕ) (f : Following) (known : Option (List ℕ)) (old new : Option (List ℕ)) (before : Option (List (List ℕ))) → IsBegun setup f
+    → TakesBeginning form old new (first_line f.config.version) → IfSome known (λ (bytes : List ℕ). BeginsFollowing form setup bytes (outs old before) (outs new before))
+follows-head form setup f None old new before b h = tt
+follows-head form setup f (Some bytes) old new before b h =
     let c = b.config in
     record {
       config = c;
@@ -102,19 +104,20 @@ follows-head form setup f (Some bytes) old new b h =
       are_first = refl;
       answers = [];
       followed = followed_by setup c [] (begun_with c) b.read b.set_up (answered-none (begun_with c));
+      stored = stores_none before;
       begun = begins-first form old new (first_line c.version) (answers_text c [] ++ codes "end\n")
           (subst (λ (x : Following). TakesBeginning form old new (first_line x.config.version)) b.is h);
     }
 
 -- an answer failed, or the input
-pub follows-begins : (form : Form) (setup : List ℕ) (f : Following) (known : Option (List ℕ)) (old mid new : Option (List ℕ)) → IsBegun setup f
-    → Takes form old mid (first_line f.config.version) → IfSome known (λ (bytes : List ℕ). BeginsTelling form f (documents bytes) mid new)
-    → IfSome known (λ (bytes : List ℕ). BeginsFollowing form setup bytes old new)
-follows-begins form setup f None old mid new b h t = tt
-follows-begins form setup f (Some bytes) old mid new b h t =
+pub follows-begins : (form : Form) (setup : List ℕ) (f : Following) (known : Option (List ℕ)) (old mid new : Option (List ℕ)) (before after : Option (List (List ℕ))) → IsBegun setup f
+    → Takes form old mid (first_line f.config.version) → IfSome known (λ (bytes : List ℕ). BeginsTelling form f (documents bytes) (outs mid before) (outs new after))
+    → IfSome known (λ (bytes : List ℕ). BeginsFollowing form setup bytes (outs old before) (outs new after))
+follows-begins form setup f None old mid new before after b h t = tt
+follows-begins form setup f (Some bytes) old mid new before after b h t =
     let c = b.config in
     let head : Takes form old mid (first_line c.version) = subst (λ (x : Following). Takes form old mid (first_line x.config.version)) b.is h in
-    let told : BeginsTelling form (begun_with c) (documents bytes) mid new = subst (λ (x : Following). BeginsTelling form x (documents bytes) mid new) b.is t in
+    let told : BeginsTelling form (begun_with c) (documents bytes) (outs mid before) (outs new after) = subst (λ (x : Following). BeginsTelling form x (documents bytes) (outs mid before) (outs new after)) b.is t in
     record {
       config = c;
       first = told.first;
@@ -122,19 +125,20 @@ follows-begins form setup f (Some bytes) old mid new b h t =
       are_first = told.are_first;
       answers = told.all.answers;
       followed = followed_by setup c told.first told.last b.read b.set_up told.all;
+      stored = told.stored;
       begun = begins-then form old mid new (first_line c.version) (answers_text c told.all.answers ++ codes "end\n") head
           (begins-first form mid new (answers_text c told.all.answers) (codes "end\n") told.begun);
     }
 
 -- the last line failed
-pub follows-end : (form : Form) (setup : List ℕ) (f : Following) (known : Option (List ℕ)) (old mid last new : Option (List ℕ)) (g : Following) → IsBegun setup f
-    → Takes form old mid (first_line f.config.version) → IfSome known (λ (bytes : List ℕ). Told form f (documents bytes) mid last g)
-    → TakesBeginning form last new (codes "end\n") → IfSome known (λ (bytes : List ℕ). BeginsFollowing form setup bytes old new)
-follows-end form setup f None old mid last new g b h t e = tt
-follows-end form setup f (Some bytes) old mid last new g b h t e =
+pub follows-end : (form : Form) (setup : List ℕ) (f : Following) (known : Option (List ℕ)) (old mid last new : Option (List ℕ)) (before after : Option (List (List ℕ))) (g : Following) → IsBegun setup f
+    → Takes form old mid (first_line f.config.version) → IfSome known (λ (bytes : List ℕ). Told form f (documents bytes) (outs mid before) (outs last after) g)
+    → TakesBeginning form last new (codes "end\n") → IfSome known (λ (bytes : List ℕ). BeginsFollowing form setup bytes (outs old before) (outs new after))
+follows-end form setup f None old mid last new before after g b h t e = tt
+follows-end form setup f (Some bytes) old mid last new before after g b h t e =
     let c = b.config in
     let head : Takes form old mid (first_line c.version) = subst (λ (x : Following). Takes form old mid (first_line x.config.version)) b.is h in
-    let told : Told form (begun_with c) (documents bytes) mid last g = subst (λ (x : Following). Told form x (documents bytes) mid last g) b.is t in
+    let told : Told form (begun_with c) (documents bytes) (outs mid before) (outs last after) g = subst (λ (x : Following). Told form x (documents bytes) (outs mid before) (outs last after) g) b.is t in
     record {
       config = c;
       first = documents bytes;
@@ -142,6 +146,7 @@ follows-end form setup f (Some bytes) old mid last new g b h t e =
       are_first = sym (append-nil (documents bytes));
       answers = told.all.answers;
       followed = followed_by setup c (documents bytes) g b.read b.set_up told.all;
+      stored = told.stored;
       begun = begins-then form old mid new (first_line c.version) (answers_text c told.all.answers ++ codes "end\n") head
           (begins-then form mid last new (answers_text c told.all.answers) (codes "end\n") told.written e);
     }

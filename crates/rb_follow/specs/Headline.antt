@@ -1,5 +1,5 @@
 -- What following an input promises.
-use Rattle.std.specs.Prelude.{◌≡◌, ℕ, ◌+◌, Bool, false, List, [], ◌∷◌, ◌++◌, codes, map, All, Option, Ok, Err}
+use Rattle.std.specs.Prelude.{◌≡◌, ℕ, ◌+◌, Bool, false, List, [], ◌∷◌, ◌++◌, codes, map, All, Ok, Err}
 use Rattle.std.specs.List.{flat_map}
 use Rattle.std.specs.declared.alloc.Global.{Global}
 use Rattle.rb_script_types.specs.Config.{Config}
@@ -12,10 +12,11 @@ use Rattle.rb_super_turn.specs.Turns.{IsTurnReport, IsReportOf}
 use Rattle.rb_text.specs.Report.{first_line}
 use Rattle.rb_text.specs.Written.{IsWriteError}
 use Rattle.rb_follow.specs.declared.error.FollowError.{FollowError}
-use Rattle.rb_follow.specs.declared.error.FollowError.TheVariants.{Run, Input}
+use Rattle.rb_follow.specs.declared.error.FollowError.TheVariants.{Run, Input, Journal}
 use Rattle.rb_follow.specs.Setups.{setup_of}
 use Rattle.rb_follow.specs.Documents.{Gathered, Document, documents_from, left_from, documents}
 use Rattle.rb_follow.specs.Followers.{Following, Answer, planned, refused, begun_with, turn_in, after_report}
+use Rattle.rb_follow.specs.Journals.{Outs, StoresAll, accepted}
 use Rattle.rb_follow.specs.declared.told.Form.{Form}
 use Rattle.rb_follow.specs.Answers.{answer_text, reports_in, Takes, TakesBeginning}
 
@@ -42,33 +43,36 @@ pub record Answered (f : Following) (documents : List Document) (g : Following) 
 abbrev pub answers_text : Config → List Answer → List ℕ
 answers_text c answers = flat_map (answer_text c.version (path_ids c.paths)) answers
 
--- documents were answered, and the writer took the answers
-pub record Told (form : Form) (f : Following) (documents : List Document) (old new : Option (List ℕ)) (g : Following) : Type 0 where
+-- documents were answered, the journal has stored those that were accepted, and the writer took the answers
+pub record Told (form : Form) (f : Following) (documents : List Document) (old new : Outs) (g : Following) : Type 0 where
   pub all : Answered f documents g
-  pub written : Takes form old new (answers_text f.config all.answers)
+  pub stored : StoresAll old.stored new.stored (accepted documents all.answers)
+  pub written : Takes form old.taken new.taken (answers_text f.config all.answers)
 
--- the first of the documents were answered, and the writer took a beginning of the answers
-pub record BeginsTelling (form : Form) (f : Following) (documents : List Document) (old new : Option (List ℕ)) : Type 0 where
+-- the first of the documents were answered, the journal has stored those that were accepted, and the writer took a beginning of the answers
+pub record BeginsTelling (form : Form) (f : Following) (documents : List Document) (old new : Outs) : Type 0 where
   pub first : List Document
   pub later : List Document
   pub are_first : documents ≡ first ++ later
   pub last : Following
   pub all : Answered f first last
-  pub begun : TakesBeginning form old new (answers_text f.config all.answers)
+  pub stored : StoresAll old.stored new.stored (accepted first all.answers)
+  pub begun : TakesBeginning form old.taken new.taken (answers_text f.config all.answers)
 
 -- a piece of an input was gone through up to this rest: the documents that ended were told, and what is read of the next goes on with
 -- the rest and what comes behind the piece
-pub record ToldPiece (form : Form) (f : Following) (old_read : Gathered) (piece : List ℕ) (new_read : Gathered) (rest : List ℕ) (old new : Option (List ℕ))
+pub record ToldPiece (form : Form) (f : Following) (old_read : Gathered) (piece : List ℕ) (new_read : Gathered) (rest : List ℕ) (old new : Outs)
     (g : Following) : Type 0 where
   pub documents : List Document
   pub ended : (more : List ℕ) → documents_from old_read (piece ++ more) ≡ documents ++ documents_from new_read (rest ++ more)
   pub left : (more : List ℕ) → left_from old_read (piece ++ more) ≡ left_from new_read (rest ++ more)
   pub told : Told form f documents old new g
 
--- why an input was not followed to its end: the device exactly where the writer has failed, want of memory, or the input itself
+-- why an input was not followed to its end: the device exactly where the writer has failed, want of memory, the input itself, or the journal
 abbrev pub IsFollowError : FollowError → Bool → Type 0
 IsFollowError (Run e) has_failed = IsWriteError e has_failed
 IsFollowError (Input e) has_failed = has_failed ≡ false
+IsFollowError (Journal e) has_failed = has_failed ≡ false
 
 -- ---- a whole input
 
@@ -90,19 +94,23 @@ pub record IsFollowed (setup : List ℕ) (documents : List Document) (config : C
   pub kept : IsScript (as_events (script_with config turns))
   pub reported : IsReportOf (as_events (script_with config turns)) (reports_in answers)
 
--- the writer took the text of answers to all documents of an input, where its bytes are known before and after
-pub record Follows (form : Form) (setup input : List ℕ) (old new : Option (List ℕ)) : Type 0 where
+-- the writer took the text of answers to all documents of an input, where its bytes are known before and after, and the journal has stored
+-- those that were accepted
+pub record Follows (form : Form) (setup input : List ℕ) (old new : Outs) : Type 0 where
   pub config : Config
   pub answers : List Answer
   pub followed : IsFollowed setup (documents input) config answers
-  pub written : Takes form old new (followed_text config answers)
+  pub stored : StoresAll old.stored new.stored (accepted (documents input) answers)
+  pub written : Takes form old.taken new.taken (followed_text config answers)
 
--- the writer took a beginning of the text of answers to the first documents of an input
-pub record BeginsFollowing (form : Form) (setup input : List ℕ) (old new : Option (List ℕ)) : Type 0 where
+-- the writer took a beginning of the text of answers to the first documents of an input, and the journal has stored those of them that were
+-- accepted: no turn is answered that it doesn't have
+pub record BeginsFollowing (form : Form) (setup input : List ℕ) (old new : Outs) : Type 0 where
   pub config : Config
   pub first : List Document
   pub later : List Document
   pub are_first : documents input ≡ first ++ later
   pub answers : List Answer
   pub followed : IsFollowed setup first config answers
-  pub begun : TakesBeginning form old new (followed_text config answers)
+  pub stored : StoresAll old.stored new.stored (accepted first answers)
+  pub begun : TakesBeginning form old.taken new.taken (followed_text config answers)

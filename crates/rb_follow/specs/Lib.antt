@@ -5,6 +5,7 @@ pub mod Setups
 pub mod Drivers
 pub mod Documents
 pub mod Followers
+pub mod Journals
 pub mod Seen
 pub mod Views
 pub mod Answers

@@ -14,6 +14,9 @@ pub enum FollowError {
     /// The input failed.
     #[error("{0}")]
     Input(io::Error),
+    /// The journal failed; the document that it was to store isn't answered.
+    #[error("{0}")]
+    Journal(io::Error),
 }
 
 impl From<RunError> for FollowError {

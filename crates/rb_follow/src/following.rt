@@ -8,6 +8,7 @@ ghost use Rattle.rb_text.specs.Written.{IsWriteError};
 ghost use Rattle.rb_follow.specs.Setups.{setup_of};
 ghost use Rattle.rb_follow.specs.Documents.{nothing_read, all_read, document, documents_from, last_of, documents};
 ghost use Rattle.rb_follow.specs.Answers.{answer_view, answer_text, Takes, TakesBeginning};
+ghost use Rattle.rb_follow.specs.Journals.{StoresAll, accepted, outs};
 ghost use Rattle.rb_follow.specs.Views.{following};
 ghost use Rattle.rb_follow.specs.Headline.{Told, ToldPiece, BeginsTelling, IsFollowError, Follows, BeginsFollowing};
 
@@ -15,6 +16,7 @@ use crate::answer::Answer;
 use crate::error::FollowError;
 use crate::follower::Follower;
 use crate::gathering::Gathering;
+use crate::journal::Journal;
 use crate::told::{Form, put, put_answer};
 use rb_base::{Gate, Sink};
 use rb_script_toml::{Fault, FaultName, RunError, fault_at};
@@ -80,7 +82,7 @@ fn tell<R, G, W, N>(
     answer: &Answer,
     teller: &Teller<'_, N>,
     writer: &mut W,
-) -> Result<Follower<G>, RunError>
+) -> Result<Follower<G>, FollowError>
 where
     R: Threads + Sync + Wait,
     G: Gate + Send + Sync + Drop + 'static,
@@ -91,74 +93,110 @@ where
     ensures written { OnOk result (Takes teller.now.form (W.taken writer.old) (W.taken writer.new) (answer_text (following follower).config.version (path_ids (following follower).config.paths) (answer_view answer.now))) }
     ensures works { OnOk result (W.is_broken writer.new ≡ false) }
     ensures begun { OnErr result (TakesBeginning teller.now.form (W.taken writer.old) (W.taken writer.new) (answer_text (following follower).config.version (path_ids (following follower).config.paths) (answer_view answer.now))) }
-    ensures failed { IfErr result (λ e. IsWriteError e (W.is_broken writer.new)) }
+    ensures failed { IfErr result (λ e. IsFollowError e (W.is_broken writer.new)) }
 {
     match teller.put(&follower, answer, writer) {
         Ok(()) => Ok(follower),
         Err(error) => {
             follower.stop(crew.rt());
-            Err(error)
+            Err(FollowError::Run(error))
         }
     }
 }
 
-/// Answers the document that was gathered.
-fn answer_document<R, G, W, N>(
+/// Stores the bytes of the document that an answer is to, if it was accepted, or ends the follower.
+#[tactic(auto, using(crate::proofs::Telling::stores_none))]
+fn store<R, G, J>(
+    crew: &Crew<R, G>,
+    follower: Follower<G>,
+    answer: &Answer,
+    bytes: &[u8],
+    journal: &mut J,
+) -> Result<Follower<G>, FollowError>
+where
+    R: Threads + Sync + Wait,
+    G: Gate + Send + Sync + Drop + 'static,
+    J: Journal,
+    ensures same { IfOk result (λ g. g ≡ follower) }
+    ensures stored { OnOk result (StoresAll (J.documents journal.old) (J.documents journal.new) (accepted (document bytes.now ∷ []) (answer_view answer.now ∷ []))) }
+    ensures unstored { OnErr result (J.documents journal.new ≡ J.documents journal.old) }
+    ensures failed { IfErr result (λ e. IsFollowError e false) }
+{
+    match answer {
+        Answer::Refused(_) => Ok(follower),
+        Answer::Planned { .. } => match journal.store(bytes) {
+            Ok(()) => Ok(follower),
+            Err(error) => {
+                follower.stop(crew.rt());
+                Err(FollowError::Journal(error))
+            }
+        },
+    }
+}
+
+/// Answers the document that was gathered, after the journal has it.
+fn answer_document<R, G, W, N, J>(
     crew: &Crew<R, G>,
     follower: Follower<G>,
     gathering: &mut Gathering,
     teller: &Teller<'_, N>,
+    journal: &mut J,
     writer: &mut W,
-) -> Result<Follower<G>, RunError>
+) -> Result<Follower<G>, FollowError>
 where
     R: Threads + Sync + Wait,
     G: Gate + Send + Sync + Drop + 'static,
     W: Sink,
     N: Watcher,
+    J: Journal,
     requires works { W.is_broken writer.old ≡ false }
     ensures works { OnOk result (W.is_broken writer.new ≡ false) }
-    ensures failed { IfErr result (λ e. IsWriteError e (W.is_broken writer.new)) }
-    ensures told { IfOk result (λ g. Told teller.now.form (following follower) (document (all_read gathering.old) ∷ []) (W.taken writer.old) (W.taken writer.new) (following g)) }
+    ensures failed { IfErr result (λ e. IsFollowError e (W.is_broken writer.new)) }
+    ensures told { IfOk result (λ g. Told teller.now.form (following follower) (document (all_read gathering.old) ∷ []) (outs (W.taken writer.old) (J.documents journal.old)) (outs (W.taken writer.new) (J.documents journal.new)) (following g)) }
     ensures cleared { OnOk result (gathering.new ≡ nothing_read) }
-    ensures begun { OnErr result (BeginsTelling teller.now.form (following follower) (document (all_read gathering.old) ∷ []) (W.taken writer.old) (W.taken writer.new)) }
+    ensures begun { OnErr result (BeginsTelling teller.now.form (following follower) (document (all_read gathering.old) ∷ []) (outs (W.taken writer.old) (J.documents journal.old)) (outs (W.taken writer.new) (J.documents journal.new))) }
 {
-    let (follower, answer) = follower.answer(crew, gathering.document())?;
+    let document = gathering.document();
+    let (follower, answer) = follower.answer(crew, document)?;
+    let stored = store(crew, follower, &answer, document, journal)?;
     gathering.clear();
-    tell(crew, follower, &answer, teller, writer)
+    tell(crew, stored, &answer, teller, writer)
 }
 
 /// Answers the documents that end in a piece of the input, and gathers what the piece has of the next.
-fn answer_piece<R, G, W, N>(
+fn answer_piece<R, G, W, N, J>(
     crew: &Crew<R, G>,
     follower: Follower<G>,
     gathering: &mut Gathering,
     piece: &[u8],
     teller: &Teller<'_, N>,
+    journal: &mut J,
     writer: &mut W,
-) -> Result<Follower<G>, RunError>
+) -> Result<Follower<G>, FollowError>
 where
     R: Threads + Sync + Wait,
     G: Gate + Send + Sync + Drop + 'static,
     W: Sink,
     N: Watcher,
+    J: Journal,
     requires works { W.is_broken writer.old ≡ false }
     ensures works { OnOk result (W.is_broken writer.new ≡ false) }
-    ensures failed { IfErr result (λ e. IsWriteError e (W.is_broken writer.new)) }
-    ensures told { IfOk result (λ g. ToldPiece teller.now.form (following follower) gathering.old piece.now gathering.new [] (W.taken writer.old) (W.taken writer.new) (following g)) }
-    ensures begun { (more : List ℕ) → OnErr result (BeginsTelling teller.now.form (following follower) (documents_from gathering.old (piece.now ++ more)) (W.taken writer.old) (W.taken writer.new)) }
+    ensures failed { IfErr result (λ e. IsFollowError e (W.is_broken writer.new)) }
+    ensures told { IfOk result (λ g. ToldPiece teller.now.form (following follower) gathering.old piece.now gathering.new [] (outs (W.taken writer.old) (J.documents journal.old)) (outs (W.taken writer.new) (J.documents journal.new)) (following g)) }
+    ensures begun { (more : List ℕ) → OnErr result (BeginsTelling teller.now.form (following follower) (documents_from gathering.old (piece.now ++ more)) (outs (W.taken writer.old) (J.documents journal.old)) (outs (W.taken writer.new) (J.documents journal.new))) }
 {
     let mut follower = follower;
     let mut rest = piece;
     loop {
         match gathering.gather(rest) {
             Ok(Some(end)) => {
-                follower = answer_document(crew, follower, gathering, teller, writer)?;
+                follower = answer_document(crew, follower, gathering, teller, journal, writer)?;
                 rest = &rest[end..];
             }
             Ok(None) => return Ok(follower),
             Err(_) => {
                 follower.stop(crew.rt());
-                return Err(RunError::NoMemory);
+                return Err(FollowError::Run(RunError::NoMemory));
             }
         }
     }
@@ -166,26 +204,28 @@ where
 
 /// Answers what an input that ended has after its last document: nothing, a document whose last line ends with
 /// the input, or the beginning of one, which is refused.
-fn answer_rest<R, G, W, N>(
+fn answer_rest<R, G, W, N, J>(
     crew: &Crew<R, G>,
     follower: Follower<G>,
     gathering: &mut Gathering,
     teller: &Teller<'_, N>,
+    journal: &mut J,
     writer: &mut W,
-) -> Result<Follower<G>, RunError>
+) -> Result<Follower<G>, FollowError>
 where
     R: Threads + Sync + Wait,
     G: Gate + Send + Sync + Drop + 'static,
     W: Sink,
     N: Watcher,
+    J: Journal,
     requires works { W.is_broken writer.old ≡ false }
     ensures works { OnOk result (W.is_broken writer.new ≡ false) }
-    ensures failed { IfErr result (λ e. IsWriteError e (W.is_broken writer.new)) }
-    ensures told { IfOk result (λ g. Told teller.now.form (following follower) (last_of gathering.old) (W.taken writer.old) (W.taken writer.new) (following g)) }
-    ensures begun { OnErr result (BeginsTelling teller.now.form (following follower) (last_of gathering.old) (W.taken writer.old) (W.taken writer.new)) }
+    ensures failed { IfErr result (λ e. IsFollowError e (W.is_broken writer.new)) }
+    ensures told { IfOk result (λ g. Told teller.now.form (following follower) (last_of gathering.old) (outs (W.taken writer.old) (J.documents journal.old)) (outs (W.taken writer.new) (J.documents journal.new)) (following g)) }
+    ensures begun { OnErr result (BeginsTelling teller.now.form (following follower) (last_of gathering.old) (outs (W.taken writer.old) (J.documents journal.old)) (outs (W.taken writer.new) (J.documents journal.new))) }
 {
     if gathering.finish() {
-        return answer_document(crew, follower, gathering, teller, writer);
+        return answer_document(crew, follower, gathering, teller, journal, writer);
     }
     if gathering.document().is_empty() {
         return Ok(follower);
@@ -194,17 +234,18 @@ where
         RunError::Fault(fault) => tell(crew, follower, &Answer::Refused(fault), teller, writer),
         error => {
             follower.stop(crew.rt());
-            Err(error)
+            Err(FollowError::Run(error))
         }
     }
 }
 
 /// Answers the documents of an input to its end.
-fn answer_all<R, G, I, W, N>(
+fn answer_all<R, G, I, W, N, J>(
     crew: &Crew<R, G>,
     follower: Follower<G>,
     input: &mut I,
     teller: &Teller<'_, N>,
+    journal: &mut J,
     writer: &mut W,
 ) -> Result<Follower<G>, FollowError>
 where
@@ -213,11 +254,12 @@ where
     I: Read,
     W: Sink,
     N: Watcher,
+    J: Journal,
     requires works { W.is_broken writer.old ≡ false }
     ensures works { OnOk result (W.is_broken writer.new ≡ false) }
     ensures failed { IfErr result (λ e. IsFollowError e (W.is_broken writer.new)) }
-    ensures told { IfOk result (λ g. IfSome (I.remaining input.old) (λ bytes. Told teller.now.form (following follower) (documents bytes) (W.taken writer.old) (W.taken writer.new) (following g))) }
-    ensures begun { OnErr result (IfSome (I.remaining input.old) (λ bytes. BeginsTelling teller.now.form (following follower) (documents bytes) (W.taken writer.old) (W.taken writer.new))) }
+    ensures told { IfOk result (λ g. IfSome (I.remaining input.old) (λ bytes. Told teller.now.form (following follower) (documents bytes) (outs (W.taken writer.old) (J.documents journal.old)) (outs (W.taken writer.new) (J.documents journal.new)) (following g))) }
+    ensures begun { OnErr result (IfSome (I.remaining input.old) (λ bytes. BeginsTelling teller.now.form (following follower) (documents bytes) (outs (W.taken writer.old) (J.documents journal.old)) (outs (W.taken writer.new) (J.documents journal.new)))) }
 {
     let mut follower = follower;
     let mut gathering = Gathering::new(teller.alloc);
@@ -226,11 +268,26 @@ where
         match input.read(&mut piece) {
             Ok(count) => {
                 if count == 0 {
-                    let last = answer_rest(crew, follower, &mut gathering, teller, writer)?;
+                    let last = answer_rest(
+                        crew,
+                        follower,
+                        &mut gathering,
+                        teller,
+                        journal,
+                        writer,
+                    )?;
                     return Ok(last);
                 }
                 let read = &piece[..count];
-                follower = answer_piece(crew, follower, &mut gathering, read, teller, writer)?;
+                follower = answer_piece(
+                    crew,
+                    follower,
+                    &mut gathering,
+                    read,
+                    teller,
+                    journal,
+                    writer,
+                )?;
             }
             Err(error) => {
                 if error.kind() != io::ErrorKind::Interrupted {
@@ -304,11 +361,12 @@ fn put_end<W: Sink>(form: Form, writer: &mut W) -> Result<(), RunError>
 /// `Form::Json` an object on a line. The first line of a report stands before them, and `end` behind them,
 /// where the input has ended. So what was written, without the lines `---` and the faults, is the report of
 /// the script that consists of the setup and the documents that were no fault, in whatever pieces the input
-/// comes and however many workers there are, at most 64 (with 0 the calling thread does all). `Run` is the
-/// first fault of the setup, and nothing is then written; `Device`, where the writer fails, and `NoMemory`,
-/// where a growth is refused; `Input` where the input fails. It may wait for the input, for workers and for
-/// the gate; what is said holds if it returns. The writer must not have failed before.
-pub fn follow_over<R, G, I, W, N>(
+/// comes and however many workers there are, at most 64 (with 0 the calling thread does all). The journal stores
+/// each of these documents before its answer is written. `Run` is the first fault of the setup, and nothing is
+/// then written; `Device`, where the writer fails, and `NoMemory`, where a growth is refused; `Input` where the
+/// input fails, and `Journal` where the journal does. It may wait for the input, for workers and for the gate;
+/// what is said holds if it returns. The writer must not have failed before.
+pub fn follow_over<R, G, I, W, N, J>(
     rt: &R,
     alloc: Global,
     setup: &[u8],
@@ -318,6 +376,7 @@ pub fn follow_over<R, G, I, W, N>(
     workers: usize,
     gate: &Arc<G, Global>,
     watcher: &N,
+    journal: &mut J,
 ) -> Result<(), FollowError>
 where
     R: Threads + Wait + Copy + Send + Sync + 'static,
@@ -325,13 +384,14 @@ where
     I: Read,
     W: Sink,
     N: Watcher,
+    J: Journal,
     requires works { W.is_broken writer.old ≡ false }
     requires workers { workers ≤ 64 }
-    ensures followed { OnOk result (IfSome (I.remaining input.old) (λ bytes. Follows form setup.now bytes (W.taken writer.old) (W.taken writer.new))) }
+    ensures followed { OnOk result (IfSome (I.remaining input.old) (λ bytes. Follows form setup.now bytes (outs (W.taken writer.old) (J.documents journal.old)) (outs (W.taken writer.new) (J.documents journal.new)))) }
     ensures fault { (f : CodeFault) → IsErrOf result (FollowError.Run (RunError.Fault f)) → setup_of setup.now ≡ Err (fault_view f) }
     ensures nothing_written { (f : CodeFault) → IsErrOf result (FollowError.Run (RunError.Fault f)) → writer.new ≡ writer.old }
     ensures device { IsErrOf result (FollowError.Run RunError.Device) ↔ (W.is_broken writer.new ≡ true) }
-    ensures begun { OnErr result ((writer.new ≡ writer.old) ⊎ IfSome (I.remaining input.old) (λ bytes. BeginsFollowing form setup.now bytes (W.taken writer.old) (W.taken writer.new))) }
+    ensures begun { OnErr result (((writer.new ≡ writer.old) × (J.documents journal.new ≡ J.documents journal.old)) ⊎ IfSome (I.remaining input.old) (λ bytes. BeginsFollowing form setup.now bytes (outs (W.taken writer.old) (J.documents journal.old)) (outs (W.taken writer.new) (J.documents journal.new)))) }
 {
     let crew = Crew::new(rt, workers, &**gate);
     let follower = Follower::new(rt, alloc, setup, workers, gate)?;
@@ -341,7 +401,7 @@ where
         form,
         watcher,
     };
-    let follower = answer_all(&crew, follower, input, &teller, writer)?;
+    let follower = answer_all(&crew, follower, input, &teller, journal, writer)?;
     follower.stop(rt);
     put_end(form, writer)?;
     Ok(())

@@ -1,8 +1,8 @@
 //! What a follower is set up with.
-ghost use Rattle.std.specs.Prelude.{◌≡◌, map, IfOk};
+ghost use Rattle.std.specs.Prelude.{◌≡◌, map, IsOk, IfOk, IfErr, OnOk};
 ghost use Rattle.rb_script_types.specs.declared.config.PathConfig.{PathConfig as AnyPath};
 ghost use Rattle.rb_script_types.specs.Config.{config_view, IsConfig};
-ghost use Rattle.rb_script_toml.specs.Faults.{Gives};
+ghost use Rattle.rb_script_toml.specs.Faults.{Gives, Fails};
 ghost use Rattle.rb_script_toml.specs.Fields.{section_view};
 ghost use Rattle.rb_script_config.specs.Setups.{setup_view};
 ghost use Rattle.rb_follow.specs.Setups.{setup_in, setup_of};
@@ -50,6 +50,16 @@ pub(crate) fn read_setup_text(alloc: Global, bytes: &[u8]) -> Result<(Setup, Con
         path: "",
         table: &table,
     })
+}
+
+/// Whether a text is a setup: `Fault` is its first fault, `TooManyObjects` at `turn` where it has turns; `NoMemory`
+/// comes where a growth is refused.
+pub fn check_setup(alloc: Global, bytes: &[u8]) -> Result<(), RunError>
+    ensures ok { OnOk result (IsOk (setup_of bytes.now)) }
+    ensures refused { IfErr result (λ e. Fails e (setup_of bytes.now)) }
+{
+    let (_setup, _config) = read_setup_text(alloc, bytes)?;
+    Ok(())
 }
 
 /// The identifiers of paths.

@@ -1,0 +1,262 @@
+//! The journal of a follower in a file: a script of the turns that were answered, from which it goes on after a crash.
+use ibcplan_cli::{Host, Input, ProgramError, Shown};
+use rb_follow::{Journal, check_setup};
+use rb_journal::{entry_text, input_of, is_opening, opening_text, split_part, stored_in};
+use rb_script_toml::RunError;
+use std::alloc::Global;
+use std::fs::{File, OpenOptions, TryLockError};
+use std::io;
+use std::io::{Read, Write};
+use std::vec::IntoIter;
+
+/// What to do where the file can't be opened or read.
+const UNREAD: &str =
+    "Give the path of a file that can be read and written, or of one that is to be made.";
+
+/// What to do where the file can't be begun or cut.
+const UNWRITTEN: &str = "Nothing is answered. Make room, or give another file.";
+
+/// What an error says where a turn that the file has is refused.
+const UNEXPECTED: &str = "a turn of it is refused, or was changed";
+
+/// The journal in a file, which no other process has while this one has it. The first documents that are stored
+/// have to be those that the file had already; the others are added to it.
+#[derive(Drop)]
+pub struct FileJournal {
+    alloc: Global,
+    file: File,
+    past: IntoIter<String>,
+}
+
+impl FileJournal {
+    /// Adds a turn, and waits until the disk has it.
+    fn append(&mut self, document: &[u8]) -> io::Result<()> {
+        match entry_text(self.alloc, document) {
+            Ok(entry) => {
+                self.file.write_all(entry.as_bytes())?;
+                self.file.sync_data()
+            }
+            Err(RunError::Fault(_)) => Err(io::Error::from(io::ErrorKind::FileTooLarge)),
+            Err(_) => Err(io::Error::from(io::ErrorKind::OutOfMemory)),
+        }
+    }
+}
+
+impl Journal for FileJournal {
+    ghost use Rattle.std.specs.Prelude.{None};
+
+    ghost documents = { λ _. None };
+
+    fn store(&mut self, document: &[u8]) -> io::Result<()> {
+        match self.past.next() {
+            Some(past) if past.as_bytes() == document => Ok(()),
+            Some(_) => Err(io::Error::new(io::ErrorKind::InvalidData, UNEXPECTED)),
+            None => self.append(document),
+        }
+    }
+}
+
+/// A journal that was opened, the setup that it begins with, and the documents that it has, as an input.
+#[derive(Drop)]
+pub struct OpenedJournal<'a> {
+    pub journal: FileJournal,
+    pub setup: Input<'a>,
+    pub past: Vec<u8>,
+}
+
+/// Opens the journal in a file. With a setup the file is begun where it isn't there, and else has to have this
+/// setup; without one the file has to be there. What stands behind its last whole turn is cut off: that turn was
+/// never answered.
+pub fn open_journal<'a, R: Host>(
+    rt: &R,
+    setup: Option<&'a str>,
+    path: &'a str,
+) -> Result<OpenedJournal<'a>, ProgramError<'a>> {
+    let opening = match setup {
+        Some(setup) => Some(opening_of(rt, setup)?),
+        None => None,
+    };
+    let mut file = opened(rt, path, opening.is_some())?;
+    let bytes = match content(rt.alloc(), &mut file) {
+        Ok(bytes) => bytes,
+        Err(error) => return Err(failed(path, error, UNREAD)),
+    };
+    match split_part(bytes.as_slice()) {
+        Some((first, turns)) => {
+            check_opening(path, first, &opening)?;
+            gone_on(rt, path, file, first, turns)
+        }
+        None => begun(rt, path, file, bytes.as_slice(), opening),
+    }
+}
+
+/// The first part of a journal with the setup of a file.
+fn opening_of<'a, R: Host>(rt: &R, setup: &'a str) -> Result<String, ProgramError<'a>> {
+    let input = Input::read(rt, setup)?;
+    let opening = match check_setup(rt.alloc(), input.bytes()) {
+        Ok(()) => opening_text(rt.alloc(), input.bytes()),
+        Err(error) => Err(error),
+    };
+    match opening {
+        Ok(opening) => Ok(opening),
+        Err(error) => Err(ProgramError::of_run(error, &input)),
+    }
+}
+
+/// The file, to be read and to be added to, which this process alone has.
+fn opened<'a, R: Host>(rt: &R, path: &'a str, may_begin: bool) -> Result<File, ProgramError<'a>> {
+    let mut options = OpenOptions::new();
+    options.read(true).append(true).create(may_begin);
+    let file = match options.open(rt, path) {
+        Ok(file) => file,
+        Err(error) => return Err(failed(path, error, UNREAD)),
+    };
+    match file.metadata() {
+        Ok(metadata) if metadata.is_file() => {}
+        Ok(_) => return Err(no_journal(path, "it isn't a regular file")),
+        Err(error) => return Err(failed(path, error, UNREAD)),
+    }
+    match file.try_lock() {
+        Ok(()) => Ok(file),
+        Err(TryLockError::WouldBlock) => Err(no_journal(path, "another process has it")),
+        Err(TryLockError::Error(error)) => Err(failed(path, error, UNREAD)),
+    }
+}
+
+fn content(alloc: Global, file: &mut File) -> io::Result<Vec<u8>> {
+    let mut bytes = Vec::new(alloc);
+    file.read_to_end(&mut bytes)?;
+    Ok(bytes)
+}
+
+/// Whether the first part of a journal is the one that is wanted, or one at all.
+fn check_opening<'a>(
+    path: &'a str,
+    first: &[u8],
+    opening: &Option<String>,
+) -> Result<(), ProgramError<'a>> {
+    if !is_opening(first) {
+        return Err(no_journal(path, "it isn't a journal"));
+    }
+    match opening {
+        Some(opening) if opening.as_bytes() != first => {
+            Err(no_journal(path, "it was begun with another setup"))
+        }
+        _ => Ok(()),
+    }
+}
+
+/// Begins a journal in a file that is empty, or was begun with the same setup and was cut.
+fn begun<'a, R: Host>(
+    rt: &R,
+    path: &'a str,
+    file: File,
+    bytes: &[u8],
+    opening: Option<String>,
+) -> Result<OpenedJournal<'a>, ProgramError<'a>> {
+    let Some(opening) = opening else {
+        return Err(no_journal(path, "it has no setup: give SETUP, too"));
+    };
+    if !opening.as_bytes().starts_with(bytes) {
+        return Err(no_journal(path, "it isn't a journal"));
+    }
+    let mut file = file;
+    match write_opening(&mut file, opening.as_str()) {
+        Ok(()) => {
+            let past = Vec::new(rt.alloc());
+            settled(rt, path, file, opening.as_bytes(), past)
+        }
+        Err(error) => Err(failed(path, error, UNWRITTEN)),
+    }
+}
+
+/// Writes the first part of a journal.
+fn write_opening(file: &mut File, opening: &str) -> io::Result<()> {
+    file.set_len(0)?;
+    file.write_all(opening.as_bytes())
+}
+
+/// Waits until the disk has the file and its name.
+fn settle<R: Host>(rt: &R, path: &str, file: &File) -> io::Result<()> {
+    file.sync_all()?;
+    File::open(rt, folder_of(path))?.sync_all()
+}
+
+/// The folder in which a file is.
+fn folder_of(path: &str) -> &str {
+    match path.rsplit_once('/') {
+        Some(("", _)) => "/",
+        Some((folder, _)) => folder,
+        None => ".",
+    }
+}
+
+/// Goes on from a journal with this first part, and turns behind it.
+fn gone_on<'a, R: Host>(
+    rt: &R,
+    path: &'a str,
+    file: File,
+    opening: &[u8],
+    turns: &[u8],
+) -> Result<OpenedJournal<'a>, ProgramError<'a>> {
+    let stored = match stored_in(rt.alloc(), turns) {
+        Ok(stored) => stored,
+        Err(RunError::Fault(_)) => return Err(no_journal(path, "a part of it isn't a turn")),
+        Err(_) => return Err(ProgramError::NoMemory),
+    };
+    let cut = stored.cut;
+    if cut > 0 {
+        let whole = opening
+            .len()
+            .saturating_add(turns.len())
+            .saturating_sub(cut);
+        if let Err(error) = file.set_len(whole as u64) {
+            return Err(failed(path, error, UNWRITTEN));
+        }
+        let shown = Shown { name: path };
+        let _ = eprintln!(rt;
+            "{shown}: the last {cut} bytes are left out: a turn that wasn't answered"
+        );
+    }
+    settled(rt, path, file, opening, stored.documents)
+}
+
+/// A journal that goes on behind these documents, which the disk has: they may have been written and not synced.
+fn settled<'a, R: Host>(
+    rt: &R,
+    path: &'a str,
+    file: File,
+    opening: &[u8],
+    documents: Vec<String>,
+) -> Result<OpenedJournal<'a>, ProgramError<'a>> {
+    let alloc = rt.alloc();
+    if let Err(error) = settle(rt, path, &file) {
+        return Err(failed(path, error, UNWRITTEN));
+    }
+    match (
+        Vec::from_slice(alloc, opening),
+        input_of(alloc, documents.as_slice()),
+    ) {
+        (Ok(setup), Ok(past)) => Ok(OpenedJournal {
+            journal: FileJournal {
+                alloc,
+                file,
+                past: documents.into_iter(),
+            },
+            setup: Input::beginning(path, setup),
+            past,
+        }),
+        _ => Err(ProgramError::NoMemory),
+    }
+}
+
+fn failed<'a>(path: &'a str, error: io::Error, advice: &'static str) -> ProgramError<'a> {
+    ProgramError::of_journal(Shown { name: path }, error, advice)
+}
+
+fn no_journal<'a>(path: &'a str, reason: &'static str) -> ProgramError<'a> {
+    ProgramError::NoJournal {
+        file: Shown { name: path },
+        reason,
+    }
+}

@@ -1,0 +1,4 @@
+pub mod Ends
+pub mod Cuts
+pub mod Entries
+pub mod Stores

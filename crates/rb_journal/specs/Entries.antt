@@ -1,0 +1,67 @@
+-- What parts of a journal say: the setup, and turns.
+use Rattle.std.specs.Prelude.{◌≡◌, ℕ, ◌≤◌, true, false, List, ◌++◌, codes, length, if◌then◌else◌, Option, None, option_and_then, Ok}
+use Rattle.toml.specs.Data.{array, table, Items, item, no_items, Members, no_members, member, members_depth, members_have_valid_dates, same_key, get_member, as_array, as_table}
+use Rattle.toml.specs.Text.{IsDocumentText}
+use Rattle.rb_script_toml.specs.declared.fault.FaultName.TheVariants.{InputTooBig}
+use Rattle.rb_script_toml.specs.declared.fault.RunError.{RunError}
+use Rattle.rb_script_toml.specs.Faults.{IsFault}
+use Rattle.rb_script_toml.specs.Documents.{max_bytes, document, whole}
+use Rattle.rb_journal.specs.Parts.{heading, gap, mark, IsWhole}
+
+-- the key of a script's turns
+abbrev pub turn_key : List ℕ
+turn_key = codes "turn"
+
+-- a script of one turn
+abbrev pub script_of : Members → Members
+script_of turn = member turn_key (array (item (table turn) no_items)) no_members
+
+-- the table in an array of one
+abbrev pub only_table : Items → Option Members
+only_table (item d no_items) = as_table d
+only_table _ = None
+
+-- the turn of a script, if it has one
+unfoldable pub turn_in : Members → Option Members
+turn_in ms = option_and_then only_table (option_and_then as_array (get_member turn_key ms))
+
+-- without what a key has
+abbrev pub without : List ℕ → Members → Members
+without k no_members = no_members
+without k (member l d ms) = if same_key k l then ms else member l d (without k ms)
+
+-- as deep as the reader of TOML goes
+abbrev pub max_depth : ℕ
+max_depth = 80
+
+-- a table that a text can have
+abbrev pub IsWritable : Members → Type 0
+IsWritable ms = (members_have_valid_dates ms ≡ true) × (members_depth ms ≤ max_depth)
+
+-- a part: a line, a text that reads as this table, and the line that ends it
+pub record IsPart (before : List ℕ) (ms : Members) (part : List ℕ) : Type 0 where
+  pub text : List ℕ
+  pub is_part : part ≡ before ++ (text ++ mark)
+  pub written : IsDocumentText false ms text
+  pub writable : IsWritable ms
+  pub read : document text ≡ Ok (whole ms)
+  pub ends : IsWhole part
+  pub fits : length part ≤ max_bytes
+
+-- the first part: a setup without turns
+abbrev pub IsOpening : List ℕ → List ℕ → Type 0
+IsOpening setup part = (ms : Members) × (document setup ≡ Ok (whole ms)) × IsPart heading (without turn_key ms) part
+
+-- the part for a document: a script of the turn that it holds
+pub record IsEntry (bytes part : List ℕ) : Type 0 where
+  pub turn : Members
+  pub held : document bytes ≡ Ok (whole turn)
+  pub part_of : IsPart gap (script_of turn) part
+
+-- each document for which this is the part reads as this text does
+abbrev pub Restores : List ℕ → List ℕ → Type 0
+Restores part text = (bytes : List ℕ) → IsEntry bytes part → document text ≡ document bytes
+
+-- no document is restored: none has this part, or its text is too big; or memory ran out
+abbrev pub Unrestored : List ℕ → RunError → Type 0
+Unrestored part error = (bytes : List ℕ) → IsEntry bytes part → IsFault error InputTooBig (codes "-")
