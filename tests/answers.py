@@ -128,7 +128,8 @@ class Chain:
                               {"block_id_flag": flag, "validator_address": upper(address), "timestamp": stamp(self.times[height]),
                                "signature": base64.b64encode(self.chance.randbytes(64)).decode()})
         header["data_hash"] = self.some_hash()
-        commit = {"height": str(height), "round": 0, "block_id": {"hash": upper(header_hash(header))}, "signatures": signatures}
+        parts = {"total": 1, "hash": upper(sha(f"parts {height}".encode()))}
+        commit = {"height": str(height), "round": 0, "block_id": {"hash": upper(header_hash(header)), "parts": parts}, "signatures": signatures}
         return {"jsonrpc": "2.0", "id": -1, "result": {"signed_header": {"header": header, "commit": commit}, "canonical": True}}
 
     def validators(self, height):

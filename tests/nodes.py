@@ -71,7 +71,8 @@ class LongChain:
             signatures.append({"block_id_flag": 1, "validator_address": "", "timestamp": "0001-01-01T00:00:00Z", "signature": None} if flag == 1 else
                               {"block_id_flag": flag, "validator_address": answers.upper(address), "timestamp": self.stamp(height),
                                "signature": base64.b64encode(bytes(64)).decode()})
-        commit = {"height": str(height), "round": 0, "block_id": {"hash": answers.upper(answers.header_hash(header))}, "signatures": signatures}
+        block = {"hash": answers.upper(answers.header_hash(header)), "parts": {"total": 1, "hash": some["data_hash"]}}
+        commit = {"height": str(height), "round": 0, "block_id": block, "signatures": signatures}
         return {"jsonrpc": "2.0", "id": -1, "result": {"signed_header": {"header": header, "commit": commit}, "canonical": height < self.blocks}}
 
     def validators(self, height, page, size):

@@ -1,6 +1,6 @@
 //! ibcplan plans the client updates of an IBC relayer's script, and judges plans that others made.
-//! What it does stands in `rb_text`, `rb_follow`, `rb_import`, `rb_text_export` and `rb_health`, and its command line, files,
-//! statuses and words for the operator in `ibcplan_cli`; here each request is done, and the status of a plan with
+//! What it does stands in `rb_text`, `rb_follow`, `rb_import`, `rb_text_export`, `rb_health` and `rb_messages`, and its command
+//! line, files, statuses and words for the operator in `ibcplan_cli`; here each request is done, and the status of a plan with
 //! `--strict` goes by whether its report tells of something refused.
 #![tactic(auto)]
 
@@ -10,6 +10,7 @@ mod following;
 mod forms;
 mod health;
 mod journal;
+mod messages;
 mod perform;
 mod progress;
 mod reporting;

@@ -12,6 +12,7 @@ use crate::following::follow;
 use crate::forms::{commands_of_script, json_of_script};
 use crate::health::health_of_script;
 use crate::journal::{OpenedJournal, open_journal};
+use crate::messages::{Folders, messages_of_script};
 use crate::progress::Progress;
 use crate::reporting::{plan_status, refused_events};
 use ibcplan_cli::{
@@ -160,6 +161,17 @@ fn done_of<'a, R: Host, W: Sink>(
             script,
             are_metrics,
         } => health_file(rt, script, are_metrics, is_watched, output),
+        Request::Messages {
+            script,
+            folder,
+            output: made,
+        } => {
+            let folders = Folders {
+                answers: folder,
+                output: made,
+            };
+            messages_file(rt, script, folders, is_watched, output)
+        }
         Request::Import { setup, answers } => import_files(rt, setup, answers, output),
         Request::Setup { config, clients } => setup_file(rt, config, clients.as_slice(), output),
         Request::Want { setup, folder } => want_files(rt, setup, folder, output),
@@ -254,6 +266,22 @@ fn health_file<'a, R: Host, W: Sink>(
     let progress = Progress::new(*rt, is_watched);
     let text = health_of_script(rt, rt.alloc(), &script, are_metrics, &progress)?;
     write(text.as_str(), output)?;
+    Ok(Done::quietly(status::DONE))
+}
+
+fn messages_file<'a, R: Host, W: Sink>(
+    rt: &R,
+    script: &'a str,
+    folders: Folders<'_>,
+    is_watched: bool,
+    output: &mut W,
+) -> Result<Done, ProgramError<'a>>
+    requires { W.is_broken output.old ≡ false }
+{
+    let script = Input::read(rt, script)?;
+    let progress = Progress::new(*rt, is_watched);
+    let lines = messages_of_script(rt, &script, folders, &progress)?;
+    write(lines.as_str(), output)?;
     Ok(Done::quietly(status::DONE))
 }
 

@@ -4,7 +4,7 @@ use Rattle.rb_script_toml.specs.Faults.{Fault, fault_view}
 use Rattle.rb_script_toml.specs.declared.fault.RunError.{RunError}
 use Rattle.rb_script_toml.specs.declared.fault.RunError.TheVariants as errors
 use Rattle.ibcplan_cli.specs.declared.error.ProgramError.{ProgramError}
-use Rattle.ibcplan_cli.specs.declared.error.ProgramError.TheVariants.{Refused, RefusedAnswers, NoSuchTurn, NoSuchClient, BadClient, NoJournal, JournalFails, Unreadable, UnreadableAnswers, Unwritten, NoMemory}
+use Rattle.ibcplan_cli.specs.declared.error.ProgramError.TheVariants.{Refused, RefusedAnswers, NoSuchTurn, NoSuchClient, BadClient, NoJournal, JournalFails, Unreadable, UnreadableAnswers, Unmade, Unwritten, NoMemory}
 
 -- 1: a file's content was refused; 2: the script hasn't the turn or the client that was asked for, a configuration makes no setup for a client, or a file can't be the journal; 4: want of memory, or a file or an output that fails
 abbrev pub failure_status : ProgramError → ℕ
@@ -17,6 +17,7 @@ failure_status (NoJournal file reason) = 2
 failure_status (JournalFails file error advice) = 4
 failure_status (Unreadable file error advice) = 4
 failure_status (UnreadableAnswers file error) = 4
+failure_status (Unmade file error) = 4
 failure_status (Unwritten error) = 4
 failure_status NoMemory = 4
 
@@ -35,6 +36,7 @@ told_fault (NoJournal file reason) = None
 told_fault (JournalFails file error advice) = None
 told_fault (Unreadable file error advice) = None
 told_fault (UnreadableAnswers file error) = None
+told_fault (Unmade file error) = None
 told_fault (Unwritten error) = None
 told_fault NoMemory = None
 
@@ -49,6 +51,7 @@ is_unwritten (NoJournal file reason) = false
 is_unwritten (JournalFails file error advice) = false
 is_unwritten (Unreadable file error advice) = false
 is_unwritten (UnreadableAnswers file error) = false
+is_unwritten (Unmade file error) = false
 is_unwritten (Unwritten error) = true
 is_unwritten NoMemory = false
 

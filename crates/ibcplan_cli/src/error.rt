@@ -88,6 +88,12 @@ pub enum ProgramError<'a> {
         client: NamedClient,
         reason: &'static str,
     },
+    /// A file or a folder can't be made.
+    #[error("device\n{file}: {error}\nGive the path of a folder that isn't there, within one that can be written; what was made may be only a beginning.")]
+    Unmade {
+        file: String,
+        error: io::Error,
+    },
     /// Standard output fails.
     #[error("device\nstandard output: {error}\nIt can't be written; what it took may be only a beginning.")]
     Unwritten {
@@ -178,6 +184,16 @@ impl<'a> ProgramError<'a> {
         }
     }
 
+    /// Why a file or a folder isn't made.
+    pub fn of_new_file(alloc: Global, file: &str, error: io::Error) -> ProgramError<'a> {
+        match shown_text(alloc, file) {
+            Ok(file) if error.kind() != io::ErrorKind::OutOfMemory => {
+                ProgramError::Unmade { file, error }
+            }
+            _ => ProgramError::NoMemory,
+        }
+    }
+
     /// The status that the program ends with.
     pub fn status(&self) -> u8
         ensures status { result ≡ failure_status self.now }
@@ -192,6 +208,7 @@ impl<'a> ProgramError<'a> {
             ProgramError::Unreadable { .. }
             | ProgramError::JournalFails { .. }
             | ProgramError::UnreadableAnswers { .. }
+            | ProgramError::Unmade { .. }
             | ProgramError::Unwritten { .. }
             | ProgramError::NoMemory => status::FAILED,
         }

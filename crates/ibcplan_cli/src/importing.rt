@@ -267,7 +267,7 @@ pub fn path_in<'a>(alloc: Global, folder: &str, name: &str) -> Result<String, Pr
 }
 
 /// The names of a folder's files `*.json`, in the order of their bytes.
-fn names_in<R: Host>(rt: &R, path: &str) -> io::Result<Vec<String>> {
+pub fn names_in<R: Host>(rt: &R, path: &str) -> io::Result<Vec<String>> {
     let mut names = Vec::new(rt.alloc());
     for entry in fs::read_dir(rt, path)? {
         let entry = entry?;
@@ -303,7 +303,7 @@ fn read_file<'a, R: Host>(rt: &R, folder: &str, name: &str) -> Result<Saved, Pro
 }
 
 /// The answer that the bytes of a file hold.
-fn saved_of<'a>(alloc: Global, file: &str, bytes: &[u8]) -> Result<Saved, ProgramError<'a>> {
+pub fn saved_of<'a>(alloc: Global, file: &str, bytes: &[u8]) -> Result<Saved, ProgramError<'a>> {
     let Ok(name) = shown_text(alloc, file) else {
         return Err(ProgramError::NoMemory);
     };

@@ -5,6 +5,7 @@ use crate::explain_request::{
 use crate::health_request::{HEALTH, health_command, health_of};
 use crate::importing::Answers;
 use crate::input::STANDARD_INPUT;
+use crate::messages_request::{MESSAGES, messages_command, messages_of};
 use crate::setup_request::{HERMES, SETUP_COMMAND, clients_of, setup_command};
 use crate::worker_count::WorkerCount;
 use clap::error::ErrorKind;
@@ -51,6 +52,12 @@ pub enum Request<'a> {
     Health {
         script: &'a str,
         are_metrics: bool,
+    },
+    /// Write the client messages of a script's last turn, made of the answers in a folder, into a new folder.
+    Messages {
+        script: &'a str,
+        folder: &'a str,
+        output: &'a str,
     },
     /// Write the script that a setup and the answers in a folder make.
     Import {
@@ -128,7 +135,7 @@ const SETUP: &str = "SETUP";
 
 const JOURNAL: &str = "journal";
 
-const FOLDER: &str = "FOLDER";
+pub(crate) const FOLDER: &str = "FOLDER";
 
 const ALL_OR_NOTHING: &str = "all-or-nothing";
 
@@ -223,7 +230,7 @@ const AFTER_CERTIFY: &str = "Examples (in the folder of the repository):
 It writes yes (exit status 0), or no and the reason (exit status 3).";
 
 /// A word that has to be given: the path of a file or of a folder.
-fn path<'a>(alloc: Global, name: &'static str, help: &'static str) -> Arg<'a> {
+pub(crate) fn path<'a>(alloc: Global, name: &'static str, help: &'static str) -> Arg<'a> {
     Arg::new(alloc, name).required(true).help(help)
 }
 
@@ -385,6 +392,7 @@ fn command_line<'a>(alloc: Global) -> Result<Command<'a>, AllocError> {
         .subcommand(plan_command(alloc)?)?
         .subcommand(run_command(alloc)?)?
         .subcommand(commands_command(alloc)?)?
+        .subcommand(messages_command(alloc)?)?
         .subcommand(setup_command(alloc)?)?
         .subcommand(want_command(alloc)?)?
         .subcommand(explain_command(alloc)?)?
@@ -494,6 +502,9 @@ fn task_of<'a>(matches: &ArgMatches<'a>) -> Option<Request<'a>> {
     }
     if name == HEALTH {
         return health_of(given);
+    }
+    if name == MESSAGES {
+        return messages_of(given);
     }
     let script = given.get_str(SCRIPT)?;
     if name == CERTIFY {

@@ -1,0 +1,4 @@
+pub mod Names
+pub mod Updates
+pub mod Sources
+pub mod Messages

@@ -1,0 +1,111 @@
+//! Why a message isn't made.
+ghost use Rattle.rb_import_check.specs.declared.chain.SeenChain.{SeenChain};
+ghost use Rattle.rb_messages.specs.Sources.{IsRefusedFor};
+ghost use Rattle.rb_messages.specs.declared.update.PlannedUpdate.{PlannedUpdate};
+
+use rb_base::Height;
+use rb_import_check::ImportError;
+use rb_import_json::{AnswerError, FieldError};
+use std::alloc::{AllocError, AllocFailed};
+use std::fmt;
+
+/// Why the message of an update isn't made.
+#[derive(Clone, Copy, Debug)]
+pub enum MessageError<'a> {
+    /// The answers contradict each other, or one is missing.
+    Answers(ImportError<'a>),
+    /// No answer has the header of this height.
+    MissingHeader {
+        chain: &'a str,
+        height: Height,
+    },
+    /// The header of this height isn't that of the script.
+    OtherHeader {
+        chain: &'a str,
+        height: Height,
+        file: &'a str,
+    },
+    /// No answers have the set that the consensus state of this height names.
+    MissingSet {
+        chain: &'a str,
+        height: Height,
+    },
+    /// What is read for a message alone has a flaw.
+    Flawed {
+        file: &'a str,
+        flaw: FieldError,
+    },
+    /// A growth was refused.
+    NoMemory,
+}
+
+impl<'a> MessageError<'a> {
+    /// Why answers aren't taken.
+    pub(crate) fn of_answers(error: ImportError<'a>) -> MessageError<'a> {
+        match error {
+            ImportError::NoMemory => MessageError::NoMemory,
+            error => MessageError::Answers(error),
+        }
+    }
+
+    /// Why the answer in a file isn't read.
+    pub(crate) fn of_answer(error: AnswerError, file: &'a str) -> MessageError<'a>
+        ensures { (seen : SeenChain) (update : PlannedUpdate) → IsRefusedFor seen update result }
+    {
+        match error {
+            AnswerError::Invalid(flaw) => MessageError::Flawed { file, flaw },
+            AnswerError::NoMemory => MessageError::NoMemory,
+        }
+    }
+}
+
+impl fmt::Display for MessageError<'_> {
+    fn fmt<W: fmt::Write>(&self, f: &mut fmt::Formatter<W>) -> fmt::Result {
+        match self {
+            MessageError::Answers(error) => write!(f, "{error}"),
+            MessageError::MissingHeader { chain, height } => write!(
+                f,
+                "refused MissingHeader at {chain} {height}\nno answer has this header; fetch /commit?height={height} into files *.json of the folder {chain}"
+            ),
+            MessageError::OtherHeader {
+                chain,
+                height,
+                file,
+            } => write!(
+                f,
+                "refused OtherHeader at {chain} {height}\n{file}: the script has another header of this height; import these answers anew"
+            ),
+            MessageError::MissingSet { chain, height } => write!(
+                f,
+                "refused MissingSet at {chain} {height}\nno answers have the next validators of this height; fetch all pages of /validators?per_page=100 of the height after it into files *.json of the folder {chain}"
+            ),
+            MessageError::Flawed { file, flaw } => {
+                let advice = flaw.name.advice();
+                write!(f, "refused {flaw}\n{file}: {advice}")
+            }
+            MessageError::NoMemory => f.write_str("no memory"),
+        }
+    }
+}
+
+impl From<AllocError> for MessageError<'_> {
+    ghost use Rattle.std.specs.Prelude.{◌≡◌};
+    ghost use Rattle.rb_messages.specs.declared.error.MessageError.TheVariants.{NoMemory};
+
+    ghost from_gives = { λ _ e. e ≡ NoMemory };
+
+    fn from(_: AllocError) -> Self {
+        MessageError::NoMemory
+    }
+}
+
+impl<T: Drop> From<AllocFailed<T>> for MessageError<'_> {
+    ghost use Rattle.std.specs.Prelude.{◌≡◌};
+    ghost use Rattle.rb_messages.specs.declared.error.MessageError.TheVariants.{NoMemory};
+
+    ghost from_gives = { λ _ e. e ≡ NoMemory };
+
+    fn from(_: AllocFailed<T>) -> Self {
+        MessageError::NoMemory
+    }
+}
