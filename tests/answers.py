@@ -39,13 +39,18 @@ def root(items):
     return sha(b"\1" + root(items[:split]) + root(items[split:]))
 
 
+def address_of(key):
+    """Of a key of ed25519, 32 bytes, or of secp256k1, 33."""
+    return sha(key)[:20] if len(key) == 32 else hashlib.new("ripemd160", sha(key)).digest()
+
+
 def in_order(members):
     """(power, address, key) by falling power, then rising address."""
-    return sorted(((power, sha(key)[:20], key) for key, power in members), key=lambda m: (-m[0], m[1]))
+    return sorted(((power, address_of(key), key) for key, power in members), key=lambda m: (-m[0], m[1]))
 
 
 def set_hash(members):
-    return root([b"\x0a\x22\x0a\x20" + key + b"\x10" + varint(power) for power, _, key in members])
+    return root([(b"\x0a\x22\x0a\x20" if len(key) == 32 else b"\x0a\x23\x12\x21") + key + b"\x10" + varint(power) for power, _, key in members])
 
 
 def field(tag, value):
@@ -90,12 +95,16 @@ def renamed(folder, chance):
     (folder / "hub-4" / "notes.txt").write_text("no answer")
 
 
+def public_key(key):
+    return {"type": f"tendermint/PubKey{'Ed25519' if len(key) == 32 else 'Secp256k1'}", "value": base64.b64encode(key).decode()}
+
+
 class Chain:
-    """Blocks from 1 on, whose validators change every few blocks."""
+    """Blocks from 1 on, whose validators change every few blocks; each third key is of secp256k1."""
 
     def __init__(self, chance, name, blocks, size=6, page=4, every=12):
         self.name, self.chance, self.page = name, chance, page
-        keys = [chance.randbytes(32) for _ in range(size * 3 // 2)]
+        keys = [(b"\2" if number % 3 == 2 else b"") + chance.randbytes(32) for number in range(size * 3 // 2)]
         members = {key: chance.randint(50, 900) for key in keys[:size]}
         self.sets, self.times, self.roots = {}, {}, {}
         for height in range(1, blocks + 2):
@@ -135,8 +144,8 @@ class Chain:
     def validators(self, height):
         members = self.sets[height]
         for begin in range(0, len(members), self.page):
-            page = [{"address": upper(address), "pub_key": {"type": "tendermint/PubKeyEd25519", "value": base64.b64encode(key).decode()},
-                     "voting_power": str(power), "proposer_priority": "-7"} for power, address, key in members[begin:begin + self.page]]
+            page = [{"address": upper(address), "pub_key": public_key(key), "voting_power": str(power), "proposer_priority": "-7"}
+                    for power, address, key in members[begin:begin + self.page]]
             yield {"jsonrpc": "2.0", "id": -1, "result": {"block_height": str(height), "validators": page, "count": str(len(page)),
                                                           "total": str(len(members))}}
 

@@ -191,7 +191,7 @@ FIELDS = {
         (f"{SIGNATURE}.validator_address", None, "00" * 32, "BadHex")],
     "hub-4/validators-80-1.json": [
         ("result.block_height", None, "0", "BadNumber"), ("result.total", None, "18446744073709551616", "BadNumber"),
-        (f"{FIRST}.pub_key.type", f"{FIRST}.type", "tendermint/PubKeySecp256k1", "ForeignKey"),
+        (f"{FIRST}.pub_key.type", f"{FIRST}.type", "cometbft/PubKeyBls12_381", "ForeignKey"),
         (f"{FIRST}.pub_key.value", f"{FIRST}.value", "AAAA", "BadBase64"),
         (f"{FIRST}.voting_power", None, "1152921504606846976", "BadPower")],
     "hub-on-zone/client_state.json": [
@@ -233,6 +233,8 @@ DAMAGES = [
     (PAGE_FILE, put("result.validators", True), "WrongType at result.validators"),
     (PAGE_FILE, gone(f"{FIRST}.pub_key"), f"MissingField at {FIRST}.pub_key"),
     (PAGE_FILE, put(f"{FIRST}.pub_key", True), f"MissingField at {FIRST}.type"),
+    (PAGE_FILE, put(f"{FIRST}.pub_key", {"type": "tendermint/PubKeyEd25519", "value": "A" * 44}), f"BadBase64 at {FIRST}.value"),
+    (PAGE_FILE, put(f"{FIRST}.pub_key", {"type": "tendermint/PubKeySecp256k1", "value": "A" * 43 + "="}), f"BadBase64 at {FIRST}.value"),
     (STATE_FILE, gone(STATE), "UnknownShape at -"),
     (STATE_FILE, put(STATE, True), f"WrongType at {STATE}"),
     (STATE_FILE, put(f"{STATE}.trust_level.numerator", BIG), f"BadNumber at {STATE}.trust_level.numerator"),

@@ -28,9 +28,13 @@ def block_id(block):
     return {"hash": based(block["hash"]), "part_set_header": {"total": block["parts"]["total"], "hash": based(block["parts"]["hash"])}}
 
 
+KINDS = {32: "ed25519", 33: "secp256k1"}
+TYPES = {"ed25519": "tendermint/PubKeyEd25519", "secp256k1": "tendermint/PubKeySecp256k1"}
+
+
 def validator(member):
     power, address, key = member
-    return {"address": base64.b64encode(address).decode(), "pub_key": {"ed25519": base64.b64encode(key).decode()}, "voting_power": str(power),
+    return {"address": base64.b64encode(address).decode(), "pub_key": {KINDS[len(key)]: base64.b64encode(key).decode()}, "voting_power": str(power),
             "proposer_priority": "0"}
 
 
@@ -96,7 +100,7 @@ def commit_of(written):
 
 def set_answer(height, written):
     """A set of a message as the answer of a node for a height."""
-    members = [v | {"address": digits(v["address"]), "pub_key": {"type": "tendermint/PubKeyEd25519", "value": v["pub_key"]["ed25519"]}} for v in written["validators"]]
+    members = [v | {"address": digits(v["address"]), "pub_key": {"type": TYPES[kind], "value": key}} for v in written["validators"] for kind, key in v["pub_key"].items()]
     return {"jsonrpc": "2.0", "id": -1, "result": {"block_height": str(height), "validators": members, "count": str(len(members)), "total": str(len(members))}}
 
 
@@ -124,7 +128,7 @@ def headers_in(script):
 
 
 def hash_of_set(written):
-    return answers.set_hash([(int(v["voting_power"]), b"", base64.b64decode(v["pub_key"]["ed25519"])) for v in written["validators"]])
+    return answers.set_hash([(int(v["voting_power"]), b"", base64.b64decode(key)) for v in written["validators"] for key in v["pub_key"].values()])
 
 
 def is_whole(written, named):

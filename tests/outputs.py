@@ -1,10 +1,16 @@
 """Runs of `plan --json`, `run --json` and `commands` on the rows and the examples; what they write is made here of the reports that are stored."""
+import functools
 import json
 import shlex
+import sys
 import tomllib
 
+sys.dont_write_bytecode = True
 from healths import clients_of
 from program import TOP, Case
+
+sys.path.insert(0, str(TOP / "tests" / "reference"))
+import reference
 
 MESSAGES = ("recv", "ack", "timeout")
 KEYS = {"label": ("labels", "height fee count"), "update": ("updates", "height trusted fee"), "tx": ("transactions", "first count gas")}
@@ -14,8 +20,39 @@ def numbers(words):
     return [int(word) for word in words if word.isdigit()]
 
 
-def value_of(script, report):
-    """The value that the report of a script is as JSON."""
+class Sender(reference.Relayer):
+    """A relayer that notes of each reported update the addresses whose votes go, if not all go."""
+
+    def __init__(self, script):
+        super().__init__(script)
+        self.sent = []
+
+    def view(self, client):
+        view = super().view(client)
+        told = view.update_line
+
+        def update_line(t, h):
+            if client.votes == "needed":
+                self.sent.append([voter["address"].hex().upper() for voter in reference.sent_votes(view.book, client, t, h)])
+            return told(t, h)
+
+        view.update_line = update_line
+        return view
+
+
+@functools.cache
+def addresses_of(text):
+    """The addresses whose votes go, of each update in the report of a script that tells how many go, by the second planner."""
+    script = reference.read_script(text.encode())
+    sender = Sender(script)
+    for turn in script.turns:
+        sender.turn(turn)
+    return sender.sent
+
+
+def value_of(script, report, addresses=()):
+    """The value that the report of a script is as JSON, with the addresses of the votes that its updates carry."""
+    addresses = iter(addresses)
     turns, settlements = [], []
     for line in report.splitlines()[1:-1]:
         kind, *words = line.split()
@@ -40,8 +77,13 @@ def value_of(script, report):
             turns[-1]["clients"].append(client)
         elif kind in KEYS:
             key, names = KEYS[kind]
-            found = numbers(words)[-len(names.split()):]
-            client.setdefault(key, []).append(dict(zip(names.split(), found)))
+            words, votes = (words[:5], words[5:]) if kind == "update" else (words, [])
+            found = dict(zip(names.split(), numbers(words)[-len(names.split()):]))
+            if votes:
+                sent, found["commits"] = numbers(votes)
+                found["votes"] = next(addresses, None)
+                assert found["votes"] is None or len(found["votes"]) == sent
+            client.setdefault(key, []).append(found)
         elif kind == "total":
             fee, count = numbers(words)
             client.setdefault("updates", [])
@@ -59,7 +101,8 @@ def value_of(script, report):
 
 def json_of(script, report):
     """The value that `plan --json` writes for the text of a script whose report this is."""
-    return value_of(tomllib.loads(script), report) | {"clients": clients_of(script)}
+    sent = addresses_of(script) if " votes " in report else ()
+    return value_of(tomllib.loads(script), report, sent) | {"clients": clients_of(script)}
 
 
 def word(identifier):

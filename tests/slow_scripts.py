@@ -21,7 +21,8 @@ SECOND = 10**9  # nanoseconds
 FAR = 10**9  # a height above all others
 TIGHT = "[1, 1, 0]"  # limits of a transaction that takes a message of gas 1
 OWN_HOST = '[[chain]]\nid = "host"\n'
-VERSION = "version = 2\n"
+VERSION, VERSION_3 = "version = 2\n", "version = 3\n"
+NEEDED = 'votes = "needed"\n'
 
 
 def share(whole, size, full, least=1):
@@ -75,7 +76,7 @@ def set_hash(number):
     return ValidatorSet([(bytes.fromhex(key(0)), power_of(number))]).hash.hex()
 
 
-def tables(size=1024, chains=28, late=""):
+def tables(size=1024, chains=28, late="", turns=1):
     """Each chain has so many sets and records that name them, and three times as many headers, each signed by the member of all sets.
     The sets come first; or in a second turn, by `falling` or `rising` hash, when the table has been made."""
     ids, heads = names(chains), 3 * size
@@ -88,7 +89,7 @@ def tables(size=1024, chains=28, late=""):
         (second if late else first).extend(single(n, c) for n in order)
         first += [stored(c, 1, refs[0])] + [stored(c, n + 1, refs[n]) for n in range(1, size)]
         first += [header(size + n, "A" if n == heads else "C", "s0", "s0", c) for n in range(1, heads + 1)]
-    turns = [first, second] if late else [first]
+    turns = [first, second] if late else [first] + [[]] * (turns - 1)
     text = hub(ids) + "".join(turn(size + heads, events) for events in turns)
     plans = chains * len(turns)
     return text, lines(len(turns), client=plans, label=plans * (size + heads - 1), unreachable=plans, update=0)
@@ -104,9 +105,10 @@ def alike(count, tries):
     return [*first.values()], [k for begin, k in found if first[begin] != k]
 
 
-def collide_late(size=4077):
+def collide_late(size=4077, turns=2, votes=""):
     """Eighteen sets come after the headers were planned. None of their members is in the headers' own set, but each member's address begins with
-    the same two bytes as one there. They are sets of 10,000 in the script at the limits, and the own set has 500 members."""
+    the same two bytes as one there. They are sets of 10,000 in the script at the limits, and the own set has 500 members. Updates carry the
+    votes that are given, if they are (version 3)."""
     chance, own, sets = random.Random(5), share(500, size, 4077, least=3), 18
     mine, others = alike(own, share(1_000_000, size, 4077, least=50_000))
     large = min(share(10_000, size, 4077), len(others))
@@ -115,9 +117,9 @@ def collide_late(size=4077):
     first += [a_set(f"s{n}", of_keys(chance.sample(others, large), lambda: chance.randint(1, 9)), "a") for n in range(sets)]
     first += [header(sets + 1 + n, "C" * own, "o", "o", "a") for n in range(1, size + 1)]
     second, top = [stored("c", n + 1, f"s{n}") for n in range(sets)], sets + 1 + size
-    text = VERSION + '[[chain]]\nid = "b"\n' + chain("a") + follower("c", "b", "a")
-    text += "".join(turn(top, events, [goal("c", top)]) for events in (first, second))
-    return text, lines(2, client=2, label=sets, unreachable=2)
+    text = (VERSION_3 if votes else VERSION) + '[[chain]]\nid = "b"\n' + chain("a") + follower("c", "b", "a") + votes
+    text += "".join(turn(top, events, [goal("c", top)]) for events in [first, second] + [[]] * (turns - 2))
+    return text, lines(turns, client=turns, label=(turns - 1) * sets, unreachable=turns)
 
 
 def reverse_headers(size=4096, chains=40, late=False):
@@ -140,6 +142,21 @@ def growing(size=500, chains=40):
         events += [header(2 + per * number + n, "C", chain=c) for n in range(per) for c in ids]
         text += turn(LATER, events)
     return text, lines(size, client=chains * size, label=chains * sum(1 + per * n for n in range(1, size + 1)), unreachable=chains * size)
+
+
+def large_sets(size=200, headers=3890, width=1000):
+    """So many turns, in each of which a large set comes, all but one of whose members were in the one before, and a stored height below all
+    headers that names it: a sum over its members for each header, or the table anew."""
+    text = hub(["a"])
+    for number in range(size + 1):
+        if number:
+            events = [a_set(f"s{number}", members(range(number, number + width)), "a"), stored("a", number + 1, f"s{number}")]
+        else:
+            events = [single(0, "a"), stored("a", 1, "0" * 64)] + [header(size + 2 + n, "C", "s0", "s0", "a") for n in range(headers)]
+            events.append(header(FAR, "A", "s0", "s0", "a", LATER))
+        text += turn(LATER, events)
+    plans = size + 1
+    return text, lines(plans, client=plans, label=plans * (plans + 1) // 2, unreachable=plans, update=0)
 
 
 # ---- plans that are made anew each turn
@@ -183,10 +200,10 @@ def channel(ids, gas="[1, 1, 1]", limits=("[1_000_000_000_000_000, 10_000, 0]",)
     return text + "".join(path(p, "a", "b", "c", "d", gas=gas) for p in ids)
 
 
-def packets(size=150_000, full=150_000, too_big=True, width=1):
+def packets(size=150_000, full=150_000, too_big=True, width=1, turns=500):
     """Packets that wait, 4,096 a path, and are planned anew each turn: over the gas limit; or each in a transaction of its own, of
     which none is taken. Identifiers of paths have this width at least."""
-    turns, ids = share(500, size, full, least=2), [f"p{n}".ljust(width, "x") for n in range(-(-size // 4096))]
+    turns, ids = share(turns, size, full, least=2), [f"p{n}".ljust(width, "x") for n in range(-(-size // 4096))]
     events = [a_set("s", members([0]), "a"), stored("c", 9)]
     events += [packet("sent", ids[n // 4096], n % 4096 + 1) for n in range(size)]
     limits = TIGHT if too_big else "[1_000_000_000_000_000, 1, 0]"
@@ -220,43 +237,60 @@ def reverse_packets(size=4096, paths=48):
 
 @dataclasses.dataclass
 class Kind:
-    """A kind of script, the size of the one at the limits, and a size, with fewer of other things, that a slow planner plans, too."""
+    """A kind of script, the size of the one at the limits, and a size, with fewer of other things, that a slow planner plans, too. Where the one at the
+    limits asks for too much at a turn, there is one besides that asks for as much as a script may, or nearly."""
 
     name: str
     make: Callable
     full: int
     small: int
     few: dict = dataclasses.field(default_factory=dict)
+    too_much_at: int | None = None
+    most: dict = dataclasses.field(default_factory=dict)
+
+    @property
+    def fault(self):
+        return "" if self.too_much_at is None else too_much(self.too_much_at)
 
     def at_limit(self):
         return self.make(self.full)
+
+    def at_most(self):
+        return self.make(**{"size": self.full} | self.most)
 
     def in_small(self):
         return self.make(self.small, **self.few)
 
 
+def too_much(turn):
+    return f"fault 1032 TooMuchToPlan at turn[{turn}]"
+
+
 def kinds():
     part = functools.partial
     return [
-        Kind("falling", falling, 500, 3, {"chains": 2}),
-        Kind("late_18", part(tables, chains=18, late="falling"), 1024, 6, {"chains": 3}),
-        Kind("late_18_rising", part(tables, chains=18, late="rising"), 1024, 6, {"chains": 3}),
+        Kind("falling", falling, 500, 3, {"chains": 2}, 124, {"size": 194}),
+        Kind("late_18", part(tables, chains=18, late="falling"), 1024, 6, {"chains": 3}, 1, {"chains": 5}),
+        Kind("late_18_rising", part(tables, chains=18, late="rising"), 1024, 6, {"chains": 3}, 1, {"chains": 5}),
         Kind("late_1", part(tables, chains=1, late="falling"), 1024, 16),
         Kind("collide_late", collide_late, 4077, 40),
-        Kind("reverse_headers", reverse_headers, 4096, 20, {"chains": 3}),
-        Kind("reverse_headers_late", part(reverse_headers, late=True), 4096, 20, {"chains": 3}),
-        Kind("growing", growing, 500, 4, {"chains": 2}),
-        Kind("goals_long_small", part(ladder, clients=16, turns=20), 4095, 30),
-        Kind("goals_long", ladder, 4095, 30),
-        Kind("goals_full", part(labels, met=True), 4095, 25),
-        Kind("labels_full", labels, 4095, 25),
-        Kind("labels_small", part(labels, clients=16, turns=40), 4095, 25),
-        Kind("labels_1set", part(labels, sets=1), 4095, 25),
-        Kind("labels_v1size", part(labels, full=1023), 1023, 15, {"clients": 150, "turns": 200}),
-        Kind("packets_toobig", packets, 150_000, 300),
-        Kind("packets_tx", part(packets, full=100_000, too_big=False, width=64), 100_000, 60),
-        Kind("scans", scans, 4096, 60),
-        Kind("scans_packets", part(scans, each=700), 4096, 60),
+        Kind("collide_turns", part(collide_late, turns=100, votes=NEEDED), 4077, 40, {"turns": 3}, 12, {"turns": 12}),
+        Kind("large_sets", large_sets, 200, 3, {"headers": 20, "width": 40}, 126, {"size": 125}),
+        Kind("reverse_headers", reverse_headers, 4096, 20, {"chains": 3}, 0, {"size": 3650}),
+        Kind("reverse_headers_late", part(reverse_headers, late=True), 4096, 20, {"chains": 3}, 1, {"size": 3650}),
+        Kind("growing", growing, 500, 4, {"chains": 2}, 280, {"size": 280}),
+        Kind("goals_long_small", part(ladder, clients=16, turns=20), 4095, 30, {}, 7, {"turns": 7}),
+        Kind("goals_long", ladder, 4095, 30, {}, 0, {"clients": 62, "turns": 2}),
+        Kind("goals_full", part(labels, met=True), 4095, 25, {}, 0, {"clients": 62, "turns": 2}),
+        Kind("labels_full", labels, 4095, 25, {}, 0, {"clients": 62, "turns": 2}),
+        Kind("labels_small", part(labels, clients=16, turns=40), 4095, 25, {}, 7, {"turns": 7}),
+        Kind("labels_1set", part(labels, sets=1), 4095, 25, {}, 15, {"turns": 15}),
+        Kind("labels_v1size", part(labels, full=1023), 1023, 15, {"clients": 150, "turns": 200}, 1, {"clients": 200, "turns": 2}),
+        Kind("packets_toobig", packets, 150_000, 300, {}, 25, {"turns": 25}),
+        Kind("packets_tx", part(packets, full=100_000, too_big=False, width=64), 100_000, 60, {}, 38, {"turns": 38}),
+        Kind("scans", scans, 4096, 60, {}, 328, {"size": 3514}),
+        Kind("scans_packets", part(scans, each=700), 4096, 60, {}, 21, {"size": 1427}),
         Kind("reverse_packets", reverse_packets, 4096, 10, {"paths": 8}),
-        Kind("tables_28", tables, 1024, 6, {"chains": 3}),
+        Kind("tables_28", tables, 1024, 6, {"chains": 3}, 0, {"chains": 5}),
+        Kind("tables_often", part(tables, chains=5, turns=40), 1024, 6, {"chains": 3, "turns": 3}, 24, {"turns": 24}),
     ]

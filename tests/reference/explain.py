@@ -63,10 +63,11 @@ def step_of(view, t, h):
     trusted = named and power(reference.signed_power(named, own_set, votes), named.total, *client.trust)
     sizes = len(own_set.members) + (len(named.members) if named else 0)
     base, signature, validator = client.fee
+    carried = view.votes(t, h)
     return {
         "height": h, "trusted": t, "answer": answer_of(view, t, h, named, trusted, own),
         "expiry_ns": book.records[t][0] + client.period, "time_ns": record[0], "trusted_power": trusted, "own_power": own,
-        "fee": base + signature * votes.count("C") + validator * sizes, "votes": votes.count("C"), "validators": sizes,
+        "fee": base + signature * carried + validator * sizes, "votes": carried, "validators": sizes,
     }
 
 

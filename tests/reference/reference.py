@@ -111,11 +111,63 @@ def accepts(book, client, t, h, now):
     return exceeds(signed_power(own, own, given), own.total, 2, 3)
 
 
+# ---- the votes that an update sends, if only those go that its step needs
+
+
+def least_power(total, n, d):
+    """The least power that is more than a fraction of a total."""
+    return total * n // d + 1
+
+
+def falling(voters, key):
+    """The voters by power falling, ties in their order."""
+    return sorted(voters, key=lambda v: -v[key])
+
+
+def fewest(voters, key, needed):
+    """The shortest beginning of the falling voters that has the power."""
+    chosen = []
+    for voter in falling(voters, key):
+        if needed <= sum(v[key] for v in chosen):
+            break
+        chosen.append(voter)
+    return chosen
+
+
+def fewest_then(voters, key, needed, other, more):
+    first = fewest(voters, key, needed)
+    rest = falling(voters, key)[len(first):]
+    return first + fewest(rest, other, more - sum(v[other] for v in first))
+
+
+def thinned(chosen, needed):
+    """From the last back each goes without which the others still pass both tests."""
+    for voter in reversed(chosen):
+        others = [v for v in chosen if v is not voter]
+        if all(needed[key] <= sum(v[key] for v in others) for key in needed):
+            chosen = others
+    return chosen
+
+
+def sent_votes(book, client, t, h):
+    """The voters whose commit votes are sent for the step from t to h."""
+    _, own, given = book.headers[h]
+    own, trusted = book.sets[own], book.sets.get(book.records[t][2])
+    powers = {address: power for address, power, _ in trusted.members} if trusted else {}
+    voters = [{"place": place, "address": address, "own": power, "trusted": powers.get(address, 0)}
+              for place, (address, power, _) in enumerate(own.members) if given[place] == "C"]
+    needed = {"own": least_power(own.total, 2, 3), "trusted": least_power(trusted.total, *client.trust) if trusted and h != t + 1 else 0}
+    by_own = thinned(fewest_then(voters, "own", needed["own"], "trusted", needed["trusted"]), needed)
+    by_trusted = thinned(fewest_then(voters, "trusted", needed["trusted"], "own", needed["own"]), needed)
+    return by_own if len(by_own) <= len(by_trusted) else by_trusted
+
+
 class View:
     """A client in a window: the steps that are accepted at every moment of it, and their fees."""
 
     def __init__(self, book, client, stored, begin, end):
         self.book, self.client, self.end = book, client, end
+        self.sent = {}  # how many votes are sent for a step
         self.live = {h for h in stored if book.records[h][0] + client.period > end}
         # acceptance can only begin later and end sooner as moments go by, so both ends of the window tell
         self.steps = {h: [t for t in sorted(book.records) if t < h and self.accepts(t, h, begin, end)] for h in sorted(book.headers)}
@@ -123,11 +175,26 @@ class View:
     def accepts(self, t, h, begin, end):
         return accepts(self.book, self.client, t, h, begin) and accepts(self.book, self.client, t, h, end)
 
+    def votes(self, t, h):
+        """How many votes an update is charged for."""
+        if self.client.votes == "needed":
+            if (t, h) not in self.sent:
+                self.sent[t, h] = len(sent_votes(self.book, self.client, t, h))
+            return self.sent[t, h]
+        given = self.book.headers[h][2]
+        return given.count("C") if self.client.votes == "commit" else len(given) - given.count("A")
+
     def charge(self, table, t, h):
         base, signature, validator = table
-        _, own, given = self.book.headers[h]
+        own = self.book.headers[h][1]
         sizes = len(self.book.sets[own].members) + len(self.book.sets[self.book.records[t][2]].members)
-        return base + signature * given.count("C") + validator * sizes
+        return base + signature * self.votes(t, h) + validator * sizes
+
+    def update_line(self, t, h):
+        line = f"update {h} from {t} fee {self.fee(t, h)}"
+        if self.client.votes == "needed":
+            line += f" votes {self.votes(t, h)} of {self.book.headers[h][2].count('C')}"
+        return line
 
     def fee(self, t, h):
         return self.charge(self.client.fee, t, h)
@@ -533,7 +600,7 @@ class Relayer:
         lines += [f"label {h} {labels[h][0]} {labels[h][1]}" for h in sorted(labels)]
         if updates is None:
             return lines + ["unreachable"]
-        lines += [f"update {h} from {t} fee {view.fee(t, h)}" for t, h in updates]
+        lines += [view.update_line(t, h) for t, h in updates]
         lines.append(f"total {sum(view.fee(t, h) for t, h in updates)} updates {len(updates)}")
         lines += [f"{kind} {path} {seq}" for kind, path, seq in messages]
         after = self.next_lines(client, view, updates)

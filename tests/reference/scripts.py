@@ -13,13 +13,15 @@ MAX_POWER = 1152921504606846975
 MAX_MEMBERS = 10_000
 MAX_CHAINS, MAX_CLIENTS, MAX_PATHS, MAX_TURNS, MAX_ENTRIES = 64, 256, 256, 500, 200_000
 MAX_RECORDS = {1: 1024, 2: 4096, 3: 4096}  # by version
+MAX_SETS = 1024
+MAX_WORK, MAX_SPACE = 2**30, 3 * 2**24
 FAULTS = {
     1001: "NotToml", 1002: "MissingKey", 1003: "UnknownKey", 1004: "WrongType", 1005: "BadVersion", 1006: "OutOfRange",
     1007: "BadIdentifier", 1008: "DuplicateIdentifier", 1009: "UnknownIdentifier", 1010: "BadHex", 1011: "BadTime",
     1012: "BadVotes", 1013: "BadKind", 1014: "BadOrder", 1015: "SameChain", 1016: "WrongClient", 1017: "TooManyObjects",
     1018: "TooManyEvents", 1019: "UnknownSetName", 1020: "DuplicateSetName", 1021: "TwoGoals", 1022: "BadSet", 1023: "BadWindow",
     1024: "BadLimit", 1025: "BadFee", 1026: "NoSuchTurn", 1027: "BadAnswer", 1028: "NoGoal", 1029: "LabelOrder",
-    1030: "InputTooBig", 1031: "BadTrust",
+    1030: "InputTooBig", 1031: "BadTrust", 1032: "TooMuchToPlan",
 }
 
 # characters that turn the direction of a text
@@ -178,6 +180,12 @@ def hexadecimal(value, path):
     return bytes.fromhex(value)
 
 
+def public_key(value, path):
+    """32 bytes of ed25519, or 33 of secp256k1."""
+    need(re.fullmatch(r"[0-9A-Fa-f]{64}|[0-9A-Fa-f]{66}", text(value, path)), 1010, path)
+    return bytes.fromhex(value)
+
+
 def moment(value, path):
     """Nanoseconds since 1970 of an RFC 3339 time; seconds may be left out, a leap second is the one before, and a zone may be named."""
     found = re.fullmatch(r"(\d{4}-\d\d-\d\d)[Tt ](\d\d:\d\d)(?::(\d\d)(?:\.(\d{1,9}))?)?([Zz]|[+-]\d\d:\d\d)(?:\[[A-Za-z/_]+\])?", text(value, path))
@@ -226,13 +234,23 @@ def varint(n):
     return out + bytes([n])
 
 
+def address_of(key):
+    return sha(key)[:20] if len(key) == 32 else hashlib.new("ripemd160", sha(key)).digest()
+
+
+def leaf_of(key, power):
+    kind = b"\x0a" if len(key) == 32 else b"\x12"  # the field of the key: ed25519, secp256k1
+    public = kind + varint(len(key)) + key
+    return b"\x0a" + varint(len(public)) + public + b"\x10" + varint(power)
+
+
 class ValidatorSet:
     """Members (address, power, key) by falling power, then rising address."""
 
     def __init__(self, pairs):
-        self.members = sorted(((sha(key)[:20], power, key) for key, power in pairs), key=lambda m: (-m[1], m[0]))
+        self.members = sorted(((address_of(key), power, key) for key, power in pairs), key=lambda m: (-m[1], m[0]))
         self.total = sum(power for _, power, _ in self.members)
-        self.hash = tree_hash([b"\x0a\x22\x0a\x20" + key + b"\x10" + varint(power) for _, power, key in self.members])
+        self.hash = tree_hash([leaf_of(key, power) for _, power, key in self.members])
 
 
 def validators(value, path):
@@ -240,10 +258,10 @@ def validators(value, path):
     for i, entry in enumerate(typed(value, list, path)):
         place = f"{path}[{i}]"
         need(isinstance(entry, list) and len(entry) == 2, 1004, place)
-        key = hexadecimal(entry[0], f"{place}[0]")
+        key = public_key(entry[0], f"{place}[0]")
         pairs.append((key, number(0, MAX_NUMBER)(entry[1], f"{place}[1]")))
     fits = pairs and len(pairs) <= MAX_MEMBERS and all(1 <= power <= MAX_POWER for _, power in pairs)
-    fits = fits and len({sha(key)[:20] for key, _ in pairs}) == len(pairs) and sum(power for _, power in pairs) <= MAX_POWER
+    fits = fits and len({address_of(key) for key, _ in pairs}) == len(pairs) and sum(power for _, power in pairs) <= MAX_POWER
     need(fits, 1022, path)
     return ValidatorSet(pairs)
 
@@ -292,8 +310,10 @@ def read_chain(value, path, version, chains):
     return table.read("id", new_identifier(chains)), table.read("defaults", read_defaults, {})
 
 
-def read_client(value, path, chains, clients):
-    table = Section(value, path, ["id", "host", "of", "limits", *TERMS])
+def read_client(value, path, version, chains, clients):
+    """A client; its updates are charged for the commit votes alone in versions 1 and 2, and from version 3 on for all votes
+    that aren't absent, or for the votes that are needed."""
+    table = Section(value, path, ["id", "host", "of", "limits", *TERMS] + ["votes"] * (version > 2))
     client = Client()
     client.id = table.read("id", new_identifier(clients))
     client.host = table.read("host", reference(chains))
@@ -307,12 +327,18 @@ def read_client(value, path, chains, clients):
     client.fee, client.gas = term("fee"), term("gas")
     client.limits = table.read("limits", limits)
     client.trust = term("trust")
+    client.votes = table.read("votes", update_votes, "all") if version > 2 else "commit"
     need(client.host != client.of, 1015, path)
     return client
 
 
 def order(value, path):
     need(text(value, path) in ("ordered", "unordered"), 1014, path)
+    return value
+
+
+def update_votes(value, path):
+    need(text(value, path) in ("all", "needed"), 1012, path)
     return value
 
 
@@ -451,6 +477,31 @@ def read_turn(value, path, version, setup, names, room):
     return Turn(begin, end, asked, seen, settled, taken), room
 
 
+def refuse_too_much(limit, chains, clients, paths, turns):
+    """At the first turn up to which all turns ask for too much work or space. Of each chain it is counted how many records its light store can have, how many
+    sets, the highest height of a record, how many votes its headers have, and the work of sums over all sets."""
+    stores, sent, work, space = {chain: [0, 0, 0, 0, 0] for chain in chains}, 0, 0, 0
+    for i, turn in enumerate(turns):
+        for kind, name, *rest in turn.events:
+            if kind in ("header", "stored"):
+                store, height = stores[name if kind == "header" else clients[name].of], rest[0]
+                work += 4 * store[0] * (height < store[2])
+                store[0], store[2] = min(limit, store[0] + 1), max(height, store[2])
+                store[3] += len(rest[3]) if kind == "header" else 0
+            elif kind == "set":
+                stores[name][1] = min(MAX_SETS, stores[name][1] + 1)
+                stores[name][4] += len(rest[0].members) // 32
+            sent += kind == "sent"
+        for client in clients.values():
+            records, sets, _, votes, _ = stores[client.of]
+            work, space = work + records * (2 * sets + 51), space + 3 * records
+            if client.votes == "needed":
+                work, space = work + (votes + 50 * records) * (sets + 10), space + 2 * votes
+        work += 36 * sent + sum(3 * stores[path.dest][0] for path in paths.values()) + sum(store[0] * store[4] for store in stores.values())
+        space += 13 * sent
+        need(work <= MAX_WORK and space + 2 * sum(records * sets for records, sets, *_ in stores.values()) <= MAX_SPACE, 1032, f"turn[{i}]")
+
+
 def read_script(source):
     top = Section(parse(source), "", "version chain client path turn".split())
     version = top.read("version", number(1, max(MAX_RECORDS), 1005))
@@ -461,7 +512,7 @@ def read_script(source):
         name, shared = read_chain(value, f"chain[{i}]", version, chains)
         chains[name] = shared
     for i, value in enumerate(entries[1]):
-        client = read_client(value, f"client[{i}]", chains, clients)
+        client = read_client(value, f"client[{i}]", version, chains, clients)
         clients[client.id] = client
     for i, value in enumerate(entries[2]):
         path = read_path(value, f"path[{i}]", version, chains, clients, paths)
@@ -470,6 +521,7 @@ def read_script(source):
     for i, value in enumerate(entries[3]):
         turn, room = read_turn(value, f"turn[{i}]", version, (chains, clients, paths), names, room)
         turns.append(turn)
+    refuse_too_much(MAX_RECORDS[version], chains, clients, paths, turns)
     return Script(version, MAX_RECORDS[version], chains, clients, paths, turns)
 
 

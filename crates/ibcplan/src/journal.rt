@@ -1,5 +1,6 @@
 //! The journal of a follower in a file: a script of the turns that were answered, from which it goes on after a crash.
-use ibcplan_cli::{Host, Input, ProgramError, Shown};
+use crate::host::Host;
+use ibcplan_errors::{Input, ProgramError, Shown};
 use rb_follow::{Journal, check_setup};
 use rb_journal::{entry_text, input_of, is_opening, opening_text, split_part, stored_in};
 use rb_script_toml::RunError;

@@ -1,7 +1,7 @@
 //! ibcplan plans the client updates of an IBC relayer's script, and judges plans that others made.
-//! What it does stands in `rb_text`, `rb_follow`, `rb_import`, `rb_text_export`, `rb_health` and `rb_messages`, and its command
-//! line, files, statuses and words for the operator in `ibcplan_cli`; here each request is done, and the status of a plan with
-//! `--strict` goes by whether its report tells of something refused.
+//! What it does stands in `rb_text`, `rb_follow`, `rb_import`, `rb_text_export`, `rb_health` and `rb_messages`, its command line in
+//! `ibcplan_cli`, its folders in `ibcplan_folders`, its statuses and words for the operator in `ibcplan_errors`; here each request is
+//! done, and the status of a plan with `--strict` goes by whether its report tells of something refused.
 #![tactic(auto)]
 
 mod explain;
@@ -9,13 +9,16 @@ mod explained;
 mod following;
 mod forms;
 mod health;
+mod host;
 mod journal;
 mod messages;
 mod perform;
 mod progress;
 mod reporting;
 
-use ibcplan_cli::{Host, no_memory, request_of, status};
+use host::Host;
+use ibcplan_cli::{no_memory, request_of};
+use ibcplan_errors::status;
 use std::io::IsTerminal;
 use std::process::ExitCode;
 use std::{env, io};

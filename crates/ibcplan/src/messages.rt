@@ -1,7 +1,9 @@
 //! The client messages of a script's last turn, made of the answers of nodes.
 ghost use Rattle.rb_script_types.specs.Script.{script_view, IsReadScript};
 
-use ibcplan_cli::{Host, Input, ProgramError, files_of, lines_of, read_answers, write_files};
+use crate::host::Host;
+use ibcplan_errors::{Input, ProgramError};
+use ibcplan_folders::{files_of, lines_of, read_answers, write_files};
 use rb_base::Gate;
 use rb_core::Core;
 use rb_health::run_to_end;

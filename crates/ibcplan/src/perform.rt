@@ -3,7 +3,7 @@ ghost use Rattle.std.specs.Prelude.{◌≡◌, ◌⊎◌, false, Err, IfOk, IfEr
 ghost use Rattle.rb_text.specs.Scripts.{script_of};
 ghost use Rattle.rb_text.specs.Headline.{BeginsReport};
 ghost use Rattle.rb_text.specs.Verdicts.{IsFaultFor, BeginsVerdict};
-ghost use Rattle.ibcplan_cli.specs.Failures.{failure_status, told_fault, is_unwritten};
+ghost use Rattle.ibcplan_errors.specs.Failures.{failure_status, told_fault, is_unwritten};
 ghost use Rattle.ibcplan.specs.Status.{IsPlanWritten, IsConfirmed, IsDenied};
 
 use crate::explain::{AskedExplanation, Form, explain};
@@ -11,14 +11,14 @@ use crate::explained::Explained;
 use crate::following::follow;
 use crate::forms::{commands_of_script, json_of_script};
 use crate::health::health_of_script;
+use crate::host::Host;
 use crate::journal::{OpenedJournal, open_journal};
 use crate::messages::{Folders, messages_of_script};
 use crate::progress::Progress;
 use crate::reporting::{plan_status, refused_events};
-use ibcplan_cli::{
-    Answers, Host, ImportedText, Input, ProgramError, Request, WantedText, WantedTurns,
-    WorkerCount, imported, setup_for, status, wanted,
-};
+use ibcplan_cli::{Request, WantedTurns, WorkerCount, setup_for};
+use ibcplan_errors::{Input, ProgramError, status};
+use ibcplan_folders::{Answers, ImportedText, WantedText, imported, wanted};
 use rb_base::{Counted, Gate, Sink, write_whole};
 use rb_follow::{Form as AnswerForm, NoJournal};
 use rb_hermes::NamedClient;
@@ -172,7 +172,17 @@ fn done_of<'a, R: Host, W: Sink>(
             };
             messages_file(rt, script, folders, is_watched, output)
         }
-        Request::Import { setup, answers } => import_files(rt, setup, answers, output),
+        Request::Import {
+            setup,
+            folder,
+            is_all_or_nothing,
+        } => {
+            let answers = Answers {
+                folder,
+                is_all_or_nothing,
+            };
+            import_files(rt, setup, answers, output)
+        }
         Request::Setup { config, clients } => setup_file(rt, config, clients.as_slice(), output),
         Request::Want { setup, folder } => want_files(rt, setup, folder, output),
         Request::Certify {

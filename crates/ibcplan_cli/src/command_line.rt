@@ -1,15 +1,15 @@
 //! The command line read, and what is told of it where it asks for nothing.
-use crate::error::ProgramError;
-use crate::host::Host;
 use crate::request::{Request, read_request};
-use crate::shown::shown_text;
-use crate::status;
 use clap::error::ErrorKind;
+use ibcplan_errors::{ProgramError, shown_text, status};
 use std::alloc::{AllocError, Global};
 
 /// The request of the command line's words. Where they make none, the help that they ask for, or what is
 /// wrong with them, is shown; the error is the status to end with.
-pub fn request_of<'a, R: Host>(rt: &R, words: &'a [String]) -> Result<Request<'a>, u8> {
+pub fn request_of<'a, R: Print + Eprint + AllocGlobal>(
+    rt: &R,
+    words: &'a [String],
+) -> Result<Request<'a>, u8> {
     match read_request(rt.alloc(), words) {
         Ok(request) => Ok(request),
         Err(message) => Err(show(rt, &with_shown_words(rt.alloc(), words, message))),

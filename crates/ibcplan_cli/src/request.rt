@@ -3,13 +3,12 @@ use crate::explain_request::{
     EXPLAIN, PICTURE, explain_command, explain_of, picture_command, picture_of,
 };
 use crate::health_request::{HEALTH, health_command, health_of};
-use crate::importing::Answers;
-use crate::input::STANDARD_INPUT;
 use crate::messages_request::{MESSAGES, messages_command, messages_of};
 use crate::setup_request::{HERMES, SETUP_COMMAND, clients_of, setup_command};
 use crate::worker_count::WorkerCount;
 use clap::error::ErrorKind;
 use clap::{Arg, ArgAction, ArgMatches, Command, Error, value_parser};
+use ibcplan_errors::STANDARD_INPUT;
 use rb_hermes::NamedClient;
 use rb_script_types::MAX_TURNS;
 use std::alloc::{AllocError, Global};
@@ -59,10 +58,11 @@ pub enum Request<'a> {
         folder: &'a str,
         output: &'a str,
     },
-    /// Write the script that a setup and the answers in a folder make.
+    /// Write the script that a setup and the answers in a folder make; or nothing, where some of them are refused.
     Import {
         setup: &'a str,
-        answers: Answers<'a>,
+        folder: &'a str,
+        is_all_or_nothing: bool,
     },
     /// Write a setup for clients, of the configuration of Hermes.
     Setup {
@@ -485,11 +485,11 @@ fn task_of<'a>(matches: &ArgMatches<'a>) -> Option<Request<'a>> {
             return Some(Request::Want { setup, folder });
         }
         let is_all_or_nothing = given.get_flag(ALL_OR_NOTHING);
-        let answers = Answers {
+        return Some(Request::Import {
+            setup,
             folder,
             is_all_or_nothing,
-        };
-        return Some(Request::Import { setup, answers });
+        });
     }
     if name == EXPLAIN {
         return explain_of(given);

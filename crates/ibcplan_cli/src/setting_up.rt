@@ -1,6 +1,5 @@
 //! Setups of the configuration of another relayer.
-use crate::error::ProgramError;
-use crate::input::Input;
+use ibcplan_errors::{Input, ProgramError};
 use rb_hermes::{HermesError, NamedClient, setup_of};
 use std::alloc::Global;
 

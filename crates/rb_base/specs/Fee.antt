@@ -10,6 +10,6 @@ pub record Fees : Type 0 where
 abbrev pub IsFeeTable : Fees → Type 0
 IsFeeTable t = (t.base ≤ 10 ^ 9) × (t.signature ≤ 10 ^ 9) × (t.validator ≤ 10 ^ 9)
 
--- the charge for an update with so many commit votes over so many validators
+-- the charge for an update that carries so many votes over so many validators
 abbrev pub charge_of : Fees → ℕ → ℕ → ℕ
-charge_of t commits validators = t.base + t.signature * commits + t.validator * validators
+charge_of t votes validators = t.base + t.signature * votes + t.validator * validators

@@ -6,7 +6,7 @@ ghost use Rattle.rb_base.specs.Fee.{Fees, charge_of, IsFeeTable};
 use crate::error::BaseError;
 use std::marker::Model;
 
-/// What an update costs, in fees or in gas: a base, and so much for each commit vote and for each
+/// What an update costs, in fees or in gas: a base, and so much for each vote that it carries and for each
 /// validator whose power is counted.
 #[derive(Clone, Copy, Debug, PartialEq, Eq, Hash)]
 pub struct FeeTable {
@@ -48,7 +48,7 @@ impl FeeTable {
         })
     }
 
-    /// The charge for an update with so many commit votes over so many validators.
+    /// The charge for an update that carries so many votes over so many validators.
     pub fn charge(&self, commits: u64, validators: u64) -> u64
         requires commits { commits < 2 ^ 32 }
         requires validators { validators < 2 ^ 32 }

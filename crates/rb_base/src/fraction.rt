@@ -1,5 +1,5 @@
 //! Trust levels.
-ghost use Rattle.std.specs.Prelude.{◌≡◌, ◌↔◌, IsErrOf, IsTrue};
+ghost use Rattle.std.specs.Prelude.{◌≡◌, ◌↔◌, ◌+◌, ◌*◌, ◌/◌, ◌-◌, ◌^◌, ◌<◌, ◌≤◌, IsErrOf, IsTrue};
 ghost use Rattle.std.specs.Result.{OkIff};
 ghost use Rattle.rb_base.specs.Fraction.{IsTrustLevel, Exceeds, one_third, two_thirds};
 
@@ -71,5 +71,15 @@ impl Fraction {
     {
         u128::from(power) * u128::from(self.denominator)
             > u128::from(total) * u128::from(self.numerator)
+    }
+
+    /// The least power that is more than this fraction of `total`.
+    pub fn least_above(self, total: u64) -> u64
+        requires { total < 2 ^ 64 - 1 }
+        ensures value { result ≡ total * self.numerator / self.denominator + 1 }
+        ensures bound { result ≤ total + 1 }
+    {
+        let part = u128::from(total) * u128::from(self.numerator) / u128::from(self.denominator);
+        part as u64 + 1
     }
 }

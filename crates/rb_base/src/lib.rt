@@ -11,6 +11,7 @@ mod identifier;
 mod ids;
 mod options;
 mod sink;
+mod votes;
 mod window;
 
 pub use amount::{Height, Moment, Period};
@@ -21,4 +22,5 @@ pub use gate::{Gate, OpenGate, Part, WorkItem};
 pub use ids::{ChainId, ClientId, PathId};
 pub use options::Options;
 pub use sink::{Counted, Device, Sink, write_whole};
+pub use votes::CarriedVotes;
 pub use window::Window;

@@ -4,15 +4,17 @@ ghost use Rattle.rb_base.specs.Fraction.{one_third};
 
 use crate::amount::Period;
 use crate::fraction::Fraction;
+use crate::votes::CarriedVotes;
 use std::marker::Model;
 
 /// How a client judges headers (ICS 7, `ClientState`): its trusting period, the clock drift that
-/// it allows, in nanoseconds, and its trust level.
+/// it allows, in nanoseconds, and its trust level; and which votes its updates carry.
 #[derive(Clone, Copy, Debug, PartialEq, Eq, Hash)]
 pub struct Options {
     period: Period,
     drift: u64,
     trust: Fraction,
+    votes: CarriedVotes,
 }
 
 impl Model for Options {
@@ -21,23 +23,24 @@ impl Model for Options {
 
     ghost Value = { ClientOptions };
 
-    ghost view = { λ o. record { period = o.period; drift = o.drift; trust = o.trust } };
+    ghost view = { λ o. record { period = o.period; drift = o.drift; trust = o.trust; votes = o.votes } };
 
     ghost invariant = { λ o. o.drift < 2 ^ 63 };
 
-    ghost inverse = { λ t. record { period = t.period; drift = t.drift; trust = t.trust } };
+    ghost inverse = { λ t. record { period = t.period; drift = t.drift; trust = t.trust; votes = t.votes } };
 }
 
 impl Options {
-    /// Options with the trust level one third.
+    /// Options with the trust level one third; updates carry all votes, and commit votes are charged.
     pub fn new(period: Period, drift: u64) -> Options
         requires { drift < 2 ^ 63 }
-        ensures { result ≡ record { period = period; drift = drift; trust = one_third } }
+        ensures { result ≡ record { period = period; drift = drift; trust = one_third; votes = CarriedVotes.Commit } }
     {
         Options {
             period,
             drift,
             trust: Fraction::one_third(),
+            votes: CarriedVotes::Commit,
         }
     }
 
@@ -46,6 +49,13 @@ impl Options {
         ensures { result ≡ record self { trust = trust } }
     {
         Options { trust, ..self }
+    }
+
+    /// These options with other votes that updates carry.
+    pub fn with_votes(self, votes: CarriedVotes) -> Options
+        ensures { result ≡ record self { votes = votes } }
+    {
+        Options { votes, ..self }
     }
 
     /// How long a stored record may be trusted.
@@ -68,5 +78,12 @@ impl Options {
         ensures { result ≡ self.now.trust }
     {
         self.trust
+    }
+
+    /// Which votes of a header an update carries, and is charged for.
+    pub fn votes(&self) -> CarriedVotes
+        ensures { result ≡ self.now.votes }
+    {
+        self.votes
     }
 }

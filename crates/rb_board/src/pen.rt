@@ -92,6 +92,23 @@ impl<A: Allocator + Copy> Pen<A> {
         Ok(self.head.settle(ready))
     }
 
+    /// Appends an event that the core after all appended events doesn't refuse, without judging it
+    /// again, and answers as that core. Desks don't see it before the next `publish`. `AllocError` where
+    /// memory is refused; nothing has changed then.
+    pub fn append_accepted(&mut self, event: Event<A>) -> Result<Reply, AllocError>
+        requires accepted { refusal_of (state_of self.old.config self.old.log) (event_view event) ≡ None }
+        ensures config { self.new.config ≡ self.old.config }
+        ensures published { self.new.published ≡ self.old.published }
+        ensures appended { OnOk result (self.new.log ≡ self.old.log ++ event_view event ∷ []) }
+        ensures unchanged { IfErr result (λ _. self.new.log ≡ self.old.log) }
+        ensures reply { IfOk result (λ reply. reply_view reply ≡ reply_of (state_of self.old.config self.old.log) (event_view event)) }
+    {
+        let ready = self.head.judge_accepted(event)?;
+        let told = Told::of(&ready)?;
+        keep(&mut self.writer, told)?;
+        Ok(self.head.settle(ready))
+    }
+
     /// The core after all appended events.
     pub fn head(&self) -> &Core<A>
         ensures config { result.now.config ≡ self.now.config }

@@ -9,10 +9,16 @@ use Rattle.rb_step.specs.View.{View, client_of}
 use Rattle.rb_plan.specs.declared.cost.Cost.{Cost}
 use Rattle.rb_plan.specs.Labelling.{Labels}
 use Rattle.rb_plan.specs.Order.{CostsAtMost, after_update}
+use Rattle.rb_plan.proofs.Costs.{CostsAtMost-trans, CostsAtMost-fee}
 use Rattle.rb_cert.specs.Refusal.{IsTooHigh}
 use Rattle.rb_cert.specs.declared.trusted.Trusted.{Trusted}
 use Rattle.rb_cert.specs.Trusted.{IsLookedUp, AreLookedUp, LeadsLower}
 use Rattle.rb_cert.proofs.Rising.{earlier_or_here}
+
+-- a label that is no more than a cost is no more than one of a higher fee
+pub at_most_more : (label : Option Cost) (from : Cost) (least fee : ℕ) → least ≤ fee → IsSomeAnd label (λ d. CostsAtMost d (after_update from least)) → IsSomeAnd label (λ d. CostsAtMost d (after_update from fee))
+at_most_more None from least fee below none = none
+at_most_more (Some d) from least fee below most = CostsAtMost-trans d (after_update from least) (after_update from fee) most (CostsAtMost-fee from least fee below)
 
 module _ (v : View) (label : Labels) where
   abbrev pub AreLookedUpBefore : List Trusted → ℕ → Type 0

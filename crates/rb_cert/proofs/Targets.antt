@@ -6,7 +6,8 @@ use Rattle.std.proofs.lemmas.List.Elements.{All-contains}
 use Rattle.std.proofs.lemmas.Option.{none-some, same_Some}
 use Rattle.rb_base.specs.Fraction.{Exceeds, two_thirds}
 use Rattle.rb_valset.specs.Validator.{Member}
-use Rattle.rb_valset.specs.ValidatorSet.{total_of}
+use Rattle.std.specs.Str.{bytes_eq}
+use Rattle.rb_valset.specs.ValidatorSet.{IsValidatorSet, set_hash, total_of}
 use Rattle.rb_book.specs.Book.{RecordAt, header_height, has_hash, record_at, header_at, set_of}
 use Rattle.rb_book.specs.Header.{Header, IsSignedBy}
 use Rattle.rb_book.specs.Invariant.{IsBacked}
@@ -15,7 +16,7 @@ use Rattle.rb_step.specs.KnownStep.{step_at}
 use Rattle.rb_step.specs.SignedPower.{signed_power}
 use Rattle.rb_step.specs.StepRule.{Step, step_of, Accepts, AcceptsWithin}
 use Rattle.rb_step.specs.View.{View, IsView, client_of}
-use Rattle.rb_step.proofs.Orderly.{bind_some}
+use Rattle.rb_step.proofs.Orderly.{bind_some, found}
 use Rattle.rb_plan.specs.Labelling.{Labels}
 use Rattle.rb_plan.proofs.Lookups.{find-at}
 use Rattle.rb_cert.specs.Checks.{AreStepsIntoLow}
@@ -46,9 +47,13 @@ module _ (v : View) (view : IsView v) where
       bind_is (record_at v.book k.height) _ k.record_of (record_is v view k there) ∙ bind_is (header_at v.book header.height) _ header target.there ∙ bind_is (set_of v.book header.set_hash) _ own target.known
 
   pub fee_to : (k : RecordAt) (header : Header) (own : List Member) → Contains v.book.records k → IsTarget v.book header own
-      → fee_of v.fees (step_of k.height k.record_of (set_of v.book k.record_of.next) header own) ≡ (client_of v).fee k.height header.height
+      → fee_of v.options v.fees (step_of k.height k.record_of (set_of v.book k.record_of.next) header own) ≡ (client_of v).fee k.height header.height
   unfolding client_of
-  fee_to k header own there target = sym (ap (λ (o : Option Step). option_map_or (fee_of v.fees) o 0) (step_to k header own there target))
+  fee_to k header own there target = sym (ap (λ (o : Option Step). option_map_or (fee_of v.options v.fees) o 0) (step_to k header own there target))
+
+  -- the header's own set is a validator set
+  pub own_is_set : (header : Header) (own : List Member) → IsTarget v.book header own → IsValidatorSet own
+  own_is_set header own target = (found IsValidatorSet (λ (m : List Member). bytes_eq (set_hash m) header.set_hash) v.book.sets own view.book.sets target.known).0
 
   -- a step that isn't adjacent is refused where the header's commit voters hold too little of the record's next set
   refused_by_set : (k : RecordAt) (header : Header) (own next : List Member) → Contains v.book.records k → IsTarget v.book header own → k.height + 1 ≢ header.height → set_of v.book k.record_of.next ≡ Some next

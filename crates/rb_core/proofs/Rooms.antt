@@ -16,7 +16,6 @@ use Rattle.rb_core.specs.State.{state_view, HasRoom}
 use Rattle.rb_core_model.specs.Log.{log_of}
 use Rattle.rb_core_model.specs.Machine.{State, opening, state_of, refusal_of}
 use Rattle.rb_core_model.specs.Standing.{OpenBatch, ClientState}
-use Rattle.rb_core_model.specs.declared.error.CoreError.{CoreError}
 use Rattle.rb_core.specs.declared.state.CoreState.{CoreState}
 use Rattle.rb_core_model.proofs.Logs.{states_of_logs}
 
@@ -61,9 +60,14 @@ settle_had (x ∷ hs) zero h = h
 settle_had (x ∷ hs) (suc i) h = settle_had hs i h
 
 -- a ready event is the one that was judged
-pub judged_event : (r : Result Ready CoreError) (front : ℕ) (e : Event) → IfOk r (λ ready. ready ≡ record { front = front; event = e }) → IfOk r (λ ready. ready.event ≡ e)
-judged_event (Ok x) front e is = ap (λ (y : Ready). y.event) is
-judged_event (Err x) front e is = tt
+pub judged_event : {E : Type 0} (r : Result Ready E) (front : ℕ) (e : Event) → IfOk r (λ ready. ready ≡ record { front = front; event = e }) → IfOk r (λ ready. ready.event ≡ e)
+judged_event {E} (Ok x) front e is = ap (λ (y : Ready). y.event) is
+judged_event {E} (Err x) front e is = tt
+
+-- what holds whatever is answered
+pub if_ok_of : {T E P : Type 0} (r : Result T E) → P → IfOk r (λ _. P)
+if_ok_of {T} {E} {P} (Ok x) p = p
+if_ok_of {T} {E} {P} (Err x) p = tt
 
 module _ {A : Type 0} where
   room_seen : (n : ℕ) (k : CoreState A) (e : Event) → HasRoom k e → HasOwnRoom (room_of n k) (state_view k) e
@@ -99,14 +103,14 @@ module _ {A : Type 0} where
   room_had n k (Settled client number done) h = settle_had k.clients.items client h
 
   -- a core whose parts have judged an event and made room for it is ready
-  pub is_ready : (config : Config) (old new : CoreState A) (log items : List Event) (len cap : ℕ) (e : Event) (r : Result Ready CoreError)
+  pub is_ready : (config : Config) (old new : CoreState A) (log items : List Event) (len cap : ℕ) (e : Event) {E : Type 0} (r : Result Ready E)
       → IsFold config items (state_view old) → state_view new ≡ state_view old → log ≡ items
       → IfOk r (λ ready. ready ≡ record { front = old.front; event = e })
       → IfOk r (λ _. refusal_of (state_view old) e ≡ None)
       → IfOk r (λ _. HasRoom new e) → IfOk r (λ _. len < cap)
       → IfOk r (IsReady (record { config = config; log = log; room = room_of (cap - len) new }))
-  is_ready config old new log items len cap e (Err x) is same kept ready accepted room more = tt
-  is_ready config old new log items len cap e (Ok x) is same kept ready accepted room more =
+  is_ready config old new log items len cap e {E} (Err x) is same kept ready accepted room more = tt
+  is_ready config old new log items len cap e {E} (Ok x) is same kept ready accepted room more =
       let here : state_view old ≡ state_of config log = is.state ∙ ap (state_of config) (sym kept) in
       let now : state_view new ≡ state_of config log = same ∙ here in
       let core : Core = record { config = config; log = log; room = room_of (cap - len) new } in

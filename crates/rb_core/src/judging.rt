@@ -14,7 +14,30 @@ use crate::refusing::refuse;
 use crate::state::CoreState;
 use crate::taking::{make_room, put};
 use rb_core_model::{CoreError, Event, Ready, Reply, SharedEntry};
-use std::alloc::Allocator;
+use std::alloc::{AllocError, Allocator};
+
+/// Makes what taking in an event takes that is not refused. It isn't judged again.
+pub(crate) fn make_ready_accepted<A: Allocator + Copy>(
+    alloc: A,
+    state: &mut CoreState<A>,
+    log: &mut Vec<SharedEntry<A>, A>,
+    event: Event<A>,
+) -> Result<Ready<A>, AllocError>
+    requires kept { HasInvariant (state_view state.old) }
+    requires accepted { refusal_of (state_view state.old) (event_view event) ≡ None }
+    ensures same { state_view state.new ≡ state_view state.old }
+    ensures log { log.new.items ≡ log.old.items }
+    ensures ready { IfOk result (λ ready. ready ≡ record { front = state.old.front; event = event_view event }) }
+    ensures room { IfOk result (λ _. HasRoom state.new (event_view event)) }
+    ensures log_room { IfOk result (λ _. vec_len log.new < vec_capacity log.new) }
+    ensures others { (other : events.Event) → HasRoom state.old other → HasRoom state.new other }
+    ensures log_others { vec_len log.old < vec_capacity log.old → vec_len log.new < vec_capacity log.new }
+{
+    make_room(state, &event)?;
+    log.reserve(1)?;
+    let ready = Ready::new(alloc, state.front, event)?;
+    Ok(ready)
+}
 
 /// Judges an event, and makes what taking it in takes.
 pub(crate) fn make_ready<A: Allocator + Copy>(
@@ -37,9 +60,8 @@ pub(crate) fn make_ready<A: Allocator + Copy>(
     if let Some(refusal) = refuse(state, &event) {
         return Err(CoreError::Refused(refusal));
     }
-    make_room(state, &event)?;
-    log.reserve(1)?;
-    Ok(Ready::new(alloc, state.front, event)?)
+    let ready = make_ready_accepted(alloc, state, log, event)?;
+    Ok(ready)
 }
 
 /// Takes in an event that was judged.

@@ -18,7 +18,7 @@ ghost use Rattle.rb_core_model.specs.Standing.{book_at, path_view, batch_open};
 use crate::client_views::{book_of, client_view};
 use crate::copies::{copy_state, new_state};
 use crate::follower::Follower;
-use crate::judging::{make_ready, take_in};
+use crate::judging::{make_ready, make_ready_accepted, take_in};
 use crate::path_views::{is_scanned, path_view};
 use crate::state::CoreState;
 use rb_base::Part;
@@ -117,6 +117,20 @@ impl<A: Allocator + Copy> Core<A> {
         ensures refused { IfErr result (λ e. IsRefusal e (refusal_in self.old (event_view event))) }
     {
         make_ready(self.alloc, &mut self.state, &mut self.log, event)
+    }
+
+    /// Makes room for an event that this core doesn't refuse, without judging it again: what a caller
+    /// made of this core's own views is compared with none of them. The state stays as it is, whatever
+    /// is answered. `AllocError` where memory is refused.
+    pub fn judge_accepted(&mut self, event: Event<A>) -> Result<Ready<A>, AllocError>
+        requires accepted { refusal_in self.old (event_view event) ≡ None }
+        ensures config { self.new.config ≡ self.old.config }
+        ensures log { self.new.log ≡ self.old.log }
+        ensures judged { IfOk result (λ ready. ready.event ≡ event_view event) }
+        ensures ready { IfOk result (IsReady self.new) }
+        ensures kept { (other : judged.Ready) → IsReady self.old other → IsReady self.new other }
+    {
+        make_ready_accepted(self.alloc, &mut self.state, &mut self.log, event)
     }
 
     /// Takes in an event that this core judged after the events that it has taken in. It cannot fail.

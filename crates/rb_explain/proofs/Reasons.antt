@@ -56,7 +56,7 @@ least_plan t number p q is plan =
     subst (λ (g : Goal). IsLeast (client_of (view_of t)) g (map update_of q.updates)) (sym goal)
     (plan_in t number is.answer.goal is.answer.plan q (least_of t is.answer.goal is.right.reach is.answer.plan is.right.plan) there)
 
-updates_in : (xs : List CodePriced) → map update_of (map priced_view xs) ≡ map (λ (u : CodePriced). u.update) xs
+updates_in : {A : Type 0} (xs : List (CodePriced A)) → map update_of (map priced_view xs) ≡ map (λ (u : CodePriced A). u.update) xs
 updates_in [] = refl
 updates_in (x ∷ xs) = ap (λ us. x.update ∷ us) (updates_in xs)
 
@@ -76,13 +76,13 @@ module _ {A : Type 0} where
 
   -- ---- why
 
-  pub right_plan : (t : Task) (p : CodePlanned A) (plan : CodePlan A) (us : List Update) → IsRight t (planned (planned_view p)) → p.plan ≡ Some plan → us ≡ map (λ (u : CodePriced). u.update) plan.updates.items
+  pub right_plan : (t : Task) (p : CodePlanned A) (plan : CodePlan A) (us : List Update) → IsRight t (planned (planned_view p)) → p.plan ≡ Some plan → us ≡ map (λ (u : CodePriced A). u.update) plan.updates.items
       → IsLeast (client_of (view_of t)) p.goal us
   right_plan t p plan us right is updates =
       subst (λ (vs : List Update). IsLeast (client_of (view_of t)) p.goal vs) (updates_in plan.updates.items ∙ sym updates)
       (least_plan t (right.0.batches + 1) (planned_view p) (plan_view plan) right.1.1 (ap (λ (o : Option (CodePlan A)). option_map plan_view o) is))
 
-  pub why_planned : (t : Task) (p : CodePlanned A) (plan : CodePlan A) (us : List Update) (x : PlanExplanation A) → p.plan ≡ Some plan → us ≡ map (λ (u : CodePriced). u.update) plan.updates.items
+  pub why_planned : (t : Task) (p : CodePlanned A) (plan : CodePlan A) (us : List Update) (x : PlanExplanation A) → p.plan ≡ Some plan → us ≡ map (λ (u : CodePriced A). u.update) plan.updates.items
       → IsPlanExplained (view_of t) p.goal us x → IsSomeAnd (planned_view p).plan (λ (q : PlanReport). IsPlanExplained (view_of t) p.goal (map update_of q.updates) x)
   why_planned t p plan us x is updates why =
       subst (λ (o : Option (CodePlan A)). IsSomeAnd (option_map plan_view o) (λ (q : PlanReport). IsPlanExplained (view_of t) p.goal (map update_of q.updates) x)) (sym is)

@@ -73,7 +73,7 @@ fn stored_heights<A: Allocator + Copy>(
 /// The updates without their fees.
 fn plain<A: Allocator + Copy>(
     alloc: A,
-    updates: &[PricedUpdate],
+    updates: &[PricedUpdate<A>],
 ) -> Result<Vec<Update, A>, AllocError>
     ensures { IfOk result (λ list. list.items ≡ map (λ u. u.update) updates.now) }
 {

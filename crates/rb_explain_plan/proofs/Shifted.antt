@@ -1,12 +1,13 @@
 -- A client with other fees: which lists it accepts, and what they cost.
-use Rattle.std.proofs.Common.{◌≡◌, ℕ, ◌+◌, ◌*◌, ◌<◌, ◌≤◌, ◌⊎◌, List, [], ◌∷◌, length, Option, Some, None, IsSomeAnd, sum_by, count_by, ap, sym, subst, ◌∙◌, refl, inl, inr, arith}
+use Rattle.std.proofs.Common.{◌≡◌, ℕ, ◌+◌, ◌*◌, ◌<◌, ◌≤◌, ◌⊎◌, List, [], ◌∷◌, length, Option, Some, None, IsSomeAnd, sum_by, ap, sym, subst, ◌∙◌, refl, inl, inr, arith}
 use Rattle.std.specs.Option.{option_map_or}
 use Rattle.std.proofs.lemmas.Bool.{cases_lt}
 use Rattle.std.proofs.Math.Nat.{mul-add, mul-le-mul_left}
 use Rattle.std.proofs.lemmas.List.Sums.{sum_by-cons}
 use Rattle.rb_base.specs.Fee.{Fees}
 use Rattle.rb_script_types.specs.declared.goal.Goal.{Goal}
-use Rattle.rb_book.specs.Header.{is_commit}
+use Rattle.rb_base.specs.Options.{ClientOptions}
+use Rattle.rb_step.specs.Carried.{carried_votes}
 use Rattle.rb_step.specs.Fee.{fee_of, fee_at, size_of}
 use Rattle.rb_step.specs.KnownStep.{step_at}
 use Rattle.rb_step.specs.LightClient.{Update, Client, Runs, IsAcceptable, IsStoredAfter, total_fee}
@@ -48,16 +49,16 @@ free = record { base = 0; signature = 0; validator = 0 }
 free_charge : (votes validators : ℕ) → 0 + 0 * votes + 0 * validators ≡ 0
 free_charge votes validators = omega arith
 
-free_step : (o : Option Step) → option_map_or (fee_of free) o 0 ≡ 0
-free_step None = refl
-free_step (Some s) = free_charge (count_by is_commit s.header.votes) (length s.own + size_of s.next)
+free_step : (c : ClientOptions) (o : Option Step) → option_map_or (fee_of c free) o 0 ≡ 0
+free_step c None = refl
+free_step c (Some s) = free_charge (carried_votes c s.trusted_height s.next s.header s.own) (length s.own + size_of s.next)
 
 pub free_total : (v : View) (us : List Update) → total_fee (client_of (with_fees v free)) us ≡ 0
 unfolding client_of
 free_total v [] = refl
 free_total v (u ∷ us) =
-    let fee : Update → ℕ = λ w. fee_at free v.book w.trusted w.height in
-    let one : fee u ≡ 0 = free_step (step_at v.book u.trusted u.height) in
+    let fee : Update → ℕ = λ w. fee_at v.options free v.book w.trusted w.height in
+    let one : fee u ≡ 0 = free_step v.options (step_at v.book u.trusted u.height) in
     let rest : sum_by fee us ≡ 0 = free_total v us in
     let whole : fee u + sum_by fee us ≡ 0 = omega arith in
     sum_by-cons fee u us ∙ whole
@@ -84,9 +85,9 @@ more_by f k = record f { base = f.base + k }
 shifted_charge : (base k votes validators : ℕ) → base + k + votes + validators ≡ base + votes + validators + k
 shifted_charge base k votes validators = omega arith
 
-shifted_step : (f : Fees) (k : ℕ) (o : Option Step) (P : Step → Type 0) → IsSomeAnd o P → option_map_or (fee_of (more_by f k)) o 0 ≡ option_map_or (fee_of f) o 0 + k
-shifted_step f k None P is = absurd is
-shifted_step f k (Some s) P is = shifted_charge f.base k (f.signature * count_by is_commit s.header.votes) (f.validator * (length s.own + size_of s.next))
+shifted_step : (c : ClientOptions) (f : Fees) (k : ℕ) (o : Option Step) (P : Step → Type 0) → IsSomeAnd o P → option_map_or (fee_of c (more_by f k)) o 0 ≡ option_map_or (fee_of c f) o 0 + k
+shifted_step c f k None P is = absurd is
+shifted_step c f k (Some s) P is = shifted_charge f.base k (f.signature * carried_votes c s.trusted_height s.next s.header s.own) (f.validator * (length s.own + size_of s.next))
 
 times_more : (k n : ℕ) → k * (n + 1) ≡ k * n + k
 times_more k n = let apart : k * (n + 1) ≡ k * n + k * 1 = mul-add k n 1 in omega arith
@@ -99,9 +100,9 @@ shifted_runs : (v : View) (k : ℕ) (stored : List ℕ) (us : List Update) → R
 unfolding client_of
 shifted_runs v k stored [] h = no_more k
 shifted_runs v k stored (u ∷ us) h =
-    let fee : Update → ℕ = λ w. fee_at v.fees v.book w.trusted w.height in
-    let more : Update → ℕ = λ w. fee_at (more_by v.fees k) v.book w.trusted w.height in
-    let one : more u ≡ fee u + k = shifted_step v.fees k (step_at v.book u.trusted u.height) _ h.1 in
+    let fee : Update → ℕ = λ w. fee_at v.options v.fees v.book w.trusted w.height in
+    let more : Update → ℕ = λ w. fee_at v.options (more_by v.fees k) v.book w.trusted w.height in
+    let one : more u ≡ fee u + k = shifted_step v.options v.fees k (step_at v.book u.trusted u.height) _ h.1 in
     let rest : sum_by more us ≡ sum_by fee us + k * length us = shifted_runs v k (u.height ∷ stored) us h.2 in
     let long : length (u ∷ us) ≡ length us + 1 = omega arith in
     let count : k * length (u ∷ us) ≡ k * length us + k = ap (λ n. k * n) long ∙ times_more k (length us) in

@@ -1,12 +1,12 @@
 -- What is told of a step: the step rule's answer over the whole window, and what it goes by.
-use Rattle.std.specs.Prelude.{◌≡◌, ℕ, ◌+◌, List, length, count_by, None, Option, MatchOption, IsSomeAnd}
+use Rattle.std.specs.Prelude.{◌≡◌, ℕ, ◌+◌, List, length, None, Option, MatchOption, IsSomeAnd}
 use Rattle.rb_base.specs.Fraction.{two_thirds}
 use Rattle.rb_base.specs.Options.{ClientOptions}
 use Rattle.rb_base.specs.Window.{Span}
 use Rattle.rb_valset.specs.Validator.{Member}
 use Rattle.rb_valset.specs.ValidatorSet.{total_of}
-use Rattle.rb_book.specs.Header.{is_commit}
 use Rattle.rb_step.specs.Answer.{answer_within}
+use Rattle.rb_step.specs.Carried.{carried_votes}
 use Rattle.rb_step.specs.Fee.{fee_of, size_of}
 use Rattle.rb_step.specs.KnownStep.{step_at}
 use Rattle.rb_step.specs.SignedPower.{signed_power}
@@ -35,12 +35,12 @@ pub record IsToldBy (o : ClientOptions) (w : Span) (cost : ℕ) (s : Step) (x : 
   pub trusted_power : MatchOption s.next (x.trusted_power ≡ None) (λ named. IsSomeAnd x.trusted_power (IsTrustedPower o s named))
   pub own_power : IsOwnPower s x.own_power
   pub fee : x.fee ≡ cost
-  pub votes : x.votes ≡ count_by is_commit s.header.votes
+  pub votes : x.votes ≡ carried_votes o s.trusted_height s.next s.header s.own
   pub validators : x.validators ≡ length s.own + size_of s.next
 
 -- the same by what a client is
 abbrev pub IsToldOf : View → Step → StepExplanation → Type 0
-IsToldOf v s = IsToldBy v.options v.window (fee_of v.fees s) s
+IsToldOf v s = IsToldBy v.options v.window (fee_of v.options v.fees s) s
 
 -- a step is explained, where the book knows it
 abbrev pub IsExplained : View → ℕ → ℕ → Option StepExplanation → Type 0

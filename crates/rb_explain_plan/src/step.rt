@@ -12,7 +12,7 @@ ghost use Rattle.rb_explain_plan.specs.Step.{IsExplained, IsOwnPower, IsToldBy, 
 use crate::power::{Power, power_of};
 use rb_base::{Fraction, Height, Moment, Options, Window};
 use rb_book::{Header, Record};
-use rb_step::{ClientView, Verdict, signed_power, times_fault, verify};
+use rb_step::{ClientView, Verdict, carried_votes, signed_power, times_fault, verify};
 use rb_valset::ValidatorSet;
 use std::alloc::{Allocator, Global};
 use std::marker::Model;
@@ -155,7 +155,13 @@ impl<A: Allocator + Copy> Step<'_, A> {
             trusted_power: self.trusted_power(options),
             own_power: self.own_power(),
             fee,
-            votes: self.header.commits(),
+            votes: carried_votes(
+                options,
+                self.trusted_height,
+                self.next,
+                self.header,
+                self.own,
+            ),
             validators: self.validators(),
         }
     }

@@ -1,16 +1,16 @@
 -- (internal) A header in its book, and what is read of it: a cell for each lower record (own choice of form; the numbers
 -- are those of CometBFT's light client), and whether the step from that record is accepted, and for what fee.
-use Rattle.std.specs.Prelude.{ℕ, ◌+◌, Bool, true, false, List, length, filter, count_by, Option, Some, None, if◌then◌else◌}
+use Rattle.std.specs.Prelude.{ℕ, Bool, true, false, List, length, filter, Option, Some, None, if◌then◌else◌}
 use Rattle.std.specs.Option.{option_map}
-use Rattle.rb_base.specs.Fee.{Fees, charge_of}
+use Rattle.rb_base.specs.Fee.{Fees}
 use Rattle.rb_base.specs.Options.{ClientOptions}
 use Rattle.rb_base.specs.Window.{Span}
 use Rattle.rb_valset.specs.ValidatorSet.{total_of}
-use Rattle.rb_book.specs.Header.{Record, Header, is_commit}
+use Rattle.rb_book.specs.Header.{Header}
 use Rattle.rb_book.specs.Book.{Book, RecordAt, is_below, set_of}
 use Rattle.rb_step.specs.SignedPower.{signed_power}
 use Rattle.rb_step.specs.StepRule.{Step, step_of}
-use Rattle.rb_step.specs.Fee.{size_of}
+use Rattle.rb_step.specs.Fee.{fee_of}
 use Rattle.rb_step.specs.Answer.{answer_within}
 use Rattle.rb_step.specs.declared.verdict.Verdict.{Verdict}
 use Rattle.rb_step.specs.declared.verdict.Verdict.TheVariants.{Success, NotEnoughTrust, Invalid}
@@ -54,13 +54,6 @@ step_from s k = step_of k.height k.record_of (set_of s.book k.record_of.next) s.
 unfoldable pub is_accepted_from : ClientOptions → Span → Source → RecordAt → Bool
 is_accepted_from o w s k = is_success (answer_within o w (step_from s k))
 
--- the charge for a step to the header, where the next set has so many members, and for the step from a record
-abbrev pub charge_with : Fees → Source → ℕ → ℕ
-charge_with fees s size = charge_of fees (count_by is_commit s.header.votes) (length (own_set s.book s.header) + size)
-
-abbrev pub charge_from : Fees → Source → Record → ℕ
-charge_from fees s r = charge_with fees s (size_of (set_of s.book r.next))
-
 -- the charge for the step from a known record, where it is accepted
 abbrev pub fee_from : ClientOptions → Span → Fees → Source → RecordAt → Option ℕ
-fee_from o w fees s k = if is_accepted_from o w s k then Some (charge_from fees s k.record_of) else None
+fee_from o w fees s k = if is_accepted_from o w s k then Some (fee_of o fees (step_from s k)) else None

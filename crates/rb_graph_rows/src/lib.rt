@@ -9,7 +9,9 @@ mod numbers;
 mod reached;
 mod stored_row;
 
-pub use build::{first_naming, first_namings, is_stored_row_of, next_places, stored_row_of};
+pub use build::{
+    first_naming, first_namings, is_stored_row_of, next_places, own_set, stored_row_of,
+};
 pub use lanes::{Lanes, enter_set};
 pub use numbers::{number_sets, tallies_of};
 pub use reached::{

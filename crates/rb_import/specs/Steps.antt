@@ -1,6 +1,7 @@
 -- Updates of a client as steps of the step rule (ICS 7: a header is accepted on the word of a trusted consensus state), from what nodes answered.
 use Rattle.std.specs.Prelude.{◌≡◌, ℕ, List, Some, Contains, IsSomeAnd, length, map, slice_get}
 use Rattle.rb_base.specs.Fraction.{Ratio}
+use Rattle.rb_base.specs.declared.votes.CarriedVotes.{CarriedVotes}
 use Rattle.rb_base.specs.Window.{Span}
 use Rattle.rb_valset.specs.Validator.{Member}
 use Rattle.rb_valset.specs.ValidatorSet.{set_hash}
@@ -19,11 +20,11 @@ use Rattle.rb_import_merge.specs.declared.kept.KeptSets.{KeptSets}
 use Rattle.rb_import.specs.declared.steps.Judging.{Judging}
 use Rattle.rb_import.specs.declared.steps.Start.{Start}
 
--- how a client judges headers in a window
+-- how a client judges headers in a window; it accepts the same ones whichever votes its updates carry
 abbrev pub judging_of : SeenClient → Span → Judging
 judging_of client window =
     let trust : Ratio = record { numerator = client.trust.numerator; denominator = client.trust.denominator } in
-    record { options = record { period = client.period; drift = client.drift; trust = trust }; window = window }
+    record { options = record { period = client.period; drift = client.drift; trust = trust; votes = CarriedVotes.Commit }; window = window }
 
 -- ---- headers and consensus states
 

@@ -55,7 +55,7 @@ pub fn push_set(text: &mut String, chain: &str, set: &ValidatorSet) -> Result<()
 
 fn push_member(text: &mut String, member: &Validator) -> Result<(), AllocError> {
     text.push_str("[\"")?;
-    push_hex(text, member.key().as_slice())?;
+    push_hex(text, member.key().as_bytes())?;
     let power = member.power();
     write!(text, "\", {power}], ")
 }

@@ -7,6 +7,7 @@ use Rattle.std.proofs.lemmas.Str.{is_utf8-from_IsUtf8, IsUtf8-from_is_utf8}
 use Rattle.serde_json.specs.Data.{Data}
 use Rattle.serde_json.specs.Read.{read as read_text}
 use Rattle.rb_base.specs.Amount.{IsPeriod}
+use Rattle.rb_valset.specs.declared.key.PublicKey.{PublicKey}
 use Rattle.rb_valset.specs.Validator.{Member, IsPower, max_power}
 use Rattle.rb_import_json.proofs.Values.{by_test, some_iff}
 use Rattle.rb_import_answers.specs.Validators.{member_of}
@@ -19,7 +20,7 @@ unfolding period_of
 made_period r n h =
     by_test r _ _ _ (λ p. and_from _ _ (le-leb 1 n p.0) (lt-ltb n _ p.1)) (λ e. let p = and_parts _ _ e in (leb-true 1 n p.0, ltb-true n _ p.1)) h
 
-pub made_member : {E : Type 0} (r : Result Member E) (key : List ℕ) (power : ℕ) → OkIff r (IsPower power) (record { key = key; power = power }) → result_ok r ≡ member_of key power
+pub made_member : {E : Type 0} (r : Result Member E) (key : PublicKey) (power : ℕ) → OkIff r (IsPower power) (record { key = key; power = power }) → result_ok r ≡ member_of key power
 unfolding member_of
 made_member r key power h =
     by_test (result_ok r) _ _ _ (λ p. and_from _ _ (lt-ltb 0 power p.0) (le-leb power max_power p.1)) (λ e. let p = and_parts _ _ e in (ltb-true 0 power p.0, leb-true power max_power p.1)) (some_iff r _ _ h)

@@ -1,25 +1,42 @@
 -- The answer of CometBFT's `/validators`: a page of the validators at a height.
-use Rattle.std.specs.Prelude.{ℕ, List, [], Option, Some, None, Result, Ok, ◌&&◌, nat_lt, nat_le, if◌then◌else◌, codes}
+use Rattle.std.specs.Prelude.{ℕ, List, [], Option, Some, None, Result, Ok, ◌&&◌, nat_lt, nat_le, if◌then◌else◌, Err, codes}
 use Rattle.std.specs.Str.{bytes_eq}
+use Rattle.rb_valset.specs.declared.key.PublicKey.{PublicKey}
+use Rattle.rb_valset.specs.declared.key.PublicKey.TheVariants.{Ed25519, Secp256k1}
 use Rattle.rb_valset.specs.Validator.{Member, max_power}
 use Rattle.rb_import_answers.specs.declared.validators.ValidatorsPage.{ValidatorsPage}
 use Rattle.rb_import_json.specs.declared.error.FieldError.{FieldError}
 use Rattle.rb_import_json.specs.declared.error.FieldErrorName.TheVariants.{ForeignKey, BadPower}
 use Rattle.rb_import_json.specs.declared.field_path.Key.{Key}
 use Rattle.rb_import_json.specs.declared.field_path.Segment.{Segment}
-use Rattle.rb_import_json.specs.FieldErrors.{◌>>=◌, or_flaw, must}
+use Rattle.rb_import_json.specs.FieldErrors.{◌>>=◌, or_flaw}
 use Rattle.rb_import_json.specs.Fields.{Object, flaw_at, inner, items, text, number, height, base64, each}
 
--- a validator's key, which has to be of ed25519
-unfoldable pub key : Object → Result (List ℕ) FieldError
+abbrev pub ed25519_key : Object → Result PublicKey FieldError
+ed25519_key o = do
+  bytes ← base64 32 Key.Value o
+  Ok (Ed25519 bytes)
+
+abbrev pub secp256k1_key : Object → Result PublicKey FieldError
+secp256k1_key o = do
+  bytes ← base64 33 Key.Value o
+  Ok (Secp256k1 bytes)
+
+-- a key of a type that is named so
+abbrev pub key_of : List ℕ → Object → Result PublicKey FieldError
+key_of kind o =
+    if bytes_eq kind (codes "tendermint/PubKeyEd25519") then ed25519_key o else
+    (if bytes_eq kind (codes "tendermint/PubKeySecp256k1") then secp256k1_key o else Err (flaw_at o Key.Type ForeignKey))
+
+-- a validator's key, which has to be of ed25519 or secp256k1
+unfoldable pub key : Object → Result PublicKey FieldError
 key o = do
   k ← inner Key.PubKey o
   kind ← text Key.Type k
-  _ ← must (flaw_at k Key.Type ForeignKey) (bytes_eq kind (codes "tendermint/PubKeyEd25519"))
-  base64 Key.Value k
+  key_of kind k
 
 -- a validator has a power, and not too much
-unfoldable pub member_of : List ℕ → ℕ → Option Member
+unfoldable pub member_of : PublicKey → ℕ → Option Member
 member_of key power = if nat_lt 0 power && nat_le power max_power then Some (record { key = key; power = power }) else None
 
 -- an entry of `validators`: the key and the power

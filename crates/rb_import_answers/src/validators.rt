@@ -7,7 +7,7 @@ ghost use Rattle.rb_import_answers.specs.Validators.{key, validator, member_of, 
 
 use rb_base::Height;
 use rb_import_json::{AnswerError, FieldError, FieldErrorName, Key, Object, Segment};
-use rb_valset::Validator;
+use rb_valset::{PublicKey, Validator};
 use serde_json::Value;
 use std::alloc::Global;
 
@@ -60,20 +60,21 @@ fn read_validator(entry: &Object<'_>) -> Result<Validator, FieldError>
 
 /// The validator of a key and a power.
 #[tactic(auto, using(crate::proofs::Values::members), unfolding(crate::specs::Validators::member_of))]
-fn validator_of(key: [u8; 32], power: u64) -> Option<Validator>
+fn validator_of(key: PublicKey, power: u64) -> Option<Validator>
     ensures { result ≡ member_of key power }
 {
     Validator::new(key, power).ok()
 }
 
-/// The key, which has to be of ed25519.
+/// The key, which has to be of ed25519 or secp256k1.
 #[tactic(auto, using(rb_import_json::proofs::Steps::steps), unfolding(crate::specs::Validators::key))]
-fn read_key(entry: &Object<'_>) -> Result<[u8; 32], FieldError>
+fn read_key(entry: &Object<'_>) -> Result<PublicKey, FieldError>
     ensures { Reads (λ k. k) result (key (object_view entry.now)) }
 {
     let public = entry.inner(Key::PubKey)?;
     match public.text(Key::Type)? {
-        "tendermint/PubKeyEd25519" => public.base64(Key::Value),
+        "tendermint/PubKeyEd25519" => Ok(PublicKey::Ed25519(public.base64(Key::Value)?)),
+        "tendermint/PubKeySecp256k1" => Ok(PublicKey::Secp256k1(public.base64(Key::Value)?)),
         _ => Err(public.flaw(Key::Type, FieldErrorName::ForeignKey)),
     }
 }

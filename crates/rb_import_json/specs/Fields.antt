@@ -114,11 +114,11 @@ base64_bytes key o = do
   t ← text key o
   or_flaw (flaw_at o key BadBase64) (base64_up_to 64 t)
 
--- 32 bytes, in base64
-unfoldable pub base64 : Key → Object → Result (List ℕ) FieldError
-base64 key o = do
+-- so many bytes, in base64
+unfoldable pub base64 : ℕ → Key → Object → Result (List ℕ) FieldError
+base64 count key o = do
   t ← text key o
-  or_flaw (flaw_at o key BadBase64) (key_of t)
+  or_flaw (flaw_at o key BadBase64) (key_of count t)
 
 -- the elements of the array that is this part, each read so, after those before them
 abbrev pub each : {A : Type 0} → (Object → Result A FieldError) → Segment → List A → Items → Result (List A) FieldError

@@ -46,13 +46,13 @@ moment_of text = in_range (parse_timestamp text)
 unfoldable pub bytes_of : ℕ → List ℕ → Option (List ℕ)
 bytes_of count text = result_ok (decode_sized text count)
 
-abbrev pub if_all : List ℕ → Result ℕ DecodeSliceError → Option (List ℕ)
-if_all bytes (Ok n) = if n == 32 then Some bytes else None
-if_all bytes (Err e) = None
+abbrev pub if_all : ℕ → List ℕ → Result ℕ DecodeSliceError → Option (List ℕ)
+if_all count bytes (Ok n) = if n == count then Some bytes else None
+if_all count bytes (Err e) = None
 
--- 32 bytes, in base64 (RFC 4648)
-unfoldable pub key_of : List ℕ → Option (List ℕ)
-key_of text = if_all (decoded_bytes_of standard text) (decode_slice_of standard text 32)
+-- so many bytes, in base64 (RFC 4648)
+unfoldable pub key_of : ℕ → List ℕ → Option (List ℕ)
+key_of count text = if_all count (decoded_bytes_of standard text) (decode_slice_of standard text count)
 
 -- bytes, where they aren't too many
 abbrev pub up_to : ℕ → List ℕ → Option (List ℕ)
@@ -68,4 +68,4 @@ base64_up_to limit text = option_and_then (up_to limit) (result_ok (decode_of st
 
 -- 32 bytes, in hexadecimal digits as ibc-go writes a hash, or in base64 as protojson does, which is shorter
 unfoldable pub hash_of : List ℕ → Option (List ℕ)
-hash_of text = if length text == 64 then bytes_of 32 text else key_of text
+hash_of text = if length text == 64 then bytes_of 32 text else key_of 32 text

@@ -43,7 +43,7 @@ pub enum FieldErrorName {
     BadIdentifier,
     /// A flag of a signature that isn't known.
     BadFlag,
-    /// A key that isn't of ed25519.
+    /// A key that is neither of ed25519 nor of secp256k1.
     ForeignKey,
     /// A voting power that no validator has.
     BadPower,
@@ -133,7 +133,7 @@ impl FieldErrorName {
             FieldErrorName::BadDuration => "seconds as 806400s belong here, at most 2^63 - 1 ns",
             FieldErrorName::BadIdentifier => "an identifier of 1 to 64 characters belongs here",
             FieldErrorName::BadFlag => "a flag is 1 (absent), 2 (commit) or 3 (nil)",
-            FieldErrorName::ForeignKey => "only ed25519 keys are supported",
+            FieldErrorName::ForeignKey => "only ed25519 and secp256k1 keys are supported",
             FieldErrorName::BadPower => "a voting power is from 1 to 2^60 - 1",
             FieldErrorName::BadTrust => "a trust level is from a third to one",
             FieldErrorName::ForeignClient => "only Tendermint light clients are supported",

@@ -269,10 +269,10 @@ impl<'a> Object<'a> {
         }
     }
 
-    /// The 32 bytes that a field holds in base64, else `BadBase64`.
+    /// The bytes that a field holds in base64, if they are as many, else `BadBase64`.
     #[tactic(auto, using(crate::proofs::Steps::steps), unfolding(crate::specs::Fields::base64))]
-    pub fn base64(&self, key: Key) -> Result<[u8; 32], FieldError>
-        ensures { Reads (λ x. x) result (base64 key (object_view self.now)) }
+    pub fn base64<const N: usize>(&self, key: Key) -> Result<[u8; N], FieldError>
+        ensures { Reads (λ x. x) result (base64 N key (object_view self.now)) }
     {
         match key_of(self.text(key)?) {
             Some(read) => Ok(read),

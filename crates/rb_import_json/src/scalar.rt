@@ -66,14 +66,14 @@ pub fn address_of(text: &str) -> Option<[u8; 20]>
     <[u8; 20] as FromHex>::from_hex(text).ok()
 }
 
-/// The 32 bytes of a text in base64.
+/// The bytes of a text in base64, if they are as many.
 #[tactic(auto, unfolding(crate::specs::Values::key_of))]
-pub fn key_of(text: &str) -> Option<[u8; 32]>
-    ensures { result ≡ key_of text.now }
+pub fn key_of<const N: usize>(text: &str) -> Option<[u8; N]>
+    ensures { result ≡ key_of N text.now }
 {
-    let mut bytes = [0; 32];
+    let mut bytes = [0; N];
     match STANDARD.decode_slice(text.as_bytes(), &mut bytes) {
-        Ok(32) => Some(bytes),
+        Ok(count) if count == N => Some(bytes),
         _ => None,
     }
 }

@@ -14,7 +14,7 @@ use Rattle.rb_script_config.specs.Clients.{identity, terms}
 use Rattle.rb_script_config.specs.Goals.{asked, goal_keys, goal_of, one_goal, is_asked, settlement, settlement_keys}
 use Rattle.rb_script_config.specs.Named.{reference}
 use Rattle.rb_script_config.specs.Paths.{path_config, waits_in, fits}
-use Rattle.rb_script_types.specs.declared.version.Version.TheVariants.{Three}
+use Rattle.rb_script_types.specs.declared.version.Version.TheVariants.{Two, Three}
 use Rattle.rb_script_config.proofs.ConfigForms.{pass, same_ok, elements-keep, place-within, identity-form, path_config-form}
 use Rattle.rb_import_setup.specs.declared.setup.ClientSetup.{ClientSetup}
 use Rattle.rb_import_setup.specs.declared.setup.PathSetup.{PathSetup}
@@ -29,13 +29,13 @@ use Rattle.rb_import_setup.specs.Places.{IsClientOf, IsPathOf, IsTurnOf, ArePlac
 client-places : (chains : List (List ℕ)) (before : List ClientSetup) (s : Section) (c : ClientSetup) → client chains before s ≡ Ok c → IsClientOf (length chains) c
 unfolding client
 client-places chains before s c h =
-    pass (identity chains (client_ids before) s) _ c h (λ i e0 h0.
+    pass (identity Two chains (client_ids before) s) _ c h (λ i e0 h0.
     pass (maybe (number 1 max_number OutOfRange) (optional (codes "period_ns") s)) _ c h0 (λ period e1 h1.
     pass (maybe (number 0 max_number OutOfRange) (optional (codes "drift_ns") s)) _ c h1 (λ drift e2 h2.
     pass (terms no_defaults s) _ c h2 (λ t e3 h3.
     pass (maybe level (optional (codes "trust") s)) _ c h3 (λ trusted e4 h4.
     pass (check (not (i.host == i.tracks)) SameChain s.path) _ c h4 (λ u e5 same.
-    let named = identity-form chains (client_ids before) s i e0 in
+    let named = identity-form Two chains (client_ids before) s i e0 in
     subst (IsClientOf (length chains)) (same_ok _ c same) (record { host = named.0; tracks = named.1 })))))))
 
 pub clients-places : (chains : List (List ℕ)) (ds : Items) (clients : List ClientSetup) → elements (client chains) (codes "client") [] ds ≡ Ok clients

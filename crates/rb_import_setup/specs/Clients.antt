@@ -3,6 +3,7 @@ use Rattle.std.specs.Prelude.{ℕ, List, map, codes, Result, Ok, not, ◌==◌}
 use Rattle.rb_script_toml.specs.Faults.{Fault, ◌>>=◌, check}
 use Rattle.rb_script_toml.specs.Fields.{Field, Section, optional, maybe, number, trust, max_number}
 use Rattle.rb_script_toml.specs.declared.fault.FaultName.TheVariants.{OutOfRange, SameChain}
+use Rattle.rb_script_types.specs.declared.version.Version.TheVariants.{Two}
 use Rattle.rb_script_config.specs.Chains.{no_defaults}
 use Rattle.rb_script_config.specs.Clients.{identity, terms}
 use Rattle.rb_import_setup.specs.declared.setup.ClientSetup.{ClientSetup}
@@ -23,7 +24,7 @@ client_ends c = (c.host, c.tracks)
 -- a client of these chains, which share nothing, beside those before it
 unfoldable pub client : List (List ℕ) → List ClientSetup → Section → Result ClientSetup Fault
 client chains before s = do
-  i ← identity chains (client_ids before) s
+  i ← identity Two chains (client_ids before) s
   period ← maybe (number 1 max_number OutOfRange) (optional (codes "period_ns") s)
   drift ← maybe (number 0 max_number OutOfRange) (optional (codes "drift_ns") s)
   t ← terms no_defaults s

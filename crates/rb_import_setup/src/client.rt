@@ -11,6 +11,7 @@ use rb_script_config::{
     Directory, maybe_drift, maybe_period, no_defaults, read_identity, read_terms, two_chains,
 };
 use rb_script_toml::{Field, RunError, Section, element_path, section_at};
+use rb_script_types::Version;
 use std::alloc::Global;
 use toml::Value;
 
@@ -43,7 +44,7 @@ fn read_client(
 ) -> Result<ClientSetup, RunError>
     ensures { Gives (λ c. c) result (client chains.now before.now (section_view section.now)) }
 {
-    let identity = read_identity(section, chains, before)?;
+    let identity = read_identity(Version::Two, section, chains, before)?;
     let period = maybe_period(section)?;
     let drift = maybe_drift(section)?;
     let terms = read_terms(section, &no_defaults())?;

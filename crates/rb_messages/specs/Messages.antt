@@ -9,7 +9,9 @@ use Rattle.base64.specs.GeneralPurpose.{encode_of}
 use Rattle.rb_import_answers.specs.Revisions.{IsRevision}
 use Rattle.rb_import_check.specs.declared.chain.Commit.{Commit}
 use Rattle.rb_import_check.specs.declared.chain.SeenChain.{SeenChain}
-use Rattle.rb_valset.specs.Validator.{Member, address_of, has_address}
+use Rattle.rb_valset.specs.Validator.{Member, address_of, has_address, key_bytes}
+use Rattle.rb_valset.specs.declared.key.PublicKey.{PublicKey}
+use Rattle.rb_valset.specs.declared.key.PublicKey.TheVariants.{Ed25519, Secp256k1}
 use Rattle.rb_valset.specs.ValidatorSet.{set_hash, total_of}
 use Rattle.rb_messages.specs.Sources.{IsHeaderOf, commit_at}
 use Rattle.rb_messages.specs.declared.message.MessageFile.{MessageFile}
@@ -23,8 +25,13 @@ bytes_text bytes = codes "\"" ++ encode_of standard bytes ++ codes "\""
 abbrev pub address_text : Member → List ℕ
 address_text m = codes "{\"address\": " ++ bytes_text (address_of m.key)
 
+-- what stands before the bytes of a key: the name of its kind (CometBFT, `crypto.PublicKey`)
+abbrev pub key_head : PublicKey → List ℕ
+key_head (Ed25519 bytes) = codes ", \"pub_key\": {\"ed25519\": "
+key_head (Secp256k1 bytes) = codes ", \"pub_key\": {\"secp256k1\": "
+
 abbrev pub key_text : Member → List ℕ
-key_text m = codes ", \"pub_key\": {\"ed25519\": " ++ bytes_text m.key
+key_text m = key_head m.key ++ bytes_text (key_bytes m.key)
 
 abbrev pub power_text : Member → List ℕ
 power_text m = codes "}, \"voting_power\": \"" ++ decimal m.power ++ codes "\", \"proposer_priority\": \"0\"}"

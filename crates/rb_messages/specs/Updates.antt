@@ -17,7 +17,7 @@ use Rattle.rb_super_turn.specs.declared.report.TurnReport.{TurnReport}
 use Rattle.rb_messages.specs.declared.update.PlannedUpdate.{PlannedUpdate}
 
 -- an update of a plan, by its place in it: which of the batch's transactions has it, from 1, and the records of its heights
-abbrev pub sent_as : Book → ClientConfig → List Transaction → ℕ × PricedUpdate → PlannedUpdate
+abbrev pub sent_as : {A : Type 0} → Book → ClientConfig → List Transaction → ℕ × PricedUpdate A → PlannedUpdate
 sent_as book c transactions (place, p) = record {
   client = c.id;
   host = c.host;
@@ -30,7 +30,7 @@ sent_as book c transactions (place, p) = record {
 }
 
 -- those of a plan, where a batch of it is opened
-abbrev pub batch_updates : {A : Type 0} → Book → ClientConfig → List PricedUpdate → SendingReport A → List PlannedUpdate
+abbrev pub batch_updates : {A : Type 0} → Book → ClientConfig → List (PricedUpdate A) → SendingReport A → List PlannedUpdate
 batch_updates book c updates Nothing = []
 batch_updates book c updates (TooBig message) = []
 batch_updates book c updates (Batch b) = map (sent_as book c b.transactions.items) (enumerate_from 0 updates)

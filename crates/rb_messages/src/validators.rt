@@ -1,10 +1,10 @@
 //! Sets of validators (CometBFT, `ValidatorSet`).
 ghost use Rattle.std.specs.Prelude.{◌≡◌, ◌++◌, OnOk, string_bytes};
 ghost use Rattle.std.specs.List.{enumerate_from, flat_map};
-ghost use Rattle.rb_messages.specs.Messages.{address_text, key_text, listed_text, members_text, named_proposer, opening_text, power_text, proposer_in, proposer_text, set_text, total_text, validator_text};
+ghost use Rattle.rb_messages.specs.Messages.{address_text, key_head, key_text, listed_text, members_text, named_proposer, opening_text, power_text, proposer_in, proposer_text, set_text, total_text, validator_text};
 
 use crate::text::push_bytes;
-use rb_valset::{Validator, ValidatorSet};
+use rb_valset::{PublicKey, Validator, ValidatorSet};
 use std::alloc::AllocError;
 
 /// Adds a set, in set order. Its proposer is the validator of an address; where the set has none of it, the first one: a
@@ -117,8 +117,18 @@ fn push_address(text: &mut String, member: &Validator) -> Result<(), AllocError>
 fn push_public_key(text: &mut String, member: &Validator) -> Result<(), AllocError>
     ensures { OnOk result (string_bytes text.new ≡ string_bytes text.old ++ key_text member.now) }
 {
-    text.push_str(", \"pub_key\": {\"ed25519\": ")?;
-    push_bytes(text, member.key())
+    text.push_str(key_head(member.key()))?;
+    push_bytes(text, member.key().as_bytes())
+}
+
+/// What stands before the bytes of a key: the name of its kind (CometBFT, `crypto.PublicKey`).
+fn key_head(key: &PublicKey) -> &'static str
+    ensures { result.now ≡ key_head key.now }
+{
+    match key {
+        PublicKey::Ed25519(_) => ", \"pub_key\": {\"ed25519\": ",
+        PublicKey::Secp256k1(_) => ", \"pub_key\": {\"secp256k1\": ",
+    }
 }
 
 /// Adds the end of a validator: its power, and its priority, which is in no hash, as 0.

@@ -1,5 +1,5 @@
 -- Offers serve for all labels below: records that name one set have the same steps to every header that isn't right above them.
-use Rattle.std.proofs.Common.{◌≡◌, ℕ, ◌+◌, ◌<◌, ◌≤◌, ◌^◌, ◌⊎◌, List, [], ◌∷◌, ◌++◌, length, count_by, map, get_or, set, All, true, inl, inr, ap, sym, ◌∙◌, refl, subst, arith, Option, Some, None, IsSome, IsSomeAnd}
+use Rattle.std.proofs.Common.{◌≡◌, ℕ, ◌+◌, ◌<◌, ◌≤◌, ◌^◌, ◌⊎◌, List, [], ◌∷◌, ◌++◌, length, map, get_or, set, All, true, inl, inr, ap, sym, ◌∙◌, refl, subst, arith, Option, Some, None, IsSome, IsSomeAnd}
 use Rattle.std.specs.Prelude.{IfSome, MatchOption}
 use Rattle.std.specs.List.{Contains, find, insert, slice_get}
 use Rattle.std.specs.List.Sorted.{IsPermutation}
@@ -14,7 +14,7 @@ use Rattle.std.proofs.lemmas.List.Kept.{AllPairs-from_increasing}
 use Rattle.std.proofs.lemmas.List.Sorted.{All-permutation, Contains-permutation, IsPermutation-append_comm, IsPermutation-insert, IsPermutation-trans}
 use Rattle.rb_base.specs.Window.{IsWithin}
 use Rattle.rb_book.specs.Book.{Book, RecordAt, height_of, time_of, heights_of, is_at, set_of, record_at, header_at}
-use Rattle.rb_book.specs.Header.{Record, Header, is_commit}
+use Rattle.rb_book.specs.Header.{Record, Header}
 use Rattle.rb_book.specs.Invariant.{IsBacked}
 use Rattle.rb_graph_rows.specs.StoredRow.{own_set}
 use Rattle.rb_graph.specs.StepTable.{IsStepFee}
@@ -27,11 +27,13 @@ use Rattle.rb_base.specs.Fee.{charge_of}
 use Rattle.rb_valset.specs.Validator.{Member}
 use Rattle.rb_valset.specs.ValidatorSet.{total_of}
 use Rattle.rb_step.specs.SignedPower.{signed_power}
-use Rattle.rb_step.specs.Fee.{fee_of, size_of}
+use Rattle.rb_step.specs.Carried.{carried_votes}
+use Rattle.rb_step.specs.Fee.{fee_of, fee_at, size_of}
 use Rattle.rb_step.specs.KnownStep.{step_at}
 use Rattle.rb_step.specs.StepRule.{Step, step_of, Accepts, AcceptsWithin}
 use Rattle.rb_step.specs.LightClient.{Client, IsOrderly, IsSource}
 use Rattle.rb_step.specs.View.{View, IsView, client_of}
+use Rattle.rb_step.proofs.CarriedBy.{carried_same}
 use Rattle.rb_plan.specs.declared.cost.Cost.{Cost}
 use Rattle.rb_plan.specs.declared.labelling.Label.{Label}
 use Rattle.rb_plan.specs.declared.offers.Offer.{Offer}
@@ -64,6 +66,15 @@ told_at v h o r offer told = by (slice_get v.book.records o.place) offer.placed 
     by : (k : Option RecordAt) → IsSomeAnd k (λ k. k.height ≡ o.label.height) → IsSomeAnd k (λ k. IsStepFee (target_of v h) k.height r) → TellsStep (client_of v) o.label.height h r
     by None p q = absurd p
     by (Some k) p q = subst (λ (t : ℕ). TellsStep (client_of v) t h r) p (step_told v k.height h r q)
+
+-- no step from the offer costs less than the least fee
+pub least_at : (v : View) (h : ℕ) (o : Offer) (r : ℕ) → IsOffer v.book o → IsSomeAnd (slice_get v.book.records o.place) (λ k. r ≤ fee_at v.options v.fees v.book k.height h) → r ≤ (client_of v).fee o.label.height h
+unfolding client_of
+least_at v h o r offer = by (slice_get v.book.records o.place) offer.placed
+  where
+    by : (k : Option RecordAt) → IsSomeAnd k (λ k. k.height ≡ o.label.height) → IsSomeAnd k (λ k. r ≤ fee_at v.options v.fees v.book k.height h) → r ≤ fee_at v.options v.fees v.book o.label.height h
+    by None placed told = absurd placed
+    by (Some k) placed told = subst (λ n. r ≤ fee_at v.options v.fees v.book n h) placed told
 
 pub offer_within : (book : Book) (o : Offer) → IsOffer book o → o.place < length book.records
 offer_within book o offer = by (slice_get book.records o.place) refl offer.placed
@@ -267,9 +278,12 @@ module _ (v : View) (view : IsView v) where
       same_fee : (client_of v).fee k.height h ≡ (client_of v).fee l.height h
       unfolding client_of
       same_fee =
-          ap (λ (s : Option Step). option_map_or (fee_of v.fees) s 0) k-step
-          ∙ ap (λ (o : Option (List Member)). charge_of v.fees (count_by is_commit x.votes) (length (own_set v.book x) + size_of o)) (sym next)
-          ∙ sym (ap (λ (s : Option Step). option_map_or (fee_of v.fees) s 0) l-step)
+          ap (λ (s : Option Step). option_map_or (fee_of v.options v.fees) s 0) k-step
+          ∙ ap (λ (o : Option (List Member)). charge_of v.fees (carried_votes v.options k.height o x (own_set v.book x)) (length (own_set v.book x) + size_of o)) (sym next)
+          ∙ ap (λ n. charge_of v.fees n (length (own_set v.book x) + size_of (set_of v.book l.record_of.next)))
+          (carried_same v.options k.height l.height (set_of v.book l.record_of.next) x (own_set v.book x)
+          (λ adjacent. omega (arith, adjacent, height, k-low)) (λ adjacent. omega (arith, adjacent, height, l-low)))
+          ∙ sym (ap (λ (s : Option Step). option_map_or (fee_of v.options v.fees) s 0) l-step)
 
     same_step : (client_of v).IsLive k.height → (client_of v).Accepts l.height h → (client_of v).Accepts k.height h × ((client_of v).fee k.height h ≡ (client_of v).fee l.height h)
     unfolding client_of

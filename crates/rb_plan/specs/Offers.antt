@@ -1,5 +1,5 @@
 -- (internal) The labelled records from which steps are tried.
-use Rattle.std.specs.Prelude.{◌≡◌, ℕ, ◌+◌, ◌<◌, ◌^◌, ◌⊎◌, List, Some, All, Contains, IsSomeAnd, length, position, slice_get, unwrap_or}
+use Rattle.std.specs.Prelude.{◌≡◌, ℕ, ◌+◌, ◌<◌, ◌^◌, ◌⊎◌, List, Option, Some, All, Contains, IsSomeAnd, IfSome, length, position, slice_get, unwrap_or}
 use Rattle.rb_book.specs.Book.{Book, RecordAt, has_hash}
 use Rattle.rb_graph.specs.StepTable.{Target}
 use Rattle.rb_step.specs.LightClient.{Client}
@@ -7,7 +7,7 @@ use Rattle.rb_step.specs.View.{View}
 use Rattle.rb_plan.specs.declared.cost.Cost.{Cost}
 use Rattle.rb_plan.specs.declared.offers.Offer.{Offer}
 use Rattle.rb_plan.specs.Order.{CostsAtMost, after_update}
-use Rattle.rb_plan.specs.Labelling.{Labels}
+use Rattle.rb_plan.specs.Labelling.{Labels, LeadsTo}
 use Rattle.rb_plan.specs.Raised.{IsCheapestStep, IsRaised}
 
 -- the offer's place is that of the record at its height, and its numbers are small
@@ -59,6 +59,24 @@ AreEnough client label offers h = (t : ℕ) (c : Cost) → label t ≡ Some c �
 -- offers that by all labels, whatever labels the offers are drawn from and are enough for
 abbrev pub OffersLead : Client → List Offer → ℕ → (Labels → Type 0) → Type 0
 OffersLead client offers h P = (label : Labels) → AreDrawn label offers → AreEnough client label offers h → P label
+
+-- the least cost is that of before, or that of the step from the offer to the height, and no more than either
+pub record IsLoweredBy (client : Client) (label : Labels) (h : ℕ) (o : Offer) (before after : Option Cost) : Type 0 where
+  pub under : (c : Cost) → LeadsTo client label o.label.height h c → IsSomeAnd after (λ b. CostsAtMost b c)
+  pub kept : IfSome before (λ b. IsSomeAnd after (λ a. CostsAtMost a b))
+  pub attained : (b : Cost) → after ≡ Some b → (before ≡ Some b) ⊎ LeadsTo client label o.label.height h b
+
+-- so it is by all labels that the offer is drawn from
+abbrev pub IsLowered : Client → ℕ → Offer → Option Cost → Option Cost → Type 0
+IsLowered client h o before after = (label : Labels) → label o.label.height ≡ Some o.label.cost → IsLoweredBy client label h o before after
+
+-- at this cost, if there is one, a step leads to the height from a labelled one
+abbrev pub IsReachedBy : Client → Labels → ℕ → Option Cost → Type 0
+IsReachedBy client label h cost = (b : Cost) → cost ≡ Some b → (t : ℕ) × LeadsTo client label t h b
+
+-- so it is by all labels that the offers are drawn from
+abbrev pub IsReached : Client → List Offer → ℕ → Option Cost → Type 0
+IsReached client offers h cost = (label : Labels) → AreDrawn label offers → IsReachedBy client label h cost
 
 -- a height, as the view's client is to reach it
 abbrev pub target_of : View → ℕ → Target

@@ -1,16 +1,17 @@
 //! The exact labelling: known heights in rising order, each labelled from the labels below it.
-ghost use Rattle.std.specs.Prelude.{◌≡◌, IfOk, All};
+ghost use Rattle.std.specs.Prelude.{◌≡◌, ◌<◌, IfOk, IsFalse, IsSomeAnd, All, length, slice_get};
 ghost use Rattle.rb_step.specs.View.{client_of};
 ghost use Rattle.rb_plan.specs.Labelling.{IsLabelling, IsExact, label_of};
+ghost use Rattle.rb_plan.specs.Order.{CostsAtMost};
 ghost use Rattle.rb_plan.specs.Raised.{IsCheaperOf, IsCheapestStep, IsRaised};
-ghost use Rattle.rb_plan.specs.Offers.{IsOffer, OffersLead};
+ghost use Rattle.rb_plan.specs.Offers.{IsOffer, IsLowered, IsReached, OffersLead, target_of};
 
 use crate::cost::Cost;
 use crate::labelling::{Label, Labelling};
 use crate::offers::Offer;
 use crate::planner::Planner;
 use rb_base::Height;
-use rb_graph::Graph;
+use rb_graph::{Graph, Target};
 use rb_step::ClientView;
 use std::alloc::{AllocError, Allocator};
 
@@ -24,33 +25,91 @@ fn cheaper(best: Option<Cost>, cost: Cost) -> Cost
     }
 }
 
+/// Whether a step from a height of this cost could lead to less than the least cost so far.
+fn can_lower(best: Option<Cost>, cost: Cost) -> bool
+    ensures { IsFalse result → IsSomeAnd best (λ b. CostsAtMost b cost) }
+{
+    match best {
+        Some(best) => cost.is_cheaper_than(best),
+        None => true,
+    }
+}
+
 impl<A: Allocator + Copy> Planner<'_, A> {
-    /// The least cost at which an accepted step leads to the height from an offer.
-    fn cheapest_step(&self, offers: &[Offer], height: Height) -> Option<Cost>
-        requires { All (IsOffer self.now.book) offers.now }
-        ensures { OffersLead (client_of self.now) offers.now height
-            (λ label. IsCheapestStep (client_of self.now) label height result) }
+    /// The least cost so far, or that of the step from the offer to the target where the client accepts
+    /// it and it costs less. A step costs more than the height that it is from, by as much as the fewest
+    /// votes do that any step to the target carries: where that isn't less, the step isn't asked for.
+    fn with_step(&self, target: &Target<'_, A>, best: Option<Cost>, offer: Offer) -> Option<Cost>
+        requires offer { IsOffer self.now.book offer }
+        requires target { target.now ≡ target_of self.now target.now.height }
+        ensures { IsLowered (client_of self.now) target.now.height offer best result }
     {
-        let target = self.target(height);
-        let mut best = None;
+        if !can_lower(best, offer.label.cost) {
+            return best;
+        }
+        let least = target.least_fee_from(offer.place);
+        let lowest = offer.label.cost.after_update(least);
+        if !can_lower(best, lowest) {
+            return best;
+        }
+        match target.fee_from(offer.place) {
+            Some(fee) => Some(cheaper(best, offer.label.cost.after_update(fee))),
+            None => best,
+        }
+    }
+
+    /// The cost of the step to the target from the offer at a place, where there is one and the client
+    /// accepts the step.
+    fn step_at(&self, target: &Target<'_, A>, offers: &[Offer], at: usize) -> Option<Cost>
+        requires offers { All (IsOffer self.now.book) offers.now }
+        requires target { target.now ≡ target_of self.now target.now.height }
+        ensures { IsReached (client_of self.now) offers.now target.now.height result }
+    {
+        match offers.get(at) {
+            Some(offer) => self.with_step(target, None, *offer),
+            None => None,
+        }
+    }
+
+    /// The least cost at which an accepted step leads to the height from an offer. The step from the
+    /// offer at place `first` is asked for before the others: where that offer is the cheapest, few of
+    /// the others can lead to less.
+    fn cheapest_step(&self, target: &Target<'_, A>, offers: &[Offer], first: usize) -> Option<Cost>
+        requires offers { All (IsOffer self.now.book) offers.now }
+        requires target { target.now ≡ target_of self.now target.now.height }
+        ensures { OffersLead (client_of self.now) offers.now target.now.height
+            (λ label. IsCheapestStep (client_of self.now) label target.now.height result) }
+    {
+        let mut best = self.step_at(target, offers, first);
         for offer in offers {
-            if let Some(fee) = target.fee_from(offer.place) {
-                best = Some(cheaper(best, offer.label.cost.after_update(fee)));
-            }
+            best = self.with_step(target, best, *offer);
         }
         best
     }
 
-    /// The cost of the height by the offers below it.
-    fn cost_of(&self, offers: &[Offer], height: Height) -> Option<Cost>
-        requires { All (IsOffer self.now.book) offers.now }
-        ensures { OffersLead (client_of self.now) offers.now height
-            (λ label. IsRaised (client_of self.now) label height result) }
+    /// The cost of the height of the record at a place by the offers below it, of which the one at
+    /// place `first` is tried first; so many headers are below the height, as far as is known.
+    fn cost_of(&self, offers: &[Offer], first: usize, place: usize, headers: usize) -> Option<Cost>
+        requires offers { All (IsOffer self.now.book) offers.now }
+        requires place { place < length self.now.book.records }
+        ensures { IsSomeAnd (slice_get self.now.book.records place) (λ k. OffersLead (client_of self.now) offers.now k.height
+            (λ label. IsRaised (client_of self.now) label k.height result)) }
     {
+        let records = self.records();
+        let height = records[place].height();
         if self.is_source(height) {
             return Some(Cost::ZERO);
         }
-        self.cheapest_step(offers, height)
+        let target = self.target_at(place, headers);
+        self.cheapest_step(&target, offers, first)
+    }
+
+    /// How many headers there are up to the height, where so many are below it.
+    fn headers_up_to(&self, below: usize, height: Height) -> usize {
+        match self.book().headers().get(below) {
+            Some(header) if header.height() == height => below.saturating_add(1),
+            _ => below,
+        }
     }
 
     /// The exact labelling.
@@ -61,14 +120,17 @@ impl<A: Allocator + Copy> Planner<'_, A> {
         let records = self.records();
         let mut labels = Vec::new(alloc);
         let mut offers = Vec::new(alloc);
+        let (mut cheapest, mut headers) = (0, 0);
         let mut by_set = vec![in alloc; None; self.book().sets().len() + 1]?;
         for place in 0..records.len() {
             let height = records[place].height();
-            if let Some(cost) = self.cost_of(offers.as_slice(), height) {
+            if let Some(cost) = self.cost_of(offers.as_slice(), cheapest, place, headers) {
                 let label = Label { height, cost };
-                self.add_offer(&mut offers, by_set.as_mut_slice(), Offer { place, label })?;
+                let offer = Offer { place, label };
+                self.add_offer(&mut offers, by_set.as_mut_slice(), &mut cheapest, offer)?;
                 labels.push(label)?;
             }
+            headers = self.headers_up_to(headers, height);
         }
         Ok(Labelling::new(labels)?)
     }

@@ -66,6 +66,17 @@ fn keep_put_in(by_set: &mut [Option<usize>], slot: usize, at: usize) {
     keep_at(by_set, slot, at);
 }
 
+/// Keeps where the cheapest offer stands: one of this cost was put in at a place, or took the place of
+/// another there.
+fn keep_cheapest(cheapest: &mut usize, offers: &[Offer], at: usize, cost: Cost, moved: bool) {
+    if moved && at <= *cheapest {
+        *cheapest = cheapest.saturating_add(1);
+    }
+    if *cheapest >= offers.len() || is_cheaper(cost, offers, *cheapest) {
+        *cheapest = at;
+    }
+}
+
 impl<A: Allocator + Copy> Planner<'_, A> {
     /// Whether two records name the same next set.
     fn names_same(&self, place: usize, other: usize) -> bool
@@ -106,11 +117,13 @@ impl<A: Allocator + Copy> Planner<'_, A> {
     }
 
     /// Takes an offer in. Where there is one whose record names the same set, the cheaper of the two
-    /// stays; `by_set` tells by the set's slot where to look for it.
+    /// stays; `by_set` tells by the set's slot where to look for it, and `cheapest` where the cheapest
+    /// of all stands.
     fn take_in(
         &self,
         offers: &mut Vec<Offer, A>,
         by_set: &mut [Option<usize>],
+        cheapest: &mut usize,
         offer: Offer,
     ) -> Result<(), AllocError>
         requires offers { All (IsOffer self.now.book) offers.now.items }
@@ -123,10 +136,12 @@ impl<A: Allocator + Copy> Planner<'_, A> {
             let at = place_for(by_set, slot, offers.len());
             offers.insert(at, offer)?;
             keep_put_in(by_set, slot, at);
+            keep_cheapest(cheapest, offers.as_slice(), at, cost, true);
             return Ok(());
         };
         if is_cheaper(cost, offers.as_slice(), at) {
             offers[at] = offer;
+            keep_cheapest(cheapest, offers.as_slice(), at, cost, false);
         }
         Ok(())
     }
@@ -137,13 +152,14 @@ impl<A: Allocator + Copy> Planner<'_, A> {
         &self,
         offers: &mut Vec<Offer, A>,
         by_set: &mut [Option<usize>],
+        cheapest: &mut usize,
         offer: Offer,
     ) -> Result<(), AllocError>
         requires offers { All (IsOffer self.now.book) offers.now.items }
         ensures { OnOk result (IsAdded self.now.book offers.old.items offer offers.new.items) }
     {
         if let Some(last) = offers.pop() {
-            self.take_in(offers, by_set, last)?;
+            self.take_in(offers, by_set, cheapest, last)?;
         }
         offers.push(offer)?;
         Ok(())

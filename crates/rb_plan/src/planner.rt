@@ -1,5 +1,5 @@
 //! What the planner looks up.
-ghost use Rattle.std.specs.Prelude.{◌≡◌, ◌↔◌, ◌<◌, IfSome, IsTrue};
+ghost use Rattle.std.specs.Prelude.{◌≡◌, ◌↔◌, ◌<◌, IfSome, IsSomeAnd, IsTrue, length, slice_get};
 ghost use Rattle.rb_book.specs.Book.{heights_of};
 ghost use Rattle.rb_graph.specs.StepTable.{IsStepFee};
 ghost use Rattle.rb_step.specs.Fee.{fee_limit};
@@ -86,6 +86,18 @@ impl<'a, A: Allocator + Copy> Planner<'a, A> {
         let view = self.view;
         self.graph
             .target(height, view.options(), view.window(), view.fees())
+    }
+
+    /// The height of the record at a place, for single steps into it. The header there is looked for at
+    /// the place `header` first.
+    pub fn target_at(&self, place: usize, header: usize) -> Target<'a, A>
+        requires { place < length self.now.book.records }
+        ensures target { IsSomeAnd (slice_get self.now.book.records place) (λ k. result ≡ target_of self.now k.height) }
+        ensures orderly { IsOrderly (client_of self.now) }
+    {
+        let view = self.view;
+        let (options, window, fees) = (view.options(), view.window(), view.fees());
+        self.graph.target_at(place, header, options, window, fees)
     }
 
     /// The fee of the step from the record at a trusted height to the target, where the client

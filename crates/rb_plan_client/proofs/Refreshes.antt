@@ -1,10 +1,13 @@
--- To which height clients are refreshed, compared by value.
+-- To which height clients are refreshed, and which votes their updates carry, compared by value.
 use Rattle.std.proofs.Common.{◌≡◌, Bool, refl}
 use denote.Enum.Bare.{sameb}
+use Rattle.rb_base.specs.declared.votes.CarriedVotes.{CarriedVotes}
+use Rattle.rb_base.specs.declared.votes.CarriedVotes.TheVariants.{Commit, Cast, Needed}
+use Rattle.rb_base.specs.contracts.votes.CarriedVotes.{the_type as votes_type}
 use Rattle.rb_script_types.specs.declared.config.RefreshTo.{RefreshTo}
 use Rattle.rb_script_types.specs.declared.config.RefreshTo.TheVariants.{Lowest, Highest}
 use Rattle.rb_script_types.specs.contracts.config.RefreshTo.{the_type}
-use Rattle.rb_plan_client.specs.Same.{same_refresh_to}
+use Rattle.rb_plan_client.specs.Same.{same_refresh_to, same_carried}
 
 -- as `==` compares them
 abbrev pub is_equal : RefreshTo → RefreshTo → Bool
@@ -15,3 +18,17 @@ same_refresh Lowest Lowest = refl
 same_refresh Lowest Highest = refl
 same_refresh Highest Lowest = refl
 same_refresh Highest Highest = refl
+
+abbrev pub is_equally_carried : CarriedVotes → CarriedVotes → Bool
+is_equally_carried v w = sameb votes_type v w
+
+pub same_votes : (v w : CarriedVotes) → is_equally_carried v w ≡ same_carried v w
+same_votes Commit Commit = refl
+same_votes Commit Cast = refl
+same_votes Commit Needed = refl
+same_votes Cast Commit = refl
+same_votes Cast Cast = refl
+same_votes Cast Needed = refl
+same_votes Needed Commit = refl
+same_votes Needed Cast = refl
+same_votes Needed Needed = refl

@@ -9,7 +9,9 @@ use Rattle.std.specs.Cmp.Lexicographic.{pointwise}
 use Rattle.std.proofs.lemmas.Bool.Decides.{Decides-and, Decides-like}
 use Rattle.std.proofs.lemmas.Slice.Eq.{bytes_eq-Decides, slice_eq-Decides}
 use Rattle.rb_base.specs.Fee.{Fees}
-use Rattle.rb_base.specs.Options.{ClientOptions}
+use Rattle.rb_base.specs.Options.{ClientOptions, carried_number}
+use Rattle.rb_base.specs.declared.votes.CarriedVotes.{CarriedVotes}
+use Rattle.rb_base.specs.declared.votes.CarriedVotes.TheVariants.{Commit, Cast, Needed}
 use Rattle.rb_base.specs.Window.{Span}
 use Rattle.rb_batch.specs.Limits.{TransactionLimits}
 use Rattle.rb_book.specs.Book.{same_book}
@@ -29,10 +31,13 @@ use Rattle.rb_script_types.specs.Gas.{PathGas}
 use Rattle.rb_plan_client.specs.Draft.{Job}
 use Rattle.rb_plan_client.specs.Task.{PathTask, Task}
 
+abbrev pub same_carried : CarriedVotes → CarriedVotes → Bool
+same_carried v w = carried_number v == carried_number w
+
 -- Field by field, grouped to the right as the derived comparisons are, so that `==` of two configurations is `same_config`.
 abbrev pub same_options : ClientOptions → ClientOptions → Bool
 same_options o p =
-    (o.period == p.period) && ((o.drift == p.drift) && ((o.trust.numerator == p.trust.numerator) && (o.trust.denominator == p.trust.denominator)))
+    (o.period == p.period) && ((o.drift == p.drift) && (((o.trust.numerator == p.trust.numerator) && (o.trust.denominator == p.trust.denominator)) && same_carried o.votes p.votes))
 
 abbrev pub same_fees : Fees → Fees → Bool
 same_fees f g = (f.base == g.base) && ((f.signature == g.signature) && (f.validator == g.validator))
@@ -107,13 +112,24 @@ refresh_to_Decides Lowest Highest = (λ e. cc, λ e. cc)
 refresh_to_Decides Highest Lowest = (λ e. cc, λ e. cc)
 refresh_to_Decides Highest Highest = (λ _. refl, λ _. refl)
 
+carried_Decides : (v w : CarriedVotes) → Decides (same_carried v w) (v ≡ w)
+carried_Decides Commit Commit = (λ _. refl, λ _. refl)
+carried_Decides Commit Cast = (λ e. cc, λ e. cc)
+carried_Decides Commit Needed = (λ e. cc, λ e. cc)
+carried_Decides Cast Commit = (λ e. cc, λ e. cc)
+carried_Decides Cast Cast = (λ _. refl, λ _. refl)
+carried_Decides Cast Needed = (λ e. cc, λ e. cc)
+carried_Decides Needed Commit = (λ e. cc, λ e. cc)
+carried_Decides Needed Cast = (λ e. cc, λ e. cc)
+carried_Decides Needed Needed = (λ _. refl, λ _. refl)
+
 same_options-Decides : (o p : ClientOptions) → Decides (same_options o p) (o ≡ p)
 same_options-Decides o p =
     Decides-like _
-    (λ e i. record { period = e.0 i; drift = e.1.0 i; trust = record { numerator = e.1.1.0 i; denominator = e.1.1.1 i } })
-    (λ e. (ap (λ (x : ClientOptions). x.period) e, (ap (λ (x : ClientOptions). x.drift) e, (ap (λ (x : ClientOptions). x.trust.numerator) e, ap (λ (x : ClientOptions). x.trust.denominator) e))))
+    (λ e i. record { period = e.0 i; drift = e.1.0 i; trust = record { numerator = e.1.1.0.0 i; denominator = e.1.1.0.1 i }; votes = e.1.1.1 i })
+    (λ e. (ap (λ (x : ClientOptions). x.period) e, (ap (λ (x : ClientOptions). x.drift) e, ((ap (λ (x : ClientOptions). x.trust.numerator) e, ap (λ (x : ClientOptions). x.trust.denominator) e), ap (λ (x : ClientOptions). x.votes) e))))
     (Decides-and _ _ (unsigned_Decides o.period p.period) (Decides-and _ _ (unsigned_Decides o.drift p.drift)
-    (Decides-and _ _ (unsigned_Decides o.trust.numerator p.trust.numerator) (unsigned_Decides o.trust.denominator p.trust.denominator))))
+    (Decides-and _ _ (Decides-and _ _ (unsigned_Decides o.trust.numerator p.trust.numerator) (unsigned_Decides o.trust.denominator p.trust.denominator)) (carried_Decides o.votes p.votes))))
 
 same_fees-Decides : (f g : Fees) → Decides (same_fees f g) (f ≡ g)
 same_fees-Decides f g =

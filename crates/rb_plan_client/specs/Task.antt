@@ -186,7 +186,7 @@ next_moment t reach us = lesser (if_later t (first_press t reach)) (if_later t (
 
 -- the gas of each message in turn, the updates first
 abbrev pub gas_of : Task → Update → ℕ
-gas_of t u = fee_at t.config.gas t.book u.trusted u.height
+gas_of t u = fee_at t.config.options t.config.gas t.book u.trusted u.height
 
 abbrev pub gases : Task → List Update → List Message → List ℕ
 gases t us ms = map (gas_of t) us ++ map (λ (m : Message). m.gas) ms

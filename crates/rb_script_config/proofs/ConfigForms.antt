@@ -24,7 +24,7 @@ use Rattle.rb_script_config.specs.declared.chain.Chain.{Chain}
 use Rattle.rb_script_config.specs.Versions.{version, max_records}
 use Rattle.rb_script_config.specs.Chains.{chain, chain_keys, chain_ids, shared, no_defaults}
 use Rattle.rb_script_config.specs.declared.client.ClientIdentity.{ClientIdentity}
-use Rattle.rb_script_config.specs.Clients.{identity, terms, client, client_ends, client_keys, client_ids, own, shared_by}
+use Rattle.rb_script_config.specs.Clients.{identity, terms, client, client_ends, client_keys, client_ids, own, shared_by, votes_in}
 use Rattle.rb_script_config.specs.Paths.{path, path_config, path_keys, waits_in, path_ids, order, sequence, path_gas, connects, fits}
 use Rattle.rb_script_config.specs.Tables.{Tables, tables, top_keys, config}
 
@@ -174,11 +174,11 @@ chains-alone ds chains h =
 different : (i j : ℕ) → not (i == j) ≡ true → i ≢ j
 different i j h e = true≢false (sym h ∙ ap not (eq-eqb i j e))
 
-pub identity-form : (chains before : List (List ℕ)) (s : Section) (n : ClientIdentity) → identity chains before s ≡ Ok n
+pub identity-form : (ver : Version) (chains before : List (List ℕ)) (s : Section) (n : ClientIdentity) → identity ver chains before s ≡ Ok n
     → (n.host < length chains) × (n.tracks < length chains) × All (λ x. x ≢ n.id) before
 unfolding identity
-identity-form chains before s n h =
-    pass (only client_keys s) _ n h (λ u e0 h0.
+identity-form ver chains before s n h =
+    pass (only (client_keys ver) s) _ n h (λ u e0 h0.
     pass (needs (codes "id") (new_identifier before) s) _ n h0 (λ id e1 h1.
     pass (needs (codes "host") (reference chains) s) _ n h1 (λ host e2 h2.
     pass (needs (codes "of") (reference chains) s) _ n h2 (λ tracks e3 same.
@@ -193,19 +193,20 @@ client-form : (ver : Version) (chains : List Chain) (before : List ClientConfig)
 unfolding client
 client-form ver chains before s c h =
     let ids = chain_ids chains in
-    pass (identity ids (client_ids before) s) _ c h (λ n e0 h0.
+    pass (identity ver ids (client_ids before) s) _ c h (λ n e0 h0.
     let d = shared_by chains n.tracks in
     pass (own d.period (codes "period_ns") (number 1 max_number OutOfRange) s) _ c h0 (λ period e1 h1.
     pass (own d.drift (codes "drift_ns") (number 0 max_number OutOfRange) s) _ c h1 (λ drift e2 h2.
     pass (terms d s) _ c h2 (λ t e3 h3.
     pass (or_default d.trust trust (optional (codes "trust") s)) _ c h3 (λ level e4 h4.
-    pass (check (not (n.host == n.tracks)) SameChain s.path) _ c h4 (λ v passed same.
+    pass (votes_in ver s) _ c h4 (λ votes e5 h5.
+    pass (check (not (n.host == n.tracks)) SameChain s.path) _ c h5 (λ v passed same.
     let it = same_ok _ c same in
-    let named = identity-form ids (client_ids before) s n e0 in
+    let named = identity-form ver ids (client_ids before) s n e0 in
     subst (λ x. IsClient (length ids) x × All (λ i. i ≢ x.id) (client_ids before)) it (
       record { host = named.0; tracks = named.1; different = different n.host n.tracks (check-passed _ SameChain s.path v passed) },
       named.2,
-    )))))))
+    ))))))))
 
 abbrev AreClients : ℕ → List ClientConfig → Type 0
 AreClients chains cs = AllPairs (λ c d. c.id ≢ d.id) cs × All (IsClient chains) cs

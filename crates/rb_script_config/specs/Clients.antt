@@ -1,15 +1,18 @@
 -- The tables of clients.
-use Rattle.std.specs.Prelude.{ℕ, List, [], ◌∷◌, map, codes, Option, Some, None, option_map, unwrap_or, slice_get, Result, Ok, not, ◌==◌}
+use Rattle.std.specs.Prelude.{ℕ, List, [], ◌∷◌, map, codes, Option, Some, None, option_map, unwrap_or, slice_get, Result, Ok, not, ◌==◌, if◌then◌else◌}
+use Rattle.std.specs.Str.{bytes_eq}
 use Rattle.rb_batch.specs.Limits.{TransactionLimits}
 use Rattle.rb_script_types.specs.declared.config.ClientConfig.{ClientConfig}
 use Rattle.rb_script_types.specs.declared.config.RefreshTo.{RefreshTo}
 use Rattle.rb_script_types.specs.declared.config.RefreshTo.TheVariants.{Lowest, Highest}
 use Rattle.rb_script_types.specs.declared.version.Version.{Version}
 use Rattle.rb_script_types.specs.declared.version.Version.TheVariants.{One, Two, Three}
-use Rattle.rb_script_toml.specs.Faults.{Fault, ◌>>=◌, check}
+use Rattle.rb_base.specs.declared.votes.CarriedVotes.{CarriedVotes}
+use Rattle.rb_base.specs.declared.votes.CarriedVotes.TheVariants.{Commit, Cast, Needed}
+use Rattle.rb_script_toml.specs.Faults.{Fault, ◌>>=◌, check, fault}
 use Rattle.rb_script_toml.specs.KeyPaths.{element}
-use Rattle.rb_script_toml.specs.Fields.{Field, Section, only, needs, optional, or_default, number, within, three_integers, fee_table, trust, max_number}
-use Rattle.rb_script_toml.specs.declared.fault.FaultName.TheVariants.{OutOfRange, BadLimit, SameChain}
+use Rattle.rb_script_toml.specs.Fields.{Field, Section, only, text, needs, optional, or_default, number, within, three_integers, fee_table, trust, max_number}
+use Rattle.rb_script_toml.specs.declared.fault.FaultName.TheVariants.{OutOfRange, BadLimit, BadVotes, SameChain}
 use Rattle.rb_script_config.specs.declared.defaults.Defaults.{Defaults}
 use Rattle.rb_script_config.specs.declared.chain.Chain.{Chain}
 use Rattle.rb_script_config.specs.declared.client.ClientIdentity.{ClientIdentity}
@@ -33,10 +36,17 @@ client_ids clients = map (λ c. c.id) clients
 abbrev pub client_ends : ClientConfig → ℕ × ℕ
 client_ends c = (c.host, c.tracks)
 
-abbrev pub client_keys : List (List ℕ)
-client_keys =
+-- from version 3 on also which votes its updates carry
+abbrev pub client_keys : Version → List (List ℕ)
+client_keys One =
     codes "id" ∷ codes "host" ∷ codes "of" ∷ codes "period_ns" ∷ codes "drift_ns" ∷ codes "refresh_ns" ∷ codes "fee" ∷ codes "gas"
     ∷ codes "limits" ∷ codes "trust" ∷ []
+client_keys Two =
+    codes "id" ∷ codes "host" ∷ codes "of" ∷ codes "period_ns" ∷ codes "drift_ns" ∷ codes "refresh_ns" ∷ codes "fee" ∷ codes "gas"
+    ∷ codes "limits" ∷ codes "trust" ∷ []
+client_keys Three =
+    codes "id" ∷ codes "host" ∷ codes "of" ∷ codes "period_ns" ∷ codes "drift_ns" ∷ codes "refresh_ns" ∷ codes "fee" ∷ codes "gas"
+    ∷ codes "limits" ∷ codes "trust" ∷ codes "votes" ∷ []
 
 -- what the clients that track this chain share
 abbrev pub shared_by : List Chain → ℕ → Defaults
@@ -48,9 +58,9 @@ own None key read s = needs key read s
 own (Some x) key read s = or_default x read (optional key s)
 
 -- which client it is, of these chains, beside the clients before it
-unfoldable pub identity : List (List ℕ) → List (List ℕ) → Section → Result ClientIdentity Fault
-identity chains before s = do
-  _ ← only client_keys s
+unfoldable pub identity : Version → List (List ℕ) → List (List ℕ) → Section → Result ClientIdentity Fault
+identity version chains before s = do
+  _ ← only (client_keys version) s
   id ← needs (codes "id") (new_identifier before) s
   host ← needs (codes "host") (reference chains) s
   tracks ← needs (codes "of") (reference chains) s
@@ -65,6 +75,28 @@ terms d s = do
   limit ← needs (codes "limits") limits s
   Ok (record { refresh = refresh; fees = fees; gas = gas; limits = limit })
 
+abbrev pub carried_of : List ℕ → Option CarriedVotes
+carried_of word =
+    if bytes_eq word (codes "all") then Some Cast
+    else if bytes_eq word (codes "needed") then Some Needed
+    else None
+
+abbrev pub votes_or_fault : List ℕ → Option CarriedVotes → Result CarriedVotes Fault
+votes_or_fault path (Some votes) = Ok votes
+votes_or_fault path None = fault BadVotes path
+
+unfoldable pub carried : Field → Result CarriedVotes Fault
+carried f = do
+  word ← text f
+  votes_or_fault f.path (carried_of word)
+
+-- which votes updates carry, and are charged for: all, of which the first versions charge commit votes alone; from version
+-- 3 on as the key says, and all where it isn't there
+abbrev pub votes_in : Version → Section → Result CarriedVotes Fault
+votes_in One s = Ok Commit
+votes_in Two s = Ok Commit
+votes_in Three s = or_default Cast carried (optional (codes "votes") s)
+
 -- to which height clients are refreshed: from version 3 on to the greatest
 abbrev pub refresh_to : Version → RefreshTo
 refresh_to One = Lowest
@@ -74,18 +106,19 @@ refresh_to Three = Highest
 -- a client of these chains, beside those before it
 unfoldable pub client : Version → List Chain → List ClientConfig → Section → Result ClientConfig Fault
 client version chains before s = do
-  i ← identity (chain_ids chains) (client_ids before) s
+  i ← identity version (chain_ids chains) (client_ids before) s
   let d = shared_by chains i.tracks
   period ← own d.period (codes "period_ns") (number 1 max_number OutOfRange) s
   drift ← own d.drift (codes "drift_ns") (number 0 max_number OutOfRange) s
   t ← terms d s
   level ← or_default d.trust trust (optional (codes "trust") s)
+  votes ← votes_in version s
   _ ← check (not (i.host == i.tracks)) SameChain s.path
   Ok (record {
     id = i.id;
     host = i.host;
     tracks = i.tracks;
-    options = record { period = period; drift = drift; trust = level };
+    options = record { period = period; drift = drift; trust = level; votes = votes };
     refresh = t.refresh;
     refresh_to = refresh_to version;
     fees = t.fees;

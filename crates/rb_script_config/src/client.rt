@@ -4,15 +4,17 @@ ghost use Rattle.toml.specs.View.{view, items_view};
 ghost use Rattle.rb_script_toml.specs.Faults.{Gives, check};
 ghost use Rattle.rb_script_toml.specs.Fields.{field_view, section_view, number, fee_table, max_number, at_element, elements};
 ghost use Rattle.rb_script_toml.specs.declared.fault.FaultName.TheVariants.{OutOfRange, SameChain};
-ghost use Rattle.rb_script_config.specs.Clients.{limits, identity, terms, client, own, shared_by, refresh_to};
+ghost use Rattle.rb_script_config.specs.Clients.{carried, limits, identity, terms, client, own, shared_by, refresh_to, votes_in};
 
 use crate::chain::Chain;
-use crate::client_keys::{DRIFT, FEE, GAS, HOST, LIMITS, OF, PERIOD, REFRESH, only_client_keys};
+use crate::client_keys::{
+    DRIFT, FEE, GAS, HOST, LIMITS, OF, PERIOD, REFRESH, VOTES, only_client_keys,
+};
 use crate::defaults::{Defaults, read_drift, read_period, trust_or};
 use crate::directory::Directory;
 use crate::drift::Drift;
 use crate::named::{Named, new_identifier, reference};
-use rb_base::{ClientId, FeeTable, Options, Period};
+use rb_base::{CarriedVotes, ClientId, FeeTable, Options, Period};
 use rb_batch::Limits;
 use rb_script_toml::{FaultName, Field, MAX_NUMBER, RunError, Section, element_path, section_at};
 use rb_script_types::{ClientConfig, RefreshTo, Version};
@@ -107,23 +109,24 @@ fn own_fees<'a>(
     }
 }
 
-/// Reads which client a table is of: `id`, which none of the clients before it may have, and `host` and
-/// `of`, each the identifier of one of these chains, whose places are answered. `Fault` is the first of:
-/// a key that no client has (`UnknownKey`); then of `id`, `host` and `of`, in this order, that it is
-/// missing (`MissingKey`), no text (`WrongType`), ill formed (`BadIdentifier`), one that an earlier
-/// client has (`DuplicateIdentifier`), or no chain's (`UnknownIdentifier`). `NoMemory` comes where a
-/// growth is refused.
+/// Reads which client a table of a script or setup of a version is of: `id`, which none of the clients
+/// before it may have, and `host` and `of`, each the identifier of one of these chains, whose places are
+/// answered. `Fault` is the first of: a key that no client has in the version (`UnknownKey`); then of `id`,
+/// `host` and `of`, in this order, that it is missing (`MissingKey`), no text (`WrongType`), ill formed
+/// (`BadIdentifier`), one that an earlier client has (`DuplicateIdentifier`), or no chain's
+/// (`UnknownIdentifier`). `NoMemory` comes where a growth is refused.
 #[tactic(auto, using(rb_script_toml::proofs::Steps::steps), unfolding(crate::specs::Clients::identity))]
 pub fn read_identity<C: Named, T: Named>(
+    version: Version,
     section: &Section<'_>,
     chains: &Directory<C>,
     before: &Directory<T>,
 ) -> Result<ClientIdentity, RunError>
-    ensures read { Gives (λ i. i) result (identity (map C.name chains.now) (map T.name before.now) (section_view section.now)) }
+    ensures read { Gives (λ i. i) result (identity version (map C.name chains.now) (map T.name before.now) (section_view section.now)) }
     ensures host { IfOk result (λ i. i.host < length chains.now) }
     ensures tracks { IfOk result (λ i. i.tracks < length chains.now) }
 {
-    only_client_keys(section)?;
+    only_client_keys(version, section)?;
     let id = new_identifier(section, before)?;
     let host = reference(section, HOST, chains)?;
     let tracks = reference(section, OF, chains)?;
@@ -167,6 +170,31 @@ pub fn two_chains(section: &Section<'_>, chain: usize, other: usize) -> Result<(
     Ok(())
 }
 
+#[tactic(auto, using(rb_script_toml::proofs::Steps::steps), unfolding(crate::specs::Clients::carried))]
+fn carried(field: &Field<'_>) -> Result<CarriedVotes, RunError>
+    ensures { Gives (λ v. v) result (carried (field_view field.now)) }
+{
+    match field.text()? {
+        "all" => Ok(CarriedVotes::Cast),
+        "needed" => Ok(CarriedVotes::Needed),
+        _ => Err(field.fault(FaultName::BadVotes)),
+    }
+}
+
+/// Which votes the client's updates carry, and are charged for.
+#[tactic(auto, using(rb_script_toml::proofs::Steps::steps))]
+fn votes_in(version: Version, section: &Section<'_>) -> Result<CarriedVotes, RunError>
+    ensures { Gives (λ v. v) result (votes_in version (section_view section.now)) }
+{
+    match version {
+        Version::One | Version::Two => Ok(CarriedVotes::Commit),
+        Version::Three => match section.optional(VOTES) {
+            Some(field) => carried(&field),
+            None => Ok(CarriedVotes::Cast),
+        },
+    }
+}
+
 /// To which height clients are refreshed: from version 3 on to the greatest.
 fn refresh_to(version: Version) -> RefreshTo
     ensures { result ≡ refresh_to version }
@@ -186,18 +214,21 @@ fn read_client(
 ) -> Result<ClientConfig, RunError>
     ensures { Gives (λ c. c) result (client version chains.now before.now (section_view section.now)) }
 {
-    let identity = read_identity(section, chains, before)?;
+    let identity = read_identity(version, section, chains, before)?;
     let shared = shared_by(chains, identity.tracks);
     let period = own_period(section, shared.period)?;
     let drift = own_drift(section, shared.drift)?;
     let terms = read_terms(section, &shared)?;
     let trust = trust_or(section, shared.trust)?;
+    let votes = votes_in(version, section)?;
     two_chains(section, identity.host, identity.tracks)?;
     Ok(ClientConfig {
         id: identity.id,
         host: identity.host,
         tracks: identity.tracks,
-        options: Options::new(period, drift.nanoseconds()).with_trust(trust),
+        options: Options::new(period, drift.nanoseconds())
+            .with_trust(trust)
+            .with_votes(votes),
         refresh: terms.refresh,
         refresh_to: refresh_to(version),
         fees: terms.fees,
@@ -222,7 +253,8 @@ fn read_client_at(
 }
 
 /// Reads the tables of the array `client`, in their order, each as `read_identity` and `read_terms` tell,
-/// with `period_ns` and `drift_ns` before the terms, and `trust` behind them. The trusting period and the
+/// with `period_ns` and `drift_ns` before the terms, and `trust` and, from version 3 on, `votes` behind them:
+/// `all`, as where it isn't there, or `needed`, else `BadVotes`. The trusting period and the
 /// clock drift are needed where the tracked chain shares none; the trust level is a third where it has
 /// none. `Fault` is the first of the first table that is refused, at last `SameChain` where it tracks the
 /// chain that hosts it. `NoMemory` comes where a growth is refused.

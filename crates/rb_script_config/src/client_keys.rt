@@ -6,6 +6,7 @@ ghost use Rattle.rb_script_config.specs.Chains.{default_keys};
 ghost use Rattle.rb_script_config.specs.Clients.{client_keys};
 
 use rb_script_toml::{RunError, Section};
+use rb_script_types::Version;
 
 /// Its identifier.
 pub(crate) const ID: &str = "id";
@@ -37,9 +38,17 @@ pub(crate) const LIMITS: &str = "limits";
 /// Its trust level.
 pub(crate) const TRUST: &str = "trust";
 
-/// The keys of a client.
+/// Which votes its updates carry.
+pub(crate) const VOTES: &str = "votes";
+
+/// The keys of a client before version 3.
 const NAMES: [&str; 10] = [
     ID, HOST, OF, PERIOD, DRIFT, REFRESH, FEE, GAS, LIMITS, TRUST,
+];
+
+/// The keys of a client from version 3 on.
+const NAMES_WITH_VOTES: [&str; 11] = [
+    ID, HOST, OF, PERIOD, DRIFT, REFRESH, FEE, GAS, LIMITS, TRUST, VOTES,
 ];
 
 /// Those that the clients of a chain may share.
@@ -79,11 +88,13 @@ const FEE_RANGE: &str =
 const NO_NANOSECONDS: &str =
     "a whole number of nanoseconds belongs here or, in version 2, in [chain.defaults] of the chain that the client follows; only a setup for import may leave it out";
 
+const UPDATE_VOTES: &str = "all or needed belongs here, in quotes";
+
 const NO_FEES: &str =
     "three numbers belong here, as [100, 1, 1], or, in version 2, in [chain.defaults] of the chain that the client follows";
 
 /// The keys of a client.
-const CLIENT_KEYS: [ClientKey; 10] = [
+const CLIENT_KEYS: [ClientKey; 11] = [
     ClientKey {
         name: ID,
         kind: TEXT,
@@ -154,11 +165,18 @@ const CLIENT_KEYS: [ClientKey; 10] = [
         range: FROM_ZERO,
         missing: "two numbers belong here, as [1, 3]",
     },
+    ClientKey {
+        name: VOTES,
+        kind: UPDATE_VOTES,
+        element: NO_ARRAY,
+        range: NO_RANGE,
+        missing: UPDATE_VOTES,
+    },
 ];
 
 /// The keys of a client, in words.
 pub const CLIENT_KEY_LIST: &str =
-    "a client has id, host, of, period_ns, drift_ns, refresh_ns, fee, gas, limits and trust";
+    "a client has id, host, of, period_ns, drift_ns, refresh_ns, fee, gas, limits, trust and, from version 3 on, votes";
 
 /// The keys that the clients of a chain may share, in words.
 pub const DEFAULT_KEY_LIST: &str =
@@ -172,10 +190,13 @@ pub fn client_key(name: &str) -> Option<ClientKey>
 }
 
 /// Refuses other keys than those of a client.
-pub fn only_client_keys(section: &Section<'_>) -> Result<(), RunError>
-    ensures { Gives (λ u. u) result (only client_keys (section_view section.now)) }
+pub fn only_client_keys(version: Version, section: &Section<'_>) -> Result<(), RunError>
+    ensures { Gives (λ u. u) result (only (client_keys version) (section_view section.now)) }
 {
-    section.only(&NAMES)
+    match version {
+        Version::One | Version::Two => section.only(&NAMES),
+        Version::Three => section.only(&NAMES_WITH_VOTES),
+    }
 }
 
 /// Refuses other keys than those that the clients of a chain may share.

@@ -35,6 +35,7 @@ use Rattle.rb_script_read.specs.Events.{kind, votes, set_seen, set_keys, header_
 use Rattle.rb_script_config.specs.Goals.{asked, goal_keys, goal_of, one_goal, is_asked, settlement, settlement_keys}
 use Rattle.rb_script_read.specs.Turns.{TurnHead, Reading, opening, entries, is_taken, frame, turn_keys, turn}
 use Rattle.rb_script_config.specs.Tables.{tables, config}
+use Rattle.rb_script_read.specs.Work.{little}
 use Rattle.rb_script_read.specs.Scripts.{script}
 use Rattle.rb_script_config.proofs.ConfigForms.{pass, same_ok, check-passed, needs-field, elements-keep, elements-count, reference-within, client-within, place-within, tables-few, config-form}
 
@@ -327,7 +328,8 @@ unfolding script
 script-form s t h =
     pass (tables s) _ t h (λ x e0 h0.
     pass (config x) _ t h0 (λ c e1 h1.
-    pass (in_sequence (turn c) (codes "turn") opening [] x.turns) _ t h1 (λ turns e2 same.
+    pass (in_sequence (turn c) (codes "turn") opening [] x.turns) _ t h1 (λ turns e2 h2.
+    pass (little c turns.0) _ t h2 (λ u e3 same.
     let few = tables-few s x e0 in
     let taken = turns-form c x.turns turns e2 in
     subst IsReadScript (same_ok _ t same) (record {
@@ -335,7 +337,7 @@ script-form s t h =
       turns = taken.turns;
       few_turns = omega (arith, few.turns, in_sequence-count (turn c) (codes "turn") opening [] x.turns turns e2);
       few_entries = omega (arith, taken.room);
-    }))))
+    })))))
 
 pub form-of : (P : Script Global → Type 0) (r : Result (CodeScript Global) RunError) (read : Result (Script Global) Fault) → Gives script_view r read
     → ((t : Script Global) → read ≡ Ok t → P t) → IfOk r (λ s. P (script_view s))

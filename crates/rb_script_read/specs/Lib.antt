@@ -6,6 +6,7 @@ pub mod TurnNames
 pub mod Sets
 pub mod Packets
 pub mod Events
+pub mod Work
 pub mod Turns
 pub mod NextTurns
 pub mod Scripts

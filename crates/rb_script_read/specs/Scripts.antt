@@ -6,6 +6,7 @@ use Rattle.rb_script_toml.specs.Faults.{Fault, ◌>>=◌}
 use Rattle.rb_script_toml.specs.Fields.{Section}
 use Rattle.rb_script_toml.specs.Documents.{document}
 use Rattle.rb_script_read.specs.Turns.{opening, turns_of}
+use Rattle.rb_script_read.specs.Work.{little}
 use Rattle.rb_script_config.specs.Tables.{tables, config}
 
 unfoldable pub script : Section → Result (Script Global) Fault
@@ -13,6 +14,7 @@ script s = do
   t ← tables s
   c ← config t
   turns ← turns_of c opening t.turns
+  _ ← little c turns.0
   Ok (record { config = c; turns = turns.0 })
 
 -- the script of a text, or its first fault

@@ -11,6 +11,7 @@ mod script;
 mod set;
 mod turn;
 mod turn_names;
+mod work;
 
 pub use document::read_turn_document;
 pub use names::{Naming, SetNames};

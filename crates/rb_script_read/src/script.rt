@@ -9,6 +9,7 @@ ghost use Rattle.rb_script_config.specs.Setups.{setup_view};
 ghost use Rattle.rb_script_read.specs.Scripts.{script, script_of};
 
 use crate::turn::{Reading, read_turn_at};
+use crate::work::check_turns;
 use rb_script_config::{Setup, read_setup, read_tables};
 use rb_script_toml::{RunError, Section, read_table};
 use rb_script_types::{Script, Turn};
@@ -43,6 +44,7 @@ fn read_document(alloc: Global, table: &Table) -> Result<Script, RunError>
     let tables = read_tables(section)?;
     let setup = read_setup(alloc, tables)?;
     let turns = read_turns(alloc, tables.turns, &setup, &mut Reading::opening(alloc))?;
+    check_turns(alloc, &setup, turns.as_slice())?;
     Ok(Script {
         config: setup.into_config(),
         turns,
@@ -51,7 +53,7 @@ fn read_document(alloc: Global, table: &Table) -> Result<Script, RunError>
 
 /// Reads the script that a text holds, or answers the first fault of the text, in the order of
 /// docs/FORMATS.md: the text as a whole, then each table by its keys, then what concerns several of
-/// them. In every script that it gives, identifiers differ, and what is named is there. `NoMemory`
+/// them, last how much all turns ask to be planned. In every script that it gives, identifiers differ, and what is named is there. `NoMemory`
 /// is answered where a growth is refused.
 #[tactic(auto, using(rb_script_toml::proofs::Steps::steps), unfolding(crate::specs::Scripts::script_of))]
 pub fn read_script(alloc: Global, bytes: &[u8]) -> Result<Script, RunError>

@@ -1,21 +1,39 @@
 //! The validators of a set that was seen.
-ghost use Rattle.std.specs.Prelude.{[], codes, map};
+ghost use Rattle.std.specs.Prelude.{◌≡◌, [], codes, map};
 ghost use Rattle.toml.specs.View.{view, items_view};
 ghost use Rattle.rb_script_toml.specs.Faults.{Gives};
 ghost use Rattle.rb_script_toml.specs.KeyPaths.{element};
 ghost use Rattle.rb_script_toml.specs.Fields.{field_view, section_view, needs};
-ghost use Rattle.rb_script_read.specs.Sets.{member_of, validator, validators, validators_after, with_powers, set_of};
+ghost use Rattle.rb_script_read.specs.Sets.{key_of, member_of, validator, validators, validators_after, with_powers, set_of};
 
 use hex::FromHex;
 use rb_script_toml::{FaultName, Field, RunError, Section};
-use rb_valset::{Validator, ValidatorSet, ValsetError};
+use rb_valset::{PublicKey, Validator, ValidatorSet, ValsetError};
 use toml::Value;
 
 /// A validator as it is given, of whatever power.
 #[derive(Clone, Copy)]
 pub struct GivenValidator {
-    pub key: [u8; 32],
+    pub key: PublicKey,
     pub power: u64,
+}
+
+/// The key that 64 digits of ed25519 or 66 of secp256k1 write.
+#[tactic(auto, unfolding(crate::specs::Sets::key_of))]
+fn key_of(digits: &str) -> Option<PublicKey>
+    ensures { result ≡ key_of digits.now }
+{
+    if digits.len() == 66 {
+        match <[u8; 33] as FromHex>::from_hex(digits) {
+            Ok(bytes) => Some(PublicKey::Secp256k1(bytes)),
+            Err(_) => None,
+        }
+    } else {
+        match <[u8; 32] as FromHex>::from_hex(digits) {
+            Ok(bytes) => Some(PublicKey::Ed25519(bytes)),
+            Err(_) => None,
+        }
+    }
 }
 
 #[tactic(auto, using(rb_script_toml::proofs::Steps::steps), unfolding(crate::specs::Sets::validator))]
@@ -31,7 +49,7 @@ fn validator_at(field: &Field<'_>, index: usize, value: &Value) -> Result<GivenV
     let Some(digits) = key.as_str() else {
         return Err(field.fault_at(&[index, 0], FaultName::WrongType));
     };
-    let Ok(key) = <[u8; 32] as FromHex>::from_hex(digits) else {
+    let Some(key) = key_of(digits) else {
         return Err(field.fault_at(&[index, 0], FaultName::BadHex));
     };
     let Some(power) = power.as_integer() else {

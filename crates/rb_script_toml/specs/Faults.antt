@@ -2,7 +2,7 @@
 use Rattle.std.specs.Prelude.{◌≡◌, ℕ, Bool, true, false, List, ◌++◌, Result, Ok, Err, codes, string_bytes}
 use Rattle.std.specs.Fmt.{decimal}
 use Rattle.rb_script_toml.specs.declared.fault.FaultName.{FaultName}
-use Rattle.rb_script_toml.specs.declared.fault.FaultName.TheVariants.{NotToml, MissingKey, UnknownKey, WrongType, BadVersion, OutOfRange, BadIdentifier, DuplicateIdentifier, UnknownIdentifier, BadHex, BadTime, BadVotes, BadKind, BadOrder, SameChain, WrongClient, TooManyObjects, TooManyEvents, UnknownSetName, DuplicateSetName, TwoGoals, BadSet, BadWindow, BadLimit, BadFee, NoSuchTurn, BadAnswer, NoGoal, LabelOrder, InputTooBig, BadTrust}
+use Rattle.rb_script_toml.specs.declared.fault.FaultName.TheVariants.{NotToml, MissingKey, UnknownKey, WrongType, BadVersion, OutOfRange, BadIdentifier, DuplicateIdentifier, UnknownIdentifier, BadHex, BadTime, BadVotes, BadKind, BadOrder, SameChain, WrongClient, TooManyObjects, TooManyEvents, UnknownSetName, DuplicateSetName, TwoGoals, BadSet, BadWindow, BadLimit, BadFee, NoSuchTurn, BadAnswer, NoGoal, LabelOrder, InputTooBig, BadTrust, TooMuchToPlan}
 use Rattle.rb_script_toml.specs.declared.fault.Fault.{Fault as CodeFault}
 use Rattle.rb_script_toml.specs.declared.fault.RunError.{RunError}
 use Rattle.rb_script_toml.specs.declared.fault.RunError.TheVariants as errors
@@ -39,6 +39,7 @@ number_of NoGoal = 1028
 number_of LabelOrder = 1029
 number_of InputTooBig = 1030
 number_of BadTrust = 1031
+number_of TooMuchToPlan = 1032
 
 abbrev pub name_of : FaultName → List ℕ
 name_of NotToml = codes "NotToml"
@@ -72,6 +73,7 @@ name_of NoGoal = codes "NoGoal"
 name_of LabelOrder = codes "LabelOrder"
 name_of InputTooBig = codes "InputTooBig"
 name_of BadTrust = codes "BadTrust"
+name_of TooMuchToPlan = codes "TooMuchToPlan"
 
 -- a fault, and the path of what is wrong
 pub record Fault : Type 0 where

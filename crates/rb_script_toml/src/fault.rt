@@ -71,6 +71,8 @@ pub enum FaultName {
     InputTooBig,
     /// A trust level that isn't from a third to one.
     BadTrust,
+    /// More labels or messages to be planned, over all turns, than are allowed.
+    TooMuchToPlan,
 }
 
 impl FaultName {
@@ -117,6 +119,7 @@ impl FaultName {
             FaultName::LabelOrder => "LabelOrder",
             FaultName::InputTooBig => "InputTooBig",
             FaultName::BadTrust => "BadTrust",
+            FaultName::TooMuchToPlan => "TooMuchToPlan",
         }
     }
 }

@@ -1,4 +1,10 @@
 pub mod Voters
+pub mod CommitVoters
+pub mod Walked
+pub mod Put
+pub mod CarriedBy
+pub mod SentTo
+pub mod Accepted
 pub mod Success
 pub mod Heights
 pub mod RecordAt

@@ -1,24 +1,25 @@
 -- In a view steps rise, only live heights are trusted, a stored step is live, and fees are small.
-use Rattle.std.proofs.Common.{◌≡◌, ℕ, ◌+◌, ◌*◌, ◌<◌, ◌≤◌, ◌==◌, Bool, true, false, cond, List, [], ◌∷◌, Option, Some, None, find, length, count_by, refl, sym, ap, ◌∙◌, subst, arith, lit<}
+use Rattle.std.proofs.Common.{◌≡◌, ℕ, ◌+◌, ◌*◌, ◌<◌, ◌≤◌, ◌==◌, Bool, true, false, cond, List, [], ◌∷◌, Option, Some, None, find, length, refl, sym, ap, ◌∙◌, subst, arith, lit<}
 use Rattle.std.specs.List.{All}
 use Rattle.std.specs.Option.{IsSomeAnd, option_map_or}
 use Rattle.std.specs.Str.{bytes_eq}
 use Rattle.std.proofs.lemmas.Bool.{eqb-true}
 use Rattle.std.proofs.lemmas.List.Elements.{All-head, All-tail}
-use Rattle.std.proofs.lemmas.List.Sums.{count_by-le-length}
 use Rattle.std.proofs.lemmas.Option.{same_Some}
 use Rattle.std.proofs.Math.Nat.{mul-le-mul}
 use Rattle.rb_base.specs.Fee.{Fees, charge_of, IsFeeTable}
 use Rattle.rb_valset.specs.Validator.{Member}
 use Rattle.rb_valset.specs.ValidatorSet.{IsValidatorSet, max_members, set_hash}
 use Rattle.rb_book.specs.Book.{Book, set_of, record_at, header_at}
-use Rattle.rb_book.specs.Header.{Record, Header, is_commit}
+use Rattle.rb_book.specs.Header.{Record, Header}
 use Rattle.rb_book.specs.Invariant.{IsBook, IsBacked}
+use Rattle.rb_step.specs.Carried.{carried_votes}
 use Rattle.rb_step.specs.Fee.{size_of, fee_of, fee_limit}
 use Rattle.rb_step.specs.KnownStep.{◌>>=◌, step_at}
 use Rattle.rb_step.specs.Laws.{ViewsAreOrderly}
 use Rattle.rb_step.specs.StepRule.{Step, step_of, Accepts, AcceptsWithin}
 use Rattle.rb_step.specs.View.{View, IsView, IsLive, client_of}
+use Rattle.rb_step.proofs.CarriedBy.{carried_few}
 
 -- what is found passes the test, and is what all elements are
 found_here : {X : Type 0} (P : X → Type 0) (p : X → Bool) (y x : X) (b : Bool) (rest : Option X) → p y ≡ b → P y → (rest ≡ Some x → P x × (p x ≡ true)) → cond b (Some y) rest ≡ Some x → P x × (p x ≡ true)
@@ -80,14 +81,15 @@ charge-lt f c n small few_votes few_members =
     let validators = mul-le-mul small.2 few_members in
     omega (arith, small.0, signatures, validators)
 
-fee-lt : (v : View) → IsView v → (t h : ℕ) (known : Option Step) → step_at v.book t h ≡ known → option_map_or (fee_of v.fees) known 0 < fee_limit
+fee-lt : (v : View) → IsView v → (t h : ℕ) (known : Option Step) → step_at v.book t h ≡ known → option_map_or (fee_of v.options v.fees) known 0 < fee_limit
 fee-lt v view t h None is = lit< tt
 fee-lt v view t h (Some s) is =
     let parts = parts_of v.book t h s is in
     let backing = backing_of v.book t h s view.book parts in
     let next = size-le v.book s.trusted.next s.next view.book parts.next in
-    let commits = count_by-le-length is_commit s.header.votes in
-    charge-lt v.fees (count_by is_commit s.header.votes) (length s.own + size_of s.next) view.fees (omega (arith, commits, backing.votes, backing.few)) (omega (arith, backing.few, next))
+    let votes = carried_few v.options s.trusted_height s.next s.header s.own backing.votes in
+    charge-lt v.fees (carried_votes v.options s.trusted_height s.next s.header s.own) (length s.own + size_of s.next) view.fees
+    (omega (arith, votes, backing.few)) (omega (arith, backing.few, next))
 
 -- the known step that is accepted
 record Accepted (v : View) (t h : ℕ) : Type 0 where

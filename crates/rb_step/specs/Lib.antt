@@ -11,6 +11,8 @@ pub mod Conditions
 pub mod LightClient
 pub mod KnownStep
 pub mod Machine
+pub mod Carried
 pub mod Fee
 pub mod View
+pub mod Sent
 pub mod Laws

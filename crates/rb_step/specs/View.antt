@@ -40,5 +40,5 @@ client_of v = record {
   stored = v.stored;
   IsLive = IsLive v;
   Accepts = IsAcceptedWithin v.options v.book v.window;
-  fee = fee_at v.fees v.book;
+  fee = fee_at v.options v.fees v.book;
 }

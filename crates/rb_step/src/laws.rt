@@ -1,5 +1,5 @@
 //! Laws of the step rule and of the light client, over the definitions alone.
-ghost use Rattle.rb_step.specs.Laws.{AnswerApplies, SuccessIsAcceptance, WindowIsByEnds, WindowIsByStep, ViewsAreOrderly};
+ghost use Rattle.rb_step.specs.Laws.{AnswerApplies, SuccessIsAcceptance, WindowIsByEnds, WindowIsByStep, ViewsAreOrderly, NeededIsAccepted, NeededAreFewest, LeastFeeIsLeast};
 
 /// A step is accepted at every moment of a window exactly where it is accepted at the first and
 /// at the last.
@@ -30,4 +30,20 @@ pub fn window_is_by_step()
 /// are below 2^45.
 pub fn views_are_orderly()
     ensures { ViewsAreOrderly }
+{}
+
+/// A header with the needed votes alone is accepted wherever it is with all of its votes.
+pub fn needed_is_accepted()
+    ensures { NeededIsAccepted }
+{}
+
+/// Of the votes with which a header is accepted the needed ones are the fewest where one of the step's tests
+/// decides alone, and at most twice as many as any.
+pub fn needed_are_fewest()
+    ensures { NeededAreFewest }
+{}
+
+/// No step to a header costs less than the fewest votes that any update to it carries.
+pub fn least_fee_is_least()
+    ensures { LeastFeeIsLeast }
 {}

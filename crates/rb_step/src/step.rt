@@ -1,18 +1,22 @@
 //! The step rule: when a client accepts a header on the word of a record that it trusts.
-ghost use Rattle.std.specs.Prelude.{◌≡◌, ◌≤◌, ◌<◌, ◌↔◌, IsTrue, Some};
+ghost use Rattle.std.specs.Prelude.{◌≡◌, ◌≤◌, ◌<◌, ◌↔◌, IfOk, IsTrue, Some};
 ghost use Rattle.std.specs.Option.{option_copied, ForSome};
 ghost use Rattle.rb_book.specs.Header.{Names, IsSignedBy};
 ghost use Rattle.rb_step.specs.StepRule.{step_of, Accepts, AcceptsWithin};
 ghost use Rattle.rb_step.specs.Fee.{fee_of, fee_limit};
+ghost use Rattle.rb_step.specs.Sent.{sent_of, sent_view};
 ghost use Rattle.rb_step.specs.Answer.{answer_at, answer_within, votes_answer};
 
+use crate::carried::{carried_votes, needed_voters};
+use crate::charge::charge_for;
 use crate::checks::{is_adjacent, is_trusted, times_fault};
 use crate::power::{is_signed_by_two_thirds, signed_power};
+use crate::sent::{SentVotes, addresses_at};
 use crate::verdict::{Reason, Verdict};
 use rb_base::{FeeTable, Height, Moment, Options, Window};
 use rb_book::{Header, Record};
 use rb_valset::ValidatorSet;
-use std::alloc::{Allocator, Global};
+use std::alloc::{AllocError, Allocator, Global};
 use std::marker::Model;
 
 /// From a trusted record to a header, with the sets that they name.
@@ -88,14 +92,26 @@ impl<A: Allocator + Copy> Step<'_, A> {
         matches!(self.answer_within(options, window), Verdict::Success)
     }
 
-    /// What the step costs by a table of fees or of gas.
-    pub(crate) fn charge(&self, table: &FeeTable) -> u64
-        ensures value { result ≡ fee_of table.now self.now }
+    /// What the step costs a client with these options by a table of fees or of gas.
+    pub(crate) fn charge(&self, options: &Options, table: &FeeTable) -> u64
+        ensures value { result ≡ fee_of options.now table.now self.now }
         ensures bound { result < fee_limit }
     {
-        let next_size = self.next.map_or(0, |next| next.size());
-        let validators = self.own.size() + next_size;
-        table.charge(self.header.commits() as u64, validators as u64)
+        let height = self.trusted_height;
+        let votes = carried_votes(options, height, self.next, self.header, self.own);
+        charge_for(table, votes, self.next, self.own)
+    }
+
+    /// The votes that are sent where a client sends only those that the step needs.
+    pub(crate) fn sent_votes(&self, alloc: A, options: &Options) -> Result<SentVotes<A>, AllocError>
+        ensures { IfOk result (λ sent. sent_view sent ≡ sent_of options.now self.now) }
+    {
+        let (height, next) = (self.trusted_height, self.next);
+        let voters = needed_voters(alloc, options, height, next, self.header, self.own)?;
+        Ok(SentVotes {
+            senders: addresses_at(alloc, self.own, voters.as_slice())?,
+            commits: self.header.commits(),
+        })
     }
 }
 

@@ -1,20 +1,23 @@
 //! A client's view of the chain that it tracks.
-ghost use Rattle.std.specs.Prelude.{◌≡◌, ◌<◌, ◌↔◌, nat_lt, IsTrue, IsSome, All, Contains};
+ghost use Rattle.std.specs.Prelude.{◌≡◌, ◌<◌, ◌↔◌, nat_lt, IfOk, IsTrue, IsSome, All, Contains};
+ghost use Rattle.std.specs.Option.{option_map};
 ghost use Rattle.std.specs.List.Sorted.{IsStrictlyIncreasing};
 ghost use Rattle.rb_book.specs.Book.{record_at};
 ghost use Rattle.rb_step.specs.Fee.{fee_at, fee_limit};
 ghost use Rattle.rb_step.specs.KnownStep.{step_at};
 ghost use Rattle.rb_step.specs.LightClient.{IsSource};
+ghost use Rattle.rb_step.specs.Sent.{sent_at, sent_view};
 ghost use Rattle.rb_step.specs.View.{client_of, AreKnown, IsView};
 
+use crate::sent::SentVotes;
 use crate::step::Step;
-use rb_base::{FeeTable, Height, Options, Window};
+use rb_base::{CarriedVotes, FeeTable, Height, Options, Window};
 use rb_book::ChainBook;
 use rb_valset::MAX_MEMBERS;
-use std::alloc::{Allocator, Global};
+use std::alloc::{AllocError, Allocator, Global};
 use std::marker::Model;
 
-/// No step of as many commit votes as a set may have members, over two such sets, costs so much.
+/// No step of as many votes as a set may have members, over two such sets, costs so much.
 const FEE_LIMIT: u64 = 1 << 45;
 
 /// A client in a window, over the book of the chain that it tracks: its options, its fees, the
@@ -185,12 +188,29 @@ impl<'a, A: Allocator + Copy> ClientView<'a, A> {
 
     /// What that update costs by a table of fees or of gas; 0 where no such step is known.
     pub fn charge(&self, table: &FeeTable, trusted: Height, height: Height) -> u64
-        ensures value { result ≡ fee_at table.now self.now.book trusted height }
+        ensures value { result ≡ fee_at self.now.options table.now self.now.book trusted height }
         ensures bound { result < fee_limit }
     {
         match self.step(trusted, height) {
-            Some(step) => step.charge(table),
+            Some(step) => step.charge(&self.options, table),
             None => 0,
+        }
+    }
+
+    /// The votes that the update carries, where the client sends only those that are needed; `None` where
+    /// it sends all, or no such step is known. `AllocError` where memory is wanting.
+    #[tactic(auto, unfolding(crate::specs::Sent::sent_at))]
+    pub fn sent_votes(
+        &self,
+        alloc: A,
+        trusted: Height,
+        height: Height,
+    ) -> Result<Option<SentVotes<A>>, AllocError>
+        ensures { IfOk result (λ sent. option_map sent_view sent ≡ sent_at self.now trusted height) }
+    {
+        match (self.options.votes(), self.step(trusted, height)) {
+            (CarriedVotes::Needed, Some(step)) => Ok(Some(step.sent_votes(alloc, &self.options)?)),
+            _ => Ok(None),
         }
     }
 

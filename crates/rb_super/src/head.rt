@@ -54,6 +54,19 @@ impl Machine<Global> for Head {
             None => Err(CoreError::NoMemory),
         }
     }
+
+    fn take_accepted(&mut self, slot: &mut Option<Event>) -> Result<Reply, AllocError>
+        requires accepted { refusal_in self.old (event_in slot.old) ≡ None }
+        ensures config { self.new.config ≡ self.old.config }
+        ensures appended { OnOk result (self.new.log ≡ self.old.log ++ event_in slot.old ∷ []) }
+        ensures unchanged { OnErr result (self.new.log ≡ self.old.log) }
+        ensures reply { IfOk result (λ reply. reply_view reply ≡ reply_of (state_in self.old) (event_in slot.old)) }
+    {
+        match slot.take() {
+            Some(event) => self.pen.append_accepted(event),
+            None => Err(AllocError),
+        }
+    }
 }
 
 /// A relayer over the pen of a board, with a place for a table of each chain.

@@ -144,6 +144,14 @@ none_of (suc n) (suc k) book = none_of n k book
 pub tables_none : (core : Core) (n : ℕ) → n ≡ length core.config.chains → AreTables core (replicate n None)
 tables_none core n e = record { places = length-replicate n None ∙ e; right = λ chain. none_of n chain (book_at (standing_in core).books chain) }
 
+-- as many places, with no table in them
+pub as_many : (tables kept none : List (Option Book)) → kept ≡ tables → none ≡ replicate (length kept) None → length none ≡ length tables
+as_many tables kept none same is = ap (λ (xs : List (Option Book)). length xs) is ∙ length-replicate (length kept) None ∙ ap (λ (xs : List (Option Book)). length xs) same
+
+pub tables_let_go : (core : Core) (tables kept none : List (Option Book)) → kept ≡ tables → none ≡ replicate (length kept) None → AreTables core tables → AreTables core none
+tables_let_go core tables kept none same is are =
+    subst (AreTables core) (sym is) (tables_none core (length kept) (ap (λ (xs : List (Option Book)). length xs) same ∙ are.places))
+
 pub tables_stay : (old new : Core) (tables : List (Option Book)) → new.config ≡ old.config → (standing_in new).books ≡ (standing_in old).books → AreTables old tables → AreTables new tables
 tables_stay old new tables config books are = record {
   places = are.places ∙ sym (ap (λ (k : Config). length k.chains) config);

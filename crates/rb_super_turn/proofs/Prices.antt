@@ -20,10 +20,10 @@ use Rattle.rb_super_turn.specs.Report.{PricedUpdate, SendingReport, PlanReport}
 use Rattle.rb_super_turn.specs.Turns.{priced, numbered, reported_plan}
 use Rattle.rb_super_turn.specs.Views.{priced_view}
 
-fees_told : (ps : List CodePriced) → sum_by (λ (u : PricedUpdate). u.fee) (map priced_view ps) ≡ sum_by (λ (u : CodePriced). u.fee) ps
+fees_told : {A : Type 0} (ps : List (CodePriced A)) → sum_by (λ (u : PricedUpdate). u.fee) (map priced_view ps) ≡ sum_by (λ (u : CodePriced A). u.fee) ps
 fees_told [] = refl
-fees_told (p ∷ ps) =
-    sum_by-cons (λ (u : PricedUpdate). u.fee) (priced_view p) (map priced_view ps) ∙ ap (λ n. p.fee + n) (fees_told ps) ∙ sym (sum_by-cons (λ (u : CodePriced). u.fee) p ps)
+fees_told {A} (p ∷ ps) =
+    sum_by-cons (λ (u : PricedUpdate). u.fee) (priced_view p) (map priced_view ps) ∙ ap (λ n. p.fee + n) (fees_told ps) ∙ sym (sum_by-cons (λ (u : CodePriced A). u.fee) p ps)
 
 fees_priced : (t : Task) (us : List Update) → sum_by (λ (u : PricedUpdate). u.fee) (map (priced t) us) ≡ total_fee (client_of (view_of t)) us
 fees_priced t [] = refl
@@ -32,19 +32,19 @@ fees_priced t (u ∷ us) =
     ∙ ap (λ n. (client_of (view_of t)).fee u.trusted u.height + n) (fees_priced t us)
     ∙ sym (sum_by-cons (λ (v : Update). (client_of (view_of t)).fee v.trusted v.height) u us)
 
-fees_in_all : (t : Task) (us : List Update) (ps : List CodePriced) → map priced_view ps ≡ map (priced t) us → sum_by (λ (u : CodePriced). u.fee) ps ≡ total_fee (client_of (view_of t)) us
+fees_in_all : {A : Type 0} (t : Task) (us : List Update) (ps : List (CodePriced A)) → map priced_view ps ≡ map (priced t) us → sum_by (λ (u : CodePriced A). u.fee) ps ≡ total_fee (client_of (view_of t)) us
 fees_in_all t us ps e = sym (fees_told ps) ∙ ap (sum_by (λ (u : PricedUpdate). u.fee)) e ∙ fees_priced t us
 
 -- the sum of the fees fits
-pub fees_fit : (t : Task) (us : List Update) (ps : List CodePriced) → map priced_view ps ≡ map (priced t) us → total_fee (client_of (view_of t)) us < 2 ^ 63 → sum_by (λ (u : CodePriced). u.fee) ps < 2 ^ 64
+pub fees_fit : {A : Type 0} (t : Task) (us : List Update) (ps : List (CodePriced A)) → map priced_view ps ≡ map (priced t) us → total_fee (client_of (view_of t)) us < 2 ^ 63 → sum_by (λ (u : CodePriced A). u.fee) ps < 2 ^ 64
 fees_fit t us ps e small = let same = fees_in_all t us ps e in omega arith
 
-abbrev pub told_plan : List CodePriced → Cost → List Message → SendingReport → PlanReport
+abbrev pub told_plan : {A : Type 0} → List (CodePriced A) → Cost → List Message → SendingReport → PlanReport
 told_plan ps total messages sending = record { updates = map priced_view ps; total = total; messages = messages; sending = sending }
 
 -- the plan that is reported
-pub plan_told : (t : Task) (number : ℕ) (p : SentPlan) (ps : List CodePriced) (total : Cost) (messages : List Message) (sending : SendingReport) → map priced_view ps ≡ map (priced t) p.updates
-    → total.fee ≡ sum_by (λ (u : CodePriced). u.fee) ps → total.count ≡ length ps → messages ≡ p.messages → sending ≡ numbered number p.sending
+pub plan_told : {A : Type 0} (t : Task) (number : ℕ) (p : SentPlan) (ps : List (CodePriced A)) (total : Cost) (messages : List Message) (sending : SendingReport) → map priced_view ps ≡ map (priced t) p.updates
+    → total.fee ≡ sum_by (λ (u : CodePriced A). u.fee) ps → total.count ≡ length ps → messages ≡ p.messages → sending ≡ numbered number p.sending
     → told_plan ps total messages sending ≡ reported_plan t number p
 plan_told t number p ps total messages sending updates fee count same_messages same_sending =
     let us = p.updates in

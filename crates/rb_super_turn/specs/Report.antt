@@ -5,6 +5,7 @@ use Rattle.rb_plan.specs.declared.cost.Cost.{Cost}
 use Rattle.rb_script_types.specs.declared.goal.Goal.{Goal}
 use Rattle.rb_plan.specs.declared.labelling.Label.{Label}
 use Rattle.rb_step.specs.LightClient.{Update}
+use Rattle.rb_step.specs.Sent.{SentVotes}
 use Rattle.rb_script_types.specs.declared.refusal.Refusal.{Refusal}
 use Rattle.rb_plan_client.specs.Task.{Message}
 
@@ -13,9 +14,11 @@ pub record RefusedEvent : Type 0 where
   pub event : ℕ
   pub refusal : Refusal
 
+-- an update, its fee, and which votes it carries, where it carries only those that it needs
 pub record PricedUpdate : Type 0 where
   pub update : Update
   pub fee : ℕ
+  pub votes : Option SentVotes
 
 pub record BatchReport : Type 0 where
   pub number : ℕ

@@ -5,6 +5,7 @@ use Rattle.std.specs.Option.{option_map, option_map_or, option_and_then, option_
 use Rattle.rb_base.specs.Window.{Span}
 use Rattle.rb_plan.specs.Order.{cost_of}
 use Rattle.rb_step.specs.LightClient.{Update}
+use Rattle.rb_step.specs.Sent.{sent_at}
 use Rattle.rb_step.specs.View.{client_of}
 use Rattle.rb_plan_client.specs.Draft.{Plan as SentPlan, Planned as Answer, Sending as SentAs, nothing as sent_nothing, too_big as sent_too_big, batched as sent_batched, Draft, planned_updates, IsIdle, IsPlanned}
 use Rattle.rb_plan_client.specs.Next.{IsNext}
@@ -54,7 +55,11 @@ refusals_in s turn = refusals 0 (before_events s turn) turn.events
 
 -- what is reported of an answer: each update with its fee, the total, and the batch by its number
 abbrev pub priced : Task → Update → PricedUpdate
-priced t u = record { update = u; fee = (client_of (view_of t)).fee u.trusted u.height }
+priced t u = record {
+  update = u;
+  fee = (client_of (view_of t)).fee u.trusted u.height;
+  votes = sent_at (view_of t) u.trusted u.height;
+}
 
 abbrev pub numbered : ℕ → SentAs → SendingReport
 numbered number sent_nothing = nothing

@@ -2,6 +2,7 @@
 use Rattle.std.specs.Prelude.{ℕ, map}
 use Rattle.std.specs.Option.{option_map}
 use Rattle.rb_core_model.specs.Machine.{Reply, Noted, Opened}
+use Rattle.rb_step.specs.Sent.{sent_view}
 use Rattle.rb_super_turn.specs.Report.{RefusedEvent, PricedUpdate, BatchReport, SendingReport, nothing, too_big, batched, PlanReport, PlannedReport, Outcome, held, idle, planned, ClientReport, SettlementReport, TurnReport, Report}
 use Rattle.rb_super_turn.specs.declared.report.BatchReport.{BatchReport as CodeBatch}
 use Rattle.rb_super_turn.specs.declared.report.ClientReport.{ClientReport as CodeClientReport}
@@ -20,8 +21,8 @@ use Rattle.rb_super_turn.specs.declared.report.TurnReport.{TurnReport as CodeTur
 abbrev pub refused_view : CodeRefusedEvent → RefusedEvent
 refused_view r = record { event = r.event; refusal = r.refusal }
 
-abbrev pub priced_view : CodePricedUpdate → PricedUpdate
-priced_view u = record { update = u.update; fee = u.fee }
+abbrev pub priced_view : {A : Type 0} → CodePricedUpdate A → PricedUpdate
+priced_view u = record { update = u.update; fee = u.fee; votes = option_map sent_view u.votes }
 
 abbrev pub batch_view : {A : Type 0} → CodeBatch A → BatchReport
 batch_view b = record { number = b.number; proof = b.proof; transactions = b.transactions.items }

@@ -17,28 +17,30 @@ use rb_plan::{Cost, Update};
 use rb_plan_client::{Draft, JobView};
 use std::alloc::{AllocError, Allocator};
 
-/// Each update with its fee.
+/// Each update with its fee, and the votes that it carries.
 fn priced<A: Allocator + Copy>(
     alloc: A,
     job: &JobView<A>,
     updates: &[Update],
-) -> Result<Vec<PricedUpdate, A>, AllocError>
+) -> Result<Vec<PricedUpdate<A>, A>, AllocError>
     ensures { IfOk result (λ list. map priced_view list.items ≡ map (priced job.now.task) updates.now) }
 {
     let view = job.view();
     let mut priced = Vec::with_capacity(alloc, updates.len())?;
     for update in updates {
         let fee = view.fee(update.trusted(), update.height());
+        let votes = view.sent_votes(alloc, update.trusted(), update.height())?;
         priced.push(PricedUpdate {
             update: *update,
             fee,
+            votes,
         })?;
     }
     Ok(priced)
 }
 
 /// What the updates cost in all.
-fn total_of(updates: &[PricedUpdate]) -> Cost
+fn total_of<A: Allocator>(updates: &[PricedUpdate<A>]) -> Cost
     requires { sum_by (λ u. u.fee) updates.now < 2 ^ 64 }
     ensures fee { result.fee ≡ sum_by (λ u. u.fee) updates.now }
     ensures count { result.count ≡ length updates.now }

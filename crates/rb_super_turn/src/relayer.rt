@@ -11,7 +11,7 @@ ghost use Rattle.rb_core_model.specs.Replied.{reply_view};
 ghost use Rattle.rb_core_model.specs.Seen.{event_view};
 ghost use Rattle.rb_core_model.specs.Standing.{book_at, path_view, batch_open};
 ghost use Rattle.rb_super_turn.specs.Phases.{standing_in};
-ghost use Rattle.rb_super_turn.specs.Tables.{AreTables};
+ghost use Rattle.rb_super_turn.specs.Tables.{chain_of, AreTables};
 
 use crate::crew::Crew;
 use crate::machine::Machine;
@@ -109,6 +109,20 @@ impl<A: Allocator + Copy, M: Machine<A>> Relayer<A, M> {
         ensures reply { IfOk result (λ reply. reply_view reply ≡ reply_of (state_in self.old) (event_view event)) }
     {
         take_in(&mut self.machine, &mut self.tables, event)
+    }
+
+    /// Takes in an event that isn't refused and adds to no book, without judging it again; answers as
+    /// the machine does. `AllocError` where memory is refused; nothing has changed then.
+    pub(crate) fn take_accepted(&mut self, event: Event<A>) -> Result<Reply, AllocError>
+        requires accepted { refusal_in self.old (event_view event) ≡ None }
+        requires no_addition { chain_of self.old.config (event_view event) ≡ None }
+        ensures config { self.new.config ≡ self.old.config }
+        ensures appended { OnOk result (self.new.log ≡ self.old.log ++ event_view event ∷ []) }
+        ensures unchanged { OnErr result (self.new.log ≡ self.old.log) }
+        ensures reply { IfOk result (λ reply. reply_view reply ≡ reply_of (state_in self.old) (event_view event)) }
+    {
+        let reply = self.machine.take_accepted(&mut Some(event))?;
+        Ok(reply)
     }
 }
 

@@ -4,6 +4,7 @@ use rb_batch::Transaction;
 use rb_plan::{Cost, Labelling, Update};
 use rb_plan_client::Message;
 use rb_script_types::{Goal, Refusal, Version};
+use rb_step::SentVotes;
 use std::alloc::{Allocator, Global};
 
 /// The report of a run, turn by turn, with the script's version and the identifiers of the paths by their
@@ -64,17 +65,18 @@ pub struct PlannedReport<A: Allocator = Global> {
 /// that follow them, and how they are sent.
 #[derive(Debug, Drop)]
 pub struct PlanReport<A: Allocator = Global> {
-    pub updates: Vec<PricedUpdate, A>,
+    pub updates: Vec<PricedUpdate<A>, A>,
     pub total: Cost,
     pub messages: Vec<Message, A>,
     pub sending: SendingReport<A>,
 }
 
-/// An update and its fee.
-#[derive(Clone, Copy, Debug, PartialEq, Eq)]
-pub struct PricedUpdate {
+/// An update and its fee; and where the client sends only the votes that the update needs, these.
+#[derive(Debug, Drop)]
+pub struct PricedUpdate<A: Allocator = Global> {
     pub update: Update,
     pub fee: u64,
+    pub votes: Option<SentVotes<A>>,
 }
 
 /// How messages are sent. They are numbered from 0, the updates first.

@@ -20,10 +20,13 @@ use crate::machine::Machine;
 use rb_base::Gate;
 use rb_book::{BookError, ChainBook};
 use rb_core_model::{CoreError, Event, Reply};
-use rb_graph::SharedGraph;
+use rb_graph::{Graph, SharedGraph};
 use rb_script_types::{Config, Observation};
 use std::alloc::{AllocError, Allocator};
 use std::thread::Threads;
+
+/// So many numbers are kept in the rows of all tables together: with 16 bytes each, half a gigabyte.
+const MOST_NUMBERS: u64 = 1 << 25;
 
 /// A place for a table of each chain.
 pub fn no_tables<A: Allocator + Copy>(
@@ -54,6 +57,47 @@ fn table_of<R: Threads + Sync, G: Gate + Sync, A: Allocator + Copy + Send + Sync
     Ok(table)
 }
 
+/// Whether the table of a book may be kept beside those that are: all of them have no more numbers than
+/// are kept.
+fn has_room<A: Allocator + Copy>(tables: &[Option<SharedGraph<A>>], book: &ChainBook<A>) -> bool {
+    let mut size = Graph::size_for(book);
+    for place in tables {
+        if let Some(table) = place {
+            size = size.saturating_add(Graph::size_for(table.graph().book()));
+        }
+    }
+    size <= MOST_NUMBERS
+}
+
+/// As many places as there are, with no table in them.
+fn emptied<A: Allocator + Copy>(
+    alloc: A,
+    tables: &[Option<SharedGraph<A>>],
+) -> Result<Vec<Option<SharedGraph<A>>, A>, AllocError>
+    ensures { IfOk result (λ none. none.items ≡ replicate (length tables.now) None) }
+{
+    let none = no_tables(alloc, tables.len())?;
+    Ok(none)
+}
+
+/// Lets the tables that are kept go where that of a book would be too many.
+fn make_room<A: Allocator + Copy>(
+    alloc: A,
+    tables: &mut Vec<Option<SharedGraph<A>>, A>,
+    book: &ChainBook<A>,
+) -> Result<(), AllocError>
+    ensures places { length tables.new.items ≡ length tables.old.items }
+    ensures kept { (core : cores.Core) → AreTables core tables.old.items → AreTables core tables.new.items }
+{
+    let kept = tables.as_slice();
+    if has_room(kept, book) {
+        return Ok(());
+    }
+    let none = emptied(alloc, kept)?;
+    *tables = none;
+    Ok(())
+}
+
 /// The table of a chain, whose book this is: one more owner of the one that is kept. It is made
 /// where there is none yet.
 pub(crate) fn table_in<R: Threads + Sync, G: Gate + Sync, A: Allocator + Copy + Send + Sync>(
@@ -73,6 +117,7 @@ pub(crate) fn table_in<R: Threads + Sync, G: Gate + Sync, A: Allocator + Copy + 
         let shared = table.share()?;
         return Ok(shared);
     }
+    make_room(alloc, tables, book)?;
     let table = table_of(crew, alloc, book)?;
     let shared = table.share()?;
     tables[chain] = Some(table);
@@ -139,14 +184,32 @@ fn grow<A: Allocator + Copy>(
     }
 }
 
+/// What adding to a table costs what was observed of its chain.
+fn work_of<A: Allocator + Copy>(graph: &Graph<A>, observation: &Observation<A>) -> u64 {
+    match observation {
+        Observation::SetSeen { set, .. } => graph.work_of_set(set),
+        Observation::HeaderSeen { header, .. } => graph.work_of_header(header),
+        Observation::StoredSeen { height, record, .. } => graph.work_of_record(*height, record),
+        Observation::Sent { .. }
+        | Observation::Received { .. }
+        | Observation::AckWritten { .. }
+        | Observation::Cleared { .. }
+        | Observation::Closed { .. } => 0,
+    }
+}
+
 /// Adds to the table in a place, if there is one, what was observed of its chain. A table that can't
-/// grow is let go.
+/// grow is let go, and so is one that has cost more to keep up than making it anew does.
 fn keep_up<A: Allocator + Copy>(place: &mut Option<SharedGraph<A>>, observation: Observation<A>)
     ensures { (book : Book) → IsTableOf book place.old → IsTableOf (with_addition (observed observation) book) place.new }
 {
     let Some(mut table) = place.take() else {
         return;
     };
+    let work = work_of(table.graph(), &observation);
+    if !table.is_worth(work) {
+        return;
+    }
     if grow(&mut table, observation).is_err() {
         return;
     }

@@ -7,6 +7,7 @@ ghost use Rattle.rb_core_model.specs.Seen.{event_view};
 ghost use Rattle.rb_core_model.specs.Standing.{judged, standing_after};
 ghost use Rattle.rb_core_model.specs.Steps.{IsFromOutside};
 ghost use Rattle.rb_super_turn.specs.Phases.{standing_in, HasLogRoom, IsLater};
+ghost use Rattle.rb_super_turn.specs.Tables.{chain_of};
 
 use crate::machine::Machine;
 use crate::relayer::Relayer;
@@ -47,21 +48,19 @@ pub(crate) fn hear<A: Allocator + Copy, M: Machine<A>>(
     Ok(refusal)
 }
 
-/// Takes in an event that can't be refused, and tells what is replied.
+/// Takes in an event that isn't refused and adds to no book, without judging it again; tells what is
+/// replied.
 pub(crate) fn note<A: Allocator + Copy, M: Machine<A>>(
     relayer: &mut Relayer<A, M>,
     event: Event<A>,
 ) -> Result<Reply, AllocError>
-    requires { refusal_in relayer.old (event_view event) ≡ None }
+    requires accepted { refusal_in relayer.old (event_view event) ≡ None }
+    requires no_addition { chain_of relayer.old.config (event_view event) ≡ None }
     ensures reply { IfOk result (λ reply. reply_view reply ≡ reply_of (state_in relayer.old) (event_view event)) }
     ensures state { OnOk result (state_in relayer.new ≡ after (state_in relayer.old) (event_view event)) }
     ensures later { OnOk result (IsLater 1 relayer.old relayer.new) }
 {
-    match relayer.take_in(event) {
-        Ok(reply) => Ok(reply),
-        Err(CoreError::Refused(_)) => unreachable!(),
-        Err(CoreError::NoMemory) => Err(AllocError),
-    }
+    relayer.take_accepted(event)
 }
 
 /// Offers an event that may be refused, which then changes nothing; tells what is replied to one that

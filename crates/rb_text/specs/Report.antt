@@ -1,5 +1,5 @@
 -- The text of a report (own choice): lines that end with one LF, numbers as plain decimals.
-use Rattle.std.specs.Prelude.{ℕ, ◌+◌, Bool, if◌then◌else◌, List, [], ◌∷◌, ◌++◌, codes, Option, Some, None, slice_index_or}
+use Rattle.std.specs.Prelude.{ℕ, ◌+◌, Bool, if◌then◌else◌, List, [], ◌∷◌, ◌++◌, codes, length, Option, Some, None, slice_index_or}
 use Rattle.std.specs.Fmt.{decimal}
 use Rattle.std.specs.List.{flat_map}
 use Rattle.rb_batch.specs.declared.transaction.Transaction.{Transaction}
@@ -12,6 +12,7 @@ use Rattle.rb_script_types.specs.declared.refusal.Refusal.{Refusal}
 use Rattle.rb_scan.specs.declared.message.Kind.{Kind}
 use Rattle.rb_scan.specs.declared.message.Kind.TheVariants.{Receive, Acknowledge, Timeout}
 use Rattle.rb_plan_client.specs.Task.{Message}
+use Rattle.rb_step.specs.Sent.{SentVotes}
 use Rattle.rb_script_types.specs.declared.version.Version.{Version}
 use Rattle.rb_script_types.specs.declared.version.Version.TheVariants.{One, Two, Three}
 use Rattle.rb_text.specs.Moments.{moment_text}
@@ -42,9 +43,15 @@ label_line l = codes "label " ++ decimal l.height ++ codes " " ++ decimal l.cost
 abbrev pub unreachable_line : List ℕ
 unreachable_line = codes "unreachable\n"
 
+-- how many of the header's commit votes an update carries, where it carries only those that it needs
+abbrev pub votes_text : Option SentVotes → List ℕ
+votes_text None = []
+votes_text (Some s) = codes " votes " ++ decimal (length s.senders) ++ codes " of " ++ decimal s.commits
+
 abbrev pub update_line : PricedUpdate → List ℕ
 update_line u =
-    codes "update " ++ decimal u.update.height ++ codes " from " ++ decimal u.update.trusted ++ codes " fee " ++ decimal u.fee ++ codes "\n"
+    codes "update " ++ decimal u.update.height ++ codes " from " ++ decimal u.update.trusted ++ codes " fee " ++ decimal u.fee
+    ++ votes_text u.votes ++ codes "\n"
 
 abbrev pub total_line : Cost → List ℕ
 total_line total = codes "total " ++ decimal total.fee ++ codes " updates " ++ decimal total.count ++ codes "\n"

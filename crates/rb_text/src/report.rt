@@ -3,8 +3,9 @@ ghost use Rattle.std.specs.Prelude.{◌≡◌, ◌++◌, [], map, slice_index_or
 ghost use Rattle.std.specs.List.{flat_map};
 ghost use Rattle.std.specs.Option.{option_map};
 ghost use Rattle.rb_super_turn.specs.Views.{refused_view, priced_view, sending_view, plan_view, planned_view, client_report_view, settlement_view, turn_report_view};
+ghost use Rattle.rb_step.specs.Sent.{sent_view};
 ghost use Rattle.rb_super_turn.specs.Report.{planned as outcome_planned};
-ghost use Rattle.rb_text.specs.Report.{refused_line, goal_line, label_line, update_line, total_line, kind_name, message_line, batch_line, transaction_line, numbered_lines, sending_text, next_text, plan_text, outcome_text, client_text, settled_line, refusal_text, refused_settle_line, settlement_text, head_text, turn_text};
+ghost use Rattle.rb_text.specs.Report.{refused_line, goal_line, label_line, update_line, votes_text, total_line, kind_name, message_line, batch_line, transaction_line, numbered_lines, sending_text, next_text, plan_text, outcome_text, client_text, settled_line, refusal_text, refused_settle_line, settlement_text, head_text, turn_text};
 
 use crate::moment::push_moment;
 use rb_base::{Height, Moment, PathId};
@@ -13,6 +14,7 @@ use rb_plan::{Cost, Label};
 use rb_plan_client::Message;
 use rb_scan::Kind;
 use rb_script_types::{Goal, Refusal, Version};
+use rb_step::SentVotes;
 use rb_super_turn::{
     ClientReport, Outcome, PlanReport, PlannedReport, PricedUpdate, RefusedEvent, SendingReport,
     SettlementReport, TurnReport,
@@ -69,7 +71,21 @@ fn push_update(text: &mut String, priced: &PricedUpdate) -> Result<(), AllocErro
     let height = priced.update.height();
     let trusted = priced.update.trusted();
     let fee = priced.fee;
-    writeln!(text, "update {height} from {trusted} fee {fee}")
+    write!(text, "update {height} from {trusted} fee {fee}")?;
+    push_votes(text, &priced.votes)?;
+    text.push_str("\n")
+}
+
+/// Adds how many of the header's commit votes an update carries, where it carries only those that it needs.
+fn push_votes(text: &mut String, votes: &Option<SentVotes>) -> Result<(), AllocError>
+    ensures { OnOk result (string_bytes text.new ≡ string_bytes text.old ++ votes_text (option_map sent_view votes.now)) }
+{
+    let Some(votes) = votes else {
+        return Ok(());
+    };
+    let sent = votes.senders.len();
+    let commits = votes.commits;
+    write!(text, " votes {sent} of {commits}")
 }
 
 fn push_updates(text: &mut String, updates: &[PricedUpdate]) -> Result<(), AllocError>

@@ -6,6 +6,7 @@ use rb_plan::{Cost, Label};
 use rb_plan_client::Message;
 use rb_scan::Kind;
 use rb_script_types::{Goal, Refusal, Version};
+use rb_step::SentVotes;
 use rb_super_turn::{
     ClientReport, Outcome, PlanReport, PlannedReport, PricedUpdate, RefusedEvent, Report,
     SendingReport, SettlementReport, TurnReport,
@@ -253,8 +254,33 @@ fn push_update(text: &mut String, priced: &PricedUpdate) -> Result<(), AllocErro
     let fee = priced.fee;
     write!(
         text,
-        "{{\"height\": {height}, \"trusted\": {trusted}, \"fee\": {fee}}}"
-    )
+        "{{\"height\": {height}, \"trusted\": {trusted}, \"fee\": {fee}"
+    )?;
+    push_votes(text, &priced.votes)?;
+    text.push_str("}")
+}
+
+/// Adds the votes that an update carries, where it carries only those that it needs.
+fn push_votes(text: &mut String, votes: &Option<SentVotes>) -> Result<(), AllocError> {
+    let Some(votes) = votes else {
+        return Ok(());
+    };
+    let commits = votes.commits;
+    write!(text, ", \"commits\": {commits}, \"votes\": [")?;
+    for (place, address) in votes.senders.iter().enumerate() {
+        push_comma(text, place)?;
+        push_address(text, address)?;
+    }
+    text.push_str("]")
+}
+
+/// Adds an address as nodes write it, in capital hexadecimal digits.
+fn push_address(text: &mut String, address: &[u8; 20]) -> Result<(), AllocError> {
+    text.push_str("\"")?;
+    for byte in address {
+        write!(text, "{byte:02X}")?;
+    }
+    text.push_str("\"")
 }
 
 fn push_message(text: &mut String, paths: &[PathId], message: &Message) -> Result<(), AllocError> {

@@ -1,7 +1,7 @@
 use crate::same::assert_same;
 use rb_base::{Height, Moment};
 use rb_book::{BookError, ChainBook, Header, Record, RecordAt, Vote};
-use rb_valset::{Validator, ValidatorSet};
+use rb_valset::{PublicKey, Validator, ValidatorSet};
 use std::alloc::{AllocError, Global};
 use std::fmt::Display;
 use std::process::Abort;
@@ -21,10 +21,10 @@ fn entry(seconds: u64, next: [u8; 32]) -> Result<Record, Fail> {
 }
 
 /// The key of a number.
-fn key_of(number: u32) -> [u8; 32] {
+fn key_of(number: u32) -> PublicKey {
     let mut key = ZERO;
     key[..4].copy_from_slice(&number.to_be_bytes());
-    key
+    PublicKey::Ed25519(key)
 }
 
 /// Validators of power 10, whose keys are the numbers from one up to another.

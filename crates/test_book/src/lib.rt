@@ -1,16 +1,22 @@
-//! What no contract of the layers from the tree hash up to the step rule says, by their public calls: sets of
+//! What no contract of the layers from the hashes up to the step rule says, by their public calls: sets of
 //! validators, books and steps, as tables of cases with values from outside.
 #![tactic(auto)]
 
 #[cfg(test)]
 mod book;
 #[cfg(test)]
+mod carried;
+#[cfg(test)]
 mod header;
 #[cfg(test)]
 mod merkle;
+#[cfg(test)]
+mod ripemd;
 #[cfg(test)]
 mod same;
 #[cfg(test)]
 mod step;
 #[cfg(test)]
 mod valset;
+#[cfg(test)]
+mod votes;

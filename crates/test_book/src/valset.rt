@@ -1,6 +1,6 @@
 use crate::merkle::to_hex;
 use crate::same::assert_same;
-use rb_valset::{Validator, ValidatorSet, ValsetError};
+use rb_valset::{PublicKey, Validator, ValidatorSet, ValsetError};
 use std::alloc::{AllocError, Global};
 use std::fmt::Display;
 use std::process::Abort;
@@ -12,7 +12,7 @@ const TOP: u64 = Validator::MAX_POWER;
 fn make_set(alloc: Global, members: &[(u8, u64)]) -> Result<ValidatorSet, ValsetError> {
     let mut validators = Vec::new(alloc);
     for (byte, power) in members {
-        let validator = Validator::new([*byte; 32], *power)?;
+        let validator = Validator::new(PublicKey::Ed25519([*byte; 32]), *power)?;
         validators
             .push(validator)
             .map_err(|_| ValsetError::NoMemory)?;
@@ -20,8 +20,29 @@ fn make_set(alloc: Global, members: &[(u8, u64)]) -> Result<ValidatorSet, Valset
     ValidatorSet::new(alloc, validators)
 }
 
-/// The bytes before the power in a leaf of the key.
-const FRAME: &str = "0a220a20a1a1a1a1a1a1a1a1a1a1a1a1a1a1a1a1a1a1a1a1a1a1a1a1a1a1a1a1a1a1a1a1";
+/// A key, its address, and the bytes before the power in its leaf.
+type Keyed = (PublicKey, &'static str, &'static str);
+
+/// A key of secp256k1 from CometBFT's tests.
+const COMPRESSED: PublicKey = PublicKey::Secp256k1([
+    0x02, 0x95, 0x0e, 0x1c, 0xdf, 0xcb, 0x13, 0x3d, 0x60, 0x24, 0x10, 0x9f, 0xd4, 0x89, 0xf7, 0x34,
+    0xee, 0xb4, 0x50, 0x24, 0x18, 0xe5, 0x38, 0xc2, 0x84, 0x81, 0xf2, 0x2b, 0xce, 0x27, 0x6f, 0x24,
+    0x8c,
+]);
+
+/// A key of each kind. The second has the address that CometBFT's tests give it, there in base 58.
+const KEYS: &[Keyed] = &[
+    (
+        PublicKey::Ed25519([0xa1; 32]),
+        "52fe6094743bfd4f9be4321d98adc7e23c1ab622",
+        "0a220a20a1a1a1a1a1a1a1a1a1a1a1a1a1a1a1a1a1a1a1a1a1a1a1a1a1a1a1a1a1a1a1a1",
+    ),
+    (
+        COMPRESSED,
+        "7c2bb42a8be69791ec763e51f5a49bcd41e82237",
+        "0a23122102950e1cdfcb133d6024109fd489f734eeb4502418e538c28481f22bce276f248c",
+    ),
+];
 
 /// The bytes after the key in a leaf, by the power.
 const LEAVES: &[(u64, &str)] = &[
@@ -34,9 +55,6 @@ const LEAVES: &[(u64, &str)] = &[
     (TOP, "10ffffffffffffffff0f"),
 ];
 
-/// The address of the key.
-const ADDRESS: &str = "52fe6094743bfd4f9be4321d98adc7e23c1ab622";
-
 /// Bytes in hexadecimal are this text.
 fn check_hex(rt: &impl Abort, alloc: Global, bytes: &[u8], wanted: &str) -> Result<(), AllocError> {
     let text = to_hex(alloc, bytes)?;
@@ -44,18 +62,31 @@ fn check_hex(rt: &impl Abort, alloc: Global, bytes: &[u8], wanted: &str) -> Resu
     Ok(())
 }
 
-fn check_leaf(rt: &impl Abort, alloc: Global, power: u64, tail: &str) -> Result<(), Fail> {
-    let validator = Validator::new([0xa1; 32], power)?;
+fn check_leaf(
+    rt: &impl Abort,
+    alloc: Global,
+    (key, address, frame): &Keyed,
+    power: u64,
+    tail: &str,
+) -> Result<(), Fail> {
+    let validator = Validator::new(*key, power)?;
     assert_same(rt, &"power", &validator.power(), &power);
-    check_hex(rt, alloc, validator.address(), ADDRESS)?;
-    let leaf = format!(in alloc; "{FRAME}{tail}")?;
+    check_hex(rt, alloc, validator.address(), address)?;
+    let leaf = format!(in alloc; "{frame}{tail}")?;
     Ok(check_hex(rt, alloc, validator.leaf().as_slice(), leaf.as_str())?)
+}
+
+fn check_leaves(rt: &impl Abort, alloc: Global, keyed: &Keyed) -> Result<(), Fail> {
+    for (power, tail) in LEAVES {
+        check_leaf(rt, alloc, keyed, *power, tail)?;
+    }
+    Ok(())
 }
 
 #[test]
 fn writes_leaves(rt: HostRuntime) -> Result<(), Fail> {
-    for (power, tail) in LEAVES {
-        check_leaf(&rt, rt.alloc(), *power, tail)?;
+    for keyed in KEYS {
+        check_leaves(&rt, rt.alloc(), keyed)?;
     }
     Ok(())
 }
@@ -89,12 +120,17 @@ const SETS: &[Ordered] = &[
 /// The addresses of no set.
 const UNKNOWN: &[[u8; 20]] = &[[0; 20], [0x73; 20], [255; 20]];
 
-/// The set has the member whose key repeats the byte at this place.
-fn check_place(rt: &impl Abort, set: &ValidatorSet, place: usize, byte: u8) -> Result<(), Fail> {
-    let member = Validator::new([byte; 32], 1)?;
-    assert_same(rt, &byte, &set.position(member.address()), &Some(place));
+/// The set has the member of the key at this place.
+fn check_place(
+    rt: &impl Abort,
+    set: &ValidatorSet,
+    place: usize,
+    key: PublicKey,
+) -> Result<(), Fail> {
+    let member = Validator::new(key, 1)?;
+    assert_same(rt, &place, &set.position(member.address()), &Some(place));
     let found = set.find(member.address()).ok_or("absent")?;
-    assert_same(rt, &byte, found.key(), member.key());
+    assert_same(rt, &place, found.key(), member.key());
     Ok(())
 }
 
@@ -106,7 +142,7 @@ fn check_absent(rt: &impl Abort, set: &ValidatorSet) {
 
 fn check_places(rt: &impl Abort, set: &ValidatorSet, order: &[u8]) -> Result<(), Fail> {
     for (place, byte) in order.iter().enumerate() {
-        check_place(rt, set, place, *byte)?;
+        check_place(rt, set, place, PublicKey::Ed25519([*byte; 32]))?;
     }
     check_absent(rt, set);
     Ok(())
@@ -168,6 +204,36 @@ fn orders_and_hashes(rt: HostRuntime) -> Result<(), Fail> {
     check_all(&rt, rt.alloc(), &make_set(rt.alloc(), &[(1, 9)])?)
 }
 
+/// Keys of both kinds and their powers, in set order.
+const BOTH: &[(PublicKey, u64)] = &[
+    (PublicKey::Ed25519([0xa3; 32]), 30),
+    (PublicKey::Ed25519([0xa1; 32]), 10),
+    (COMPRESSED, 10),
+    (PublicKey::Ed25519([0xa2; 32]), 10),
+];
+
+/// The hash of their set, as of `tests/reference/scripts.py`.
+const BOTH_HASH: &str = "e73c593042d2304bc0612356c1e247d638a90144cf53a524eefec7adce918d26";
+
+/// The set of the keys, given in another order.
+fn make_both(alloc: Global) -> Result<ValidatorSet, Fail> {
+    let mut members = Vec::new(alloc);
+    for (key, power) in BOTH.iter().rev() {
+        members.push(Validator::new(*key, *power)?)?;
+    }
+    Ok(ValidatorSet::new(alloc, members)?)
+}
+
+#[test]
+fn orders_both_kinds(rt: HostRuntime) -> Result<(), Fail> {
+    let set = make_both(rt.alloc())?;
+    check_hex(&rt, rt.alloc(), set.hash(), BOTH_HASH)?;
+    for (place, (key, _)) in BOTH.iter().enumerate() {
+        check_place(&rt, &set, place, *key)?;
+    }
+    Ok(())
+}
+
 /// Members, and what is printed of the refusal that they get.
 const REFUSED: &[(&[(u8, u64)], &str)] = &[
     (&[(1, TOP), (2, 0)], "201 ZeroPower"),
@@ -204,7 +270,7 @@ fn check_count(
     count: usize,
     wanted: ValsetError,
 ) -> Result<(), Fail> {
-    let member = Validator::new([1; 32], 1)?;
+    let member = Validator::new(PublicKey::Ed25519([1; 32]), 1)?;
     let members = vec![in alloc; member; count]?;
     let refusal = ValidatorSet::new(alloc, members).err();
     assert_same(rt, &count, &refusal, &Some(wanted));

@@ -4,7 +4,7 @@ use rb_batch::Limits;
 use rb_book::{Header, Record, Vote};
 use rb_scan::{Order, Sequence};
 use rb_script_types::{ClientConfig, Config, PathConfig, PathGas, RefreshTo, Version, Waits};
-use rb_valset::{Validator, ValidatorSet};
+use rb_valset::{PublicKey, Validator, ValidatorSet};
 use std::alloc::Global;
 use std::fmt::Debug;
 use std::process::Abort;
@@ -28,7 +28,8 @@ pub fn options() -> Option<Options> {
 pub fn make_set(alloc: Global, first: u8) -> Option<ValidatorSet> {
     let mut members = Vec::new(alloc);
     for place in 0..4 {
-        let member = Validator::new([first.wrapping_add(place); 32], 10).ok()?;
+        let key = PublicKey::Ed25519([first.wrapping_add(place); 32]);
+        let member = Validator::new(key, 10).ok()?;
         members.push(member).ok()?;
     }
     ValidatorSet::new(alloc, members).ok()
@@ -41,7 +42,9 @@ pub fn make_lone_set(alloc: Global, number: u16) -> Option<ValidatorSet> {
     key[0] = high;
     key[1] = low;
     let mut members = Vec::new(alloc);
-    members.push(Validator::new(key, 1).ok()?).ok()?;
+    members
+        .push(Validator::new(PublicKey::Ed25519(key), 1).ok()?)
+        .ok()?;
     ValidatorSet::new(alloc, members).ok()
 }
 

@@ -1,5 +1,5 @@
 use rb_base::{Height, Moment, Options, Period};
-use rb_valset::{Validator, ValidatorSet};
+use rb_valset::{PublicKey, Validator, ValidatorSet};
 use std::alloc::Allocator;
 use std::test::Fail;
 
@@ -32,12 +32,12 @@ pub fn make_set_with<A: Allocator + Copy>(
 ) -> Result<ValidatorSet<A>, Fail> {
     let mut validators = Vec::new(alloc);
     for (byte, power) in named {
-        validators.push(Validator::new([*byte; 32], *power)?)?;
+        validators.push(Validator::new(PublicKey::Ed25519([*byte; 32]), *power)?)?;
     }
     for byte in 0..others {
         let mut key = [0x77; 32];
         key[0] = byte;
-        validators.push(Validator::new(key, 1)?)?;
+        validators.push(Validator::new(PublicKey::Ed25519(key), 1)?)?;
     }
     Ok(ValidatorSet::new(alloc, validators)?)
 }

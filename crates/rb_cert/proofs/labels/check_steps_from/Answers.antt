@@ -1,8 +1,10 @@
 use Rattle.std.proofs.Common.{◌≡◌, ◌∙◌, ◌<◌, ap, arith, length, get_or, rules, None, Some, slice_get}
 use Rattle.std.proofs.lemmas.Bool.{iff_false}
 use Rattle.std.proofs.lemmas.Option.{slice_get-get_or}
+use Rattle.rb_base.specs.Options.{ClientOptions}
 use Rattle.rb_book.specs.Book.{Book}
 use Rattle.rb_plan.specs.Labelling.{label_of}
+use Rattle.rb_step.specs.Carried.{least_votes}
 use Rattle.rb_step.specs.LightClient.{IsOrderly}
 use Rattle.rb_step.specs.View.{client_of}
 use Rattle.rb_cert.specs.declared.trusted.Trusted.{Trusted}
@@ -27,6 +29,10 @@ is_too_high-requires-clause-trusted g c =
     let size : length c.args.trusted.now ≡ 4096 = search rules in
     let within : i < length c.args.trusted.now = omega (arith, size, ap length same, c.loop-place-test.true, c.book.ensures.view.book.few_records, c.book.ensures.view.book.limit.1) in
     (label_of c.args.labelling.now, c.requires.trusted i c.known-item.result (get_or c.args.trusted.now i nothing) at (slice_get-get_or c.args.trusted.now i nothing within))
+
+pub is_too_high-requires-clause-least : goal.is_too_high-requires-clause-least
+is_too_high-requires-clause-least g c =
+    c.least_votes-least.ensures.value ∙ ap (λ (o : ClientOptions). least_votes o c.args.header.now c.args.own.now) c.options.ensures
 
 pub returns-then-is_too_high-clause-err : goal.returns-then-is_too_high-clause-err
 returns-then-is_too_high-clause-err g c =

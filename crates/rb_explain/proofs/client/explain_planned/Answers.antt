@@ -12,16 +12,16 @@ use Rattle.rb_explain.proofs.client.explain_planned.Goals as goal
 pub explain_plan-requires-clause-least : goal.explain_plan-requires-clause-least
 explain_plan-requires-clause-least g c =
     let us = c.as_slice-in-Some.result.now in
-    let updates : us ≡ map (λ (u : PricedUpdate). u.update) c.in-Some.plan.updates.items =
-    c.as_slice-in-Some.ensures.value ∙ c.in_ok-updates-in-Some.ensures ∙ ap (map (λ (u : PricedUpdate). u.update)) c.as_slice.ensures.value in
+    let updates : us ≡ map (λ (u : PricedUpdate _). u.update) c.in-Some.plan.updates.items =
+    c.as_slice-in-Some.ensures.value ∙ c.in_ok-updates-in-Some.ensures ∙ ap (map (λ (u : PricedUpdate _). u.update)) c.as_slice.ensures.value in
     subst (λ (v : View). IsLeast (client_of v) c.args.report.now.goal us) (sym c.view-view.ensures)
     (right_plan c.args.job.now.task c.args.report.now c.in-Some.plan us c.requires.right c.in-Some.is updates)
 
 pub returns-in_ok-why-in-Some : goal.returns-in_ok-why-in-Some
 returns-in_ok-why-in-Some g c =
     let us = c.as_slice-in-Some.result.now in
-    let updates : us ≡ map (λ (u : PricedUpdate). u.update) c.in-Some.plan.updates.items =
-    c.as_slice-in-Some.ensures.value ∙ c.in_ok-updates-in-Some.ensures ∙ ap (map (λ (u : PricedUpdate). u.update)) c.as_slice.ensures.value in
+    let updates : us ≡ map (λ (u : PricedUpdate _). u.update) c.in-Some.plan.updates.items =
+    c.as_slice-in-Some.ensures.value ∙ c.in_ok-updates-in-Some.ensures ∙ ap (map (λ (u : PricedUpdate _). u.update)) c.as_slice.ensures.value in
     why_planned c.args.job.now.task c.args.report.now c.in-Some.plan us c.in_ok-why-in-Some.why c.in-Some.is updates
     (subst (λ (v : View). IsPlanExplained v c.args.report.now.goal us c.in_ok-why-in-Some.why) c.view-view.ensures c.in_ok-why-in-Some.ensures)
 

@@ -1,15 +1,21 @@
 use Rattle.std.proofs.Common.{◌==◌, ◌&&◌, ◌∙◌, Bool, ap}
 use Rattle.std.specs.Str.{bytes_eq}
-use Rattle.rb_plan_client.specs.Same.{same_options, same_fees, same_limits}
+use Rattle.rb_plan_client.specs.Same.{same_refresh_to, same_fees, same_limits}
 use Rattle.rb_plan_client.proofs.Ids.{with_padded}
-use Rattle.rb_plan_client.proofs.Refreshes.{is_equal, same_refresh}
+use Rattle.rb_plan_client.proofs.Refreshes.{is_equal, is_equally_carried, same_refresh, same_votes}
 use Rattle.rb_plan_client.proofs.job.same_config.Goals as goal
 
 pub returns : goal.returns
 returns c =
     let a = c.args.config.now in
     let b = c.args.other.now in
-    let others : Bool → Bool = λ equal.
-    (a.host == b.host) && ((a.tracks == b.tracks) && (same_options a.options b.options && ((a.refresh == b.refresh)
+    let options : Bool → Bool = λ votes.
+    (a.options.period == b.options.period) && ((a.options.drift == b.options.drift)
+    && (((a.options.trust.numerator == b.options.trust.numerator) && (a.options.trust.denominator == b.options.trust.denominator)) && votes)) in
+    let others : Bool → Bool → Bool = λ votes equal.
+    (a.host == b.host) && ((a.tracks == b.tracks) && (options votes && ((a.refresh == b.refresh)
     && (equal && (same_fees a.fees b.fees && (same_fees a.gas b.gas && same_limits a.limits b.limits)))))) in
-    c.eq.ensures ∙ with_padded a.id b.id (others (is_equal a.refresh_to b.refresh_to)) ∙ ap (λ equal. bytes_eq a.id b.id && others equal) (same_refresh a.refresh_to b.refresh_to)
+    let votes = is_equally_carried a.options.votes b.options.votes in
+    c.eq.ensures ∙ with_padded a.id b.id (others votes (is_equal a.refresh_to b.refresh_to))
+    ∙ ap (λ equal. bytes_eq a.id b.id && others votes equal) (same_refresh a.refresh_to b.refresh_to)
+    ∙ ap (λ (same : Bool). bytes_eq a.id b.id && others same (same_refresh_to a.refresh_to b.refresh_to)) (same_votes a.options.votes b.options.votes)

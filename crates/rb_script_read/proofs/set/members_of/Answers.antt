@@ -1,5 +1,6 @@
 use Rattle.std.proofs.Common.{◌++◌, ◌∷◌, [], Ok, get_or, map, take, sym, ap, ◌∙◌}
 use Rattle.std.proofs.lemmas.List.{take_all}
+use Rattle.rb_valset.specs.declared.key.PublicKey.TheVariants.{Ed25519}
 use Rattle.rb_script_toml.specs.Fields.{field_view}
 use Rattle.rb_script_toml.specs.declared.fault.FaultName.TheVariants.{BadSet}
 use Rattle.rb_script_read.specs.declared.set.GivenValidator.{GivenValidator}
@@ -18,7 +19,7 @@ pub loop-validator-preserved : goal.loop-validator-preserved
 loop-validator-preserved c =
     let vs = c.args.given.now in
     let i = c.loop-validator.validator-index in
-    let d : GivenValidator = record { key = []; power = 0 } in
+    let d : GivenValidator = record { key = Ed25519 []; power = 0 } in
     let more = read-more vs i d c.loop-validator-test.true in
     record {
       same = c.in_ok-push-in-Ok.ensures.items ∙ ap (λ ms. ms ++ c.in-Ok.member ∷ []) c.loop-validator.invariant.same

@@ -8,8 +8,8 @@ use Rattle.rb_super_turn.specs.Phases.{standing_in, IsLater, IsOutcomeOf}
 use Rattle.rb_super_turn.proofs.Plans.{draft_accepted, draft_reported, ready_after}
 use Rattle.rb_super_turn.proofs.planning.plan_here.Goals as goal
 
-pub note-requires : goal.note-requires
-note-requires g c =
+pub note-requires-clause-accepted : goal.note-requires-clause-accepted
+note-requires-clause-accepted g c =
     let core = c.args.relayer.now in
     subst (λ (k : Core). refusal_in k (Planned c.in_ok-copy.copy) ≡ None) (sym c.planned_for.ensures.same)
     (ap (λ (d : Draft). refusal_in core (Planned d)) c.in_ok-copy.ensures

@@ -5,8 +5,8 @@ use Rattle.rb_core_model.specs.Scan.{Scan}
 use Rattle.rb_super_turn.proofs.Steps.{scan_fits, after_scan}
 use Rattle.rb_super_turn.proofs.scanning.scan_here.Goals as goal
 
-pub note-requires : goal.note-requires
-note-requires g c =
+pub note-requires-clause-accepted : goal.note-requires-clause-accepted
+note-requires-clause-accepted g c =
     scan_fits c.args.relayer.now c.args.path c.args.part c.in_ok-view.view c.requires.path c.requires.room c.in_ok-view.ensures c.requires.unscanned
     c.in_ok-scan.scan c.in_ok-scan.ensures
 

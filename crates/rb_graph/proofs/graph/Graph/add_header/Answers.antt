@@ -6,7 +6,8 @@ use Rattle.std.proofs.lemmas.Result.{err_from_is_err_and}
 use Rattle.std.proofs.lemmas.List.{length-map}
 use Rattle.rb_book.specs.Book.{Book, header_at, header_is_below}
 use Rattle.rb_book.specs.Header.{Header}
-use Rattle.rb_book.specs.Intake.{header_refusal, after_record}
+use Rattle.rb_book.specs.Intake.{header_refusal, record_refusal, after_record}
+use Rattle.rb_book.proofs.Puts.{record_accepted}
 use Rattle.rb_graph_rows.specs.StoredRow.{StoredRow, next_places, first_naming, stored_row_of}
 use Rattle.rb_graph_rows.specs.Numbering.{AreLanesOf}
 use Rattle.rb_graph_rows.proofs.Inserted.{written_over}
@@ -15,6 +16,20 @@ use Rattle.rb_graph.proofs.graph.Graph.add_header.Goals as goal
 
 length_of : {xs ys : List StoredRow} → xs ≡ ys → length xs ≡ length ys
 length_of e = ap (λ (l : List StoredRow). length l) e
+
+pub returns-in_err-reserve-clause-refused : goal.returns-in_err-reserve-clause-refused
+returns-in_err-reserve-clause-refused g c =
+    let p = err_from_is_err_and c.from_residual-in_err-reserve.result c.from_residual-in_err-reserve.ensures.1 in
+    rw (p.1, p.2) (subst (λ (b : Book). header_refusal b c.args.header ≡ None) c.self.view_is c.in_ok-judge_header.ensures.accepted)
+
+pub returns-in_err-reserve-clause-unchanged : goal.returns-in_err-reserve-clause-unchanged
+returns-in_err-reserve-clause-unchanged g c =
+    let p = err_from_is_err_and c.from_residual-in_err-reserve.result c.from_residual-in_err-reserve.ensures.1 in
+    rw p.1 c.self.view_is
+
+pub enter_record-requires-clause-accepted : goal.enter_record-requires-clause-accepted
+enter_record-requires-clause-accepted g c =
+    (λ i. record_refusal c.self.inside.book (c.height-height.ensures i) (c.record.ensures i)) ∙ record_accepted c.self.inside.book c.args.header c.headers.ensures.book c.in_ok-judge_header.ensures.accepted
 
 pub returns-in_err-enter_record-clause-refused : goal.returns-in_err-enter_record-clause-refused
 returns-in_err-enter_record-clause-refused g c =

@@ -1,0 +1,343 @@
+//! Importing: the files of a folder are read, and the script that they make is written, without the clients and the
+//! paths whose answers are refused.
+ghost use Rattle.std.specs.Prelude.{◌≡◌, IfOk, is_some, string_bytes, true};
+ghost use Rattle.rb_import.specs.Openings.{Opens, hold_verdicts};
+ghost use Rattle.ibcplan_folders.specs.LeftOut.{import_status};
+
+use crate::file_system::FileSystem;
+use crate::left_out::{Failure, Fleet, LeftOut, is_tracked};
+use ibcplan_errors::{Input, ProgramError, bytes_of, shown_text};
+use rb_import::{Composed, compose};
+use rb_import_check::{CheckErrorName, ImportError, Saved, SavedAnswers, SavedError, read_saved};
+use rb_import_setup::{Setup, read_setup};
+use std::alloc::{AllocError, Global};
+use std::fs::File;
+use std::{fs, io};
+
+/// The folder with the answers of nodes, and whether nothing is written where some of them are refused.
+#[derive(Clone, Copy, Debug)]
+pub struct Answers<'f> {
+    pub folder: &'f str,
+    pub is_all_or_nothing: bool,
+}
+
+/// The text of a script, lines that tell what is left out and which answers aren't there, and the status to end with.
+#[derive(Drop)]
+pub struct ImportedText {
+    pub script: String,
+    pub notices: String,
+    pub status: u8,
+}
+
+/// The script that a setup and the answers in a folder make.
+pub fn imported<'a, R: FileSystem>(
+    rt: &R,
+    input: &Input<'a>,
+    answers: Answers<'_>,
+) -> Result<ImportedText, ProgramError<'a>> {
+    let setup = match read_setup(rt.alloc(), input.bytes()) {
+        Ok(setup) => setup,
+        Err(error) => return Err(ProgramError::of_setup(error, input)),
+    };
+    let mut left_out = LeftOut::nothing(rt.alloc());
+    let fleet = read_fleet(rt, setup, answers, &mut left_out)?;
+    composed(rt.alloc(), fleet, answers.is_all_or_nothing, left_out)
+}
+
+/// The script that a fleet makes, without the clients and the paths whose answers are refused. Each round leaves out
+/// one of them, so that it ends.
+fn composed<'a>(
+    alloc: Global,
+    fleet: Fleet,
+    is_all_or_nothing: bool,
+    left_out: LeftOut<'a>,
+) -> Result<ImportedText, ProgramError<'a>>
+    ensures whole { IfOk result (λ text. text.status ≡ 0 → Opens (hold_verdicts fleet.answers) (string_bytes text.script)) }
+    ensures in_part { IfOk result (λ text. is_some left_out.entry.first ≡ true → text.status ≡ 7) }
+{
+    let mut fleet = fleet;
+    let mut left_out = left_out;
+    'rounds: loop {
+        let failure = match compose(alloc, &fleet.setup, &fleet.answers) {
+            Ok(composed) => return imported_text(alloc, composed, &left_out),
+            Err(error) => failure_of(alloc, &error)?,
+        };
+        if is_all_or_nothing {
+            return Err(failure.error);
+        }
+        fleet = left_out.without(alloc, fleet, failure)?;
+    }
+}
+
+/// A script, with what is told of its answers, and before that of what is left out, as a text of its own.
+fn imported_text<'a>(
+    alloc: Global,
+    composed: Composed<'_>,
+    left_out: &LeftOut<'_>,
+) -> Result<ImportedText, ProgramError<'a>>
+    ensures script { IfOk result (λ text. text.script ≡ composed.entry.text) }
+    ensures status { IfOk result (λ text. text.status ≡ import_status left_out.now) }
+{
+    let Composed { text, notices } = composed;
+    let lines = left_out.lines();
+    match format!(in alloc; "{lines}{notices}") {
+        Ok(notices) => Ok(ImportedText {
+            script: text,
+            notices,
+            status: left_out.status(),
+        }),
+        Err(_) => Err(ProgramError::NoMemory),
+    }
+}
+
+/// Of which chain, client or path answers are refused, and why, as texts of its own. The error is one of the whole.
+fn failure_of<'a>(alloc: Global, error: &ImportError<'_>) -> Result<Failure<'a>, ProgramError<'a>> {
+    let ImportError::CheckError(problem) = error else {
+        return Err(ProgramError::NoMemory);
+    };
+    let error = refused(format!(in alloc; "{problem}"));
+    match problem.name {
+        CheckErrorName::ScriptTooBig => Err(error),
+        _ => failure_at(alloc, problem.object, error),
+    }
+}
+
+/// A failure of the chain, the client or the path of an identifier.
+fn failure_at<'a>(
+    alloc: Global,
+    id: &str,
+    error: ProgramError<'a>,
+) -> Result<Failure<'a>, ProgramError<'a>> {
+    match String::from_str(alloc, id) {
+        Ok(id) => Ok(Failure { id, error }),
+        Err(_) => Err(ProgramError::NoMemory),
+    }
+}
+
+fn refused<'a>(text: Result<String, AllocError>) -> ProgramError<'a> {
+    match text {
+        Ok(text) => ProgramError::RefusedAnswers(text),
+        Err(_) => ProgramError::NoMemory,
+    }
+}
+
+/// Reads the answers of the chains that clients track, of the clients and of the paths, each from the folder of its
+/// identifier.
+fn read_fleet<'a, R: FileSystem>(
+    rt: &R,
+    setup: Setup,
+    answers: Answers<'_>,
+    left_out: &mut LeftOut<'a>,
+) -> Result<Fleet, ProgramError<'a>> {
+    let mut fleet = Fleet {
+        setup,
+        answers: SavedAnswers {
+            chains: Vec::new(rt.alloc()),
+            clients: Vec::new(rt.alloc()),
+            paths: Vec::new(rt.alloc()),
+        },
+    };
+    let mut failures = Vec::new(rt.alloc());
+    fleet.answers.chains = chain_answers(rt, &fleet.setup, answers, &mut failures)?;
+    let mut fleet = without_all(rt.alloc(), fleet, failures, left_out)?;
+    let mut failures = Vec::new(rt.alloc());
+    fleet.answers.clients = client_answers(rt, &fleet.setup, answers, &mut failures)?;
+    let mut fleet = without_all(rt.alloc(), fleet, failures, left_out)?;
+    let mut failures = Vec::new(rt.alloc());
+    fleet.answers.paths = path_answers(rt, &fleet.setup, answers, &mut failures)?;
+    without_all(rt.alloc(), fleet, failures, left_out)
+}
+
+/// The fleet without what goes with each of these failures.
+fn without_all<'a>(
+    alloc: Global,
+    fleet: Fleet,
+    failures: Vec<Failure<'a>>,
+    left_out: &mut LeftOut<'a>,
+) -> Result<Fleet, ProgramError<'a>> {
+    let mut fleet = fleet;
+    for failure in failures {
+        fleet = left_out.without(alloc, fleet, failure)?;
+    }
+    Ok(fleet)
+}
+
+/// The answers of the chains, none of one that no client tracks.
+fn chain_answers<'a, R: FileSystem>(
+    rt: &R,
+    setup: &Setup,
+    source: Answers<'_>,
+    failures: &mut Vec<Failure<'a>>,
+) -> Result<Vec<Vec<Saved>>, ProgramError<'a>> {
+    let mut answers = Vec::new(rt.alloc());
+    for (place, chain) in setup.chains.iter().enumerate() {
+        let saved = if is_tracked(setup, place) {
+            answers_of(rt, source, chain.as_str(), failures)?
+        } else {
+            Vec::new(rt.alloc())
+        };
+        add(&mut answers, saved)?;
+    }
+    Ok(answers)
+}
+
+fn client_answers<'a, R: FileSystem>(
+    rt: &R,
+    setup: &Setup,
+    source: Answers<'_>,
+    failures: &mut Vec<Failure<'a>>,
+) -> Result<Vec<Vec<Saved>>, ProgramError<'a>> {
+    let mut answers = Vec::new(rt.alloc());
+    for client in &setup.clients {
+        let saved = answers_of(rt, source, client.id.as_str(), failures)?;
+        add(&mut answers, saved)?;
+    }
+    Ok(answers)
+}
+
+fn path_answers<'a, R: FileSystem>(
+    rt: &R,
+    setup: &Setup,
+    source: Answers<'_>,
+    failures: &mut Vec<Failure<'a>>,
+) -> Result<Vec<Vec<Saved>>, ProgramError<'a>> {
+    let mut answers = Vec::new(rt.alloc());
+    for path in &setup.paths {
+        let saved = answers_of(rt, source, path.config.id.as_str(), failures)?;
+        add(&mut answers, saved)?;
+    }
+    Ok(answers)
+}
+
+/// The answers of a chain, a client or a path; none where they are refused, which is then a failure of it.
+fn answers_of<'a, R: FileSystem>(
+    rt: &R,
+    source: Answers<'_>,
+    id: &str,
+    failures: &mut Vec<Failure<'a>>,
+) -> Result<Vec<Saved>, ProgramError<'a>> {
+    match read_folder(rt, source.folder, id) {
+        Ok(saved) => Ok(saved),
+        Err(error) if source.is_all_or_nothing || !is_of_answers(&error) => Err(error),
+        Err(error) => {
+            add(failures, failure_at(rt.alloc(), id, error)?)?;
+            Ok(Vec::new(rt.alloc()))
+        }
+    }
+}
+
+/// Whether an error is one of the answers in a folder: they are refused, or aren't there.
+fn is_of_answers(error: &ProgramError<'_>) -> bool {
+    match error {
+        ProgramError::RefusedAnswers(_) => true,
+        ProgramError::UnreadableAnswers { error, .. } => error.kind() == io::ErrorKind::NotFound,
+        _ => false,
+    }
+}
+
+pub fn add<'a, T: Drop>(items: &mut Vec<T>, item: T) -> Result<(), ProgramError<'a>> {
+    match items.push(item) {
+        Ok(()) => Ok(()),
+        Err(_) => Err(ProgramError::NoMemory),
+    }
+}
+
+/// Reads the answers in the folder of an identifier: its files `*.json`, by name.
+fn read_folder<'a, R: FileSystem>(
+    rt: &R,
+    folder: &str,
+    id: &str,
+) -> Result<Vec<Saved>, ProgramError<'a>> {
+    let path = path_in(rt.alloc(), folder, id)?;
+    let names = match names_in(rt, path.as_str()) {
+        Ok(names) => names,
+        Err(error) => return Err(ProgramError::of_file(rt.alloc(), path.as_str(), error)),
+    };
+    read_files(rt, path.as_str(), names.as_slice())
+}
+
+/// The path of what a folder has under a name.
+pub fn path_in<'a>(alloc: Global, folder: &str, name: &str) -> Result<String, ProgramError<'a>> {
+    match format!(in alloc; "{folder}/{name}") {
+        Ok(path) => Ok(path),
+        Err(_) => Err(ProgramError::NoMemory),
+    }
+}
+
+/// The names of a folder's files `*.json`, in the order of their bytes.
+pub fn names_in<R: FileSystem>(rt: &R, path: &str) -> io::Result<Vec<String>> {
+    let mut names = Vec::new(rt.alloc());
+    for entry in fs::read_dir(rt, path)? {
+        let entry = entry?;
+        if entry.file_name().ends_with(".json") {
+            names.push(String::from_str(rt.alloc(), entry.file_name())?)?;
+        }
+    }
+    names.sort_unstable();
+    Ok(names)
+}
+
+/// Reads the answers in files of a folder.
+fn read_files<'a, R: FileSystem>(
+    rt: &R,
+    folder: &str,
+    names: &[String],
+) -> Result<Vec<Saved>, ProgramError<'a>> {
+    let mut answers = Vec::new(rt.alloc());
+    for name in names {
+        let saved = read_file(rt, folder, name.as_str())?;
+        add(&mut answers, saved)?;
+    }
+    Ok(answers)
+}
+
+/// Reads the answer in a file.
+fn read_file<'a, R: FileSystem>(
+    rt: &R,
+    folder: &str,
+    name: &str,
+) -> Result<Saved, ProgramError<'a>> {
+    let file = path_in(rt.alloc(), folder, name)?;
+    match read_bytes(rt, file.as_str()) {
+        Ok(bytes) => saved_of(rt.alloc(), file.as_str(), bytes.as_slice()),
+        Err(error) => Err(ProgramError::of_file(rt.alloc(), file.as_str(), error)),
+    }
+}
+
+/// The answer that the bytes of a file hold.
+pub fn saved_of<'a>(alloc: Global, file: &str, bytes: &[u8]) -> Result<Saved, ProgramError<'a>> {
+    let Ok(name) = shown_text(alloc, file) else {
+        return Err(ProgramError::NoMemory);
+    };
+    match read_saved(alloc, name, bytes) {
+        Ok(saved) => Ok(saved),
+        Err(error) => Err(refused_file(alloc, &error)),
+    }
+}
+
+/// Why a file holds no answer.
+fn refused_file<'a>(alloc: Global, error: &SavedError) -> ProgramError<'a> {
+    match error {
+        SavedError::NoMemory => ProgramError::NoMemory,
+        SavedError::Invalid { file, flaw, said } => {
+            let Ok(said) = said_words(alloc, said.as_str()) else {
+                return ProgramError::NoMemory;
+            };
+            let advice = flaw.name.advice();
+            refused(format!(in alloc; "refused {flaw}\n{file}: {advice}{said}"))
+        }
+    }
+}
+
+/// What a node said in the place of an answer, if it said something, as an end of the line that refuses it.
+fn said_words(alloc: Global, said: &str) -> Result<String, AllocError> {
+    if said.is_empty() {
+        Ok(String::new(alloc))
+    } else {
+        format!(in alloc; "; it said \"{said}\"")
+    }
+}
+
+pub fn read_bytes<R: FileSystem>(rt: &R, path: &str) -> io::Result<Vec<u8>> {
+    bytes_of(rt.alloc(), File::open(rt, path)?)
+}

@@ -1,0 +1,14 @@
+//! The folders that the program reads and writes: the answers of nodes, of which a script, the next requests or client
+//! messages are made, and the files of those messages.
+#![tactic(auto)]
+
+mod file_system;
+mod importing;
+mod left_out;
+mod messaging;
+mod wanting;
+
+pub use file_system::FileSystem;
+pub use importing::{Answers, ImportedText, imported};
+pub use messaging::{files_of, lines_of, read_answers, write_files};
+pub use wanting::{WantedText, wanted};

@@ -1,0 +1,138 @@
+//! What is to be fetched next: the files of a folder are read, as far as they are there.
+use crate::file_system::FileSystem;
+use crate::importing::{add, path_in, read_bytes};
+use crate::left_out::is_tracked;
+use ibcplan_errors::{Input, ProgramError};
+use rb_import_setup::{Setup, read_setup};
+use rb_want::{Folder, Folders, Wanted, content_of, wanted_of};
+use std::alloc::{AllocError, Global};
+use std::{fs, io};
+
+/// The lines that tell what is to be fetched next, and those that tell of which clients no more is asked though they aren't
+/// where they should be.
+#[derive(Drop)]
+pub struct WantedText {
+    pub requests: String,
+    pub ends: String,
+}
+
+/// What is to be fetched next for a setup, by the answers in a folder.
+pub fn wanted<'a, R: FileSystem>(
+    rt: &R,
+    input: &Input<'a>,
+    folder: &str,
+) -> Result<WantedText, ProgramError<'a>> {
+    let setup = match read_setup(rt.alloc(), input.bytes()) {
+        Ok(setup) => setup,
+        Err(error) => return Err(ProgramError::of_setup(error, input)),
+    };
+    let folders = read_folders(rt, &setup, folder)?;
+    match texts_of(rt.alloc(), &setup, &folders) {
+        Ok(texts) => Ok(texts),
+        Err(_) => Err(ProgramError::NoMemory),
+    }
+}
+
+fn texts_of(alloc: Global, setup: &Setup, folders: &Folders) -> Result<WantedText, AllocError> {
+    let wanted = wanted_of(alloc, setup, folders)?;
+    let requests = format!(in alloc; "{wanted}")?;
+    let ends = ends_of(alloc, &wanted)?;
+    Ok(WantedText { requests, ends })
+}
+
+/// A line for each client of which no more is asked.
+fn ends_of(alloc: Global, wanted: &Wanted<'_>) -> Result<String, AllocError> {
+    let mut text = String::new(alloc);
+    for end in &wanted.ends {
+        writeln!(text, "{end}")?;
+    }
+    Ok(text)
+}
+
+/// Reads what there is of the chains that clients track, and of the clients.
+fn read_folders<'a, R: FileSystem>(
+    rt: &R,
+    setup: &Setup,
+    folder: &str,
+) -> Result<Folders, ProgramError<'a>> {
+    let mut chains = Vec::new(rt.alloc());
+    for (place, chain) in setup.chains.iter().enumerate() {
+        let read = if is_tracked(setup, place) {
+            read_folder(rt, folder, chain.as_str())?
+        } else {
+            empty(rt.alloc())
+        };
+        add(&mut chains, read)?;
+    }
+    let mut clients = Vec::new(rt.alloc());
+    for client in &setup.clients {
+        let read = read_folder(rt, folder, client.id.as_str())?;
+        add(&mut clients, read)?;
+    }
+    Ok(Folders { chains, clients })
+}
+
+/// A folder with nothing in it.
+fn empty(alloc: Global) -> Folder {
+    Folder {
+        contents: Vec::new(alloc),
+        refused: Vec::new(alloc),
+    }
+}
+
+/// Reads what the folder of an identifier holds; nothing where it isn't there.
+fn read_folder<'a, R: FileSystem>(
+    rt: &R,
+    folder: &str,
+    id: &str,
+) -> Result<Folder, ProgramError<'a>> {
+    let mut read = empty(rt.alloc());
+    let path = path_in(rt.alloc(), folder, id)?;
+    let names = match names_in(rt, path.as_str()) {
+        Ok(names) => names,
+        Err(error) if error.kind() == io::ErrorKind::NotFound => return Ok(read),
+        Err(error) => return Err(ProgramError::of_file(rt.alloc(), path.as_str(), error)),
+    };
+    for name in &names {
+        read_named(rt, path.as_str(), name.as_str(), &mut read)?;
+    }
+    Ok(read)
+}
+
+/// The names of a folder's files, in the order of their bytes.
+fn names_in<R: FileSystem>(rt: &R, path: &str) -> io::Result<Vec<String>> {
+    let mut names = Vec::new(rt.alloc());
+    for entry in fs::read_dir(rt, path)? {
+        let entry = entry?;
+        names.push(String::from_str(rt.alloc(), entry.file_name())?)?;
+    }
+    names.sort_unstable();
+    Ok(names)
+}
+
+/// Reads a file of a folder, if it is an answer, or keeps its name, if it is that of a request that was refused.
+fn read_named<'a, R: FileSystem>(
+    rt: &R,
+    path: &str,
+    name: &str,
+    read: &mut Folder,
+) -> Result<(), ProgramError<'a>> {
+    if let Some(request) = name.strip_suffix(".refused") {
+        return match String::from_str(rt.alloc(), request) {
+            Ok(request) => add(&mut read.refused, request),
+            Err(_) => Err(ProgramError::NoMemory),
+        };
+    }
+    if name != "status" && !name.ends_with(".json") {
+        return Ok(());
+    }
+    let file = path_in(rt.alloc(), path, name)?;
+    let bytes = match read_bytes(rt, file.as_str()) {
+        Ok(bytes) => bytes,
+        Err(error) => return Err(ProgramError::of_file(rt.alloc(), file.as_str(), error)),
+    };
+    match content_of(rt.alloc(), bytes.as_slice()) {
+        Ok(content) => add(&mut read.contents, content),
+        Err(_) => Err(ProgramError::NoMemory),
+    }
+}

@@ -1,0 +1,9 @@
+use Rattle.std.proofs.Common.{inl, inr}
+use Rattle.rb_script_config.proofs.client_keys.only_client_keys.Goals as goal
+
+-- the keys of the version
+pub returns-in-One : goal.returns-in-One
+returns-in-One c = elim c.in-One.is [ inl one ↦ rw one c.only.ensures | inr two ↦ rw two c.only.ensures ]
+
+pub returns-in-Three : goal.returns-in-Three
+returns-in-Three c = rw c.in-Three.is c.only-in-Three.ensures

@@ -1,0 +1,10 @@
+pub mod Orders
+pub mod Prefixes
+mod Rising
+mod Ordered
+mod Thinned
+pub mod Sent
+pub mod Fewest
+mod Taken
+mod Thinning
+mod Counted

@@ -1,0 +1,10 @@
+use Rattle.std.proofs.Common.{◌≡◌, ◌*◌, ◌≤◌, take}
+use Rattle.std.specs.List.{sum_by}
+use Rattle.rb_votes.specs.Power.{power_of}
+use Rattle.rb_votes.proofs.superfluous.total.Given as goal
+
+abbrev pub invariant-loop-voter : goal.invariant-loop-voter
+invariant-loop-voter l = record {
+  so_far : l.total ≡ sum_by (power_of l.power) (take l.voter-index l.votes);
+  small : l.total ≤ l.voter-index * 18446744073709551616;
+}

@@ -1,0 +1,11 @@
+//! Which votes an update sends: few, and with power enough for both tests of its step.
+#![tactic(auto)]
+
+pub mod laws;
+mod order;
+mod sending;
+mod superfluous;
+mod voter;
+
+pub use sending::{sent_count, sent_votes};
+pub use voter::{Needed, Voter};
