@@ -1,6 +1,8 @@
-"""Runs of `messages`, for tests/run: over made-up answers it writes what a second encoder makes of them here; the messages are read back by `import`, and the
-hashes of their headers and sets made anew; and the shell file is run with a program that writes down what it is called with."""
+"""Runs of `messages`, for tests/run: over made-up answers it writes what a second encoder makes of them here, with all votes and with those that the second
+planner needs; the messages are read back by `import`, the step rule accepts them, and the hashes of their headers and sets are made anew; and the shell file is
+run with a program that writes down what it is called with."""
 import base64
+import itertools
 import json
 import os
 import shutil
@@ -8,11 +10,16 @@ import subprocess
 import tomllib
 
 import answers
+from imports import reference
 from nodes import Host, LongChain
 from program import Case, run_program
 
 CLIENT = "hub-on-zone"
 FLAGS = {1: "BLOCK_ID_FLAG_ABSENT", 2: "BLOCK_ID_FLAG_COMMIT", 3: "BLOCK_ID_FLAG_NIL"}
+LETTERS = {"BLOCK_ID_FLAG_ABSENT": "A", "BLOCK_ID_FLAG_COMMIT": "C", "BLOCK_ID_FLAG_NIL": "N"}
+KINDS = {32: "ed25519", 33: "secp256k1"}
+TYPES = {"ed25519": "tendermint/PubKeyEd25519", "secp256k1": "tendermint/PubKeySecp256k1"}
+ABSENT = {"block_id_flag": FLAGS[1], "validator_address": "", "timestamp": "0001-01-01T00:00:00Z", "signature": ""}
 HASHES = ("last_commit_hash", "data_hash", "validators_hash", "next_validators_hash", "consensus_hash", "app_hash", "last_results_hash", "evidence_hash",
           "proposer_address")
 
@@ -54,7 +61,15 @@ def sets_in(found):
     return {answers.set_hash(answers.in_order(members)): answers.in_order(members) for members in pages.values()}
 
 
-def message(folder, chain, height, trusted, named):
+def entry(signature, senders):
+    """A validator's part in a commit; where not all votes are sent, only the commit votes of these senders stand in it."""
+    if senders is not None and (signature["block_id_flag"] != 2 or bytes.fromhex(signature["validator_address"]) not in senders):
+        return ABSENT
+    return {"block_id_flag": FLAGS[signature["block_id_flag"]], "validator_address": based(signature["validator_address"]),
+            "timestamp": signature["timestamp"], "signature": signature["signature"] or ""}
+
+
+def message(folder, chain, height, trusted, named, senders):
     """The message of an update to a height, made of the answers on a chain; the trusted record names a set by its hash."""
     found = answers.answers_in(folder / chain)
     sets = sets_in(found)
@@ -64,8 +79,7 @@ def message(folder, chain, height, trusted, named):
     header = {"version": {"block": head["version"].get("block", "0"), "app": head["version"].get("app", "0")}, "chain_id": head["chain_id"],
               "height": head["height"], "time": head["time"], "last_block_id": block_id(head["last_block_id"])}
     header |= {name: based(head[name]) for name in HASHES}
-    signatures = [{"block_id_flag": FLAGS[s["block_id_flag"]], "validator_address": based(s["validator_address"]), "timestamp": s["timestamp"],
-                   "signature": s["signature"] or ""} for s in commit["signatures"]]
+    signatures = [entry(s, senders) for s in commit["signatures"]]
     return {"@type": "/ibc.lightclients.tendermint.v1.Header",
             "signed_header": {"header": header, "commit": {"height": commit["height"], "round": commit["round"], "block_id": block_id(commit["block_id"]),
                                                            "signatures": signatures}},
@@ -100,12 +114,13 @@ def commit_of(written):
 
 def set_answer(height, written):
     """A set of a message as the answer of a node for a height."""
-    members = [v | {"address": digits(v["address"]), "pub_key": {"type": TYPES[kind], "value": key}} for v in written["validators"] for kind, key in v["pub_key"].items()]
+    members = [v | {"address": digits(v["address"]), "pub_key": {"type": TYPES[kind], "value": key}}
+               for v in written["validators"] for kind, key in v["pub_key"].items()]
     return {"jsonrpc": "2.0", "id": -1, "result": {"block_height": str(height), "validators": members, "count": str(len(members)), "total": str(len(members))}}
 
 
 def read_back(program, setup, folder, made, sent):
-    """The headers that `import` reads of messages, which are made into the answers of nodes again; each of a chain, a height and a trusted height."""
+    """The script that `import` makes of messages, which are made into the answers of nodes again; each of a chain, a height and a trusted height."""
     back = made.with_name(f"{made.name}-back")
     chains = {chain for _, chain, _, _ in sent}
     shutil.copytree(folder, back, ignore=shutil.ignore_patterns("commit-*", "validators-*"))
@@ -119,7 +134,7 @@ def read_back(program, setup, folder, made, sent):
         if trusted + 1 != height:
             answers.write(back / chain / f"validators-{trusted + 1}.json", set_answer(trusted + 1, written["trusted_validators"]))
     done = subprocess.run([*program, "import", str(setup), str(back)], stdout=subprocess.PIPE, stderr=subprocess.PIPE)
-    return headers_in(tomllib.loads(done.stdout.decode())) if done.returncode in (0, 7) else done.stderr
+    return done.stdout.decode() if done.returncode in (0, 7) else ""
 
 
 def headers_in(script):
@@ -159,25 +174,52 @@ def sent_in(script, report):
             yield client["id"], number, update["height"], update["trusted"]
 
 
-def run_messages(program, top, setup, folder, what):
+def relayer_of(text):
+    """The second planner after a script's turns."""
+    relayer = reference.Relayer(reference.read_script(text.encode()))
+    for turn in relayer.script.turns:
+        relayer.turn(turn)
+    return relayer
+
+
+def senders_in(relayer, client, height, trusted):
+    """The addresses whose votes the second planner sends; None where all are sent."""
+    client = relayer.script.clients[client]
+    return {v["address"] for v in reference.sent_votes(relayer.books[client.of], client, trusted, height)} if client.votes == "needed" else None
+
+
+def accepts(relayer, client, height, trusted):
+    """Whether the step rule accepts an update in the window, by the second planner."""
+    client = relayer.script.clients[client]
+    return all(reference.accepts(relayer.books[client.of], client, trusted, height, now) for now in relayer.window)
+
+
+def with_needed(text):
+    """The script whose clients send only the votes that an update needs."""
+    return text.replace("version = 1\n", "version = 3\n", 1).replace("[[client]]\n", '[[client]]\nvotes = "needed"\n')
+
+
+def run_messages(program, top, setup, folder, what, needed):
     """Runs `import` and `messages` over answers: whether all is as it has to be."""
     script, made, log = top / f"{what}.toml", top / f"{what}-messages", top / f"{what}.log"
     done = subprocess.run([*program, "import", str(setup), str(folder)], stdout=subprocess.PIPE, stderr=subprocess.DEVNULL)
-    script.write_bytes(done.stdout)
-    table = tomllib.loads(script.read_text())
+    script.write_text(with_needed(done.stdout.decode()) if needed else done.stdout.decode())
+    table, relayer = tomllib.loads(script.read_text()), relayer_of(script.read_text())
     report = json.loads(subprocess.run([*program, "plan", "--json", str(script)], stdout=subprocess.PIPE, check=True).stdout)
     told = subprocess.run([*program, "messages", str(script), str(folder), str(made)], stdout=subprocess.PIPE, stderr=subprocess.PIPE)
     lines, calls, files, wrong = [], [], [], [] if told.returncode == 0 else [told.stderr]
-    clients, chains = {c["id"]: c for c in table["client"]}, [c["id"] for c in table["chain"]]
+    clients, chains, letters, few = {c["id"]: c for c in table["client"]}, [c["id"] for c in table["chain"]], {}, 0
     for number, (client, transaction, height, trusted) in enumerate(sent_in(table, report), 1):
         name, chain = f"{number}-{trusted}-{height}.json", clients[client]["of"]
         prefix = named_by(table, client, trusted)
         named = next(h for h in sets_in(answers.answers_in(folder / chain)) if h.hex().startswith(prefix))
         written = json.loads((made / name).read_text()) if (made / name).exists() else {}
-        if written != message(folder, chain, height, trusted, named) or not is_whole(written, named):
+        wanted = message(folder, chain, height, trusted, named, senders_in(relayer, client, height, trusted))
+        if written != wanted or not is_whole(written, named):
             wrong.append(name)
+        letters[chain, height] = "".join(LETTERS[s["block_id_flag"]] for s in wanted["signed_header"]["commit"]["signatures"])
         lines.append(f"{name} client {client} transaction {transaction}\n")
-        files.append((name, chain, height, trusted))
+        files.append((name, chain, height, trusted, client))
         host = clients[client]["host"]
         calls.append(f"{chains.index(host) + 1} tx ibc client update {client.removeprefix(host + '.')} {name} --yes\n")
     if told.stdout.decode() != "".join(lines):
@@ -185,9 +227,14 @@ def run_messages(program, top, setup, folder, what):
     if sorted(os.listdir(made)) != sorted([line.split()[0] for line in lines] + ["send.sh"]):
         wrong.append("other files")
     if files and not wrong:
-        sent, back = {(chain, height) for _, chain, height, _ in files}, read_back(program, setup, folder, made, files)
-        if back != {place: header for place, header in headers_in(table).items() if place in sent}:
+        back = read_back(program, setup, folder, made, [file[:4] for file in files])
+        headers = headers_in(table)
+        few = sum(headers[place]["votes"] != votes for place, votes in letters.items())
+        if not back or headers_in(tomllib.loads(back)) != {place: headers[place] | {"votes": votes} for place, votes in letters.items()}:
             wrong.append(back)
+        else:
+            again = relayer_of(back)
+            wrong += [f"refused {name}" for name, _, height, trusted, client in files if not accepts(again, client, height, trusted)]
     for number in range(1, len(chains) + 1):
         (top / f"program-{number}").write_text(f'#!/bin/sh\necho {number} "$@" >> "$LOG"\n')
         (top / f"program-{number}").chmod(0o755)
@@ -198,7 +245,7 @@ def run_messages(program, top, setup, folder, what):
         wrong += [sent.stderr, log.read_text(), calls]
     if wrong:
         print(f"== messages of {what}\n-- {wrong!r}"[:3000])
-    return len(lines), not wrong
+    return len(lines), few, not wrong
 
 
 def setup_of(chain, goal):
@@ -277,25 +324,25 @@ def refusal_cases(top, script, folder):
 
 def message_runs(program, top):
     """How many runs of `messages` there are, and how many go wrong."""
-    folder, runs, sent, wrong = top / "sending", 0, 0, 0
+    folder, runs, sent, few, wrong = top / "sending", 0, 0, 0, 0
     folder.mkdir()
+    made = {}
     for seed in range(1, 7):
         answers.make(folder / f"seed-{seed}", seed)
-        setup = folder / f"setup-{seed}.toml"
-        setup.write_text((program_setup()))
-        count, good = run_messages(program, folder, setup, folder / f"seed-{seed}", f"seed-{seed}")
-        runs, sent, wrong = runs + 1, sent + count, wrong + (not good)
+        made[f"seed-{seed}"] = program_setup()
     for kind, change in (("quiet", 0), ("switch", 900), ("churn", 40)):
-        chain, made = LongChain("hub-4", kind, 1200, 12, change), folder / kind
-        saved_chain(made, chain, [100, 300, 500, 700, 899, 1000, 1199, 1200], [1, 90])
-        setup = folder / f"{kind}.setup"
-        setup.write_text(setup_of(chain, 1199))
-        count, good = run_messages(program, folder, setup, made, kind)
-        runs, sent, wrong = runs + 1, sent + count, wrong + (not good)
-    for case, made in refusal_cases(folder, folder / "seed-1.toml", folder / "seed-1"):
-        runs, wrong = runs + 1, wrong + run_program(program, [case]) + made.exists()
-    if sent < 12:
-        print(f"== messages: only {sent} updates were sent")
+        chain = LongChain("hub-4", kind, 1200, 12, change)
+        saved_chain(folder / kind, chain, [100, 300, 500, 700, 899, 1000, 1199, 1200], [1, 90])
+        made[kind] = setup_of(chain, 1199)
+    for (what, text), needed in itertools.product(made.items(), (False, True)):
+        setup = folder / f"{what}.setup"
+        setup.write_text(text)
+        count, fewer, good = run_messages(program, folder, setup, folder / what, f"{what}-{'needed' if needed else 'all'}", needed)
+        runs, sent, few, wrong = runs + 1, sent + count, few + fewer, wrong + (not good)
+    for case, folder_made in refusal_cases(folder, folder / "seed-1-all.toml", folder / "seed-1"):
+        runs, wrong = runs + 1, wrong + run_program(program, [case]) + folder_made.exists()
+    if sent < 24 or few < 8:
+        print(f"== messages: only {sent} updates were sent, {few} with fewer votes")
         wrong += 1
     return runs, wrong
 

@@ -1,6 +1,7 @@
 -- Lists that are made beside others.
-use Rattle.std.proofs.Common.{◌≡◌, ℕ, ◌+◌, ◌<◌, ◌≤◌, List, [], ◌∷◌, ◌++◌, append_assoc, drop, length, get_or, map, take, ap, sym, subst, ◌∙◌}
+use Rattle.std.proofs.Common.{◌≡◌, ℕ, ◌+◌, ◌<◌, ◌≤◌, List, [], ◌∷◌, ◌++◌, append_assoc, drop, length, get_or, map, take, ap, sym, subst, zero-add, ◌∙◌}
 use Rattle.std.specs.List.{AllZip, enumerate_from}
+use Rattle.std.proofs.lemmas.List.FromFn.{get_or-enumerate_from, length-enumerate_from}
 use Rattle.std.proofs.lemmas.List.{drop_more, map_push, take_more, take_all}
 
 zipped_push : {A B : Type 0} (R : A → B → Type 0) (xs : List A) (ys : List B) (x : A) (y : B) → AllZip R xs ys → R x y → AllZip R (xs ++ x ∷ []) (ys ++ y ∷ [])
@@ -17,6 +18,17 @@ zipped_more R xs i x ys y lt is r all =
 
 pub zipped_all : {A B : Type 0} (R : A → B → Type 0) (xs : List A) (i : ℕ) (ys : List B) → length xs ≤ i → AllZip R (take i xs) ys → AllZip R xs ys
 zipped_all R xs i ys le all = subst (λ zs. AllZip R zs ys) (take_all i xs le) all
+
+-- beside a list by places
+pub placed_more : {A B : Type 0} (R : ℕ × A → B → Type 0) (xs : List A) (i : ℕ) (x : A) (ys : List B) (y : B) → i < length xs → x ≡ get_or xs i x
+    → R (i, x) y → AllZip R (take i (enumerate_from 0 xs)) ys → AllZip R (take (i + 1) (enumerate_from 0 xs)) (ys ++ y ∷ [])
+placed_more R xs i x ys y lt is r all =
+    let at : get_or (enumerate_from 0 xs) i (i, x) ≡ (i, x) = get_or-enumerate_from 0 xs i (i, x) lt ∙ (λ k. (zero-add i k, sym is k)) in
+    zipped_more R (enumerate_from 0 xs) i (i, x) ys y (rw (length-enumerate_from 0 xs) lt) (sym at) r all
+
+pub placed_all : {A B : Type 0} (R : ℕ × A → B → Type 0) (xs : List A) (i : ℕ) (ys : List B)
+    → length xs ≤ i → AllZip R (take i (enumerate_from 0 xs)) ys → AllZip R (enumerate_from 0 xs) ys
+placed_all R xs i ys le all = zipped_all R (enumerate_from 0 xs) i ys (rw (length-enumerate_from 0 xs) le) all
 
 -- what is made of each element and its place: the next one is made, and the others are left
 pub named_next : {A B C : Type 0} (v : C → B) (g : ℕ × A → B) (us : List A) (i : ℕ) (u : A) (made : List C) (one : C) (all : List B)

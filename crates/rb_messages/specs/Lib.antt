@@ -1,4 +1,3 @@
 pub mod Names
-pub mod Updates
 pub mod Sources
 pub mod Messages

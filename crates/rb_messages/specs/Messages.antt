@@ -1,116 +1,41 @@
--- Client messages (ICS 7, `Header`; its JSON by protojson): the signed header, its set, the trusted height, and the set that the consensus
--- state of that height names.
-use Rattle.std.specs.Prelude.{◌≡◌, ℕ, List, [], ◌++◌, codes, nat_lt, if◌then◌else◌, Option, Some, None, IsSomeAnd, slice_get, slice_index_or, string_bytes}
-use Rattle.std.specs.List.{AllZip, enumerate_from, find, flat_map}
-use Rattle.std.specs.Option.{option_map_or, option_or}
-use Rattle.std.specs.Fmt.{decimal}
-use Rattle.base64.specs.Engines.{standard}
-use Rattle.base64.specs.GeneralPurpose.{encode_of}
+-- Client messages (ICS 7, `Header`).
+use Rattle.std.specs.Prelude.{◌≡◌, ℕ, List, [], Option, Some, Ok, IsSomeAnd, option_map, slice_get, slice_index_or, string_bytes}
+use Rattle.std.specs.List.{AllZip}
+use Rattle.jiff_core.specs.declared.civil.datetime.DateTime.{DateTime}
 use Rattle.rb_import_answers.specs.Revisions.{IsRevision}
 use Rattle.rb_import_check.specs.declared.chain.Commit.{Commit}
 use Rattle.rb_import_check.specs.declared.chain.SeenChain.{SeenChain}
-use Rattle.rb_valset.specs.Validator.{Member, address_of, has_address, key_bytes}
-use Rattle.rb_valset.specs.declared.key.PublicKey.{PublicKey}
-use Rattle.rb_valset.specs.declared.key.PublicKey.TheVariants.{Ed25519, Secp256k1}
-use Rattle.rb_valset.specs.ValidatorSet.{set_hash, total_of}
-use Rattle.rb_messages.specs.Sources.{IsHeaderOf, commit_at}
+use Rattle.rb_valset.specs.Validator.{Member}
+use Rattle.rb_valset.specs.ValidatorSet.{set_hash}
+use Rattle.rb_step.specs.Sent.{sent_view}
+use Rattle.rb_message_text.specs.MessageTexts.{message_text}
+use Rattle.rb_message_text.specs.Signed.{SignedHeader, in_nanos}
+use Rattle.rb_messages.specs.Sources.{IsHeaderOf, commit_at, signed_from}
+use Rattle.rb_messages.specs.declared.answers.ChainAnswers.{ChainAnswers}
 use Rattle.rb_messages.specs.declared.message.MessageFile.{MessageFile}
 use Rattle.rb_messages.specs.declared.update.PlannedUpdate.{PlannedUpdate}
 
--- bytes: base64, in quotes
-unfoldable pub bytes_text : List ℕ → List ℕ
-bytes_text bytes = codes "\"" ++ encode_of standard bytes ++ codes "\""
-
--- the parts of a validator: its address, its key, its power, and its priority, which is in no hash
-abbrev pub address_text : Member → List ℕ
-address_text m = codes "{\"address\": " ++ bytes_text (address_of m.key)
-
--- what stands before the bytes of a key: the name of its kind (CometBFT, `crypto.PublicKey`)
-abbrev pub key_head : PublicKey → List ℕ
-key_head (Ed25519 bytes) = codes ", \"pub_key\": {\"ed25519\": "
-key_head (Secp256k1 bytes) = codes ", \"pub_key\": {\"secp256k1\": "
-
-abbrev pub key_text : Member → List ℕ
-key_text m = key_head m.key ++ bytes_text (key_bytes m.key)
-
-abbrev pub power_text : Member → List ℕ
-power_text m = codes "}, \"voting_power\": \"" ++ decimal m.power ++ codes "\", \"proposer_priority\": \"0\"}"
-
--- a validator (CometBFT, `Validator`)
-unfoldable pub validator_text : Member → List ℕ
-validator_text m = address_text m ++ key_text m ++ power_text m
-
--- a validator of a list, by its place: a comma stands before each but the first
-abbrev pub listed_text : ℕ × Member → List ℕ
-listed_text (place, m) = if nat_lt 0 place then codes ", " ++ validator_text m else validator_text m
-
--- the parts of a set: its members, its proposer, its total power
-abbrev pub opening_text : List Member → List ℕ
-opening_text set = codes "{\"validators\": [" ++ flat_map listed_text (enumerate_from 0 set)
-
-abbrev pub members_text : List Member → List ℕ
-members_text set = opening_text set ++ codes "]"
-
--- the proposer of a set: its member of this address, or its first one
-abbrev pub proposer_in : List Member → List ℕ → Option Member
-proposer_in set address = option_or (find (has_address address) set) (slice_get set 0)
-
-abbrev pub named_proposer : Member → List ℕ
-named_proposer m = codes ", \"proposer\": " ++ validator_text m
-
-abbrev pub proposer_text : Option Member → List ℕ
-proposer_text proposer = option_map_or named_proposer proposer []
-
-abbrev pub total_text : List Member → List ℕ
-total_text set = codes ", \"total_voting_power\": \"" ++ decimal (total_of set) ++ codes "\"}"
-
--- a set in its order (CometBFT, `ValidatorSet`)
-unfoldable pub set_text : List ℕ → List Member → List ℕ
-set_text address set = members_text set ++ proposer_text (proposer_in set address) ++ total_text set
-
--- the parts of a message: the text of its signed header; its set; the trusted height with the revision of the chain (ICS 2); the set that is
--- trusted there. The proposers of both sets have one address
-abbrev pub signed_text : List ℕ → List ℕ
-signed_text signed = codes "{\"@type\": \"/ibc.lightclients.tendermint.v1.Header\", \"signed_header\": " ++ signed
-
-abbrev pub own_text : List ℕ → List Member → List ℕ
-own_text proposer set = codes ", \"validator_set\": " ++ set_text proposer set
-
-abbrev pub revision_text : ℕ → List ℕ
-revision_text revision = codes ", \"trusted_height\": {\"revision_number\": \"" ++ decimal revision
-
-abbrev pub height_text : ℕ → List ℕ
-height_text height = codes "\", \"revision_height\": \"" ++ decimal height ++ codes "\"}"
-
-abbrev pub trusted_set_text : List ℕ → List Member → List ℕ
-trusted_set_text proposer set = codes ", \"trusted_validators\": " ++ set_text proposer set
-
-abbrev pub trusted_text : List ℕ → List Member → List ℕ
-trusted_text proposer set = trusted_set_text proposer set ++ codes "}\n"
-
-unfoldable pub message_text : List ℕ → List ℕ → List Member → ℕ → ℕ → List Member → List ℕ
-message_text signed proposer own revision height trusted =
-    signed_text signed ++ own_text proposer own ++ (revision_text revision ++ height_text height) ++ trusted_text proposer trusted
-
--- the text is the message of an update of a chain: its signed header is made of the commit of the height, which is of the header that the
--- relayer has planned for; with the set that this header names, and the trusted height with the set that its record names
-pub record IsMessageOf (chain : List ℕ) (seen : SeenChain) (u : PlannedUpdate) (text : List ℕ) : Type 0 where
+-- the text is the message of an update of a chain: its signed header is what the file of the height's commit says, whose header is the one that the
+-- relayer has planned for, with the votes that the planner counts; with the set that this header names, and the trusted height with the set that its
+-- record names
+pub record IsMessageOf (chain : List ℕ) (seen : SeenChain) (answers : Option ChainAnswers) (u : PlannedUpdate) (text : List ℕ) : Type 0 where
   pub commit : Commit
-  pub signed : List ℕ
-  pub proposer : List ℕ
+  pub signed : SignedHeader DateTime
   pub own : List Member
   pub trusted : List Member
   pub revision : ℕ
   pub commit_is : commit_at seen u.height ≡ Some commit
   pub header_is : IsHeaderOf u commit.header.now
+  pub signed_is : signed_from answers commit.digest ≡ Ok (in_nanos signed)
   pub own_is : set_hash own ≡ commit.header.now.set
   pub trusted_is : IsSomeAnd u.trusted_record (λ r. set_hash trusted ≡ r.next)
   pub revision_is : IsRevision chain revision
-  pub text_is : text ≡ message_text signed proposer own revision u.trusted trusted
+  pub text_is : text ≡ message_text (option_map sent_view u.votes) signed own revision u.trusted trusted
 
 -- the file is that of an update of the chain at its place
-abbrev pub IsFileOf : List (List ℕ) → List SeenChain → PlannedUpdate → MessageFile → Type 0
-IsFileOf chains seen u file = IsSomeAnd (slice_get seen u.chain) (λ s. IsMessageOf (slice_index_or chains u.chain []) s u (string_bytes file.text))
+abbrev pub IsFileOf : List (List ℕ) → List SeenChain → List ChainAnswers → PlannedUpdate → MessageFile → Type 0
+IsFileOf chains seen answers u file =
+    IsSomeAnd (slice_get seen u.chain) (λ s. IsMessageOf (slice_index_or chains u.chain []) s (slice_get answers u.chain) u (string_bytes file.text))
 
-abbrev pub AreFilesOf : List (List ℕ) → List SeenChain → List PlannedUpdate → List MessageFile → Type 0
-AreFilesOf chains seen updates files = AllZip (IsFileOf chains seen) updates files
+abbrev pub AreFilesOf : List (List ℕ) → List SeenChain → List ChainAnswers → List PlannedUpdate → List MessageFile → Type 0
+AreFilesOf chains seen answers updates files = AllZip (IsFileOf chains seen answers) updates files

@@ -1,24 +1,41 @@
 -- What a message is made of, and why it isn't made.
-use Rattle.std.specs.Prelude.{◌≡◌, ◌⊎◌, ⊤, ℕ, List, ◌==◌, Contains, Option, Some, None, IfSome, IsSomeAnd, MatchOption, slice_get}
-use Rattle.std.specs.List.{AllZip, find}
+use Rattle.std.specs.Prelude.{◌≡◌, ◌<◌, ⊤, ℕ, ℤ, List, [], ◌==◌, Bool, All, Contains, length, position, Option, Result, Err, IfSome, IsSomeAnd, MatchOption, option_and_then, option_map, slice_get, slice_index_or}
+use Rattle.std.specs.List.{AllZip, enumerate_from, find}
+use Rattle.std.specs.Str.{bytes_eq}
 use Rattle.rb_book.specs.Header.{Record}
+use Rattle.rb_import_answers.specs.Answers.{whole}
 use Rattle.rb_import_answers.specs.declared.commit.SignedHeader.{SignedHeader}
-use Rattle.rb_import_check.specs.Chains.{HaveHeaders, HaveSets, headers_of}
+use Rattle.rb_import_check.specs.Chains.{AreOfFiles, HaveHeaders, HaveSets, IsOfChain, IsOfItsBlock, filed_of, headers_of}
+use Rattle.rb_import_check.specs.Errors.{IsToldOf}
 use Rattle.rb_import_check.specs.Sets.{WasSeen}
+use Rattle.rb_import_check.specs.declared.saved.Saved.{Saved}
 use Rattle.rb_import_check.specs.declared.chain.Commit.{Commit}
 use Rattle.rb_import_check.specs.declared.chain.SeenChain.{SeenChain}
+use Rattle.rb_import_json.specs.FieldErrors.{◌>>=◌, or_flaw}
+use Rattle.rb_import_json.specs.declared.error.FieldError.{FieldError}
+use Rattle.rb_import_json.specs.declared.error.FieldErrorName.TheVariants.{NotJson}
+use Rattle.rb_message_text.specs.Signed.{SignedHeader as Signed, signed_of_bytes}
 use Rattle.rb_messages.specs.declared.answers.ChainAnswers.{ChainAnswers}
 use Rattle.rb_messages.specs.declared.error.MessageError.{MessageError}
 use Rattle.rb_messages.specs.declared.error.MessageError.TheVariants.{Answers, MissingHeader, OtherHeader, MissingSet, Flawed, NoMemory}
 use Rattle.rb_messages.specs.declared.update.PlannedUpdate.{PlannedUpdate}
 
--- what was seen is what the answers on a chain tell: their headers, and the sets of their validators
-abbrev pub Tells : ChainAnswers → SeenChain → Type 0
-Tells answers seen = HaveHeaders (headers_of answers.saved.items) seen.commits.items × HaveSets answers.saved.items seen.sets.sets.items
+-- what was seen is what the answers on a chain tell: their headers, each with its file; all headers are of the chain with this identifier, and have
+-- the hashes of the blocks that their commits are for; and the sets of their validators
+unfoldable pub Tells : List ℕ → ChainAnswers → SeenChain → Type 0
+Tells id answers seen =
+    HaveHeaders (headers_of answers.saved.items) seen.commits.items
+    × AreOfFiles (filed_of answers.saved.items) seen.commits.items
+    × All (IsOfChain id) seen.commits.items
+    × All IsOfItsBlock seen.commits.items
+    × HaveSets answers.saved.items seen.sets.sets.items
+
+abbrev pub TellsAt : List (List ℕ) → ℕ × ChainAnswers → SeenChain → Type 0
+TellsAt chains p seen = Tells (slice_index_or chains p.0 []) p.1 seen
 
 -- so it is of each chain, by its place
-abbrev pub AreTold : List ChainAnswers → List SeenChain → Type 0
-AreTold answers seen = AllZip Tells answers seen
+abbrev pub AreTold : List (List ℕ) → List ChainAnswers → List SeenChain → Type 0
+AreTold chains answers seen = AllZip (TellsAt chains) (enumerate_from 0 answers) seen
 
 -- the commit of a height
 abbrev pub commit_at : SeenChain → ℕ → Option Commit
@@ -34,27 +51,69 @@ pub record IsOfRecord (h : SignedHeader) (r : Record) : Type 0 where
 abbrev pub IsHeaderOf : PlannedUpdate → SignedHeader → Type 0
 IsHeaderOf u h = IsSomeAnd u.own_record (IsOfRecord h)
 
+abbrev pub has_digest : List ℕ → Saved → Bool
+has_digest digest s = bytes_eq s.digest digest
+
+abbrev pub content_at : ChainAnswers → ℕ → Option (List ℕ)
+content_at answers place = option_map (λ c. c.items) (slice_get answers.contents.items place)
+
+-- the content of the first file with this SHA-256
+unfoldable pub content_of : ChainAnswers → List ℕ → Option (List ℕ)
+content_of answers digest = option_and_then (content_at answers) (position (has_digest digest) answers.saved.items)
+
+-- the signed header that the file with this SHA-256 has; a file that isn't among the answers is no JSON
+unfoldable pub signed_from : Option ChainAnswers → List ℕ → Result (Signed ℤ) FieldError
+signed_from answers digest = do
+  bytes ← or_flaw (whole NotJson) (option_and_then (λ a. content_of a digest) answers)
+  signed_of_bytes bytes
+
+-- ---- why no message of an update is made
+
 -- there is no commit of the height, or not its set
 abbrev pub LacksHeader : SeenChain → ℕ → Type 0
 LacksHeader seen height = MatchOption (commit_at seen height) ⊤ (λ c. ¬ WasSeen seen.sets.sets.items c.header.now.set)
 
--- the commit of the height is of another header than the relayer has planned for
-abbrev pub HasOtherHeader : SeenChain → PlannedUpdate → Type 0
-HasOtherHeader seen u = IsSomeAnd (commit_at seen u.height) (λ c. ¬ IsHeaderOf u c.header.now)
+-- the commit of the height, in this file, is of another header than the relayer has planned for
+abbrev pub HasOtherHeader : SeenChain → PlannedUpdate → List ℕ → Type 0
+HasOtherHeader seen u file = IsSomeAnd (commit_at seen u.height) (λ c. (file ≡ c.file.now) × ¬ IsHeaderOf u c.header.now)
 
 -- the set that the record of the trusted height names wasn't seen
 abbrev pub LacksTrustedSet : SeenChain → PlannedUpdate → Type 0
 LacksTrustedSet seen u = IfSome u.trusted_record (λ r. ¬ WasSeen seen.sets.sets.items r.next)
 
--- the error is why no message of an update is made of what was seen of its chain
-abbrev pub IsRefusedFor : SeenChain → PlannedUpdate → MessageError → Type 0
-IsRefusedFor seen u (MissingHeader chain height) = (height ≡ u.height) × LacksHeader seen u.height
-IsRefusedFor seen u (OtherHeader chain height file) = (height ≡ u.height) × HasOtherHeader seen u
-IsRefusedFor seen u (MissingSet chain height) = (height ≡ u.trusted) × LacksTrustedSet seen u
-IsRefusedFor seen u (Answers e) = ⊤
-IsRefusedFor seen u (Flawed file flaw) = ⊤
-IsRefusedFor seen u NoMemory = ⊤
+-- the signed header in the file of the height's commit has this flaw
+abbrev pub HasFlaw : SeenChain → Option ChainAnswers → PlannedUpdate → List ℕ → FieldError → Type 0
+HasFlaw seen answers u file flaw = IsSomeAnd (commit_at seen u.height) (λ c. (file ≡ c.file.now) × (signed_from answers c.digest ≡ Err flaw))
 
--- so it is of one of the updates, each of the chain at its place
-abbrev pub IsRefusedAmong : List SeenChain → List PlannedUpdate → MessageError → Type 0
-IsRefusedAmong seen updates e = (u : PlannedUpdate) × Contains updates u × MatchOption (slice_get seen u.chain) ⊤ (λ s. IsRefusedFor s u e)
+-- the error is why no message of an update is made of what was seen of its chain, and of the answers on it
+abbrev pub IsRefusedFor : List ℕ → SeenChain → Option ChainAnswers → PlannedUpdate → MessageError → Type 0
+IsRefusedFor id seen answers u (MissingHeader chain height) = (chain.now ≡ id) × (height ≡ u.height) × LacksHeader seen u.height
+IsRefusedFor id seen answers u (OtherHeader chain height file) = (chain.now ≡ id) × (height ≡ u.height) × HasOtherHeader seen u file.now
+IsRefusedFor id seen answers u (MissingSet chain height) = (chain.now ≡ id) × (height ≡ u.trusted) × LacksTrustedSet seen u
+IsRefusedFor id seen answers u (Flawed file flaw) = HasFlaw seen answers u file.now flaw
+IsRefusedFor id seen answers u (Answers e) = ⊥
+IsRefusedFor id seen answers u NoMemory = ⊤
+
+-- so it is of the chain at the update's place
+abbrev pub IsRefusedAt : List (List ℕ) → List SeenChain → List ChainAnswers → PlannedUpdate → MessageError → Type 0
+IsRefusedAt chains seen answers u e =
+    MatchOption (slice_get seen u.chain) ⊤ (λ s. IsRefusedFor (slice_index_or chains u.chain []) s (slice_get answers u.chain) u e)
+
+-- and so it is of one of the updates
+abbrev pub IsRefusedAmong : List (List ℕ) → List SeenChain → List ChainAnswers → List PlannedUpdate → MessageError → Type 0
+IsRefusedAmong chains seen answers updates e = (u : PlannedUpdate) × Contains updates u × IsRefusedAt chains seen answers u e
+
+-- ---- why answers aren't taken
+
+-- the error names the chain with this identifier
+abbrev pub IsRefusedOn : List ℕ → MessageError → Type 0
+IsRefusedOn id (MissingHeader chain height) = ⊥
+IsRefusedOn id (OtherHeader chain height file) = ⊥
+IsRefusedOn id (MissingSet chain height) = ⊥
+IsRefusedOn id (Flawed file flaw) = ⊥
+IsRefusedOn id (Answers e) = IsToldOf id e
+IsRefusedOn id NoMemory = ⊤
+
+-- so it does of one of the chains with answers, by its place
+abbrev pub AreRefused : List (List ℕ) → List ChainAnswers → MessageError → Type 0
+AreRefused chains answers e = (place : ℕ) × (place < length answers) × IsRefusedOn (slice_index_or chains place []) e

@@ -1,11 +1,7 @@
 //! Why a message isn't made.
-ghost use Rattle.rb_import_check.specs.declared.chain.SeenChain.{SeenChain};
-ghost use Rattle.rb_messages.specs.Sources.{IsRefusedFor};
-ghost use Rattle.rb_messages.specs.declared.update.PlannedUpdate.{PlannedUpdate};
-
 use rb_base::Height;
 use rb_import_check::ImportError;
-use rb_import_json::{AnswerError, FieldError};
+use rb_import_json::FieldError;
 use std::alloc::{AllocError, AllocFailed};
 use std::fmt;
 
@@ -37,26 +33,6 @@ pub enum MessageError<'a> {
     },
     /// A growth was refused.
     NoMemory,
-}
-
-impl<'a> MessageError<'a> {
-    /// Why answers aren't taken.
-    pub(crate) fn of_answers(error: ImportError<'a>) -> MessageError<'a> {
-        match error {
-            ImportError::NoMemory => MessageError::NoMemory,
-            error => MessageError::Answers(error),
-        }
-    }
-
-    /// Why the answer in a file isn't read.
-    pub(crate) fn of_answer(error: AnswerError, file: &'a str) -> MessageError<'a>
-        ensures { (seen : SeenChain) (update : PlannedUpdate) → IsRefusedFor seen update result }
-    {
-        match error {
-            AnswerError::Invalid(flaw) => MessageError::Flawed { file, flaw },
-            AnswerError::NoMemory => MessageError::NoMemory,
-        }
-    }
 }
 
 impl fmt::Display for MessageError<'_> {

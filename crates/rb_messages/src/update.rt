@@ -4,11 +4,13 @@ ghost use Rattle.rb_messages.specs.Names.{file_name};
 
 use rb_base::{ClientId, Height};
 use rb_book::Record;
+use rb_step::SentVotes;
 use std::alloc::{AllocError, Global};
 
 /// An update that is sent: of which client, on which host and to which chain, by their places; in which transaction of the
-/// client, from 1; the heights, and the consensus states that the relayer has of them.
-#[derive(Clone, Copy, Debug)]
+/// client, from 1; the heights, and the consensus states that the relayer has of them; and where the client sends only
+/// the votes that the update needs, these.
+#[derive(Debug, Drop)]
 pub struct PlannedUpdate {
     pub client: ClientId,
     pub host: usize,
@@ -18,6 +20,7 @@ pub struct PlannedUpdate {
     pub trusted: Height,
     pub own_record: Option<Record>,
     pub trusted_record: Option<Record>,
+    pub votes: Option<SentVotes>,
 }
 
 /// The name of the file of an update, by its place among those that are sent.

@@ -1,0 +1,4 @@
+pub mod Signed
+pub mod SignedTexts
+pub mod Views
+pub mod MessageTexts
