@@ -25,7 +25,8 @@ use Rattle.rb_super_turn.proofs.Sizes.{at_place}
 use Rattle.rb_super_turn.proofs.Steps.{sizes_in}
 use Rattle.rb_explain.specs.Client.{IsRight}
 use Rattle.rb_explain.specs.Turn.{AreExplained, AreJobs, AreRight, IsExplainedAt, IsJobFor, IsRightFor, IsToldIn, IsTurnExplained}
-use Rattle.rb_explain.specs.Wanted.{has_client}
+use Rattle.rb_explain.specs.Subjects.{AreSubjects}
+use Rattle.rb_explain.specs.Wanted.{has_client, has_turn}
 use Rattle.rb_explain.specs.declared.client.ClientExplanation.{ClientExplanation}
 use Rattle.rb_explain.specs.declared.turn.TurnExplanation.{TurnExplanation}
 use Rattle.rb_explain.specs.declared.wanted.Detail.{Detail}
@@ -223,10 +224,14 @@ module _ {A : Type 0} where
       (subst (λ b. IsToldIn (standing_in core) detail place known r b y.0) (are.seen place o.0 o.1) told)
 
   pub turn_explained : (core : Core) (s : Standing) (turn : Turn) (wanted : Wanted) (jobs : List (Option Job)) (x : TurnExplanation A) → IsPlannable core → standing_in core ≡ before_plans s turn
-      → AreJobs (state_in core) (has_client wanted x.turn) jobs → IsTurnReport s turn (turn_report_view x.report) → length x.clients.items ≡ length jobs
+      → AreJobs (state_in core) (has_client wanted x.turn) jobs → x.window ≡ turn.window → AreSubjects (has_turn wanted x.turn) turn.events x.subjects.items
+      → IsTurnReport s turn (turn_report_view x.report) → length x.clients.items ≡ length jobs → length jobs ≡ length x.report.clients.items
       → AreExplained wanted.detail jobs x.report.clients.items x.clients.items → IsTurnExplained s turn wanted x
-  turn_explained core s turn wanted jobs x ready is are report long explained = record {
+  turn_explained core s turn wanted jobs x ready is are window subjects report long many explained = record {
+    window = window;
     report = report;
+    subjects = subjects;
+    count = long ∙ many;
     clients = λ place known r at r_at.
         let here : slice_get (standing_in core).clients place ≡ Some known = ap (λ (t : Standing). slice_get t.clients place) is ∙ at in
         subst (λ (t : Standing). IsSomeAnd (slice_get x.clients.items place) (IsToldIn t wanted.detail place known r (has_client wanted x.turn place))) is

@@ -1,3 +1,6 @@
 pub mod Readiness
 pub mod Reasons
 pub mod Jobs
+pub mod Listeners
+pub mod Waits
+pub mod Subjects

@@ -4,5 +4,9 @@ pub use Rattle.rb_explain_plan.specs.Unreachable
 pub mod Wanted
 pub mod Heights
 pub mod Idle
+pub mod Ends
+pub mod Waiting
 pub mod Client
+pub mod Subjects
 pub mod Turn
+pub mod Listening

@@ -9,6 +9,7 @@ use Rattle.rb_super_turn.specs.Turns.{before_plans, IsTurnReport}
 use Rattle.rb_super_turn.specs.Views.{outcome_view, turn_report_view}
 use Rattle.rb_super_turn.specs.declared.report.ClientReport.{ClientReport}
 use Rattle.rb_explain.specs.Client.{IsClientExplained, IsRight}
+use Rattle.rb_explain.specs.Subjects.{AreSubjects}
 use Rattle.rb_explain.specs.Wanted.{has_client, has_turn}
 use Rattle.rb_explain.specs.declared.client.ClientExplanation.{ClientExplanation}
 use Rattle.rb_explain.specs.declared.turn.TurnExplanation.{TurnExplanation}
@@ -33,14 +34,19 @@ abbrev pub IsToldIn : {A : Type 0} → Standing → Detail → ℕ → ClientSta
 IsToldIn s detail place known r true o = IsSomeAnd o (IsExplainedIn s detail place known r)
 IsToldIn s detail place known r false o = o ≡ None
 
--- the report is the turn's, and each client that is wanted is explained, by its report and by what it was where clients were planned
+-- its window and its report are the turn's, and what its events tell of is there where the turn is wanted; for each client of the report
+-- there is one place, where it is explained if it is wanted, by its report and by what it was where clients were planned
 pub record IsTurnExplained {A : Type 0} (start : Standing) (turn : Turn) (wanted : Wanted) (x : TurnExplanation A) : Type 0 where
+  pub window : x.window ≡ turn.window
   pub report : IsTurnReport start turn (turn_report_view x.report)
+  pub subjects : AreSubjects (has_turn wanted x.turn) turn.events x.subjects.items
+  pub count : length x.clients.items ≡ length x.report.clients.items
   pub clients : (place : ℕ) (known : ClientState) (r : ClientReport A) → slice_get (before_plans start turn).clients place ≡ Some known → slice_get x.report.clients.items place ≡ Some r
       → IsSomeAnd (slice_get x.clients.items place) (IsToldIn (before_plans start turn) wanted.detail place known r (has_client wanted x.turn place))
 
--- such an explanation of some turn that is wanted
-pub record IsExplanation {A : Type 0} (wanted : Wanted) (x : TurnExplanation A) : Type 0 where
+-- it is such an explanation of some turn, which was wanted
+pub record IsExplanation {A : Type 0} (x : TurnExplanation A) : Type 0 where
+  pub wanted : Wanted
   pub start : Standing
   pub turn : Turn
   pub right : IsTurnExplained start turn wanted x

@@ -5,7 +5,9 @@
 mod client;
 mod heights;
 mod idle;
+mod press;
 mod reach;
+mod ready;
 mod refused;
 mod run;
 mod seeing;

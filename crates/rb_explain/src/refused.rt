@@ -1,4 +1,8 @@
 //! What refused events tell of.
+ghost use Rattle.std.specs.Prelude.{◌≡◌, Some, map, IfOk};
+ghost use Rattle.rb_core_model.specs.Seen.{observed};
+ghost use Rattle.rb_explain.specs.Subjects.{AreSubjects, subject_of};
+
 use rb_base::Height;
 use rb_scan::Sequence;
 use rb_script_types::Observation;
@@ -26,7 +30,9 @@ pub enum Subject {
 }
 
 /// What an event tells of.
-fn subject_of<A: Allocator>(observation: &Observation<A>) -> Subject {
+fn subject_of<A: Allocator>(observation: &Observation<A>) -> Subject
+    ensures { Some result ≡ subject_of (observed observation.now) }
+{
     match observation {
         Observation::SetSeen { chain, .. } => Subject::Set { chain: *chain },
         Observation::HeaderSeen { chain, header } => Subject::Header {
@@ -62,7 +68,9 @@ pub(crate) fn subjects_of<A: Allocator + Copy>(
     alloc: A,
     events: &[Observation<A>],
     is_wanted: bool,
-) -> Result<Vec<Subject, A>, AllocError> {
+) -> Result<Vec<Subject, A>, AllocError>
+    ensures { IfOk result (λ subjects. AreSubjects is_wanted (map observed events.now) subjects.items) }
+{
     if !is_wanted {
         return Ok(Vec::new(alloc));
     }

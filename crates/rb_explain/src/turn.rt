@@ -5,7 +5,7 @@ ghost use Rattle.rb_script_types.specs.Script.{IsReadObservation};
 ghost use Rattle.rb_core_model.specs.Standing.{goes_back};
 ghost use Rattle.rb_super.specs.AsEvents.{code_turn_as_events, IsTurnFor, most_events};
 ghost use Rattle.rb_super_turn.specs.Phases.{standing_in, HasLogRoom, IsLater, IsPlannable, turn_heard};
-ghost use Rattle.rb_super_turn.specs.Turns.{before_plans, refusals_in};
+ghost use Rattle.rb_super_turn.specs.Turns.{after_turn, before_plans, refusals_in};
 ghost use Rattle.rb_super_turn.specs.Views.{client_report_view, refused_view, settlement_view, turn_report_view};
 ghost use Rattle.rb_explain.specs.Turn.{IsTurnExplained};
 
@@ -45,6 +45,7 @@ impl<A: Allocator> TurnExplanation<A> {
         ensures window { result.window ≡ window }
         ensures report { turn_report_view result.report ≡ turn_report_view report }
         ensures reports { result.report.clients.items ≡ report.clients.items }
+        ensures subjects { result.subjects.items ≡ subjects.items }
         ensures clients { result.clients.items ≡ clients.items }
     {
         TurnExplanation {
@@ -118,6 +119,7 @@ pub(crate) fn explain_turn<R: Threads + Sync, G: Gate + Sync, A: Allocator + Cop
     requires alloc { Frees A.Allocator A.dealloc_token }
     ensures number { IfOk result (λ x. x.turn ≡ number) }
     ensures right { IfOk result (IsTurnExplained (standing_in relayer.old) (code_turn_as_events turn) wanted.now) }
+    ensures standing { IfOk result (λ x. standing_in relayer.new ≡ after_turn (standing_in relayer.old) (code_turn_as_events turn) (turn_report_view x.report)) }
     ensures later { OnOk result (IsLater (most_events relayer.old.config turn) relayer.old relayer.new) }
 {
     let Turn {

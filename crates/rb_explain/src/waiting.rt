@@ -1,7 +1,16 @@
 //! Packet messages that are owed to a client and not sent.
+ghost use Rattle.std.specs.Prelude.{◌≡◌, ◌++◌, IfOk, OnOk};
+ghost use Rattle.std.specs.Option.{option_copied, option_map};
+ghost use Rattle.rb_super_turn.specs.Views.{outcome_view};
+ghost use Rattle.rb_explain.specs.Client.{IsRight};
+ghost use Rattle.rb_explain.specs.Ends.{ends_of};
+ghost use Rattle.rb_explain.specs.Waiting.{AreAmong, IsLeft, IsSentFirst, IsWaiting, owed_message, owed_messages, owed_on, sent_in};
+
+use crate::press::press_moment;
+use crate::ready::{Ends, ends_at, is_ready};
 use rb_base::Height;
 use rb_plan_client::{JobView, Message, PathTask};
-use rb_scan::{PacketMsg, ready};
+use rb_scan::PacketMsg;
 use rb_super_turn::Outcome;
 use std::alloc::{AllocError, Allocator};
 
@@ -15,7 +24,9 @@ pub struct WaitingMessage {
 }
 
 /// The messages that are sent.
-fn sent<A: Allocator>(outcome: &Outcome<A>) -> &[Message] {
+fn sent<A: Allocator>(outcome: &Outcome<A>) -> &[Message]
+    ensures { result.now ≡ sent_in (outcome_view outcome.now) }
+{
     match outcome {
         Outcome::Planned(planned) => match &planned.plan {
             Some(plan) => plan.messages.as_slice(),
@@ -25,78 +36,110 @@ fn sent<A: Allocator>(outcome: &Outcome<A>) -> &[Message] {
     }
 }
 
-/// The moment from which on a message that is ready waits for no other: at once where it may not wait; else once it has waited since
-/// a height that proves it was known, or, for a receive, so long before its packet may have expired.
-fn press_moment<A: Allocator + Copy>(
-    job: &JobView<A>,
-    task: &PathTask<A>,
-    packet: &PacketMsg,
-) -> u128 {
-    let wait = u128::from(task.waits().of(packet.kind));
-    if wait == 0 {
-        return 0;
-    }
-    let book = job.book();
-    let since = match book.records().get(book.lower_count(packet.floor)) {
-        Some(entry) => entry.record().time().nanoseconds(),
-        None => 0,
-    };
-    match packet.expires {
-        Some(moment) => (since + wait).min(moment.nanoseconds().saturating_sub(wait)),
-        None => since + wait,
-    }
-}
-
-/// Adds the messages of a path that aren't the next ones that are sent; answers what is sent of later paths.
-fn add_waiting<'a, A: Allocator + Copy>(
-    alloc: A,
+/// A message that a path owes, by its place; `ends` tell how far the path's messages are ready.
+#[tactic(auto, using(crate::proofs::Waits::ready_by))]
+fn owed_message<A: Allocator + Copy>(
     job: &JobView<A>,
     task: &PathTask<A>,
     reach: &Option<Height>,
-    sent: &'a [Message],
-    waiting: &mut Vec<WaitingMessage, A>,
-) -> Result<&'a [Message], AllocError> {
-    let provable = ready(alloc, task.owed(), task.order(), *reach)?;
-    let mut provable = provable.as_slice();
-    let mut sent = sent;
-    for packet in task.owed() {
-        let mut presses = None;
-        match provable.split_first() {
-            Some((next, rest)) if *next == *packet => {
-                presses = Some(press_moment(job, task, packet));
-                provable = rest;
-            }
-            _ => {}
-        }
-        match sent.split_first() {
-            Some((next, rest)) if next.path() == task.path() && next.packet() == *packet => {
-                sent = rest;
-            }
-            _ => waiting.push(WaitingMessage {
-                path: task.path(),
-                packet: *packet,
-                presses,
-            })?,
-        }
+    ends: &Option<Ends>,
+    place: usize,
+    packet: &PacketMsg,
+) -> WaitingMessage
+    requires { ends.now ≡ option_map (ends_of task.now.owed) reach.now }
+    ensures { result ≡ owed_message job.now.task reach.now task.now place packet.now }
+{
+    let presses = if is_ready(ends, task.order(), place, packet) {
+        press_moment(job, &task.waits(), packet)
+    } else {
+        None
+    };
+    WaitingMessage {
+        path: task.path(),
+        packet: *packet,
+        presses,
     }
-    Ok(sent)
 }
 
-/// The packet messages that are owed to a client and not sent, where no batch of it is open. Those that are sent, and those that are ready,
-/// stand in the order in which they are owed.
+/// Puts what a path owes to the end of a list.
+fn add_owed<A: Allocator + Copy>(
+    job: &JobView<A>,
+    task: &PathTask<A>,
+    reach: &Option<Height>,
+    messages: &mut Vec<WaitingMessage, A>,
+) -> Result<(), AllocError>
+    ensures { OnOk result (messages.new.items ≡ messages.old.items ++ owed_on job.now.task reach.now task.now) }
+{
+    let owed = task.owed();
+    let ends = ends_at(owed, reach);
+    for (place, packet) in owed.iter().enumerate() {
+        messages.push(owed_message(job, task, reach, &ends, place, packet))?;
+    }
+    Ok(())
+}
+
+/// All that is owed to a client.
+fn owed_messages<A: Allocator + Copy>(
+    alloc: A,
+    job: &JobView<A>,
+    reach: &Option<Height>,
+) -> Result<Vec<WaitingMessage, A>, AllocError>
+    ensures { IfOk result (λ messages. messages.items ≡ owed_messages job.now.task reach.now) }
+{
+    let mut messages = Vec::new(alloc);
+    for task in job.paths() {
+        add_owed(job, task, reach, &mut messages)?;
+    }
+    Ok(messages)
+}
+
+/// What is sent behind a message, where that is the first one that is sent.
+fn after_sent<'a>(sent: &'a [Message], message: &WaitingMessage) -> Option<&'a [Message]>
+    ensures { IsSentFirst message.now sent.now (option_copied result) }
+{
+    let (next, rest) = sent.split_first()?;
+    if message.path == next.path() && message.packet == next.packet() {
+        Some(rest)
+    } else {
+        None
+    }
+}
+
+/// What is owed and not sent. What is sent stands in the order in which it is owed.
+fn unsent<A: Allocator + Copy>(
+    alloc: A,
+    owed: &[WaitingMessage],
+    sent: &[Message],
+) -> Result<Vec<WaitingMessage, A>, AllocError>
+    requires { AreAmong sent.now owed.now }
+    ensures { IfOk result (λ waiting. IsLeft owed.now sent.now waiting.items) }
+{
+    let mut waiting = Vec::new(alloc);
+    let mut sent = sent;
+    for message in owed {
+        match after_sent(sent, message) {
+            Some(rest) => sent = rest,
+            None => waiting.push(*message)?,
+        }
+    }
+    Ok(waiting)
+}
+
+/// The packet messages that are owed to a client and not sent, where no batch of it is open; `reach` is the greatest height that it can be
+/// brought to. The outcome is right for the job.
+#[tactic(auto, using(crate::proofs::Waits::sent_among))]
 pub(crate) fn waiting<A: Allocator + Copy>(
     alloc: A,
     job: &JobView<A>,
     reach: &Option<Height>,
     outcome: &Outcome<A>,
-) -> Result<Vec<WaitingMessage, A>, AllocError> {
-    let mut waiting = Vec::new(alloc);
-    if job.is_held() {
-        return Ok(waiting);
+) -> Result<Vec<WaitingMessage, A>, AllocError>
+    requires { IsRight job.now.task (outcome_view outcome.now) }
+    ensures { IfOk result (λ waiting. IsWaiting job.now.task (outcome_view outcome.now) reach.now waiting.items) }
+{
+    if let Outcome::Held(_) = outcome {
+        return Ok(Vec::new(alloc));
     }
-    let mut sent = sent(outcome);
-    for task in job.paths() {
-        sent = add_waiting(alloc, job, task, reach, sent, &mut waiting)?;
-    }
-    Ok(waiting)
+    let owed = owed_messages(alloc, job, reach)?;
+    unsent(alloc, owed.as_slice(), sent(outcome))
 }

@@ -1,4 +1,4 @@
-use Rattle.std.proofs.Common.{◌≡◌, ◌<◌, List, length, map, sym, ap, ◌∙◌, subst, arith}
+use Rattle.std.proofs.Common.{◌≡◌, ◌<◌, Bool, List, length, map, sym, ap, ◌∙◌, subst, arith}
 use Rattle.std.specs.List.{All}
 use Rattle.std.proofs.lemmas.List.{length-map}
 use Rattle.rb_core.specs.Core.{Core, state_in}
@@ -7,11 +7,15 @@ use Rattle.rb_script_types.specs.declared.script.Asked.{Asked}
 use Rattle.rb_script_types.specs.declared.script.Settlement.{Settlement}
 use Rattle.rb_super.specs.AsEvents.{code_turn_as_events}
 use Rattle.rb_super_turn.specs.Phases.{standing_in, turn_heard, IsPlannable}
-use Rattle.rb_super_turn.specs.Turns.{before_plans, IsTurnReport}
+use Rattle.rb_super_turn.specs.Turns.{after_turn, before_plans, IsTurnReport}
 use Rattle.rb_super_turn.specs.Views.{refused_view, client_report_view, settlement_view}
 use Rattle.rb_super.proofs.Whole.{turn_done}
+use Rattle.rb_core_model.specs.Seen.{observed}
+use Rattle.rb_script_types.specs.declared.observation.Observation.{Observation}
+use Rattle.rb_explain.specs.Subjects.{AreSubjects}
 use Rattle.rb_explain.specs.Turn.{AreJobs}
-use Rattle.rb_explain.specs.Wanted.{has_client}
+use Rattle.rb_explain.specs.Wanted.{has_client, has_turn}
+use Rattle.rb_explain.specs.declared.refused.Subject.{Subject}
 use Rattle.rb_explain.proofs.Jobs.{as_many, explained_as, jobs_right, reports_here, right_as, turn_explained}
 use Rattle.rb_explain.proofs.turn.explain_turn.Goals as goal
 
@@ -97,10 +101,31 @@ returns-clause-right g c =
     let stands : standing_in c.prepare.new.relayer ≡ before_plans s turn = c.in_ok-window_back.ensures.standing ∙ ap (λ (gs : List Asked). before_plans s (turn_heard c.args.turn.window gs c.args.turn.events.items)) c.as_slice-2.ensures.value in
     turn_explained c.prepare.new.relayer s turn c.args.wanted.now c.in_ok-seen.seen.items x c.in_ok-window_back.ensures.ready stands
     (subst (λ n. AreJobs (state_in c.prepare.new.relayer) (has_client c.args.wanted.now n) c.in_ok-seen.seen.items) (sym c.new-explanation.ensures.turn) c.in_ok-seen.ensures.seen)
+    c.new-explanation.ensures.window
+    (subst (λ (xs : List Subject). AreSubjects (has_turn c.args.wanted.now x.turn) turn.events xs) (sym c.new-explanation.ensures.subjects)
+    (subst (λ (b : Bool). AreSubjects b turn.events c.in_ok-subjects.subjects.items) (c.has_turn.ensures ∙ ap (has_turn c.args.wanted.now) (sym c.new-explanation.ensures.turn))
+    (subst (λ (os : List (Observation _)). AreSubjects c.has_turn.result (map observed os) c.in_ok-subjects.subjects.items) c.as_slice.ensures.value c.in_ok-subjects.ensures)))
     (subst (IsTurnReport s turn) (sym (c.new-explanation.ensures.report ∙ c.report_of-report.ensures.view)) done)
     (ap length c.new-explanation.ensures.clients ∙ c.in_ok-explained.ensures.count ∙ ap length c.as_slice-4.ensures.value)
+    (as_many c.prepare.new.relayer (has_client c.args.wanted.now c.args.number) c.in_ok-seen.seen.items c.in_ok-clients.clients.items c.in_ok-seen.ensures.seen
+    (c.in_ok-clients.ensures.count ∙ ap (λ (k : Core). length k.config.clients) c.see_all.ensures.same)
+    ∙ sym (ap length (c.new-explanation.ensures.reports ∙ c.report_of-report.ensures.clients)))
     (explained_as c.as_slice-4.ensures.value (c.as_slice-5.ensures.value ∙ sym (c.new-explanation.ensures.reports ∙ c.report_of-report.ensures.clients)) (sym c.new-explanation.ensures.clients)
     c.in_ok-explained.ensures.explained)
+
+pub returns-clause-standing : goal.returns-clause-standing
+returns-clause-standing g c =
+    let s = standing_in c.args.relayer.now in
+    let turn = code_turn_as_events c.args.turn in
+    let done = (turn_done c.args.relayer.now c.see_all.new.relayer c.plan_all.new.relayer c.settle_turn.new.relayer c.args.turn c.as_slice-2.result.now c.as_slice-3.result.now
+    c.in_ok-window_back.window_back (map refused_view c.in_ok-window_back.refused.items) (map client_report_view c.in_ok-clients.clients.items) (map settlement_view c.in_ok-settled.settled.items)
+    c.as_slice-2.ensures.value c.as_slice-3.ensures.value c.in_ok-window_back.ensures.back c.in_ok-window_back.ensures.refused
+    (ap standing_in c.see_all.ensures.same ∙ c.in_ok-window_back.ensures.standing)
+    (length-map c.in_ok-clients.clients.items client_report_view ∙ c.in_ok-clients.ensures.count ∙ ap (λ (k : Core). length k.config.clients) c.see_all.ensures.same
+    ∙ ap (λ (k : Config). length k.clients) c.in_ok-window_back.ensures.later.config)
+    c.in_ok-clients.ensures.reports
+    c.in_ok-settled.ensures.reports c.in_ok-settled.ensures.standing).1 in
+    done ∙ ap (after_turn s turn) (sym (c.new-explanation.ensures.report ∙ c.report_of-report.ensures.view))
 
 pub returns-clause-later : goal.returns-clause-later
 returns-clause-later g c =
