@@ -362,9 +362,15 @@ LAST = 2**63 - 1
 NO_WAITS = [0, 0, 0]
 
 
+def pending_of(folder, path):
+    """The sequences of a path's commitments from its first one on, where answers tell of some; else none."""
+    pages = [answer["commitments"] for answer in answers_in(folder / path["id"]) if "commitments" in answer]
+    return {int(state["sequence"]) for page in pages for state in page if int(state["sequence"]) >= path.get("first", 1)} if pages else None
+
+
 def packet_events(folder, path):
-    """The packets of a path: of those that go to the counterparty, or else to the first sent one's destination, the one of the lowest block by kind and sequence;
-    and that the path is closed, if it is ordered and one of them timed out."""
+    """The packets of a path, where answers tell of commitments those with one: of those that go to the counterparty, or else to the first sent one's
+    destination, the one of the lowest block by kind and sequence; and that the path is closed, if it is ordered and one of them timed out."""
     found, dest_revision = [], int(path["dest"].rsplit("-", 1)[1])
     for answer in answers_in(folder / path["id"]):
         for tx in answer.get("result", {}).get("txs", []):
@@ -380,6 +386,8 @@ def packet_events(folder, path):
     ends = [[f[4][name] for name in dest] for f in found if f[3] == "send_packet"][:1]
     if "counterparty_port" in path:
         ends = [[path["counterparty_port"], path["counterparty_channel"]]]
+    pending = pending_of(folder, path)
+    found = [f for f in found if pending is None or f[2] in pending]
     found = [f for f in found if f[2] >= path.get("first", 1) and [f[4][name] for name in dest] in (ends or [[f[4][name] for name in dest]])]
     lowest = {}
     for kind, height, sequence, name, values in found:
@@ -452,8 +460,7 @@ def script_of(setup, folder):
         events += packet_events(folder, path)
         path.setdefault("first", 1)
         path.setdefault("wait_ns", NO_WAITS)
-        for key in "port", "channel", "counterparty_port", "counterparty_channel":
-            path.pop(key, None)
+        path["first"] = min(pending_of(folder, path) or [path["first"]])
     for turn in script["turn"]:
         turn["from"], turn["until"] = nanoseconds(turn["from"]), nanoseconds(turn["until"])
     script["turn"][-1]["event"] = events

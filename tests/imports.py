@@ -386,6 +386,18 @@ def packet_txs(ends, *found):
     return [answers.transaction(height, answers.packet_event(kind, sequence, LATER, ends=ends)) for height, kind, sequence in found]
 
 
+def pending(*pages, unreceived=None, acknowledged=None):
+    """The change that adds answers on pending packets: the sequences on pages of commitments; of the packets that weren't received, and of those of which
+    the acknowledgement was written."""
+    state = lambda sequence: {"port_id": "transfer", "channel_id": "channel-0", "sequence": str(sequence), "data": "AAAA"}
+    found = {f"commitments-{number}": {"commitments": [state(s) for s in page], "pagination": {"next_key": "AAAA" if pages[number:] else None, "total": "0"}}
+             for number, page in enumerate(pages, 1)}
+    found |= {"unreceived-1": {"sequences": [str(s) for s in unreceived]}} if unreceived is not None else {}
+    found |= {"acknowledgements-1": {"acknowledgements": [state(s) for s in acknowledged], "pagination": None}} if acknowledged is not None else {}
+    at = {"height": {"revision_number": "4", "revision_height": "80"}}
+    return in_turn(*(written(f"transfers/{name}.json", json.dumps(value | at)) for name, value in found.items()))
+
+
 def sent_until(*limits):
     """Transactions of packets from 20 on, sent with these timeout heights."""
     return [answers.transaction(40, answers.packet_event("send_packet", sequence, 0, limit=limit)) for sequence, limit in enumerate(limits, 20)]
@@ -444,6 +456,19 @@ CHANGES = [
     (saved(answers.transaction(33, answers.packet_event("send_packet", 3, 0, limit="1-7"))), "refused TwoAnswers at transfers 3", 1, ["more.json", "sent.json"]),
     (saved(answers.transaction(33, answers.packet_event("send_packet", 3, LATER))), "refused TwoAnswers at transfers 3", 1, ["more.json", "sent.json"]),
     (saved(answers.transaction(36, answers.packet_event("recv_packet", 9, 0))), "refused MissingSend at transfers 9", 1, ["more.json"]),
+    # packets that are pending, and what lacks of them
+    (in_turn(pending([3], [2]), removed("transfers/commitments-2.json")), "refused MissingCommitments at transfers", 1, [f"of the path's source, all of its pages,{INTO}transfers\n"]),
+    (pending([3, 77]), "refused MissingSend at transfers 77", 1, ["commitments-1.json: ", "set the path's `first` above it\n"]),
+    (pending([2, 3], unreceived=[]), "refused MissingReceive at transfers 3", 1, ["commitments-1.json: "]),
+    (in_turn(pending([3]), moved("transfers/commitments-1.json", "hub-4/commitments.json")), "refused WrongFolder at hub-4 0", 1, ["hub-4/commitments.json"]),
+    (in_turn(pending([3]), moved("transfers/commitments-1.json", "hub-on-zone/commitments.json")), "refused WrongFolder at hub-on-zone 0", 1, ["hub-on-zone/commitments.json"]),
+    *((in_turn(pending([3, 4], unreceived=[3, 4], acknowledged=[2, 4]), edited(f"transfers/{file}-1.json", edit)), f"refused {flaw}", 1, [f"{file}-1.json"])
+      for file, edit, flaw in (
+          ("commitments", put("commitments", {}), "WrongType at commitments"), ("commitments", gone("commitments[1].sequence"), "MissingField at commitments[1].sequence"),
+          ("commitments", put("commitments[1].sequence", 4), "WrongType at commitments[1].sequence"), ("commitments", put("commitments[0].sequence", BIG), "BadNumber at commitments[0].sequence"),
+          ("commitments", put("pagination", []), "WrongType at pagination"),
+          ("acknowledgements", put("acknowledgements[1].sequence", "x"), "BadNumber at acknowledgements[1].sequence"),
+          ("unreceived", put("sequences", "3"), "WrongType at sequences"), ("unreceived", put("sequences[1]", 4), "BadNumber at sequences"), ("unreceived", put("sequences[1]", "-4"), "BadNumber at sequences"))),
     # verdicts that don't fit, or are none
     (in_turn(judged((80, [0], [], 3)), moved(VERDICTS, "hub-4/again.json", copy=True)), "refused TwoAnswers at hub-4 0", 1, ["hub-4/again.json and ", VERDICTS]),
     (in_turn(judged((80, [0], [], 3)), moved(VERDICTS, "hub-on-zone/verdicts.json", copy=True)), "refused WrongFolder at hub-on-zone 0", 1, ["hub-on-zone/verdicts.json"]),
@@ -540,6 +565,14 @@ NOTICES = [
     (1, NAMED, written("transfers/zone.json", json.dumps(answers.search(*packet_txs(OTHER, *FORWARDED)))), [SEVERAL % ("channel-7", "channel-3")]),
     (1, NAMED, in_turn(removed(RECEIVED_FILE), saved(*packet_txs(OTHER, *FORWARDED))), [UNSEARCHED % "recv_packet", SEVERAL % ("channel-3", "channel-7")]),
     (1, NAMED, saved(*packet_txs(("channel-4", "channel-3"), *FORWARDED)), []),
+    # pending packets alone are written, and `first` is the least of them; searches for others needn't be there
+    (1, BOTH_NAMED, in_turn(pending([3], unreceived=[3], acknowledged=[]), removed(RECEIVED_FILE, CLEARED_FILE)), []),
+    (1, str, pending([2], [3], unreceived=[3], acknowledged=[2]), []),
+    (1, NAMED, pending([], unreceived=[]), []),
+    (1, swapped(PATH_GAS, PATH_GAS + "first = 3\n" + ENDS), pending([3, 2, 1], unreceived=[3]), []),
+    (1, str, in_turn(pending([3]), removed(RECEIVED_FILE)), [UNSEARCHED % "recv_packet"]),
+    (1, str, in_turn(pending([3]), NOTHING_FOUND), []),
+    (1, str, in_turn(pending([1, 2], unreceived=[1]), saved(*packet_txs(OURS, (58, "acknowledge_packet", 2)))), []),
     # a setup that names another source than that of the packets; and such answers that tell of none, or of one from it
     (1, MISNAMED, removed(), [CHANNEL]),
     (1, MISNAMED, in_turn(removed(SENT_FILE, CLEARED_FILE), NOTHING_FOUND), [UNSEARCHED % "send_packet, recv_packet, acknowledge_packet or timeout_packet"]),
@@ -564,7 +597,6 @@ CHAIN_QUERIES = {"/status": {"node_info": {}, "sync_info": {"latest_block_height
                  "/tx": {"hash": "00", "height": "7", "tx_result": {"code": 0}}}
 CLIENT_QUERIES = {"consensus_states/ID/heights": {"consensus_state_heights": [], "pagination": {}}, "client_status/ID": {"status": "Active"},
                   "consensus_states/ID/revision/R/height/H": {"consensus_state": {}, "proof": None, "proof_height": {}}}
-PATH_QUERIES = {"packet_commitments": {"commitments": [], "pagination": {}}, "unreceived_packets": {"sequences": ["7"], "height": {}}}
 
 
 def beside(queries, folder, copies=1, wrap=lambda answer: answer):
@@ -588,8 +620,7 @@ OPENINGS = [
      "# signatures: 2 of 2 commits verified: 12 good, 0 bad, 0 not checkable; by ?[[turn]]??[1m??" + "x" * 300, []),
     (beside(CHAIN_QUERIES, "hub-4", wrap=in_result), WARNING, [PASSED % ("hub-4", ", ".join(f"1 of {name}" for name in CHAIN_QUERIES))]),
     (beside(CHAIN_QUERIES, "hub-4", copies=2), WARNING, [PASSED % ("hub-4", ", ".join(f"2 of {name}" for name in CHAIN_QUERIES))]),
-    (in_turn(beside(CLIENT_QUERIES, "hub-on-zone"), beside(PATH_QUERIES, "hub-4")), WARNING, [
-        PASSED % ("hub-4", "1 of packet_commitments, 1 of unreceived_packets"),
+    (beside(CLIENT_QUERIES, "hub-on-zone"), WARNING, [
         PASSED % ("hub-on-zone", "1 of consensus_states/ID/heights, 1 of consensus_states/ID/revision/R/height/H, 1 of client_status/ID")]),
 ]
 
@@ -656,6 +687,8 @@ def spoiled_cases(top):
     for fault, script in ((b"fault 1002 MissingKey at turn\n", HEAD + ONE), (b"fault 1003 UnknownKey at client[0].colour\n", HEAD + ONE + "colour = 1\n" + TURN % 20),
                           (b"fault 1003 UnknownKey at turn[0].event\n", HEAD + ONE + TURN % 20 + "event = []\n"),
                           (b"fault 1002 MissingKey at path[0].channel\n", swapped(PATH_GAS, PATH_GAS + 'port = "transfer"\n')(text)),
+                          (b"fault 1007 BadIdentifier at path[0].channel\n", swapped(PATH_GAS, PATH_GAS + 'port = "transfer"\nchannel = "channel/0"\n')(text)),
+                          (b"fault 1007 BadIdentifier at path[0].port\n", swapped(PATH_GAS, PATH_GAS + f'port = "{"a" * 129}"\nchannel = "channel-0"\n')(text)),
                           (b"fault 1002 MissingKey at path[0].port\n", swapped(PATH_GAS, PATH_GAS + COUNTERPARTY)(text)),
                           (b"fault 1002 MissingKey at path[0].counterparty_port\n", swapped(PATH_GAS, PATH_GAS + SOURCE + 'counterparty_channel = "channel-7"\n')(text)),
                           (b"fault 1002 MissingKey at path[0].counterparty_channel\n", swapped(PATH_GAS, PATH_GAS + SOURCE + 'counterparty_port = "transfer"\n')(text))):

@@ -5,6 +5,7 @@ import functools
 import hashlib
 import http.server
 import json
+import re
 import threading
 import urllib.parse
 from datetime import timedelta
@@ -103,6 +104,8 @@ class LongChain:
         height = int(asked.get("height", [str(self.blocks)])[0])
         if path == "/status":
             return 200, self.status()
+        if path == "/tx_search":
+            return self.transfers.search(asked["query"][0])
         if height > self.blocks:
             return 500, self.error(f"height {height} must be less than or equal to the current blockchain height {self.blocks}")
         if height < self.lowest:
@@ -111,6 +114,44 @@ class LongChain:
             return 200, self.commit(height)
         found = self.validators(height, int(asked.get("page", ["1"])[0]), min(100, int(asked.get("per_page", ["30"])[0])))
         return (500 if "error" in found else 200), found
+
+
+class Transfers:
+    """Packets that go over a channel, by their sequences: the block that sent one, that received it and that wrote the acknowledgement (0: none did). The
+    source holds a commitment to each. It answers for the gateways and the nodes of both chains."""
+    ends = ("transfer", "channel-0"), ("transfer", "channel-7")
+    events = {"send_packet": (0, "src"), "recv_packet": (1, "dst"), "write_acknowledgement": (2, "dst")}
+
+    def __init__(self, packets, page=1000):
+        self.packets, self.page = packets, page
+
+    def states(self, sequences, key=None):
+        found = [{"port_id": "transfer", "channel_id": "channel-0", "sequence": str(sequence), "data": "AAAA"} for sequence in sequences]
+        return {"pagination": {"next_key": key, "total": "0"}, "height": {"revision_number": "4", "revision_height": "100"}}, found
+
+    def pending(self, path, asked):
+        """The status and the answer to what a gateway is asked about an end of the channel."""
+        channel, _, port, kind, *more = path.removeprefix("/ibc/core/channel/v1/channels/").split("/")
+        assert (port, channel) == self.ends[0 if kind == "packet_commitments" and not more else 1], path
+        if kind == "packet_acknowledgements":
+            rest, found = self.states([s for s in map(int, asked["packet_commitment_sequences"]) if self.packets[s][2]])
+            return 200, {"acknowledgements": found, **rest, "pagination": None}
+        if more:
+            assert more[1] == "unreceived_packets", path
+            return 200, {"sequences": [s for s in more[0].split(",") if not self.packets[int(s)][1]], "height": {}}
+        place = int(base64.b64decode(asked.get("pagination.key", ["MA=="])[0]))
+        end = place + min(self.page, int(asked["pagination.limit"][0]))
+        rest, found = self.states(list(self.packets)[place:end], base64.b64encode(str(end).encode()).decode() if end < len(self.packets) else None)
+        return 200, {"commitments": found, **rest}
+
+    def search(self, query):
+        """The status and the answer of a node to a search for the transaction of an event on a packet; what was done at once stands in one transaction."""
+        event, channel, sequence = re.fullmatch(r'"(\w+)\.packet_\w+_channel=\'([^\']*)\' AND \1\.packet_sequence=\'(\d+)\'"', query).groups()
+        place, side = self.events[event]
+        assert channel == self.ends[side == "dst"][1], query
+        block = self.packets[int(sequence)][place]
+        done = [name for name, (other, _) in self.events.items() if self.packets[int(sequence)][other] == block]
+        return 200, answers.search(*[answers.transaction(block, *(answers.packet_event(name, int(sequence), 0) for name in done))] if block else [])
 
 
 class Host:
@@ -126,6 +167,8 @@ class Host:
         """The status and the answer to what a gateway is asked."""
         if path == "/cosmos/base/tendermint/v1beta1/blocks/latest":
             return 200, {"block": {"header": {"time": self.chain.stamp(self.chain.blocks)}}}
+        if path.startswith("/ibc/core/channel/v1/"):
+            return self.transfers.pending(path, asked)
         kind, client = path.rsplit("/", 2)[1:]
         stored = self.clients.get(client)
         if stored is None:

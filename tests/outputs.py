@@ -1,5 +1,6 @@
 """Runs of `plan --json`, `run --json` and `commands` on the rows and the examples; what they write is made here of the reports that are stored."""
 import functools
+import itertools
 import json
 import shlex
 import sys
@@ -134,9 +135,24 @@ def commands_of(script, value, wanted=None):
             packets += f", message {client['too_big']} over the gas limit: no batch" if "too_big" in client else ""
             lines.append(f"{head}total fee {client['total']['fee']}, updates {client['total']['updates']}{packets}")
             sent = [] if "too_big" in client else client["updates"]
+            messages = [] if "too_big" in client else client["messages"]
             lines += [f"hermes update client --host-chain {word(host)} --client {word(own)} --height {u['height']} --trusted-height {u['trusted']}"
                       for u in sent]
+            lines += packet_commands(script, messages)
     return "".join(line + "\n" for line in lines)
+
+
+def packet_commands(script, messages):
+    """The commands for packet messages, by path and kind, where the script names the end of the channel that the packets come from."""
+    for path in script.get("path", []):
+        for kind in MESSAGES:
+            sequences = sorted(m["sequence"] for m in messages if (m["path"], m["kind"]) == (path["id"], kind))
+            prefix, to, by = ("counterparty_", "source", "dest") if kind == "ack" else ("", "dest", "source")
+            if sequences and f"{prefix}port" in path:
+                ranges = [[n for _, n in run] for _, run in itertools.groupby(enumerate(sequences), lambda item: item[1] - item[0])]
+                wanted = ",".join(f"{run[0]}..{run[-1]}" if run[1:] else f"{run[0]}" for run in ranges)
+                yield (f"hermes tx packet-{'ack' if kind == 'ack' else 'recv'} --dst-chain {word(path[to])} --src-chain {word(path[by])} "
+                       f"--src-port {word(path[prefix + 'port'])} --src-channel {word(path[prefix + 'channel'])} --packet-sequences {wanted}")
 
 
 def texts():

@@ -1,15 +1,20 @@
 """Runs of `want` over folders that are made step by step, and of `examples/collect` over made-up nodes: how many requests it makes, none of them twice,
 and whether what it saves plans as well as all heights would."""
+import contextlib
 import os
 import pathlib
 import shutil
 import subprocess
+import sys
 import tomllib
 
 import answers
 import nodes
 from nodes import Host, LongChain, least_fee, serve
 from program import CONTROL, TOP, Case
+
+sys.path.insert(0, str(TOP / "tests" / "reference"))
+import reference
 
 CLIENT, FEE = "07-tendermint-3", (118_400, 1_087, 771)
 HEAD = f'''version = 1
@@ -108,6 +113,135 @@ def want_cases(top):
     yield Case("want, a frozen client", ["want", str(setup), str(folder)], b"", b"", f"end {CLIENT}: it is frozen, or no Tendermint client\n".encode(), 0)
 
 
+BACK = "07-tendermint-9"
+PATH = f'''[[client]]
+id = "{BACK}"
+host = "hub-4"
+of = "zone-1"
+fee = {list(FEE)}
+gas = [1, 0, 0]
+limits = [1_000_000, 100, 0]
+[[path]]
+id = "transfers"
+source = "hub-4"
+dest = "zone-1"
+order = "unordered"
+forward = "{CLIENT}"
+back = "{BACK}"
+gas = [5, 5, 5]
+port = "transfer"
+channel = "channel-0"
+counterparty_port = "transfer"
+counterparty_channel = "channel-7"
+'''
+# the blocks that sent a packet, received it and wrote its acknowledgement
+PACKETS = {5: (60, 70, 70), 8: (61, 0, 0), 7: (62, 71, 75), 6: (63, 72, 0)}
+
+
+def about(end, rest, file):
+    """The line that asks the gateway of an end of the channel."""
+    chain, (port, channel) = (("hub-4", "zone-1")[end], nodes.Transfers.ends[end])
+    return get(f"/ibc/core/channel/v1/channels/{channel}/ports/{port}/{rest}", f"transfers/{file}.json", chain)
+
+
+def commitments(page=1, key=""):
+    return about(0, f"packet_commitments?pagination.limit=1000{key}", f"commitments-{page}")
+
+
+def parts(sequences, part=1):
+    """The lines that ask which of these packets weren't received, and of which the acknowledgement was written."""
+    words = "&".join(f"packet_commitment_sequences={sequence}" for sequence in sequences)
+    return (about(1, f"packet_commitments/{','.join(map(str, sequences))}/unreceived_packets", f"unreceived-{part}") +
+            about(1, f"packet_acknowledgements?{words}", f"acknowledgements-{part}"))
+
+
+def done(what, sequence):
+    """The line that asks for the transaction which did this with a packet."""
+    event, side, chain, channel = {"sent": ("send_packet", "src", "hub-4", "channel-0"), "received": ("recv_packet", "dst", "zone-1", "channel-7"),
+                                   "written": ("write_acknowledgement", "dst", "zone-1", "channel-7")}[what]
+    query = f"%22{event}.packet_{side}_channel='{channel}'%20AND%20{event}.packet_sequence='{sequence}'%22"
+    return get(f"/tx_search?query={query}&per_page=100", f"transfers/{what}-{sequence}.json", chain)
+
+
+def want_path_cases(top):
+    """What is asked for of a path, whose clients have what they need: its commitments, which of these packets weren't received and which acknowledgements were
+    written; and the transactions that sent, received and acknowledged them."""
+    hub, zone = LongChain("hub-4", "quiet", 100, 6), LongChain("zone-1", "quiet", 100, 6)
+    goals = f'client = "{CLIENT}", exactly = 52 }}, {{ client = "{BACK}", exactly = 52'
+    turn = setup_of(hub, "").removeprefix(HEAD) + f"goal = [{{ {goals} }}]\n"
+    second, known = commitments(2, "&pagination.key=Mg%3D%3D"), commitments() + parts(PACKETS)
+    sent, received = ("".join(done(what, sequence) for sequence in sequences) for what, sequences in (("sent", PACKETS), ("received", (5, 7, 6))))
+    many = {sequence: (60, 0, 0) for sequence in range(1, 102)}
+    both = parts(range(1, 101)) + parts([101], 2)
+    for number, (packets, page, edit, there, wanted, told) in enumerate((
+        (PACKETS, 1000, str, "", commitments(), b""),
+        (PACKETS, 2, str, commitments(), second, b""),
+        (PACKETS, 1000, str, commitments(), parts(PACKETS) + sent, b""),
+        (PACKETS, 2, str, commitments() + second, parts(PACKETS) + sent, b""),
+        (PACKETS, 1000, str, known, "".join(done("sent", s) + (done("received", s) if s != 8 else "") for s in PACKETS), b""),
+        (PACKETS, 1000, str, known + sent, received, b""),
+        (PACKETS, 1000, str, known + sent + received, done("written", 7), b""),
+        (PACKETS, 1000, str, known + sent + received + done("written", 7), "", b""),
+        (PACKETS, 1000, lambda text: text.replace("gas = [5, 5, 5]", "gas = [5, 5, 5]\nfirst = 7"), known, done("sent", 8) + done("sent", 7) + done("received", 7), b""),
+        ({}, 1000, str, commitments(), "", b""),
+        (many, 1000, str, commitments(), both + "".join(done("sent", sequence) for sequence in range(1, 27)), b""),
+        (many, 1000, str, commitments() + both + "".join(done("sent", sequence) for sequence in range(1, 101)), done("sent", 101), b""),
+        (PACKETS, 1000, lambda text: text.replace('counterparty_port = "transfer"\ncounterparty_channel = "channel-7"\n', ""), "", "", b""),
+    )):
+        folder, setup = top / f"want-path-{number}", top / f"want-path-{number}.toml"
+        setup.write_text(edit(HEAD + PATH + turn))
+        hub.transfers = zone.transfers = transfers = nodes.Transfers(packets, page)
+        for chain, client in (hub, CLIENT), (zone, BACK):
+            answers.write(folder / chain.name / "status", chain.status())
+            answers.write(folder / client / "client_state.json", Host(chain, {client: [52]}).answer(f"{GATEWAY}/client_states/{client}", {})[1])
+            answers.write(folder / client / "consensus_states-1.json", Host(chain, {client: [52]}).answer(f"{GATEWAY}/consensus_states/{client}", {})[1])
+        for line in there.splitlines():
+            _, _, path, file = line.split()
+            address, _, words = path.partition("?")
+            asked = nodes.urllib.parse.parse_qs(words)
+            answers.write(folder / file, (transfers.search(asked["query"][0]) if address == "/tx_search" else transfers.pending(address, asked))[1])
+        yield Case(f"want of a path {number}", ["want", str(setup), str(folder)], b"", wanted.encode(), told, 0)
+    for name, chain, wanted in ("commitments-1", b"hub-4", ""), ("unreceived-1", b"zone-1", parts(PACKETS).splitlines(True)[1] + sent):
+        folder = top / f"want-path-{name}"
+        shutil.copytree(top / "want-path-2", folder)
+        (folder / "transfers" / f"{name}.json").unlink(missing_ok=True)
+        (folder / "transfers" / f"{name}.refused").write_text("")
+        told = b"end transfers: the gateway of %s doesn't give which of its packets are pending\n" % chain
+        yield Case(f"want of a path, {name} refused", ["want", str(top / "want-path-2.toml"), str(folder)], b"", wanted.encode(), told, 0)
+
+
+def packet_flaws(program, folder):
+    """What is wrong with a run of `examples/collect` for a setup with a path, and with `import`, `plan` and `commands` over what it saves: the plan is the
+    second planner's, and the commands name all pending packets that can be proved."""
+    folder.mkdir()
+    hub, zone = LongChain("hub-4", "quiet", 100, 6), LongChain("zone-1", "quiet", 100, 6)
+    hub.transfers = zone.transfers = transfers = nodes.Transfers(PACKETS, 3)
+    gateways = {"hub-4": Host(zone, {BACK: [40]}), "zone-1": Host(hub, {CLIENT: [40]})}
+    for gateway in gateways.values():
+        gateway.transfers = transfers
+    text = HEAD + PATH + setup_of(hub, "").removeprefix(HEAD) + "goal = []\n"
+    hosts = [host for chain in (hub, zone) for host in (chain, gateways[chain.name])]
+    asked = [[] for _ in hosts]
+    (folder / "setup.toml").write_text(text)
+    with contextlib.ExitStack() as stack:
+        served = [stack.enter_context(serve(host.answer, paths)) for host, paths in zip(hosts, asked)]
+        (folder / "nodes").write_text("".join(f"{chain.name} {rpc} {rest}\n" for chain, rpc, rest in zip((hub, zone), served[::2], served[1::2])))
+        words = [TOP / "examples" / "collect", "--setup", folder / "setup.toml", folder / "answers", folder / "nodes"]
+        collecting = subprocess.run(words, env={**os.environ, "IBCPLAN": program}, capture_output=True, timeout=600)
+    flaws = [] if collecting.returncode == 0 else [f"status {collecting.returncode}: {collecting.stderr.decode()}"]
+    flaws += [f"twice asked: {path}" for paths in asked for path in {path for path in paths if paths.count(path) > 1}]
+    script = subprocess.run([program, "import", folder / "setup.toml", folder / "answers"], capture_output=True).stdout
+    given = answers.with_numbers(tomllib.loads(script.decode()))
+    flaws += [] if given == answers.script_of(text, folder / "answers") else ["import writes another script"]
+    report = reference.report(reference.read_script(script)) if script else ""
+    planned, told = (subprocess.run([program, command, "-"], input=script, capture_output=True).stdout.decode() for command in ("plan", "commands"))
+    flaws += [] if planned == report else [f"another plan: {planned}"]
+    sent = [line for line in told.splitlines() if line.startswith("hermes tx ")]
+    wanted = ["hermes tx packet-recv --dst-chain zone-1 --src-chain hub-4 --src-port transfer --src-channel channel-0 --packet-sequences 8",
+              "hermes tx packet-ack --dst-chain hub-4 --src-chain zone-1 --src-port transfer --src-channel channel-7 --packet-sequences 5,7"]
+    return flaws + ([] if sent == wanted else [f"other commands: {sent}"])
+
+
 # a name, a chain, the heights that the client has stored, a goal, the heights that have to be reached (none: no plan), the most requests, and the most
 # that the plan may cost, as a share of the least over all heights (0: the number of updates is told, by the next number)
 COLLECTS = [
@@ -165,11 +299,14 @@ def run_collects(program, top, is_told=False):
     flaws = refusal_flaws(program, top / "collect, refused")
     if flaws:
         print("== collect, a height refused", *flaws, sep="\n-- ")
-    return len(COLLECTS) + 1, wrong + bool(flaws)
+    wrong += bool(flaws)
+    flaws = packet_flaws(program, top / "collect, packets")
+    if flaws:
+        print("== collect, packets", *flaws, sep="\n-- ")
+    return len(COLLECTS) + 2, wrong + bool(flaws)
 
 
 if __name__ == "__main__":  # tests/wants.py PROGRAM
-    import sys
     import tempfile
     with tempfile.TemporaryDirectory() as path:
         print(run_collects(sys.argv[1], pathlib.Path(path), True))

@@ -342,13 +342,31 @@ def update_votes(value, path):
     return value
 
 
+def end_identifier(value, path):
+    need(is_identifier(text(value, path), 128), 1007, path)
+    return value
+
+
+# the keys of the ends of a path's channel
+ENDS = ("port", "channel"), ("counterparty_port", "counterparty_channel")
+
+
+def read_channel(table):
+    """The ends of a path's channel: both keys of an end or none, and those of the other end only beside the source's. Plans don't need them."""
+    there = [any(key in table.table for key in keys) for keys in ENDS]
+    for keys, is_there in zip(ENDS, (any(there), there[1])):
+        for key in keys if is_there else ():
+            table.read(key, end_identifier)
+
+
 def read_path(value, path, version, chains, clients, paths):
-    table = Section(value, path, "id source dest order first forward back gas".split() + ["wait_ns"] * (version > 2))
+    table = Section(value, path, "id source dest order first forward back gas".split() + ["wait_ns", *ENDS[0], *ENDS[1]] * (version > 2))
     name = table.read("id", new_identifier(paths))
     source, dest = table.read("source", reference(chains)), table.read("dest", reference(chains))
     kind, first = table.read("order", order), table.read("first", sequence, 1)
     forward, back = table.read("forward", reference(clients)), table.read("back", reference(clients))
     gas, wait = table.read("gas", fees), table.read("wait_ns", waits, (0, 0, 0))
+    read_channel(table)
     need(source != dest, 1015, path)
     need((clients[forward].host, clients[forward].of) == (dest, source), 1016, path)
     need((clients[back].host, clients[back].of) == (source, dest), 1016, path)

@@ -27,7 +27,7 @@ pub fn advice_for(name: FaultName, path: &str) -> &'static str {
             "the version of a script is 1, 2 or 3, of a setup or a certificate 1",
         FaultName::OutOfRange | FaultName::BadLimit | FaultName::BadFee => range_at(path),
         FaultName::BadIdentifier => {
-            "an identifier has 1 to 64 letters, digits and . _ + - # [ ] < >, a set's name at most 32"
+            "an identifier has 1 to 64 letters, digits and . _ + - # [ ] < >, a set's name at most 32, a port or a channel up to 128"
         }
         FaultName::DuplicateIdentifier => "an earlier one has this identifier",
         FaultName::UnknownIdentifier => wanted_at(path),
@@ -123,7 +123,7 @@ fn keys_at(path: &str) -> &'static str {
         "defaults" => DEFAULT_KEY_LIST,
         "client" => CLIENT_KEY_LIST,
         "path" => {
-            "a path has id, source, dest, order, first, forward, back, gas and, from version 3 on, wait_ns"
+            "a path has id, source, dest, order, first, forward, back, gas and, from version 3 on, wait_ns, port, channel, counterparty_port and counterparty_channel"
         }
         "turn" => { "a turn has from, until, goal, event, settle and, from version 3 on, taken" }
         "goal" => "a goal has client, and at_least or exactly",

@@ -4,7 +4,8 @@ use crate::importing::{add, path_in, read_bytes};
 use crate::left_out::is_tracked;
 use ibcplan_errors::{Input, ProgramError};
 use rb_import_setup::{Setup, read_setup};
-use rb_want::{Folder, Folders, Wanted, content_of, wanted_of};
+use rb_want::wanted_of;
+use rb_want_requests::{Content, Folder, Folders, Wanted, content_of};
 use std::alloc::{AllocError, Global};
 use std::{fs, io};
 
@@ -40,16 +41,19 @@ fn texts_of(alloc: Global, setup: &Setup, folders: &Folders) -> Result<WantedTex
     Ok(WantedText { requests, ends })
 }
 
-/// A line for each client of which no more is asked.
+/// A line for each client and each path of which no more is asked.
 fn ends_of(alloc: Global, wanted: &Wanted<'_>) -> Result<String, AllocError> {
     let mut text = String::new(alloc);
     for end in &wanted.ends {
         writeln!(text, "{end}")?;
     }
+    for end in &wanted.path_ends {
+        writeln!(text, "{end}")?;
+    }
     Ok(text)
 }
 
-/// Reads what there is of the chains that clients track, and of the clients.
+/// Reads what there is of the chains that clients track, of the clients, and of the paths that name both ends of their channels.
 fn read_folders<'a, R: FileSystem>(
     rt: &R,
     setup: &Setup,
@@ -69,7 +73,20 @@ fn read_folders<'a, R: FileSystem>(
         let read = read_folder(rt, folder, client.id.as_str())?;
         add(&mut clients, read)?;
     }
-    Ok(Folders { chains, clients })
+    let mut paths = Vec::new(rt.alloc());
+    for path in &setup.paths {
+        let read = if path.counterparty.is_some() {
+            read_folder(rt, folder, path.config.id.as_str())?
+        } else {
+            empty(rt.alloc())
+        };
+        add(&mut paths, read)?;
+    }
+    Ok(Folders {
+        chains,
+        clients,
+        paths,
+    })
 }
 
 /// A folder with nothing in it.
@@ -77,6 +94,7 @@ fn empty(alloc: Global) -> Folder {
     Folder {
         contents: Vec::new(alloc),
         refused: Vec::new(alloc),
+        searched: Vec::new(alloc),
     }
 }
 
@@ -118,10 +136,7 @@ fn read_named<'a, R: FileSystem>(
     read: &mut Folder,
 ) -> Result<(), ProgramError<'a>> {
     if let Some(request) = name.strip_suffix(".refused") {
-        return match String::from_str(rt.alloc(), request) {
-            Ok(request) => add(&mut read.refused, request),
-            Err(_) => Err(ProgramError::NoMemory),
-        };
+        return add_name(rt.alloc(), &mut read.refused, request);
     }
     if name != "status" && !name.ends_with(".json") {
         return Ok(());
@@ -132,7 +147,25 @@ fn read_named<'a, R: FileSystem>(
         Err(error) => return Err(ProgramError::of_file(rt.alloc(), file.as_str(), error)),
     };
     match content_of(rt.alloc(), bytes.as_slice()) {
-        Ok(content) => add(&mut read.contents, content),
+        Ok(content) => {
+            if let Content::Search(_) = &content {
+                let request = name.strip_suffix(".json").unwrap_or(name);
+                add_name(rt.alloc(), &mut read.searched, request)?;
+            }
+            add(&mut read.contents, content)
+        }
+        Err(_) => Err(ProgramError::NoMemory),
+    }
+}
+
+/// Adds the name of a request.
+fn add_name<'a>(
+    alloc: Global,
+    names: &mut Vec<String>,
+    request: &str,
+) -> Result<(), ProgramError<'a>> {
+    match String::from_str(alloc, request) {
+        Ok(request) => add(names, request),
         Err(_) => Err(ProgramError::NoMemory),
     }
 }

@@ -57,6 +57,7 @@ a_config order = record {
     back = 1;
     gas = record { receive = 5; acknowledge = 6; timeout = 7 };
     waits = record { receive = 0; acknowledge = 0; timeout = 0 };
+    channel = None;
   } ∷ [];
 }
 

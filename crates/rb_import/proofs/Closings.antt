@@ -10,3 +10,6 @@ pub seven_in_a_row : (a b c d e f g : List ℕ) → a ++ (b ++ (c ++ (d ++ (e ++
 seven_in_a_row a b c d e f g =
     sym (append_assoc (a ++ b ++ c ++ d ++ e) f g ∙ append_assoc (a ++ b ++ c ++ d) e (f ++ g) ∙ append_assoc (a ++ b ++ c) d (e ++ (f ++ g))
     ∙ append_assoc (a ++ b) c (d ++ (e ++ (f ++ g))) ∙ append_assoc a b (c ++ (d ++ (e ++ (f ++ g)))))
+
+pub eight_in_a_row : (a b c d e f g h : List ℕ) → a ++ (b ++ (c ++ (d ++ (e ++ (f ++ (g ++ h)))))) ≡ a ++ b ++ c ++ d ++ e ++ f ++ g ++ h
+eight_in_a_row a b c d e f g h = seven_in_a_row a b c d e f (g ++ h) ∙ sym (append_assoc (a ++ b ++ c ++ d ++ e ++ f) g h)

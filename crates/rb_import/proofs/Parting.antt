@@ -22,11 +22,12 @@ use Rattle.rb_import_merge.specs.Seen.{IsKeptSet}
 use Rattle.rb_import_notices.specs.Unusable.{last_turn}
 use Rattle.rb_import.specs.declared.steps.Judging.{Judging}
 use Rattle.rb_import.specs.declared.steps.Target.{Target}
-use Rattle.rb_import.specs.Parts.{IsNeededOf, IsPartOf, KeepsHeaders, ServesClients}
+use Rattle.rb_import.specs.Parts.{AreJudged, AreNeeded, IsNeededOf, IsOrderly, IsPartOf, KeepsHeaders, ServesClients}
 use Rattle.rb_import.specs.Starts.{Serves, is_charged}
-use Rattle.rb_import.specs.Finding.{AreTargets, HaveOwn, IsAmong, IsCase, IsPartAt, Need, Stay, is_one_of}
+use Rattle.rb_import.specs.Finding.{AreTargets, HaveOwn, IsAmong, IsCase, IsPartAt, Need, NeedOnly, Stay, is_one_of}
 use Rattle.rb_import.specs.Steps.{IsWrittenAt, judging_of}
 use Rattle.rb_import.proofs.Starting.{serves_on, serves_whole}
+use Rattle.rb_import.proofs.Using.{needed_unless, part_needed}
 
 -- ---- headers' own sets
 
@@ -116,9 +117,15 @@ whole_is setup seen place whole chain places is =
     own : HaveOwn chain whole whole.places.items
     own = λ k d small p own written. written.0
 
-pub need_whole : (setup : Setup) (seen : Seen) (place : ℕ) (whole : KeptSets) (places : List ℕ) (o : Option SeenChain) → places ≡ whole.places.items → IfSome o (λ chain. Need setup seen place whole chain places)
-need_whole setup seen place whole places None is = tt
-need_whole setup seen place whole places (Some chain) is = whole_is setup seen place whole chain places is
+-- of what was seen there
+pub seen_as : (o : Option SeenChain) (chain : SeenChain) (P : SeenChain → Type 0) → o ≡ Some chain → P chain → IfSome o P
+seen_as o chain P is w = subst (λ (x : Option SeenChain). IfSome x P) (sym is) w
+
+-- all sets are needed where none may be left out
+pub need_whole : (setup : Setup) (seen : Seen) (place : ℕ) (whole : KeptSets) (places : List ℕ) (o : Option SeenChain) → places ≡ whole.places.items
+    → IfSome o (λ chain. IsOrderly setup seen place chain → AreJudged setup seen place → ⊥) → IfSome o (λ chain. NeedOnly setup seen place whole chain places)
+need_whole setup seen place whole places None is not = tt
+need_whole setup seen place whole places (Some chain) is not = (whole_is setup seen place whole chain places is, needed_unless setup seen place chain whole places not)
 
 in_filter : (p : ℕ → Bool) (xs : List ℕ) (x : ℕ) → p x ≡ true → Contains xs x → Contains (filter p xs) x
 in_filter p [] x passes (k, small, is) = absurd (omega (arith, small))
@@ -167,11 +174,15 @@ serves_part setup seen place chain places whole part its serves number c client 
     serves_on (judging_of client turn.window) (is_charged c) chain whole records.items places part.places.items (λ p kept w. in_part places whole part its p kept w)
     (serves number c client records turn at tracks there written last)
 
-pub needed : (setup : Setup) (seen : Seen) (place : ℕ) (places : List ℕ) (whole part : KeptSets) → IfSome (slice_get seen.chains.items place) (λ chain. Need setup seen place whole chain places)
+pub needed : (setup : Setup) (seen : Seen) (place : ℕ) (places : List ℕ) (whole part : KeptSets) → IfSome (slice_get seen.chains.items place) (λ chain. NeedOnly setup seen place whole chain places)
     → IsPartAt places whole part → IsNeededOf setup seen place whole part
 needed setup seen place places whole part need its = (is_part places whole part its, each (slice_get seen.chains.items place) need)
   where
-    each : (o : Option SeenChain) → IfSome o (λ chain. Need setup seen place whole chain places)
-        → IfSome o (λ chain. KeepsHeaders chain whole part × ServesClients setup seen place chain whole part.places.items)
+    each : (o : Option SeenChain) → IfSome o (λ chain. NeedOnly setup seen place whole chain places)
+        → IfSome o (λ chain. KeepsHeaders chain whole part × ServesClients setup seen place chain whole part.places.items × AreNeeded setup seen place chain whole part.places.items)
     each None w = w
-    each (Some chain) (own, serves) = (keeps_headers chain places whole part its own, serves_part setup seen place chain places whole part its serves)
+    each (Some chain) ((own, serves), only) = (
+      keeps_headers chain places whole part its own,
+      serves_part setup seen place chain places whole part its serves,
+      part_needed setup seen place chain whole part places its only,
+    )

@@ -132,7 +132,7 @@ no_worse is_charged s t not_less = by (cases_lt (weight_of s is_charged) (weight
         inr (same, ge_from_not_lt t.height s.height (later (nat_cmp (weight_of t is_charged) (weight_of s is_charged)) (nat_cmp t.height s.height) (nat_tied _ _ (sym same)) not_less))
 
 -- the first from which the client accepts the header is no worse than another
-first_is_best : (judging : Judging) (sets : List SeenSet) (target : Target) (is_charged : Bool) (starts : List Start) (first s : Start) → IsSorted (start_cmp is_charged) starts
+pub first_is_best : (judging : Judging) (sets : List SeenSet) (target : Target) (is_charged : Bool) (starts : List Start) (first s : Start) → IsSorted (start_cmp is_charged) starts
     → IsFirst judging sets target starts first → Contains starts s → Accepts judging sets target.header target.place s → IsNoWorse is_charged first s
 unfolding IsFirst
 first_is_best judging sets target is_charged starts first s sorted (k, at, accepted, none) (j, small, is) its = by (cases_lt j k)

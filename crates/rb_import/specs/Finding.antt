@@ -1,10 +1,11 @@
 -- (internal) How the needed sets of a chain are found.
-use Rattle.std.specs.Prelude.{◌≡◌, ◌≢◌, ◌⊎◌, ℕ, Bool, List, Option, Some, None, All, Contains, IfSome, IsSomeAnd, slice_get, take, if◌then◌else◌, ◌==◌, Vec, filter}
+use Rattle.std.specs.Prelude.{◌≡◌, ◌≢◌, ◌<◌, ◌⊎◌, ℕ, Bool, List, Option, Some, None, All, Contains, IfSome, IsSomeAnd, slice_get, take, if◌then◌else◌, ◌==◌, Vec, filter}
 use Rattle.std.specs.Ordering.{nat_cmp, ordering_then}
 use Rattle.std.specs.declared.cmp.Ordering.{Ordering}
 use Rattle.std.specs.Global.{Global}
 use Rattle.std.specs.List.{list_any}
 use Rattle.rb_valset.specs.Validator.{Member}
+use Rattle.rb_book.specs.Book.{RecordAt}
 use Rattle.rb_import_setup.specs.declared.setup.Setup.{Setup}
 use Rattle.rb_import_setup.specs.declared.setup.TurnSetup.{TurnSetup}
 use Rattle.rb_import_check.specs.declared.chain.Commit.{Commit}
@@ -20,7 +21,7 @@ use Rattle.rb_import.specs.declared.steps.Start.{Start}
 use Rattle.rb_import.specs.declared.steps.Target.{Target}
 use Rattle.rb_import.specs.Steps.{Accepts, IsStartOf, IsStartOfHeader, IsWrittenAt, header_of, judging_of}
 use Rattle.rb_import.specs.Starts.{is_charged, weight_of, Outdoes}
-use Rattle.rb_import.specs.Parts.{ServesClients}
+use Rattle.rb_import.specs.Parts.{Agree, AreNeeded, ServesClients}
 
 -- ---- starts
 
@@ -79,9 +80,47 @@ IsOther records s target = (target.start ≡ Some s) × All (λ (r : Stored). r.
 abbrev pub AreOthers : List Stored → List Target → List Start → Type 0
 AreOthers records targets starts = All (λ (t : Target). (s : Start) → IsOther records s t → Contains starts s) targets
 
+-- a target is the header of one of the chain's commits, whose own set is written, with the start that it makes
+abbrev pub IsTargetIn : SeenChain → KeptSets → Target → Type 0
+IsTargetIn chain kept t =
+    (commit : Commit) × Contains chain.commits.items commit × (own : List Member) × IsWrittenAt chain.sets.sets.items kept commit.header.now.set t.place own
+    × (t.header ≡ header_of commit.header.now) × IfSome t.start (λ s. IsStartOfHeader chain.sets.sets.items kept s commit)
+
+-- so it is with each of these
+unfoldable pub AreTargetsIn : SeenChain → KeptSets → List Target → Type 0
+AreTargetsIn chain kept targets = All (IsTargetIn chain kept) targets
+
+-- one of the targets makes the start
+abbrev pub IsMadeBy : List Target → Start → Type 0
+IsMadeBy targets s = (t : Target) × Contains targets t × (t.start ≡ Some s)
+
+-- the start has its set at place p; it is the first, or the client accepts the header from it, and the first doesn't outdo it
+abbrev pub IsTaken : Judging → List SeenSet → Target → Option Start → List Start → ℕ → Start → Type 0
+IsTaken judging sets target first others p s =
+    (s.place ≡ p) × ((first ≡ Some s) ⊎ (Contains others s × Accepts judging sets target.header target.place s × ¬ IsSomeAnd first (λ f. Outdoes f s)))
+
+-- so an update to the target starts at the set at place p
+unfoldable pub StartsAt : Judging → List SeenSet → List Start → List Start → Target → ℕ → Type 0
+StartsAt judging sets stored others target p =
+    (first : Option Start) × IsFirstOrNone judging sets target stored first × (s : Start) × IsTaken judging sets target first others p s
+
+-- each place that wasn't there before has the property
+unfoldable pub AddsOnly : (ℕ → Type 0) → List ℕ → List ℕ → Type 0
+AddsOnly Has before after = (p : ℕ) → Contains after p → Contains before p ⊎ Has p
+
 -- what was there still is
 unfoldable pub Stay : {X : Type 0} → List X → List X → Type 0
 Stay {X} before after = (x : X) → Contains before x → Contains after x
+
+-- ---- records
+
+-- the second record is the same as the first, or is of a greater height and a later time
+abbrev pub Follows : RecordAt → RecordAt → Type 0
+Follows a b = (a ≡ b) ⊎ ((a.height < b.height) × (a.record_of.time < b.record_of.time))
+
+-- each two of these agree
+unfoldable pub AllAgree : List RecordAt → Type 0
+AllAgree records = (a : RecordAt) → (b : RecordAt) → Contains records a → Contains records b → Agree a b
 
 -- ---- places
 
@@ -107,3 +146,7 @@ HaveOwn chain whole places =
 -- these places have each header's own set, and those of the cheapest updates
 abbrev pub Need : Setup → Seen → ℕ → KeptSets → SeenChain → List ℕ → Type 0
 Need setup seen place whole chain places = HaveOwn chain whole places × ServesClients setup seen place chain whole places
+
+-- and no others
+abbrev pub NeedOnly : Setup → Seen → ℕ → KeptSets → SeenChain → List ℕ → Type 0
+NeedOnly setup seen place whole chain places = Need setup seen place whole chain places × AreNeeded setup seen place chain whole places

@@ -1,5 +1,5 @@
 -- Which of a client's starts are needed: those of its cheapest updates.
-use Rattle.std.specs.Prelude.{◌≡◌, ◌≢◌, ◌≤◌, ◌<◌, ◌+◌, ◌⊎◌, ℕ, Bool, List, All, Contains, nat_lt, if◌then◌else◌}
+use Rattle.std.specs.Prelude.{◌≡◌, ◌≢◌, ◌≤◌, ◌<◌, ◌+◌, ◌⊎◌, ℕ, Bool, List, Option, Some, None, All, Any, Contains, IsSomeAnd, nat_lt, if◌then◌else◌}
 use Rattle.rb_base.specs.Fee.{charge_of}
 use Rattle.rb_valset.specs.Validator.{Member}
 use Rattle.rb_book.specs.Header.{Header}
@@ -61,3 +61,24 @@ Serves judging is_charged chain kept records places =
     (commit : Commit) → Contains chain.commits.items commit → (place : ℕ) → (own : List Member) → IsWrittenAt chain.sets.sets.items kept commit.header.now.set place own
     → ServesStored judging is_charged chain.sets.sets.items kept records places (header_of commit.header.now) place
     × ServesOthers judging chain.sets.sets.items kept records chain.commits.items places (header_of commit.header.now) place
+
+-- ---- and no others
+
+-- this start gives one of the cheapest updates to the header from the client's records; none where the client accepts the header from none of them
+abbrev pub IsBest : Judging → Bool → List SeenSet → KeptSets → List Stored → Header → ℕ → Option Start → Type 0
+IsBest judging is_charged sets kept records header place (Some s) =
+    IsStartIn sets kept records s × Accepts judging sets header place s
+    × ((t : Start) → IsStartIn sets kept records t → Accepts judging sets header place t → IsNoWorse is_charged s t)
+IsBest judging is_charged sets kept records header place None = (t : Start) → IsStartIn sets kept records t → ¬ Accepts judging sets header place t
+
+-- an update to the header starts here: a cheapest one from the client's records, or one from another header that this doesn't outdo
+abbrev pub IsUsedFor : Judging → Bool → List SeenSet → KeptSets → List Stored → List Commit → Header → ℕ → Start → Type 0
+IsUsedFor judging is_charged sets kept records commits header place s =
+    (best : Option Start) × IsBest judging is_charged sets kept records header place best
+    × ((best ≡ Some s) ⊎ (Any (IsStartOfHeader sets kept s) commits × Accepts judging sets header place s × ¬ IsSomeAnd best (λ b. Outdoes b s)))
+
+-- so an update to a header of the chain, whose own set is written, starts at the set at place p
+unfoldable pub IsUsed : Judging → Bool → SeenChain → KeptSets → List Stored → ℕ → Type 0
+IsUsed judging is_charged chain kept records p =
+    (commit : Commit) × Contains chain.commits.items commit × (place : ℕ) × (own : List Member) × IsWrittenAt chain.sets.sets.items kept commit.header.now.set place own
+    × (s : Start) × (s.place ≡ p) × IsUsedFor judging is_charged chain.sets.sets.items kept records chain.commits.items (header_of commit.header.now) place s

@@ -3,6 +3,8 @@ use Rattle.std.specs.Prelude.{◌≡◌, ℕ, List, [], ◌∷◌, ◌+◌, ◌+
 use Rattle.std.specs.Fmt.{decimal}
 use Rattle.rb_scan.specs.declared.path.Order.{Order}
 use Rattle.rb_scan.specs.declared.path.Order.TheVariants.{Ordered, Unordered}
+use Rattle.rb_script_types.specs.declared.channel.Channel.{Channel}
+use Rattle.rb_script_types.specs.declared.channel.ChannelEnd.{ChannelEnd}
 use Rattle.rb_script_types.specs.declared.waits.Waits.{Waits}
 use Rattle.rb_import_setup.specs.declared.setup.PathSetup.{PathSetup}
 use Rattle.rb_import_merge.specs.declared.packets.SeenPacket.{SeenPacket}
@@ -15,6 +17,23 @@ use Rattle.rb_import_check.specs.Verdicts.{vote_letter}
 -- what stands behind the opening line: who wrote the script, and its version
 abbrev pub heading : List ℕ
 heading = codes "# Written by ibcplan import.\nversion = 3\n"
+
+-- an end of a channel (ICS 4), with what its keys begin with
+abbrev pub end_lines : List ℕ → ChannelEnd → List ℕ
+end_lines prefix end =
+    prefix ++ codes "port = \"" ++ end.port ++ codes "\"\n" ++ prefix ++ codes "channel = \"" ++ end.channel ++ codes "\"\n"
+
+abbrev pub counterparty_lines : Option ChannelEnd → List ℕ
+counterparty_lines (Some end) = end_lines (codes "counterparty_") end
+counterparty_lines None = []
+
+abbrev pub ends_lines : Channel → List ℕ
+ends_lines c = end_lines [] c.source ++ counterparty_lines c.counterparty
+
+-- the ends of a path's channel, as far as they are named
+abbrev pub channel_lines : Option Channel → List ℕ
+channel_lines (Some c) = ends_lines c
+channel_lines None = []
 
 -- how many nanoseconds a receive, an acknowledgement and a timeout of a path may wait
 abbrev pub waits_line : Waits → List ℕ

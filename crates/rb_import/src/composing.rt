@@ -75,7 +75,7 @@ fn text_of(
     ensures { IfOk result (λ text. Opens (hold_verdicts answers.now) (string_bytes text)) }
 {
     let mut tables = String::new(alloc);
-    push_tables(&mut tables, setup, seen)?;
+    push_tables(&mut tables, setup, answers, seen)?;
     let opening = opening_of(alloc, answers, seen)?;
     let text = with_opening(opening, tables.as_str())?;
     Ok(text)

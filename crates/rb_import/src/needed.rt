@@ -1,9 +1,9 @@
 //! Which of a chain's sets are needed.
-ghost use Rattle.std.specs.Prelude.{◌≡◌, IfOk, IfSome, OnOk, slice_get};
+ghost use Rattle.std.specs.Prelude.{◌≡◌, All, IfOk, IfSome, IsSome, OnOk, slice_get};
 ghost use Rattle.rb_import_merge.specs.Room.{AtEachPlace};
-ghost use Rattle.rb_import.specs.Parts.{IsNeededOf};
-ghost use Rattle.rb_import.specs.Starts.{Serves, is_charged};
-ghost use Rattle.rb_import.specs.Finding.{AreTargets, IsCase, IsPartAt, Need, Stay};
+ghost use Rattle.rb_import.specs.Parts.{AreJudged, IsJudged, IsNeeded, IsNeededOf, IsOrderly};
+ghost use Rattle.rb_import.specs.Starts.{IsUsed, Serves, is_charged};
+ghost use Rattle.rb_import.specs.Finding.{AddsOnly, AreTargets, AreTargetsIn, IsCase, IsPartAt, Need, NeedOnly, Stay};
 
 use crate::order::is_orderly;
 use crate::starts::{add_places, other_starts, own_places, stored_starts, targets_of};
@@ -64,20 +64,19 @@ fn places_of(
     place: usize,
     kept: &KeptSets,
 ) -> Result<Vec<usize>, AllocError>
-    ensures { IfOk result (λ places. IfSome (slice_get seen.now.chains.items place) (λ chain. Need setup.now seen.now place kept.now chain places.items)) }
+    ensures { IfOk result (λ places. IfSome (slice_get seen.now.chains.items place) (λ chain. NeedOnly setup.now seen.now place kept.now chain places.items)) }
 {
-    if let Some(chain) = seen.chains.get(place) {
-        if is_orderly(alloc, setup, seen, place, chain)? {
-            if let Some(places) = places_in(alloc, setup, seen, place, chain, kept)? {
-                return Ok(places);
-            }
-        }
+    let Some(chain) = seen.chains.get(place) else {
+        return Vec::from_slice(alloc, kept.places.as_slice());
+    };
+    match places_in(alloc, setup, seen, place, chain, kept)? {
+        Some(places) => Ok(places),
+        None => Vec::from_slice(alloc, kept.places.as_slice()),
     }
-    let all = Vec::from_slice(alloc, kept.places.as_slice())?;
-    Ok(all)
 }
 
-/// The places of the sets of a chain in which times rise that its clients need; none where one of them can't be judged.
+/// The places of the sets of a chain that its headers and clients need; none where a light store refuses some of its
+/// records, or one of its clients can't be judged.
 fn places_in(
     alloc: Global,
     setup: &Setup,
@@ -86,8 +85,13 @@ fn places_in(
     chain: &SeenChain<'_>,
     kept: &KeptSets,
 ) -> Result<Option<Vec<usize>>, AllocError>
-    ensures { IfOk result (λ found. IfSome found (λ places. Need setup.now seen.now place kept.now chain.now places.items)) }
+    ensures need { IfOk result (λ found. IfSome found (λ places. Need setup.now seen.now place kept.now chain.now places.items)) }
+    ensures only { IfOk result (λ found. IfSome found (λ places. All (IsNeeded setup.now seen.now place chain.now kept.now) places.items)) }
+    ensures judged { IfOk result (λ found. IsOrderly setup.now seen.now place chain.now → AreJudged setup.now seen.now place → IsSome found) }
 {
+    if !is_orderly(alloc, setup, seen, place, chain)? {
+        return Ok(None);
+    }
     let targets = targets_of(alloc, chain, kept)?;
     let mut places = own_places(alloc, targets.as_slice())?;
     for (number, client) in setup.clients.iter().enumerate() {
@@ -119,7 +123,8 @@ struct Case<'s, 'a> {
 
 /// How the client at a place judges headers in the last turn, and the records that are written of it.
 fn case_of<'s, 'a>(setup: &Setup, seen: &'s Seen<'a>, number: usize) -> Option<Case<'s, 'a>>
-    ensures { IfSome result (λ case. IsCase setup.now seen.now number case.judging case.stored.now) }
+    ensures case { IfSome result (λ case. IsCase setup.now seen.now number case.judging case.stored.now) }
+    ensures judged { IsJudged setup.now seen.now number → IsSome result }
 {
     let turn = setup.turns.last()?;
     let client = seen.clients.get(number)?;
@@ -146,9 +151,11 @@ fn add_client(
     is_charged: bool,
     places: &mut Vec<usize>,
 ) -> Result<(), AllocError>
-    requires { AreTargets chain.now kept.now targets.now }
+    requires all { AreTargets chain.now kept.now targets.now }
+    requires only { AreTargetsIn chain.now kept.now targets.now }
     ensures serves { OnOk result (Serves case.now.judging is_charged chain.now kept.now case.now.stored.now places.new.items) }
     ensures stay { OnOk result (Stay places.old.items places.new.items) }
+    ensures only { OnOk result (AddsOnly (IsUsed case.now.judging is_charged chain.now kept.now case.now.stored.now) places.old.items places.new.items) }
 {
     let from = stored_starts(alloc, chain, kept, case.stored, is_charged)?;
     let others = other_starts(alloc, targets, case.stored)?;

@@ -1,4 +1,9 @@
 //! Whether a light store takes all of a chain's records: their times rise with their heights.
+ghost use Rattle.std.specs.Prelude.{◌↔◌, ◌⊎◌, ◌≤◌, ◌<◌, All, Contains, length, IfOk, IsTrue, OnOk};
+ghost use Rattle.std.specs.List.Sorted.{IsNonDecreasingBy};
+ghost use Rattle.rb_import.specs.Parts.{IsOrderly, IsRecordOf, IsStoredIn};
+ghost use Rattle.rb_import.specs.Finding.{AllAgree, Follows};
+
 use crate::steps::{record_of, record_of_state};
 use rb_book::RecordAt;
 use rb_import_check::{SeenChain, Stored};
@@ -14,22 +19,43 @@ pub fn is_orderly(
     seen: &Seen<'_>,
     place: usize,
     chain: &SeenChain<'_>,
-) -> Result<bool, AllocError> {
+) -> Result<bool, AllocError>
+    ensures { IfOk result (λ is. IsOrderly setup.now seen.now place chain.now → IsTrue is) }
+{
+    let mut records = records_of(alloc, setup, seen, place, chain)?;
+    records.sort_by_key(|record: &RecordAt| record.height())?;
+    Ok(rise(records.as_slice()))
+}
+
+/// The records of a chain's headers, and those that its clients have stored.
+fn records_of(
+    alloc: Global,
+    setup: &Setup,
+    seen: &Seen<'_>,
+    place: usize,
+    chain: &SeenChain<'_>,
+) -> Result<Vec<RecordAt>, AllocError>
+    ensures { IfOk result (λ records. All (IsRecordOf setup.now seen.now place chain.now) records.items) }
+{
     let mut records = Vec::new(alloc);
     for commit in &chain.commits {
         let record = record_of(commit.header);
         records.push(RecordAt::new(commit.header.height, record))?;
     }
-    for (client, stored) in setup.clients.iter().zip(&seen.records) {
+    for (number, client) in setup.clients.iter().enumerate() {
         if client.tracks == place {
-            add_stored(stored.as_slice(), &mut records)?;
+            if let Some(stored) = seen.records.get(number) {
+                add_stored(stored.as_slice(), &mut records)?;
+            }
         }
     }
-    records.sort_by_key(|record: &RecordAt| record.height())?;
-    Ok(rise(records.as_slice()))
+    Ok(records)
 }
 
-fn add_stored(stored: &[Stored<'_>], records: &mut Vec<RecordAt>) -> Result<(), AllocError> {
+/// Adds records that a client has stored.
+fn add_stored(stored: &[Stored<'_>], records: &mut Vec<RecordAt>) -> Result<(), AllocError>
+    ensures { OnOk result (All (λ r. Contains records.old.items r ⊎ IsStoredIn stored.now r) records.new.items) }
+{
     for one in stored {
         let record = record_of_state(one.state);
         records.push(RecordAt::new(one.state.height, record))?;
@@ -38,17 +64,30 @@ fn add_stored(stored: &[Stored<'_>], records: &mut Vec<RecordAt>) -> Result<(), 
 }
 
 /// Whether each record follows the one before it.
-fn rise(records: &[RecordAt]) -> bool {
+fn rise(records: &[RecordAt]) -> bool
+    ensures { AllAgree records.now → IsNonDecreasingBy (λ r. r.height) records.now → IsTrue result }
+{
     for place in 1..records.len() {
-        if !follows(&records[place - 1], &records[place]) {
+        if !follows_at(records, place) {
             return false;
         }
     }
     true
 }
 
+/// Whether the record at a place follows the one before it.
+fn follows_at(records: &[RecordAt], place: usize) -> bool
+    requires above { 1 ≤ place }
+    requires within { place < length records.now }
+    ensures { AllAgree records.now → IsNonDecreasingBy (λ r. r.height) records.now → IsTrue result }
+{
+    follows(&records[place - 1], &records[place])
+}
+
 /// Whether a record is the same as another, or is of a greater height and a later time.
-fn follows(lower: &RecordAt, upper: &RecordAt) -> bool {
+fn follows(lower: &RecordAt, upper: &RecordAt) -> bool
+    ensures { IsTrue result ↔ Follows lower.now upper.now }
+{
     lower == upper
         || lower.height() < upper.height() && lower.record().time() < upper.record().time()
 }

@@ -1,10 +1,10 @@
 //! Where the cheapest updates of a client start.
-ghost use Rattle.std.specs.Prelude.{◌≡◌, ◌≢◌, ◌++◌, ◌↔◌, ℕ, List, Some, All, Contains, IfOk, IfSome, IsSomeAnd, IsTrue, OnOk, option_to_list};
+ghost use Rattle.std.specs.Prelude.{◌≡◌, ◌≢◌, ◌++◌, ◌↔◌, [], ℕ, List, Some, All, Any, Contains, IfOk, IfSome, IsSomeAnd, IsTrue, OnOk, option_to_list};
 ghost use Rattle.std.specs.List.Sorted.{IsPermutation, IsSorted};
 ghost use Rattle.rb_valset.specs.Validator.{Member};
 ghost use Rattle.rb_import.specs.Starts.{IsStartIn, Outdoes, weight_of};
-ghost use Rattle.rb_import.specs.Finding.{AreAll, AreOthers, AreTargets, HasPlaceOf, IsAmong, IsFirstOrNone, IsOther, IsServed, Serve, Stay, start_cmp};
-ghost use Rattle.rb_import.specs.Steps.{IsStartOf, IsWrittenAt, start_of_header};
+ghost use Rattle.rb_import.specs.Finding.{AddsOnly, AreAll, AreOthers, AreTargets, AreTargetsIn, HasPlaceOf, IsAmong, IsFirstOrNone, IsMadeBy, IsOther, IsServed, Serve, StartsAt, Stay, start_cmp};
+ghost use Rattle.rb_import.specs.Steps.{Accepts, IsStartOf, IsStartOfHeader, IsWrittenAt, start_of_header};
 
 use crate::steps::{Judging, Start, Target, header_of, record_of, record_of_state};
 use rb_import_check::{Commit, SeenChain, SeenSet, Stored};
@@ -18,7 +18,8 @@ pub fn targets_of(
     chain: &SeenChain<'_>,
     kept: &KeptSets,
 ) -> Result<Vec<Target>, AllocError>
-    ensures { IfOk result (λ targets. AreTargets chain.now kept.now targets.items) }
+    ensures all { IfOk result (λ targets. AreTargets chain.now kept.now targets.items) }
+    ensures only { IfOk result (λ targets. AreTargetsIn chain.now kept.now targets.items) }
 {
     let mut targets = Vec::new(alloc);
     for commit in &chain.commits {
@@ -37,6 +38,7 @@ fn add_target(
 ) -> Result<(), AllocError>
     ensures there { OnOk result (IsAmong chain.now.sets.sets.items kept.now targets.new.items commit.now) }
     ensures stay { OnOk result (Stay targets.old.items targets.new.items) }
+    ensures only { OnOk result (Contains chain.now.commits.items commit.now → AreTargetsIn chain.now kept.now targets.old.items → AreTargetsIn chain.now kept.now targets.new.items) }
 {
     if let Some((place, own)) = written(chain, kept, &commit.header.set) {
         let header = header_of(alloc, commit.header)?;
@@ -57,7 +59,8 @@ fn start_of_header(
     commit: &Commit<'_>,
     own: &ValidatorSet,
 ) -> Option<Start>
-    ensures { (place : ℕ) → (next : List Member) → IsWrittenAt chain.now.sets.sets.items kept.now commit.now.header.now.next place next → result ≡ Some (start_of_header commit.now.header.now place next own.now) }
+    ensures start { (at : ℕ) → IsWrittenAt chain.now.sets.sets.items kept.now commit.now.header.now.set at own.now → IfSome result (λ s. IsStartOfHeader chain.now.sets.sets.items kept.now s commit.now) }
+    ensures only { (place : ℕ) → (next : List Member) → IsWrittenAt chain.now.sets.sets.items kept.now commit.now.header.now.next place next → result ≡ Some (start_of_header commit.now.header.now place next own.now) }
 {
     let (place, next) = written(chain, kept, &commit.header.next)?;
     Some(Start {
@@ -88,7 +91,8 @@ fn written<'b>(
 
 /// The places of the own sets of headers.
 pub fn own_places(alloc: Global, targets: &[Target]) -> Result<Vec<usize>, AllocError>
-    ensures { IfOk result (λ places. All (λ t. Contains places.items t.place) targets.now) }
+    ensures all { IfOk result (λ places. All (λ t. Contains places.items t.place) targets.now) }
+    ensures only { IfOk result (λ places. AddsOnly (λ p. Any (λ t. t.place ≡ p) targets.now) [] places.items) }
 {
     let mut places = Vec::new(alloc);
     for target in targets {
@@ -166,7 +170,8 @@ pub fn other_starts(
     targets: &[Target],
     stored: &[Stored<'_>],
 ) -> Result<Vec<Start>, AllocError>
-    ensures { IfOk result (λ starts. AreOthers stored.now targets.now starts.items) }
+    ensures all { IfOk result (λ starts. AreOthers stored.now targets.now starts.items) }
+    ensures only { IfOk result (λ starts. All (IsMadeBy targets.now) starts.items) }
 {
     let mut starts = Vec::new(alloc);
     for target in targets {
@@ -177,7 +182,8 @@ pub fn other_starts(
 
 /// The start that a header makes, where the client hasn't stored its height.
 fn other_start(target: &Target, stored: &[Stored<'_>]) -> Option<Start>
-    ensures { (s : Start) → IsOther stored.now s target.now → result ≡ Some s }
+    ensures made { IfSome result (λ s. target.now.start ≡ Some s) }
+    ensures only { (s : Start) → IsOther stored.now s target.now → result ≡ Some s }
 {
     let start = target.start?;
     if is_stored(stored, &start) {
@@ -208,6 +214,7 @@ pub fn add_places(
 ) -> Result<(), AllocError>
     ensures serve { OnOk result (Serve judging.now sets.now target.now stored.now others.now places.new.items) }
     ensures stay { OnOk result (Stay places.old.items places.new.items) }
+    ensures only { OnOk result (AddsOnly (StartsAt judging.now sets.now stored.now others.now target.now) places.old.items places.new.items) }
 {
     let first = first_accepted(judging, sets, stored, target);
     add_first(&first, places)?;
@@ -222,6 +229,7 @@ pub fn add_places(
 fn add_first(first: &Option<Start>, places: &mut Vec<usize>) -> Result<(), AllocError>
     ensures there { OnOk result (HasPlaceOf first.now places.new.items) }
     ensures stay { OnOk result (Stay places.old.items places.new.items) }
+    ensures only { OnOk result (AddsOnly (λ p. IsSomeAnd first.now (λ s. s.place ≡ p)) places.old.items places.new.items) }
 {
     match first {
         Some(start) => add_once(places, start.place),
@@ -242,6 +250,7 @@ fn add_other(
 ) -> Result<(), AllocError>
     ensures served { OnOk result (IsServed judging.now sets.now target.now first.now places.new.items other.now) }
     ensures stay { OnOk result (Stay places.old.items places.new.items) }
+    ensures only { OnOk result (AddsOnly (λ p. (other.now.place ≡ p) × Accepts judging.now sets.now target.now.header target.now.place other.now × ¬ IsSomeAnd first.now (λ s. Outdoes s other.now)) places.old.items places.new.items) }
 {
     if outdoes(first, other) || has(places.as_slice(), other.place) {
         return Ok(());
@@ -257,6 +266,7 @@ fn add_other(
 fn add_once(places: &mut Vec<usize>, place: usize) -> Result<(), AllocError>
     ensures there { OnOk result (Contains places.new.items place) }
     ensures stay { OnOk result (Stay places.old.items places.new.items) }
+    ensures only { OnOk result (AddsOnly (λ p. place ≡ p) places.old.items places.new.items) }
 {
     if !has(places.as_slice(), place) {
         places.push(place)?;
@@ -292,7 +302,7 @@ fn first_accepted(
 /// Whether an update from a stored record costs no more than an update to another header and one from there: it has
 /// no more validators.
 fn outdoes(first: &Option<Start>, other: &Start) -> bool
-    ensures { IsTrue result → IsSomeAnd first.now (λ s. Outdoes s other.now) }
+    ensures { IsTrue result ↔ IsSomeAnd first.now (λ s. Outdoes s other.now) }
 {
     match first {
         Some(start) => start.size <= other.size.saturating_add(other.signers),

@@ -1,5 +1,6 @@
 //! Steps of a client, from a record whose next set is written to a header that is.
-ghost use Rattle.std.specs.Prelude.{◌≡◌, ◌↔◌, IfOk, IfSome, IsTrue, map};
+ghost use Rattle.std.specs.Prelude.{◌≡◌, ◌↔◌, IfOk, IfSome, IsSome, IsTrue, map};
+ghost use Rattle.rb_import.specs.Parts.{CanJudge};
 ghost use Rattle.rb_import.specs.Steps.{Accepts, IsStep, header_of, judging_of, record_of, record_of_state, vote_of};
 
 use rb_base::{Fraction, Height, Options, Window};
@@ -23,7 +24,8 @@ pub struct Judging {
 impl Judging {
     /// How a client judges headers in a window, where its clock drift and its trust level are in range.
     pub fn of(client: &SeenClient<'_>, window: Window) -> Option<Judging>
-        ensures { IfSome result (λ judging. judging ≡ judging_of client.now window) }
+        ensures judging { IfSome result (λ judging. judging ≡ judging_of client.now window) }
+        ensures only { CanJudge client.now → IsSome result }
     {
         let trust = Fraction::new(client.trust.numerator, client.trust.denominator).ok()?;
         if client.drift >= DRIFT_LIMIT {

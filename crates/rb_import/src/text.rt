@@ -1,20 +1,25 @@
 //! The text of a script.
 ghost use Rattle.std.specs.Prelude.{◌≡◌, ◌<◌, ◌++◌, All, length, OnOk, string_bytes};
 ghost use Rattle.rb_import_setup.specs.Places.{IsClientOf, IsPathOf, IsTurnOf};
-ghost use Rattle.rb_import.specs.Texts.{EndsWithWaits, waits_line};
+ghost use Rattle.rb_import.specs.Texts.{EndsWithWaits, channel_lines, counterparty_lines, end_lines, ends_lines, waits_line};
 
 use crate::event_text::{push_closing, push_header, push_packet, push_set, push_stored};
 use jiff::Timestamp;
 use rb_base::{FeeTable, Moment};
-use rb_import_check::{SeenChain, SeenClient, Stored};
-use rb_import_merge::Seen;
+use rb_import_check::{SavedAnswers, SeenChain, SeenClient, Stored};
+use rb_import_merge::{Seen, answers_at, first_of};
 use rb_import_setup::{ClientSetup, Setup, TurnSetup};
 use rb_scan::{Kind, Order};
-use rb_script_types::{Asked, Goal, PathConfig, Settlement, Waits};
+use rb_script_types::{Asked, Channel, ChannelEnd, Goal, PathConfig, Settlement, Waits};
 use std::alloc::AllocError;
 
 /// Adds the tables of a script.
-pub fn push_tables(text: &mut String, setup: &Setup, seen: &Seen<'_>) -> Result<(), AllocError> {
+pub fn push_tables(
+    text: &mut String,
+    setup: &Setup,
+    answers: &SavedAnswers,
+    seen: &Seen<'_>,
+) -> Result<(), AllocError> {
     text.push_str("chain = [\n")?;
     for chain in &setup.chains {
         writeln!(text, "  {{ id = \"{chain}\" }},")?;
@@ -23,8 +28,9 @@ pub fn push_tables(text: &mut String, setup: &Setup, seen: &Seen<'_>) -> Result<
     for (client, seen) in setup.clients.iter().zip(&seen.clients) {
         push_client(text, setup, client, seen)?;
     }
-    for path in &setup.paths {
-        push_path(text, setup, &path.config)?;
+    for (place, path) in setup.paths.iter().enumerate() {
+        let first = first_of(path, answers_at(&answers.paths, place));
+        push_path(text, setup, &path.config, first)?;
     }
     let mut left = setup.turns.len();
     for turn in &setup.turns {
@@ -97,8 +103,14 @@ fn push_client(
     writeln!(text, "trust = [{numerator}, {denominator}]")
 }
 
-/// Adds the table of a path, of which how long its messages may wait is the last line.
-fn push_path(text: &mut String, setup: &Setup, path: &PathConfig) -> Result<(), AllocError>
+/// Adds the table of a path whose packets below the first sequence are finished; how long its messages may wait is the last
+/// line.
+fn push_path(
+    text: &mut String,
+    setup: &Setup,
+    path: &PathConfig,
+    first: u64,
+) -> Result<(), AllocError>
     requires { IsPathOf (length setup.now.chains.items) (length setup.now.clients.items) path.now }
     ensures { OnOk result (EndsWithWaits path.now.waits (string_bytes text.new)) }
 {
@@ -113,7 +125,6 @@ fn push_path(text: &mut String, setup: &Setup, path: &PathConfig) -> Result<(), 
         Order::Ordered => "ordered",
         Order::Unordered => "unordered",
     };
-    let first = path.first.get();
     writeln!(text, "order = \"{order}\"\nfirst = {first}")?;
     let forward = client_at(setup, path.forward);
     let back = client_at(setup, path.back);
@@ -123,7 +134,48 @@ fn push_path(text: &mut String, setup: &Setup, path: &PathConfig) -> Result<(), 
         "gas",
         [Kind::Receive, Kind::Acknowledge, Kind::Timeout].map(|kind: Kind| path.gas.of(kind)),
     )?;
+    push_channel(text, path.channel)?;
     push_waits(text, path.waits)
+}
+
+/// Adds the ends of a path's channel, as far as they are named.
+fn push_channel(text: &mut String, channel: Option<Channel>) -> Result<(), AllocError>
+    ensures { OnOk result (string_bytes text.new ≡ string_bytes text.old ++ channel_lines channel) }
+{
+    match channel {
+        Some(channel) => push_ends(text, channel),
+        None => Ok(()),
+    }
+}
+
+/// Adds the ends of a channel, of which the other one may not be named.
+fn push_ends(text: &mut String, channel: Channel) -> Result<(), AllocError>
+    ensures { OnOk result (string_bytes text.new ≡ string_bytes text.old ++ ends_lines channel) }
+{
+    push_end(text, "", channel.source)?;
+    push_counterparty(text, channel.counterparty)?;
+    Ok(())
+}
+
+/// Adds the other end of a channel, where it is named.
+fn push_counterparty(text: &mut String, end: Option<ChannelEnd>) -> Result<(), AllocError>
+    ensures { OnOk result (string_bytes text.new ≡ string_bytes text.old ++ counterparty_lines end) }
+{
+    match end {
+        Some(end) => push_end(text, "counterparty_", end),
+        None => Ok(()),
+    }
+}
+
+/// Adds an end of a channel, with what its keys begin with.
+fn push_end(text: &mut String, prefix: &str, end: ChannelEnd) -> Result<(), AllocError>
+    ensures { OnOk result (string_bytes text.new ≡ string_bytes text.old ++ end_lines prefix.now end) }
+{
+    let ChannelEnd { port, channel } = end;
+    writeln!(
+        text,
+        "{prefix}port = \"{port}\"\n{prefix}channel = \"{channel}\""
+    )
 }
 
 /// Adds how long the messages of a path may wait.

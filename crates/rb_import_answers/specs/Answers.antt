@@ -18,6 +18,7 @@ use Rattle.rb_import_answers.specs.Headers.{Signed, signed, signed_view}
 use Rattle.rb_import_answers.specs.Validators.{Page, page, page_view}
 use Rattle.rb_import_answers.specs.Clients.{client_state, States, states, states_view}
 use Rattle.rb_import_answers.specs.Packets.{Search, found, search_view}
+use Rattle.rb_import_answers.specs.Pending.{Pending, is_pending, pending, pending_view}
 use Rattle.rb_import_answers.specs.Queries.{query_of}
 use Rattle.rb_import_answers.specs.Unread.{unread}
 use Rattle.rb_import_answers.specs.Verdicts.{Verdicts, verdicts, verdicts_view}
@@ -29,6 +30,7 @@ pub data Told : Type 0 where
   judging : ClientState → Told
   stored : States → Told
   transactions : Search → Told
+  packets : Pending → Told
   verified : Verdicts → Told
   other : Query → Told
 
@@ -38,6 +40,7 @@ answer_view (answers.Validators page) = validators (page_view page)
 answer_view (answers.ClientState state) = judging state
 answer_view (answers.ConsensusStates page) = stored (states_view page)
 answer_view (answers.Transactions page) = transactions (search_view page)
+answer_view (answers.Pending p) = packets (pending_view p)
 answer_view (answers.Verdicts v) = verified (verdicts_view v)
 answer_view (answers.Other query) = other query
 
@@ -62,6 +65,7 @@ known o =
     else if has_member Key.ClientState o then (client_state o >>= λ s. Ok (judging s))
     else if has_member Key.ConsensusStates o then (states o >>= λ s. Ok (stored s))
     else if has_member Key.Verdicts o then (verdicts o >>= λ v. Ok (verified v))
+    else if is_pending o then (pending o >>= λ p. Ok (packets p))
     else if_query (query_of o)
 
 abbrev pub tells_error : Option Data → Bool → Bool

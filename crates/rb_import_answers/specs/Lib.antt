@@ -7,6 +7,7 @@ pub mod Numbers
 pub mod Clients
 pub mod Revisions
 pub mod Packets
+pub mod Pending
 pub mod Verdicts
 pub mod Queries
 pub mod Unread

@@ -14,16 +14,12 @@ query_path Query.Transaction = codes "/tx"
 query_path Query.ConsensusStateHeights = codes "consensus_states/ID/heights"
 query_path Query.ConsensusState = codes "consensus_states/ID/revision/R/height/H"
 query_path Query.ClientStatus = codes "client_status/ID"
-query_path Query.PacketCommitments = codes "packet_commitments"
-query_path Query.UnreceivedPackets = codes "unreceived_packets"
 
 abbrev pub query_of_gateway : Object → Option Query
 query_of_gateway o =
     if has Key.ConsensusStateHeights o then Some Query.ConsensusStateHeights
     else if has Key.ConsensusState o then Some Query.ConsensusState
     else if has Key.Status o then Some Query.ClientStatus
-    else if has Key.Commitments o then Some Query.PacketCommitments
-    else if has Key.Sequences o then Some Query.UnreceivedPackets
     else None
 
 unfoldable pub query_of : Object → Option Query

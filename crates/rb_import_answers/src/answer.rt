@@ -9,6 +9,7 @@ ghost use Rattle.rb_import_answers.specs.Unread.{unread};
 use crate::client::{ClientState, ConsensusPage, read_client_state, read_consensus_states};
 use crate::commit::{SignedHeader, read_commit};
 use crate::packets::{PacketPage, read_transactions};
+use crate::pending::{Pending, is_pending, read_pending};
 use crate::query::{Query, query_of};
 use crate::unread::unread;
 use crate::validators::{ValidatorsPage, read_page};
@@ -33,6 +34,8 @@ pub enum NodeAnswer {
     ConsensusStates(ConsensusPage),
     /// To `/tx_search`.
     Transactions(PacketPage),
+    /// Of ibc-go's gateway on an end of a channel: which packets are pending.
+    Pending(Pending),
     /// No node's answer: verdicts on the signatures of commits.
     Verdicts(Verdicts),
     /// To another query, which isn't needed.
@@ -98,6 +101,8 @@ fn read_known(alloc: Global, answer: &Object<'_>) -> Result<NodeAnswer, AnswerEr
         Ok(NodeAnswer::ConsensusStates(read_consensus_states(alloc, answer)?))
     } else if answer.has(Key::Verdicts) {
         Ok(NodeAnswer::Verdicts(read_verdicts(alloc, answer)?))
+    } else if is_pending(answer) {
+        Ok(NodeAnswer::Pending(read_pending(alloc, answer)?))
     } else {
         match query_of(answer) {
             Some(query) => Ok(NodeAnswer::Other(query)),

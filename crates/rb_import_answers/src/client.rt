@@ -192,7 +192,7 @@ fn read_states(alloc: Global, items: &[Value]) -> Result<Vec<ConsensusState>, An
 
 /// Whether no page follows, as the key of the next one says, which is null or empty then, or isn't there.
 #[tactic(auto, using(rb_import_json::proofs::Steps::steps), unfolding(crate::specs::Clients::is_last))]
-fn read_is_last(answer: &Object<'_>) -> Result<bool, FieldError>
+pub(crate) fn read_is_last(answer: &Object<'_>) -> Result<bool, FieldError>
     ensures { Reads (λ b. b) result (is_last (object_view answer.now)) }
 {
     if !answer.has(Key::Pagination) {

@@ -1,6 +1,6 @@
 //! Answers of nodes, as CometBFT's RPC and ibc-go's REST gateway give them: signed headers, pages
-//! of validators, client states, consensus states and the events of packets; verdicts on signatures; or
-//! what is wrong with an answer, and where.
+//! of validators, client states, consensus states, the events of packets and which packets are pending; verdicts
+//! on signatures; or what is wrong with an answer, and where.
 #![tactic(auto)]
 
 mod answer;
@@ -11,6 +11,7 @@ mod duration;
 mod header;
 mod number;
 mod packets;
+mod pending;
 mod query;
 mod revision;
 mod root;
@@ -23,6 +24,7 @@ pub use answer::{MAX_ANSWER_BYTES, NodeAnswer, read_answer};
 pub use client::{ClientState, ConsensusPage, ConsensusState, TrustLevel};
 pub use commit::{BlockIdFlag, Signature, SignedHeader};
 pub use packets::{PacketEvent, PacketKind, PacketPage, RevisionHeight};
+pub use pending::{Pending, SequencePage};
 pub use query::Query;
 pub use revision::revision_of;
 pub use said::{plain_text, said_in};

@@ -17,13 +17,11 @@ pub enum Query {
     ConsensusStateHeights,
     ConsensusState,
     ClientStatus,
-    PacketCommitments,
-    UnreceivedPackets,
 }
 
 impl Query {
     /// All of these.
-    pub const ALL: [Query; 11] = [
+    pub const ALL: [Query; 9] = [
         Query::Status,
         Query::BlockResults,
         Query::Blockchain,
@@ -33,8 +31,6 @@ impl Query {
         Query::ConsensusStateHeights,
         Query::ConsensusState,
         Query::ClientStatus,
-        Query::PacketCommitments,
-        Query::UnreceivedPackets,
     ];
 
     /// What it asks for, as its URL says.
@@ -51,8 +47,6 @@ impl Query {
             Query::ConsensusStateHeights => "consensus_states/ID/heights",
             Query::ConsensusState => "consensus_states/ID/revision/R/height/H",
             Query::ClientStatus => "client_status/ID",
-            Query::PacketCommitments => "packet_commitments",
-            Query::UnreceivedPackets => "unreceived_packets",
         }
     }
 }
@@ -89,10 +83,6 @@ fn query_of_gateway(answer: &Object<'_>) -> Option<Query>
         Some(Query::ConsensusState)
     } else if answer.has(Key::Status) {
         Some(Query::ClientStatus)
-    } else if answer.has(Key::Commitments) {
-        Some(Query::PacketCommitments)
-    } else if answer.has(Key::Sequences) {
-        Some(Query::UnreceivedPackets)
     } else {
         None
     }

@@ -71,6 +71,7 @@ is_foreign (answers.Validators page) first second third = refl
 is_foreign (answers.ClientState state) first second third = absurd (first state refl)
 is_foreign (answers.ConsensusStates page) first second third = absurd (second page refl)
 is_foreign (answers.Transactions page) first second third = refl
+is_foreign (answers.Pending p) first second third = refl
 is_foreign (answers.Verdicts v) first second third = refl
 is_foreign (answers.Other query) first second third = absurd (third query refl)
 

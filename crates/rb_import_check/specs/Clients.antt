@@ -27,6 +27,7 @@ client_states_in (answers.Validators page) = []
 client_states_in (answers.ClientState state) = state ∷ []
 client_states_in (answers.ConsensusStates page) = []
 client_states_in (answers.Transactions page) = []
+client_states_in (answers.Pending p) = []
 client_states_in (answers.Verdicts v) = []
 client_states_in (answers.Other query) = []
 
@@ -56,6 +57,7 @@ stored_in (answers.Validators page) = []
 stored_in (answers.ClientState state) = []
 stored_in (answers.ConsensusStates page) = page.states.items
 stored_in (answers.Transactions page) = []
+stored_in (answers.Pending p) = []
 stored_in (answers.Verdicts v) = []
 stored_in (answers.Other query) = []
 
@@ -81,6 +83,7 @@ is_last_in (answers.Validators page) = false
 is_last_in (answers.ClientState state) = false
 is_last_in (answers.ConsensusStates page) = page.is_last
 is_last_in (answers.Transactions page) = false
+is_last_in (answers.Pending p) = false
 is_last_in (answers.Verdicts v) = false
 is_last_in (answers.Other query) = false
 
@@ -97,6 +100,7 @@ is_of_client (answers.Validators page) = false
 is_of_client (answers.ClientState state) = true
 is_of_client (answers.ConsensusStates page) = true
 is_of_client (answers.Transactions page) = false
+is_of_client (answers.Pending p) = false
 is_of_client (answers.Verdicts v) = false
 is_of_client (answers.Other query) = true
 

@@ -16,6 +16,7 @@ verdicts_in (answers.Validators page) = []
 verdicts_in (answers.ClientState state) = []
 verdicts_in (answers.ConsensusStates page) = []
 verdicts_in (answers.Transactions page) = []
+verdicts_in (answers.Pending p) = []
 verdicts_in (answers.Verdicts v) = v ∷ []
 verdicts_in (answers.Other query) = []
 
@@ -48,6 +49,7 @@ is_verdicts (answers.Validators page) = false
 is_verdicts (answers.ClientState state) = false
 is_verdicts (answers.ConsensusStates page) = false
 is_verdicts (answers.Transactions page) = false
+is_verdicts (answers.Pending p) = false
 is_verdicts (answers.Verdicts v) = true
 is_verdicts (answers.Other query) = false
 

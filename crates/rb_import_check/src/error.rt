@@ -40,6 +40,8 @@ pub enum CheckErrorName {
     MissingConsensusStates,
     /// A record isn't as the header of its height.
     OtherRecord,
+    /// Commitments to packets of a path are missing.
+    MissingCommitments,
     /// Transactions of a search are missing.
     MissingTransactions,
     /// Packets of two channels, and none is named.
@@ -78,6 +80,7 @@ impl CheckErrorName {
             CheckErrorName::MissingClientState => "MissingClientState",
             CheckErrorName::MissingConsensusStates => "MissingConsensusStates",
             CheckErrorName::OtherRecord => "OtherRecord",
+            CheckErrorName::MissingCommitments => "MissingCommitments",
             CheckErrorName::MissingTransactions => "MissingTransactions",
             CheckErrorName::TwoChannels => "TwoChannels",
             CheckErrorName::MissingSend => "MissingSend",
@@ -92,7 +95,7 @@ impl CheckErrorName {
     pub fn advice(self) -> &'static str {
         match self {
             CheckErrorName::WrongFolder => {
-                "a chain's folder has answers of /commit and /validators, a client's of client_states and consensus_states, a path's of /tx_search; move the file, or give the chain, the client and the path different identifiers"
+                "a chain's folder has answers of /commit and /validators, a client's of client_states and consensus_states, a path's of /tx_search, packet_commitments, unreceived_packets and packet_acknowledgements; move the file, or give the chain, the client and the path different identifiers"
             }
             CheckErrorName::OtherChain => "the answer is on another chain",
             CheckErrorName::OtherRevision => {
@@ -126,6 +129,9 @@ impl CheckErrorName {
             }
             CheckErrorName::OtherRecord => {
                 "the client's record has another time, root or next set than the chain's header of this height, so that one of the two isn't the chain's; fetch both again; if it stays, the client may have been given a forged header: don't update it, and submit its misbehaviour"
+            }
+            CheckErrorName::MissingCommitments => {
+                "commitments to packets are missing; fetch /ibc/core/channel/v1/channels/CHANNEL/ports/PORT/packet_commitments of the path's source, all of its pages,"
             }
             CheckErrorName::MissingTransactions =>
                 "transactions are missing; fetch all pages of /tx_search",
@@ -176,6 +182,7 @@ impl CheckError<'_> {
             | CheckErrorName::MissingSet
             | CheckErrorName::MissingClientState
             | CheckErrorName::MissingConsensusStates
+            | CheckErrorName::MissingCommitments
             | CheckErrorName::MissingTransactions
             | CheckErrorName::MissingSend
             | CheckErrorName::MissingReceive => write!(

@@ -9,6 +9,7 @@ use Rattle.rb_import_json.specs.declared.error.FieldError.{FieldError}
 
 -- `Whole` is shown for the whole answer
 abbrev pub key_name : Key → List ℕ
+key_name Key.Acknowledgements = codes "acknowledgements"
 key_name Key.App = codes "app"
 key_name Key.AppHash = codes "app_hash"
 key_name Key.Attributes = codes "attributes"
@@ -61,6 +62,7 @@ key_name Key.PubKey = codes "pub_key"
 key_name Key.RevisionHeight = codes "revision_height"
 key_name Key.RevisionNumber = codes "revision_number"
 key_name Key.Root = codes "root"
+key_name Key.Sequence = codes "sequence"
 key_name Key.Sequences = codes "sequences"
 key_name Key.Sha256 = codes "sha256"
 key_name Key.Signatures = codes "signatures"
@@ -128,6 +130,8 @@ part_path Segment.Pagination = codes "pagination"
 part_path Segment.Transactions = codes "result.txs"
 part_path Segment.Verdicts = codes "verdicts"
 part_path Segment.Verdict = codes "verdicts.commits"
+part_path Segment.Commitments = codes "commitments"
+part_path Segment.Acknowledgements = codes "acknowledgements"
 part_path Segment.Answer = []
 
 abbrev pub field_error_name : FieldErrorName → List ℕ

@@ -25,6 +25,8 @@ pub enum Segment {
     Transactions,
     Verdicts,
     Verdict,
+    Commitments,
+    Acknowledgements,
     Answer,
 }
 
@@ -55,6 +57,8 @@ impl Segment {
             Segment::Transactions => "result.txs",
             Segment::Verdicts => "verdicts",
             Segment::Verdict => "verdicts.commits",
+            Segment::Commitments => "commitments",
+            Segment::Acknowledgements => "acknowledgements",
             Segment::Answer => "",
         }
     }
@@ -63,6 +67,7 @@ impl Segment {
 /// A field of an object, an attribute of an event, or the whole answer.
 #[derive(Clone, Copy, Debug)]
 pub enum Key {
+    Acknowledgements,
     App,
     AppHash,
     Attributes,
@@ -115,6 +120,7 @@ pub enum Key {
     RevisionHeight,
     RevisionNumber,
     Root,
+    Sequence,
     Sequences,
     Sha256,
     Signatures,
@@ -153,6 +159,7 @@ impl Key {
         ensures { result.now ≡ key_name self }
     {
         match self {
+            Key::Acknowledgements => "acknowledgements",
             Key::App => "app",
             Key::AppHash => "app_hash",
             Key::Attributes => "attributes",
@@ -205,6 +212,7 @@ impl Key {
             Key::RevisionHeight => "revision_height",
             Key::RevisionNumber => "revision_number",
             Key::Root => "root",
+            Key::Sequence => "sequence",
             Key::Sequences => "sequences",
             Key::Sha256 => "sha256",
             Key::Signatures => "signatures",

@@ -15,7 +15,8 @@ use Rattle.rb_import_answers.specs.declared.packets.PacketEvent.{PacketEvent}
 use Rattle.rb_import_merge.specs.declared.packets.SeenPacket.{SeenPacket}
 use Rattle.rb_import_setup.specs.declared.setup.PathSetup.{PathSetup}
 use Rattle.rb_import_answers.specs.Revisions.{IsRevision}
-use Rattle.rb_import_merge.specs.Packets.{StandsFor, HaveEvents, IsOfPath, Expires, ExpiresAt, are_of_one, place_of, counterparty, is_wanted, is_source, is_dest, seen_events, wanted_of}
+use Rattle.rb_import_merge.specs.Packets.{StandsFor, HaveEvents, IsOfPath, Expires, ExpiresAt, are_of_one, place_of, counterparty, events_of, is_wanted, is_source, is_dest, seen_events, wanted_of}
+use Rattle.rb_import_check.specs.declared.saved.Saved.{Saved}
 
 -- ---- one packet more
 
@@ -74,16 +75,16 @@ any_among P xs ys same (k, y, small, is, p) =
 flips : (p q : SeenPacket) → are_of_one p q ≡ are_of_one q p
 flips p q = λ i. nat_eq_equiv.symm (place_of p.event.now.kind) (place_of q.event.now.kind) i && nat_eq_equiv.symm p.event.now.sequence q.event.now.sequence i
 
-pub have_events : (setup : PathSetup) (events : List PacketEvent) (all wanted lowest packets : List SeenPacket) → seen_events all ≡ events
-    → wanted ≡ filter (λ s. is_wanted setup (counterparty setup events) s.event.now) all → All (Contains wanted) lowest → All (λ p. Any (StandsFor p.event.now) lowest) wanted
-    → IsDistinct are_of_one lowest → IsPermutation lowest packets → HaveEvents setup events packets
-have_events setup events all wanted lowest packets these are among standing once same =
-    let p : PacketEvent → Bool = is_wanted setup (counterparty setup events) in
-    let same_events : map event_of wanted ≡ wanted_of setup events = ap (map event_of) are ∙ filter_events p all ∙ ap (filter p) these in
-    let each : All (λ (s : SeenPacket). Contains (wanted_of setup events) s.event.now) lowest =
+pub have_events : (setup : PathSetup) (saved : List Saved) (all wanted lowest packets : List SeenPacket) → seen_events all ≡ events_of saved
+    → wanted ≡ filter (λ s. is_wanted setup (counterparty setup (events_of saved)) saved s.event.now) all → All (Contains wanted) lowest → All (λ p. Any (StandsFor p.event.now) lowest) wanted
+    → IsDistinct are_of_one lowest → IsPermutation lowest packets → HaveEvents setup saved packets
+have_events setup saved all wanted lowest packets these are among standing once same =
+    let p : PacketEvent → Bool = is_wanted setup (counterparty setup (events_of saved)) saved in
+    let same_events : map event_of wanted ≡ wanted_of setup saved = ap (map event_of) are ∙ filter_events p all ∙ ap (filter p) these in
+    let each : All (λ (s : SeenPacket). Contains (wanted_of setup saved) s.event.now) lowest =
     λ k d small. subst (λ l. Contains l (event_of (get_or lowest k d))) same_events (in_events wanted (get_or lowest k d) (among k d small)) in
     let for_each : All (λ (s : SeenPacket). Any (StandsFor (event_of s)) packets) wanted = λ k d small. any_among (StandsFor (event_of (get_or wanted k d))) lowest packets same (standing k d small) in (
-      All-permutation (λ (s : SeenPacket). Contains (wanted_of setup events) s.event.now) lowest packets same each,
+      All-permutation (λ (s : SeenPacket). Contains (wanted_of setup saved) s.event.now) lowest packets same each,
       subst (All (λ e. Any (StandsFor e) packets)) same_events (of_events (λ e. Any (StandsFor e) packets) wanted for_each),
       IsDistinct-IsPermutation are_of_one flips lowest packets same once,
     )
@@ -105,24 +106,29 @@ is_dest_of : (o : Option (List ℕ)) (dest : List ℕ) → is_dest o dest ≡ tr
 is_dest_of (Some w) dest e = sym ((bytes_eq-Decides w dest).0 e)
 is_dest_of None dest e = tt
 
-is_of_path : (setup : PathSetup) (end : Option (List ℕ)) (p : SeenPacket) → is_wanted setup end p.event.now ≡ true → IsOfPath setup end p
-is_of_path setup end p e =
+is_of_path : (setup : PathSetup) (saved : List Saved) (p : SeenPacket) → is_wanted setup (counterparty setup (events_of saved)) saved p.event.now ≡ true → IsOfPath setup saved p
+is_of_path setup saved p e =
     let whole = and_parts _ _ e in
-    let ends = and_parts _ _ whole.0 in
-    (leb-true setup.config.first p.event.now.sequence whole.1, is_source_of setup.source_channel (string_bytes p.event.now.source) ends.0, is_dest_of end (string_bytes p.event.now.dest) ends.1)
+    let late = and_parts _ _ whole.0 in
+    let ends = and_parts _ _ late.0 in (
+      leb-true setup.config.first p.event.now.sequence late.1,
+      is_source_of setup.source_channel (string_bytes p.event.now.source) ends.0,
+      is_dest_of (counterparty setup (events_of saved)) (string_bytes p.event.now.dest) ends.1,
+      whole.1,
+    )
 
 -- what holds of the wanted ones holds of what is seen
 carried : (P : SeenPacket → Type 0) (wanted lowest packets : List SeenPacket) → All P wanted → All (Contains wanted) lowest → IsPermutation lowest packets → All P packets
 carried P wanted lowest packets h among same =
     All-permutation P lowest packets same (λ k d small. All-contains P wanted (get_or lowest k d) h (among k d small))
 
-pub are_of_path : (setup : PathSetup) (events : List PacketEvent) (all wanted lowest packets : List SeenPacket)
-    → wanted ≡ filter (λ s. is_wanted setup (counterparty setup events) s.event.now) all → All (Contains wanted) lowest → IsPermutation lowest packets
-    → All (IsOfPath setup (counterparty setup events)) packets
-are_of_path setup events all wanted lowest packets are among same =
-    let end : Option (List ℕ) = counterparty setup events in
-    let pass : All (λ (s : SeenPacket). is_wanted setup end s.event.now ≡ true) wanted = subst (All (λ (s : SeenPacket). is_wanted setup end s.event.now ≡ true)) (sym are) (passes (λ s. is_wanted setup end s.event.now) all) in
-    carried (IsOfPath setup end) wanted lowest packets (λ k d small. is_of_path setup end (get_or wanted k d) (pass k d small)) among same
+pub are_of_path : (setup : PathSetup) (saved : List Saved) (all wanted lowest packets : List SeenPacket)
+    → wanted ≡ filter (λ s. is_wanted setup (counterparty setup (events_of saved)) saved s.event.now) all → All (Contains wanted) lowest → IsPermutation lowest packets
+    → All (IsOfPath setup saved) packets
+are_of_path setup saved all wanted lowest packets are among same =
+    let test : SeenPacket → Bool = λ s. is_wanted setup (counterparty setup (events_of saved)) saved s.event.now in
+    let pass : All (λ (s : SeenPacket). test s ≡ true) wanted = subst (All (λ (s : SeenPacket). test s ≡ true)) (sym are) (passes test all) in
+    carried (IsOfPath setup saved) wanted lowest packets (λ k d small. is_of_path setup saved (get_or wanted k d) (pass k d small)) among same
 
 pub expire : (dest : List ℕ) (revision : ℕ) (p : SeenPacket → Bool) (all wanted lowest packets : List SeenPacket) → IsRevision dest revision → All (ExpiresAt revision) all
     → wanted ≡ filter p all → All (Contains wanted) lowest → IsPermutation lowest packets → All (Expires dest) packets

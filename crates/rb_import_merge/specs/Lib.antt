@@ -1,3 +1,4 @@
+pub mod Pending
 pub mod Packets
 pub mod Counterparties
 pub mod Sources

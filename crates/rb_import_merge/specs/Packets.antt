@@ -12,6 +12,7 @@ use Rattle.rb_import_answers.specs.declared.packets.RevisionHeight.{RevisionHeig
 use Rattle.rb_import_answers.specs.Revisions.{IsRevision}
 use Rattle.rb_import_setup.specs.declared.setup.PathSetup.{PathSetup}
 use Rattle.rb_import_check.specs.declared.saved.Saved.{Saved}
+use Rattle.rb_import_merge.specs.Pending.{is_pending, tells_done}
 use Rattle.rb_import_merge.specs.declared.packets.Searches.{Searches}
 use Rattle.rb_import_merge.specs.declared.packets.SeenPacket.{SeenPacket}
 
@@ -52,16 +53,11 @@ first_dest setup but (e ∷ es) = if is_other but (string_bytes e.dest) && is_se
 abbrev pub counterparty : PathSetup → List PacketEvent → Option (List ℕ)
 counterparty setup events = option_or (option_map string_bytes setup.counterparty) (first_dest setup None events)
 
--- the packet is the path's: its sequence is the first one or later, its source is the one that the setup names, and its destination this one
-abbrev pub IsOfPath : PathSetup → Option (List ℕ) → SeenPacket → Type 0
-IsOfPath setup end p =
-    (setup.config.first ≤ p.event.now.sequence)
-    × IfSome setup.source_channel (λ source. string_bytes p.event.now.source ≡ string_bytes source)
-    × IfSome end (λ dest. string_bytes p.event.now.dest ≡ dest)
-
--- whether an event is of the path's packets
-abbrev pub is_wanted : PathSetup → Option (List ℕ) → PacketEvent → Bool
-is_wanted setup end e = is_source setup.source_channel (string_bytes e.source) && is_dest end (string_bytes e.dest) && nat_le setup.config.first e.sequence
+-- whether an event is of the path's packets, by this destination and these answers: of those that may be pending
+abbrev pub is_wanted : PathSetup → Option (List ℕ) → List Saved → PacketEvent → Bool
+is_wanted setup end saved e =
+    is_source setup.source_channel (string_bytes e.source) && is_dest end (string_bytes e.dest) && nat_le setup.config.first e.sequence
+    && is_pending saved e.sequence
 
 abbrev pub events_in : NodeAnswer → List PacketEvent
 events_in (answers.Commit header) = []
@@ -69,6 +65,7 @@ events_in (answers.Validators page) = []
 events_in (answers.ClientState state) = []
 events_in (answers.ConsensusStates page) = []
 events_in (answers.Transactions page) = page.events.items
+events_in (answers.Pending p) = []
 events_in (answers.Verdicts v) = []
 events_in (answers.Other query) = []
 
@@ -80,9 +77,18 @@ events_of saved = flat_map (λ s. events_in s.answer) saved
 abbrev pub seen_events : List SeenPacket → List PacketEvent
 seen_events packets = map (λ (p : SeenPacket). p.event.now) packets
 
--- those of a path's events that are wanted of it
-abbrev pub wanted_of : PathSetup → List PacketEvent → List PacketEvent
-wanted_of setup events = filter (is_wanted setup (counterparty setup events)) events
+-- the packet is the path's: its sequence is the first one or later, its source is the one that the setup names, its destination the
+-- path's, and it may be pending
+abbrev pub IsOfPath : PathSetup → List Saved → SeenPacket → Type 0
+IsOfPath setup saved p =
+    (setup.config.first ≤ p.event.now.sequence)
+    × IfSome setup.source_channel (λ source. string_bytes p.event.now.source ≡ string_bytes source)
+    × IfSome (counterparty setup (events_of saved)) (λ dest. string_bytes p.event.now.dest ≡ dest)
+    × (is_pending saved p.event.now.sequence ≡ true)
+
+-- those of the events that a path's answers tell of that are wanted of it
+abbrev pub wanted_of : PathSetup → List Saved → List PacketEvent
+wanted_of setup saved = filter (is_wanted setup (counterparty setup (events_of saved)) saved) (events_of saved)
 
 -- a sending's events are equal
 abbrev pub IsSameSending : PacketEvent → PacketEvent → Type 0
@@ -115,10 +121,10 @@ abbrev pub some_timed_out : List SeenPacket → Bool
 some_timed_out packets = list_any (λ (p : SeenPacket). counts_as p.event.now.kind PacketKind.TimedOut) packets
 
 -- what is seen are wanted events; each wanted event has one that stands for it; no two are of one kind and sequence
-abbrev pub HaveEvents : PathSetup → List PacketEvent → List SeenPacket → Type 0
-HaveEvents setup events packets =
-    All (λ (p : SeenPacket). Contains (wanted_of setup events) p.event.now) packets
-    × All (λ e. Any (StandsFor e) packets) (wanted_of setup events)
+abbrev pub HaveEvents : PathSetup → List Saved → List SeenPacket → Type 0
+HaveEvents setup saved packets =
+    All (λ (p : SeenPacket). Contains (wanted_of setup saved) p.event.now) packets
+    × All (λ e. Any (StandsFor e) packets) (wanted_of setup saved)
     × IsDistinct are_of_one packets
 
 -- ---- until when packets are received
@@ -143,13 +149,14 @@ Expires dest p = (revision : ℕ) × IsRevision dest revision × ExpiresAt revis
 
 -- ---- searches that aren't there
 
--- whether an answer tells of an event of this kind
+-- whether an answer tells of an event of this kind, or of which packets that was done
 abbrev pub tells_of : PacketKind → NodeAnswer → Bool
 tells_of kind (answers.Commit header) = false
 tells_of kind (answers.Validators page) = false
 tells_of kind (answers.ClientState state) = false
 tells_of kind (answers.ConsensusStates page) = false
 tells_of kind (answers.Transactions page) = list_any (λ (e : PacketEvent). counts_as e.kind kind) page.events.items
+tells_of kind (answers.Pending p) = tells_done kind p
 tells_of kind (answers.Verdicts v) = false
 tells_of kind (answers.Other query) = false
 
@@ -164,6 +171,7 @@ is_empty (answers.Validators page) = false
 is_empty (answers.ClientState state) = false
 is_empty (answers.ConsensusStates page) = false
 is_empty (answers.Transactions page) = length page.events.items == 0
+is_empty (answers.Pending p) = false
 is_empty (answers.Verdicts v) = false
 is_empty (answers.Other query) = false
 

@@ -3,13 +3,15 @@ ghost use Rattle.std.specs.Prelude.{◌≡◌, [], ◌∷◌, ◌++◌, if◌the
 ghost use Rattle.std.specs.List.{flat_map, list_any};
 ghost use Rattle.std.specs.List.Sorted.{IsPermutation};
 ghost use Rattle.rb_import_check.specs.Errors.{IsToldOf};
-ghost use Rattle.rb_import_merge.specs.Packets.{IsOfPath, HaveEvents, Expires, ExpiresAt, counterparty, expiry_at, within_heights, is_source, is_dest, is_wanted, counts_as, is_silent, lacks, one_if, some_timed_out, tells_of, events_of, seen_events};
+ghost use Rattle.rb_import_merge.specs.Packets.{IsOfPath, HaveEvents, Expires, ExpiresAt, expiry_at, within_heights, is_source, is_dest, is_wanted, counts_as, is_silent, lacks, one_if, some_timed_out, tells_of, events_of, seen_events};
+ghost use Rattle.rb_import_merge.specs.Pending.{tells_done};
 
 use crate::counterparties::counterparty;
 use crate::lowest::lowest_of;
+use crate::pending::{is_pending, judge_pending};
 use rb_base::{ChainId, Height};
 use rb_import_answers::{
-    NodeAnswer, PacketEvent, PacketKind, PacketPage, RevisionHeight, revision_of,
+    NodeAnswer, PacketEvent, PacketKind, PacketPage, Pending, RevisionHeight, revision_of,
 };
 use rb_import_check::{CheckErrorName, ImportError, Saved};
 use rb_import_setup::PathSetup;
@@ -66,16 +68,16 @@ struct Page<'a> {
 }
 
 /// The events of a path's packets from its first sequence on: those that were sent, received,
-/// acknowledged and cleared, each by block. Of several of one kind and sequence the one of the lowest
-/// block; two that tell of one sending and differ are refused.
+/// acknowledged and cleared, each by block; where answers tell of commitments, of the pending packets alone. Of several of
+/// one kind and sequence the one of the lowest block; two that tell of one sending and differ are refused.
 pub fn seen_packets<'a>(
     alloc: Global,
     setup: &'a PathSetup,
     dest: &ChainId,
     answers: &'a [Saved],
 ) -> Result<Vec<SeenPacket<'a>>, ImportError<'a>>
-    ensures path { IfOk result (λ packets. All (IsOfPath setup.entry.now (counterparty setup.entry.now (events_of answers.entry.now))) packets.items) }
-    ensures events { IfOk result (λ packets. HaveEvents setup.entry.now (events_of answers.entry.now) packets.items) }
+    ensures path { IfOk result (λ packets. All (IsOfPath setup.entry.now answers.entry.now) packets.items) }
+    ensures events { IfOk result (λ packets. HaveEvents setup.entry.now answers.entry.now packets.items) }
     ensures expiry { IfOk result (λ packets. All (Expires dest.now) packets.items) }
     ensures told { IfErr result (IsToldOf setup.entry.now.config.id) }
 {
@@ -84,9 +86,10 @@ pub fn seen_packets<'a>(
     judge_totals(id, pages.as_slice())?;
     let all = all_events(alloc, revision_of(dest.as_str()), pages.as_slice())?;
     let end = counterparty(setup, answers);
-    let wanted = wanted_of(alloc, setup, end, all.as_slice())?;
+    let wanted = wanted_of(alloc, setup, end, answers, all.as_slice())?;
     let lowest = lowest_of(id, wanted)?;
     judge_packets(id, lowest.as_slice())?;
+    judge_pending(setup, answers, lowest.as_slice())?;
     Ok(by_block(lowest)?)
 }
 
@@ -169,12 +172,26 @@ fn tell_of(answers: &[Saved], kind: PacketKind) -> bool
     answers.iter().any(|saved| tells_of(&saved.answer, kind))
 }
 
-/// Whether an answer tells of an event of this kind.
+/// Whether an answer tells of an event of this kind, or of which packets that was done.
 fn tells_of(answer: &NodeAnswer, kind: PacketKind) -> bool
     ensures { result ≡ tells_of kind answer.now }
 {
     match answer {
         NodeAnswer::Transactions(page) => has_kind(page.events.as_slice(), kind),
+        NodeAnswer::Pending(pending) => tells_done(pending, kind),
+        _ => false,
+    }
+}
+
+/// Whether an answer on pending packets tells of which packets this was done.
+fn tells_done(pending: &Pending, kind: PacketKind) -> bool
+    ensures { result ≡ tells_done kind pending.now }
+{
+    match (kind, pending) {
+        (PacketKind::Sent, Pending::Commitments(_))
+        | (PacketKind::Cleared, Pending::Commitments(_))
+        | (PacketKind::Received, Pending::Unreceived(_))
+        | (PacketKind::AckWritten, Pending::Acknowledgements(_)) => true,
         _ => false,
     }
 }
@@ -235,7 +252,7 @@ fn pages_of<'a>(
         let file = saved.file.as_str();
         match &saved.answer {
             NodeAnswer::Transactions(page) => pages.push(Page { file, page })?,
-            NodeAnswer::Other(_) => {}
+            NodeAnswer::Pending(_) | NodeAnswer::Other(_) => {}
             _ => return Err(ImportError::at(CheckErrorName::WrongFolder, id, 0, file)),
         }
     }
@@ -333,14 +350,15 @@ fn wanted_of<'a>(
     alloc: Global,
     setup: &'a PathSetup,
     end: Option<&str>,
+    answers: &[Saved],
     all: &[SeenPacket<'a>],
 ) -> Result<Vec<SeenPacket<'a>>, ImportError<'a>>
-    ensures wanted { IfOk result (λ wanted. wanted.items ≡ filter (λ s. is_wanted setup.entry.now (option_map (λ e. e.now) end.entry) s.event.now) all.now) }
+    ensures wanted { IfOk result (λ wanted. wanted.items ≡ filter (λ s. is_wanted setup.entry.now (option_map (λ e. e.now) end.entry) answers.now s.event.now) all.now) }
     ensures told { IfErr result (IsToldOf setup.entry.now.config.id) }
 {
     let mut wanted = Vec::new(alloc);
     for seen in all {
-        add_wanted(setup, end, *seen, &mut wanted)?;
+        add_wanted(setup, end, answers, *seen, &mut wanted)?;
     }
     Ok(wanted)
 }
@@ -349,27 +367,29 @@ fn wanted_of<'a>(
 fn add_wanted<'a>(
     setup: &'a PathSetup,
     end: Option<&str>,
+    answers: &[Saved],
     seen: SeenPacket<'a>,
     wanted: &mut Vec<SeenPacket<'a>>,
 ) -> Result<(), ImportError<'a>>
-    ensures wanted { OnOk result (wanted.new.items ≡ wanted.old.items ++ (if is_wanted setup.entry.now (option_map (λ e. e.now) end.entry) seen.entry.event.now then seen.entry ∷ [] else [])) }
+    ensures wanted { OnOk result (wanted.new.items ≡ wanted.old.items ++ (if is_wanted setup.entry.now (option_map (λ e. e.now) end.entry) answers.now seen.entry.event.now then seen.entry ∷ [] else [])) }
     ensures told { IfErr result (IsToldOf setup.entry.now.config.id) }
 {
-    if is_wanted(setup, end, wanted.first(), &seen)? {
+    if is_wanted(setup, end, answers, wanted.first(), &seen)? {
         wanted.push(seen)?;
     }
     Ok(())
 }
 
-/// Whether a packet is the path's, and its sequence the first one or a later one. Where the setup names no
+/// Whether a packet is the path's, its sequence the first one or a later one, and it may be pending. Where the setup names no
 /// source, all packets that are taken have to be of one.
 fn is_wanted<'a>(
     setup: &'a PathSetup,
     end: Option<&str>,
+    answers: &[Saved],
     first: Option<&SeenPacket<'a>>,
     seen: &SeenPacket<'a>,
 ) -> Result<bool, ImportError<'a>>
-    ensures wanted { IfOk result (λ is. is ≡ is_wanted setup.entry.now (option_map (λ e. e.now) end.entry) seen.now.event.now) }
+    ensures wanted { IfOk result (λ is. is ≡ is_wanted setup.entry.now (option_map (λ e. e.now) end.entry) answers.now seen.now.event.now) }
     ensures told { IfErr result (IsToldOf setup.entry.now.config.id) }
 {
     let source = seen.event.source.as_str();
@@ -388,7 +408,8 @@ fn is_wanted<'a>(
         _ => Ok(
             is_source(setup, source)
                 && is_dest(end, seen.event.dest.as_str())
-                && setup.config.first.get() <= seen.event.sequence,
+                && setup.config.first.get() <= seen.event.sequence
+                && is_pending(answers, seen.event.sequence),
         ),
     }
 }
@@ -421,7 +442,7 @@ fn flaw_of(packets: &[SeenPacket], event: &PacketEvent) -> Option<CheckErrorName
 }
 
 /// Whether there is an event of this kind with this sequence.
-fn was(packets: &[SeenPacket], kind: PacketKind, sequence: u64) -> bool {
+pub fn was(packets: &[SeenPacket], kind: PacketKind, sequence: u64) -> bool {
     packets
         .binary_search_by_key(&(kind, sequence), |seen: &SeenPacket| {
             (seen.event.kind, seen.event.sequence)

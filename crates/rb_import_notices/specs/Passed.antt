@@ -19,6 +19,7 @@ is_other (answers.Validators page) = false
 is_other (answers.ClientState state) = false
 is_other (answers.ConsensusStates page) = false
 is_other (answers.Transactions page) = false
+is_other (answers.Pending p) = false
 is_other (answers.Verdicts v) = false
 is_other (answers.Other query) = true
 

@@ -13,6 +13,7 @@ use Rattle.rb_script_config.specs.Chains.{no_defaults}
 use Rattle.rb_script_config.specs.Clients.{identity, terms}
 use Rattle.rb_script_config.specs.Goals.{asked, goal_keys, goal_of, one_goal, is_asked, settlement, settlement_keys}
 use Rattle.rb_script_config.specs.Named.{reference}
+use Rattle.rb_script_config.specs.Channels.{channel_in}
 use Rattle.rb_script_config.specs.Paths.{path_config, waits_in, fits}
 use Rattle.rb_script_types.specs.declared.version.Version.TheVariants.{Two, Three}
 use Rattle.rb_script_config.proofs.ConfigForms.{pass, same_ok, elements-keep, place-within, identity-form, path_config-form}
@@ -20,7 +21,7 @@ use Rattle.rb_import_setup.specs.declared.setup.ClientSetup.{ClientSetup}
 use Rattle.rb_import_setup.specs.declared.setup.PathSetup.{PathSetup}
 use Rattle.rb_import_setup.specs.declared.setup.TurnSetup.{TurnSetup}
 use Rattle.rb_import_setup.specs.Clients.{client, client_ends, client_ids, level}
-use Rattle.rb_import_setup.specs.Paths.{Path, path, path_ids, path_keys, path_view, source_channel, counterparty}
+use Rattle.rb_import_setup.specs.Paths.{Path, path, path_ids, path_keys, path_view}
 use Rattle.rb_import_setup.specs.Turns.{Turn, frame, turn, turn_view}
 use Rattle.rb_import_setup.specs.Places.{IsClientOf, IsPathOf, IsTurnOf, ArePlaces}
 
@@ -57,16 +58,15 @@ path-places chains clients before s p h =
     pass (only path_keys s) _ p h (λ u e0 h0.
     pass (path_config chains (client_ids clients) (path_ids before) s) _ p h0 (λ q e1 h1.
     pass (waits_in Three s) _ p h1 (λ waits ew hw.
-    pass (source_channel s) _ p hw (λ channel e2 h2.
-    pass (counterparty s) _ p h2 (λ other e3 h3.
-    pass (fits client_ends clients q s.path) _ p h3 (λ v e4 same.
+    pass (channel_in Three s) _ p hw (λ channel e2 h2.
+    pass (fits client_ends clients q s.path) _ p h2 (λ v e3 same.
     let named = path_config-form chains (client_ids clients) (path_ids before) s q e1 in
     subst (IsPlaced chains clients) (same_ok _ p same) (record {
       source = named.0;
       destination = named.1;
       forward = omega (arith, named.2, count);
       back = omega (arith, named.3, count);
-    })))))))
+    }))))))
 
 pub all-views : {A B : Type 0} (P : B → Type 0) (view : A → B) (xs : List A) → All P (map view xs) → All (λ x. P (view x)) xs
 all-views P view xs all k d lt = subst P (get_or-map view xs k d (view d) lt) (all k (view d) (omega (arith, lt, length-map xs view)))

@@ -1,9 +1,13 @@
 -- The tables of paths (ICS 4: one direction of a channel).
-use Rattle.std.specs.Prelude.{ℕ, List, [], ◌∷◌, ◌++◌, map, codes, string_bytes, Option, Some, None, option_map, is_none, Bool, ◌&&◌, Result, Ok, if◌then◌else◌}
+use Rattle.std.specs.Prelude.{ℕ, List, [], ◌∷◌, map, codes, string_bytes, Option, option_map, option_and_then, Result, Ok}
+use Rattle.rb_script_types.specs.Channels.{end_text}
+use Rattle.rb_script_types.specs.declared.channel.Channel.{Channel}
+use Rattle.rb_script_types.specs.declared.channel.ChannelEnd.{ChannelEnd}
 use Rattle.rb_script_types.specs.declared.config.PathConfig.{PathConfig}
 use Rattle.rb_script_types.specs.declared.version.Version.TheVariants.{Three}
 use Rattle.rb_script_toml.specs.Faults.{Fault, ◌>>=◌}
-use Rattle.rb_script_toml.specs.Fields.{Section, text, only, needs, optional}
+use Rattle.rb_script_toml.specs.Fields.{Section, only}
+use Rattle.rb_script_config.specs.Channels.{channel_in}
 use Rattle.rb_script_config.specs.Paths.{path_config, waits_in, fits}
 use Rattle.rb_import_setup.specs.declared.setup.ClientSetup.{ClientSetup}
 use Rattle.rb_import_setup.specs.declared.setup.PathSetup.{PathSetup}
@@ -18,30 +22,14 @@ pub record Path : Type 0 where
 abbrev pub path_view : PathSetup → Path
 path_view p = record { config = p.config; source_channel = option_map string_bytes p.source_channel; counterparty = option_map string_bytes p.counterparty }
 
--- ---- values of their own
+-- ---- the ends of the channel
 
--- whether neither of an end's two keys is there
-abbrev pub is_unnamed : List ℕ → List ℕ → Section → Bool
-is_unnamed port channel s = is_none (optional port s) && is_none (optional channel s)
+abbrev pub source_of : Option Channel → Option ChannelEnd
+source_of channel = option_map (λ (c : Channel). c.source) channel
 
--- an end, as `port/channel`; both keys are needed
-unfoldable pub named_end : List ℕ → List ℕ → Section → Result (Option (List ℕ)) Fault
-named_end port_key channel_key s = do
-  port ← needs port_key text s
-  channel ← needs channel_key text s
-  Ok (Some (port ++ 47 ∷ channel))
-
--- the source's end of the channel, if a key of it or of the other end is there
-unfoldable pub source_channel : Section → Result (Option (List ℕ)) Fault
-source_channel s =
-    if is_unnamed (codes "port") (codes "channel") s && is_unnamed (codes "counterparty_port") (codes "counterparty_channel") s then Ok None
-    else named_end (codes "port") (codes "channel") s
-
--- the other end of the channel (ICS 4: the counterparty), if a key of it is there
-unfoldable pub counterparty : Section → Result (Option (List ℕ)) Fault
-counterparty s =
-    if is_unnamed (codes "counterparty_port") (codes "counterparty_channel") s then Ok None
-    else named_end (codes "counterparty_port") (codes "counterparty_channel") s
+-- the other end (ICS 4: the counterparty), where it is named
+abbrev pub counterparty_of : Option Channel → Option ChannelEnd
+counterparty_of channel = option_and_then (λ (c : Channel). c.counterparty) channel
 
 -- ---- paths
 
@@ -53,13 +41,16 @@ path_keys =
     codes "id" ∷ codes "source" ∷ codes "dest" ∷ codes "order" ∷ codes "first" ∷ codes "forward" ∷ codes "back" ∷ codes "gas"
     ∷ codes "wait_ns" ∷ codes "port" ∷ codes "channel" ∷ codes "counterparty_port" ∷ codes "counterparty_channel" ∷ []
 
--- a path of these chains and clients, beside those before it; its messages may wait, as those of a script of version 3
+-- a path of these chains and clients, beside those before it; its messages may wait and its channel is named, as in a script of version 3
 unfoldable pub path : List (List ℕ) → List ClientSetup → List Path → Section → Result Path Fault
 path chains clients before s = do
   _ ← only path_keys s
   p ← path_config chains (client_ids clients) (path_ids before) s
   w ← waits_in Three s
-  channel ← source_channel s
-  other ← counterparty s
+  c ← channel_in Three s
   _ ← fits client_ends clients p s.path
-  Ok (record { config = record p { waits = w }; source_channel = channel; counterparty = other })
+  Ok (record {
+    config = record p { waits = w; channel = c };
+    source_channel = option_map end_text (source_of c);
+    counterparty = option_map end_text (counterparty_of c);
+  })

@@ -1,68 +1,47 @@
 //! The paths of a setup.
-ghost use Rattle.std.specs.Prelude.{◌≡◌, [], codes, map, option_map, string_bytes};
+ghost use Rattle.std.specs.Prelude.{◌≡◌, [], IfOk, codes, map, option_map, string_bytes};
 ghost use Rattle.toml.specs.View.{view, items_view};
 ghost use Rattle.rb_script_toml.specs.Faults.{Gives};
-ghost use Rattle.rb_script_toml.specs.Fields.{section_view, only, needs, text, at_element, elements};
-ghost use Rattle.rb_import_setup.specs.Paths.{is_unnamed, named_end, source_channel, counterparty, path, path_keys, path_view};
+ghost use Rattle.rb_script_toml.specs.Fields.{section_view, only, at_element, elements};
+ghost use Rattle.rb_script_types.specs.Channels.{end_text};
+ghost use Rattle.rb_import_setup.specs.Paths.{counterparty_of, path, path_keys, path_view, source_of};
 
 use crate::setup::{ClientSetup, PathSetup};
 use rb_base::ChainId;
-use rb_script_config::{Directory, judge_path, read_path_config, read_waits};
+use rb_script_config::{Directory, judge_path, read_channel, read_path_config, read_waits};
 use rb_script_toml::{RunError, Section, element_path, section_at};
-use rb_script_types::{PathConfig, Version};
-use std::alloc::Global;
+use rb_script_types::{Channel, ChannelEnd, PathConfig, Version};
+use std::alloc::{AllocError, Global};
 use toml::Value;
 
-#[tactic(auto, using(rb_script_toml::proofs::Steps::steps))]
-fn needed_text<'a>(section: &Section<'a>, key: &'a str) -> Result<&'a str, RunError>
-    ensures { Gives (λ t. t.now) result (needs key.entry.now text (section_view section.now)) }
+/// An end of a channel as `port/channel`, where it is there.
+fn end_text(alloc: Global, end: Option<ChannelEnd>) -> Result<Option<String>, AllocError>
+    ensures { IfOk result (λ text. option_map string_bytes text ≡ option_map end_text end) }
 {
-    section.required(key)?.text()
-}
-
-/// Whether neither of an end's two keys is there.
-fn is_unnamed<'a>(section: &Section<'a>, port: &'a str, channel: &'a str) -> bool
-    ensures { result ≡ is_unnamed port.entry.now channel.entry.now (section_view section.now) }
-{
-    section.optional(port).is_none() && section.optional(channel).is_none()
-}
-
-/// An end of the channel, both of whose keys have to be there.
-#[tactic(auto, using(rb_script_toml::proofs::Steps::steps), unfolding(crate::specs::Paths::named_end))]
-fn named_end<'a>(
-    section: &Section<'a>,
-    port: &'a str,
-    channel: &'a str,
-) -> Result<Option<String>, RunError>
-    ensures { Gives (λ e. option_map string_bytes e) result (named_end port.entry.now channel.entry.now (section_view section.now)) }
-{
-    let port = needed_text(section, port)?;
-    let channel = needed_text(section, channel)?;
-    Ok(Some(format!(in section.alloc; "{port}/{channel}")?))
-}
-
-/// The source's end of the channel, if a key of it or of the other end is there.
-#[tactic(auto, using(rb_script_toml::proofs::Steps::steps), unfolding(crate::specs::Paths::source_channel))]
-fn source_channel(section: &Section<'_>) -> Result<Option<String>, RunError>
-    ensures { Gives (λ s. option_map string_bytes s) result (source_channel (section_view section.now)) }
-{
-    if is_unnamed(section, "port", "channel")
-        && is_unnamed(section, "counterparty_port", "counterparty_channel")
-    {
-        return Ok(None);
+    match end {
+        Some(end) => Ok(Some(format!(in alloc; "{end}")?)),
+        None => Ok(None),
     }
-    named_end(section, "port", "channel")
 }
 
-/// The other end of the channel, if a key of it is there.
-#[tactic(auto, using(rb_script_toml::proofs::Steps::steps), unfolding(crate::specs::Paths::counterparty))]
-fn counterparty(section: &Section<'_>) -> Result<Option<String>, RunError>
-    ensures { Gives (λ c. option_map string_bytes c) result (counterparty (section_view section.now)) }
+/// The source's end of a channel.
+fn source_of(channel: &Option<Channel>) -> Option<ChannelEnd>
+    ensures { result ≡ source_of channel.now }
 {
-    if is_unnamed(section, "counterparty_port", "counterparty_channel") {
-        return Ok(None);
+    match channel {
+        Some(channel) => Some(channel.source),
+        None => None,
     }
-    named_end(section, "counterparty_port", "counterparty_channel")
+}
+
+/// The other end of a channel.
+fn counterparty_of(channel: &Option<Channel>) -> Option<ChannelEnd>
+    ensures { result ≡ counterparty_of channel.now }
+{
+    match channel {
+        Some(channel) => channel.counterparty,
+        None => None,
+    }
 }
 
 fn only_path_keys(section: &Section<'_>) -> Result<(), RunError>
@@ -97,11 +76,16 @@ fn read_path(
     only_path_keys(section)?;
     let config = read_path_config(section, chains, clients, before)?;
     let waits = read_waits(Version::Three, section)?;
-    let source_channel = source_channel(section)?;
-    let counterparty = counterparty(section)?;
+    let channel = read_channel(Version::Three, section)?;
     judge_path(section, clients, &config)?;
+    let source_channel = end_text(section.alloc, source_of(&channel))?;
+    let counterparty = end_text(section.alloc, counterparty_of(&channel))?;
     Ok(PathSetup {
-        config: PathConfig { waits, ..config },
+        config: PathConfig {
+            waits,
+            channel,
+            ..config
+        },
         source_channel,
         counterparty,
     })

@@ -59,9 +59,9 @@ impl Client for ClientSetup {
 }
 
 /// A path: one direction of a channel. Its packets are those from `source_channel`, the source's end
-/// of the channel as `port/channel`, where that is there, else all that the answers tell of; and of
-/// these the ones to `counterparty`, the channel's other end, where that is there (never without
-/// `source_channel`), else those to the end that the first of them was sent to.
+/// of the channel as `port/channel`, where `config` names it, else all that the answers tell of; and of
+/// these the ones to `counterparty`, the channel's other end, where `config` names it (never without
+/// the source's), else those to the end that the first of them was sent to.
 #[derive(Drop)]
 pub struct PathSetup {
     pub config: PathConfig,

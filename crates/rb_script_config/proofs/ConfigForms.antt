@@ -25,6 +25,7 @@ use Rattle.rb_script_config.specs.Versions.{version, max_records}
 use Rattle.rb_script_config.specs.Chains.{chain, chain_keys, chain_ids, shared, no_defaults}
 use Rattle.rb_script_config.specs.declared.client.ClientIdentity.{ClientIdentity}
 use Rattle.rb_script_config.specs.Clients.{identity, terms, client, client_ends, client_keys, client_ids, own, shared_by, votes_in}
+use Rattle.rb_script_config.specs.Channels.{channel_in}
 use Rattle.rb_script_config.specs.Paths.{path, path_config, path_keys, waits_in, path_ids, order, sequence, path_gas, connects, fits}
 use Rattle.rb_script_config.specs.Tables.{Tables, tables, top_keys, config}
 
@@ -264,7 +265,8 @@ path-form ver chains clients before s p h =
     pass (only (path_keys ver) s) _ p h (λ u e0 h0.
     pass (path_config chains (client_ids clients) (path_ids before) s) _ p h0 (λ q e1 h1.
     pass (waits_in ver s) _ p h1 (λ w2 e2 h2.
-    pass (fits client_ends clients q s.path) _ p h2 (λ v fit same.
+    pass (channel_in ver s) _ p h2 (λ ends e3 h3.
+    pass (fits client_ends clients q s.path) _ p h3 (λ v fit same.
     pass (check (not (q.source == q.destination)) SameChain s.path) _ v fit (λ w apart whole.
     let named = path_config-form chains (client_ids clients) (path_ids before) s q e1 in
     let fits = and_parts (connects client_ends clients q.forward q.destination q.source) (connects client_ends clients q.back q.source q.destination) (check-passed _ WrongClient s.path v whole) in
@@ -277,7 +279,7 @@ path-form ver chains clients before s p h =
         back = connected (slice_get clients q.back) q.source q.destination fits.1;
       },
       named.4,
-    ))))))
+    )))))))
 
 abbrev ArePaths : ℕ → List ClientConfig → List PathConfig → Type 0
 ArePaths chains clients ps = AllPairs (λ p q. p.id ≢ q.id) ps × All (IsPathConfig chains clients) ps

@@ -1,3 +1,4 @@
 pub mod Positions
 pub mod DirectoriesLemmas
+pub mod EndIds
 pub mod ConfigForms

@@ -5,6 +5,7 @@ pub mod Named
 pub mod Directories
 pub mod Chains
 pub mod Clients
+pub mod Channels
 pub mod Paths
 pub mod Goals
 pub mod Setups

@@ -14,6 +14,7 @@ use Rattle.rb_script_toml.specs.KeyPaths.{element}
 use Rattle.rb_script_toml.specs.Fields.{Field, Section, text, only, needs, optional, or_default, number, within, three_integers, fees, max_number}
 use Rattle.rb_script_toml.specs.declared.fault.FaultName.TheVariants.{OutOfRange, BadOrder, SameChain, WrongClient}
 use Rattle.rb_script_config.specs.Named.{reference, new_identifier}
+use Rattle.rb_script_config.specs.Channels.{channel_in}
 use Rattle.rb_script_config.specs.Clients.{client_ends, client_ids}
 
 -- ---- values of their own
@@ -67,7 +68,8 @@ path_keys One =
 path_keys Two =
     codes "id" ∷ codes "source" ∷ codes "dest" ∷ codes "order" ∷ codes "first" ∷ codes "forward" ∷ codes "back" ∷ codes "gas" ∷ []
 path_keys Three =
-    codes "id" ∷ codes "source" ∷ codes "dest" ∷ codes "order" ∷ codes "first" ∷ codes "forward" ∷ codes "back" ∷ codes "gas" ∷ codes "wait_ns" ∷ []
+    codes "id" ∷ codes "source" ∷ codes "dest" ∷ codes "order" ∷ codes "first" ∷ codes "forward" ∷ codes "back" ∷ codes "gas"
+    ∷ codes "wait_ns" ∷ codes "port" ∷ codes "channel" ∷ codes "counterparty_port" ∷ codes "counterparty_channel" ∷ []
 
 -- no message may wait
 abbrev pub no_waits : Waits
@@ -94,6 +96,7 @@ path_config chains clients before s = do
     back = back;
     gas = gas;
     waits = no_waits;
+    channel = None;
   })
 
 -- its chains differ, and its clients are hosted on the one and track the other
@@ -114,5 +117,6 @@ path version chains clients before s = do
   _ ← only (path_keys version) s
   p ← path_config chains (client_ids clients) (path_ids before) s
   w ← waits_in version s
+  c ← channel_in version s
   _ ← fits client_ends clients p s.path
-  Ok (record p { waits = w })
+  Ok (record p { waits = w; channel = c })

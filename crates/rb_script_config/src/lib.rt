@@ -4,6 +4,7 @@
 #![tactic(auto)]
 
 mod chain;
+mod channel;
 mod client;
 mod client_keys;
 mod defaults;
@@ -19,6 +20,7 @@ mod tables;
 mod version;
 
 pub use chain::{Chain, ids_of, read_chains};
+pub use channel::read_channel;
 pub use client::{ClientIdentity, ClientTerms, read_identity, read_terms, two_chains};
 pub use client_keys::{CLIENT_KEY_LIST, ClientKey, DEFAULT_KEY_LIST, client_key};
 pub use defaults::{Defaults, maybe_drift, maybe_period, no_defaults};

@@ -5,6 +5,7 @@ ghost use Rattle.rb_script_toml.specs.Faults.{Gives};
 ghost use Rattle.rb_script_toml.specs.Fields.{field_view, section_view, only, needs, optional, or_default, at_element, elements};
 ghost use Rattle.rb_script_config.specs.Paths.{order, sequence, path_gas, waits, waits_in, connects, fits, path, path_config, path_keys};
 
+use crate::channel::read_channel;
 use crate::client::two_chains;
 use crate::directory::Directory;
 use crate::named::{Client, Named, new_identifier, reference};
@@ -93,7 +94,19 @@ fn only_path_keys(version: Version, section: &Section<'_>) -> Result<(), RunErro
             "id", "source", "dest", "order", "first", "forward", "back", "gas",
         ]),
         Version::Three => section.only(&[
-            "id", "source", "dest", "order", "first", "forward", "back", "gas", "wait_ns",
+            "id",
+            "source",
+            "dest",
+            "order",
+            "first",
+            "forward",
+            "back",
+            "gas",
+            "wait_ns",
+            "port",
+            "channel",
+            "counterparty_port",
+            "counterparty_channel",
         ]),
     }
 }
@@ -167,6 +180,7 @@ pub fn read_path_config<C: Named, T: Named>(
         back,
         gas,
         waits: Waits::NONE,
+        channel: None,
     })
 }
 
@@ -207,8 +221,13 @@ fn read_path(
     only_path_keys(version, section)?;
     let path = read_path_config(section, chains, clients, before)?;
     let waits = read_waits(version, section)?;
+    let channel = read_channel(version, section)?;
     judge_path(section, clients, &path)?;
-    Ok(PathConfig { waits, ..path })
+    Ok(PathConfig {
+        waits,
+        channel,
+        ..path
+    })
 }
 
 #[tactic(auto, using(rb_script_toml::proofs::Steps::steps))]
@@ -228,8 +247,8 @@ fn read_path_at(
 }
 
 /// Reads the tables of the array `path`, in their order: keys that no path has are refused, then each is
-/// read as by `read_path_config` and `read_waits`, and judged as by `judge_path`. `Fault` is the first of the first table
-/// that is refused; `NoMemory` comes where a growth is refused.
+/// read as by `read_path_config`, `read_waits` and `read_channel`, and judged as by `judge_path`. `Fault` is the first of
+/// the first table that is refused; `NoMemory` comes where a growth is refused.
 pub fn read_paths(
     alloc: Global,
     version: Version,

@@ -1,3 +1,4 @@
 pub mod Texts
+pub mod Ends
 pub mod Pairs
 pub mod Turns

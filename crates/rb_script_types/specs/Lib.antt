@@ -4,5 +4,7 @@ pub mod Gas
 pub mod Waits
 pub mod Limits
 pub mod Refusal
+pub mod EndIds
+pub mod Channels
 pub mod Config
 pub mod Script

@@ -2,6 +2,7 @@
 ghost use Rattle.std.specs.Prelude.{◌≡◌, ◌↔◌, ◌≤◌, IsTrue, IfOk, All, AllPairs, length};
 ghost use Rattle.rb_script_types.specs.Config.{config_view, Connects, IsClient, IsPathConfig, IsConfig};
 
+use crate::channel::Channel;
 use crate::differing::all_differ;
 use crate::gas::PathGas;
 use crate::limits::{MAX_CHAINS, MAX_CLIENTS, MAX_PATHS};
@@ -41,7 +42,8 @@ pub struct ClientConfig {
 /// A path, which is one direction of a channel (ICS 4): the chain that its packets come from and the
 /// one that they go to, in which order they are received, the sequence below which all of them are
 /// finished and cleared, the client on the destination, which takes receives, the one on the source,
-/// which takes acknowledgements and timeouts, the gas of its messages, and how long they may wait.
+/// which takes acknowledgements and timeouts, the gas of its messages, how long they may wait, and the
+/// ends of the channel, where they are named.
 #[derive(Clone, Copy, Debug, PartialEq, Eq)]
 pub struct PathConfig {
     pub id: PathId,
@@ -53,6 +55,7 @@ pub struct PathConfig {
     pub back: usize,
     pub gas: PathGas,
     pub waits: Waits,
+    pub channel: Option<Channel>,
 }
 
 /// The version of the format, how many records a book of a chain may have, and the chains, the clients

@@ -2,8 +2,10 @@
 #![tactic(auto)]
 
 mod block;
+mod channel;
 mod config;
 mod differing;
+mod end_id;
 mod gas;
 mod goal;
 mod limits;
@@ -14,7 +16,9 @@ mod version;
 mod waits;
 
 pub use block::BlockHeight;
+pub use channel::{Channel, ChannelEnd};
 pub use config::{ClientConfig, Config, PathConfig, RefreshTo, is_config};
+pub use end_id::EndId;
 pub use gas::PathGas;
 pub use goal::Goal;
 pub use limits::{MAX_CHAINS, MAX_CLIENTS, MAX_ENTRIES, MAX_PATHS, MAX_TURNS};

@@ -1,8 +1,10 @@
 //! The commands that a relayer (Hermes) runs for a report.
+use crate::packet_commands::push_packets;
+use crate::words::push_word;
 use jiff::Timestamp;
 use rb_base::{Moment, Window};
 use rb_plan::Cost;
-use rb_script_types::{ClientConfig, Config, Refusal, Script};
+use rb_script_types::{Config, Refusal, Script};
 use rb_super_turn::{
     ClientReport, Outcome, PlanReport, PricedUpdate, RefusedEvent, Report, SendingReport,
     TurnReport,
@@ -33,9 +35,8 @@ impl Setting {
 /// number, from 1: for each turn a comment line that says in which window its updates are valid, which is
 /// the one in force, one for each of its events that is refused, and one for its window if that is; then for
 /// each client a comment line of what came of it, and after it a line for each update, in the order in
-/// which they are submitted; none where a message is over the gas limit alone. Of the packet messages that
-/// follow them the comment tells the number: a script doesn't have the ports and channels that commands
-/// for packets name.
+/// which they are submitted, and lines for the packet messages of paths whose channels the script names; none
+/// where a message is over the gas limit alone. Of all packet messages the comment tells the number.
 pub fn commands_of(
     alloc: Global,
     setting: &Setting,
@@ -125,7 +126,7 @@ fn push_clients(
     reports: &[ClientReport],
 ) -> Result<(), AllocError> {
     for (client, report) in config.clients.iter().zip(reports) {
-        push_client(text, turn, host_of(config, client), report)?;
+        push_client(text, turn, config, chain_at(config, client.host), report)?;
     }
     Ok(())
 }
@@ -137,9 +138,9 @@ fn push_refused(text: &mut String, turn: u64, refused: &RefusedEvent) -> Result<
     writeln!(text, "# turn {turn}: refused event {event} {number} {name}")
 }
 
-/// The identifier of the chain that hosts a client.
-fn host_of<'a>(config: &'a Config, client: &ClientConfig) -> &'a str {
-    match config.chains.get(client.host) {
+/// The identifier of the chain at a place.
+pub(crate) fn chain_at(config: &Config, place: usize) -> &str {
+    match config.chains.get(place) {
         Some(chain) => chain.as_str(),
         None => "",
     }
@@ -148,6 +149,7 @@ fn host_of<'a>(config: &'a Config, client: &ClientConfig) -> &'a str {
 fn push_client(
     text: &mut String,
     turn: u64,
+    config: &Config,
     host: &str,
     client: &ClientReport,
 ) -> Result<(), AllocError> {
@@ -156,7 +158,7 @@ fn push_client(
         Outcome::Held(batch) => writeln!(text, "# turn {turn} client {id}: held by batch {batch}"),
         Outcome::Idle(_) => writeln!(text, "# turn {turn} client {id}: idle"),
         Outcome::Planned(planned) => match &planned.plan {
-            Some(plan) => push_plan(text, turn, host, id, plan),
+            Some(plan) => push_plan(text, turn, config, host, id, plan),
             None => writeln!(text, "# turn {turn} client {id}: unreachable"),
         },
     }
@@ -165,6 +167,7 @@ fn push_client(
 fn push_plan(
     text: &mut String,
     turn: u64,
+    config: &Config,
     host: &str,
     id: &str,
     plan: &PlanReport,
@@ -175,7 +178,8 @@ fn push_plan(
         return writeln!(text, ", message {message} over the gas limit: no batch");
     }
     text.push_str("\n")?;
-    push_updates(text, host, own_id(host, id), plan.updates.as_slice())
+    push_updates(text, host, own_id(host, id), plan.updates.as_slice())?;
+    push_packets(text, config, plan.messages.as_slice())
 }
 
 /// Adds the beginning of a plan's comment.
@@ -231,20 +235,4 @@ fn push_update(
     text.push_str(" --client ")?;
     push_word(text, id)?;
     writeln!(text, " --height {height} --trusted-height {trusted}")
-}
-
-/// Adds an identifier as a word of a shell: in single quotes where it has a character that a shell
-/// gives a meaning. Identifiers have no single quote.
-fn push_word(text: &mut String, id: &str) -> Result<(), AllocError> {
-    if id.as_bytes().iter().any(|byte| has_meaning(*byte)) {
-        write!(text, "'{id}'")
-    } else {
-        text.push_str(id)
-    }
-}
-
-/// Whether a character of identifiers has a meaning in a shell: of a comment, a pattern or a
-/// redirection.
-fn has_meaning(byte: u8) -> bool {
-    matches!(byte, b'#' | b'[' | b']' | b'<' | b'>')
 }

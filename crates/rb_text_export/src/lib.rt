@@ -3,6 +3,8 @@
 
 mod commands;
 mod json;
+mod packet_commands;
+mod words;
 
 pub use commands::{Setting, commands_of};
 pub use json::{json_of, json_of_turn};

@@ -14,8 +14,8 @@ use Rattle.rb_import_answers.specs.declared.commit.BlockIdFlag.TheVariants as fl
 use Rattle.rb_import_answers.specs.declared.commit.SignedHeader.{SignedHeader}
 use Rattle.rb_want_search.specs.declared.judge.Judgement.{Judgement}
 use Rattle.rb_want_search.specs.declared.judge.Judgement.TheVariants.{Accepted, Refused, Never, Gone, Unknown}
-use Rattle.rb_want.specs.declared.content.Content.{Content}
-use Rattle.rb_want.specs.declared.content.Content.TheVariants as contents
+use Rattle.rb_want_requests.specs.declared.content.Content.{Content}
+use Rattle.rb_want_requests.specs.declared.content.Content.TheVariants as contents
 use Rattle.rb_want.specs.declared.steps.Steps.{Steps}
 
 -- what a client has stored at a height

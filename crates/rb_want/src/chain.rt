@@ -2,13 +2,11 @@
 ghost use Rattle.std.specs.Prelude.{IfSome};
 ghost use Rattle.rb_want.specs.Steps.{IsHeaderAt};
 
-use crate::answered::count_pages;
-use crate::content::{Content, Folder, NodeStatus};
-use crate::request::{Query, is_refused};
 use rb_base::Height;
 use rb_import_answers::{SignedHeader, ValidatorsPage};
 use rb_import_check::{SeenSet, SeenSets};
 use rb_valset::{ValidatorSet, ValsetError};
+use rb_want_requests::{Content, Folder, NodeStatus, Query, count_pages, is_named};
 use std::alloc::{AllocError, Global};
 
 /// How many validators are asked for on a page, the most that nodes give.
@@ -74,7 +72,7 @@ impl<'a> ChainAnswers<'a> {
 
     /// Whether a query may still be answered: it wasn't refused.
     pub fn is_open(&self, alloc: Global, query: Query) -> Result<bool, AllocError> {
-        let is_refused = is_refused(alloc, self.folder.refused.as_slice(), &query)?;
+        let is_refused = is_named(alloc, self.folder.refused.as_slice(), &query)?;
         Ok(!is_refused)
     }
 

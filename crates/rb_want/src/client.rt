@@ -1,16 +1,14 @@
 //! What is wanted for one client.
 use crate::chain::ChainAnswers;
-use crate::content::{Folder, Folders};
-use crate::reason::{End, Missing, Why};
 use crate::records::ClientAnswers;
-use crate::request::{Owner, Query, Request, is_refused};
 use crate::steps::Steps;
-use crate::wanted::Wanted;
 use rb_base::{ChainId, ClientId, Fraction, Height, Options, Window};
 use rb_import_answers::{ConsensusState, TrustLevel, revision_of};
 use rb_import_setup::{ClientSetup, Setup};
 use rb_script_types::{Asked, Goal};
-use rb_step::Verdict;
+use rb_want_requests::{
+    End, Folder, Folders, Missing, Owner, Query, Request, Wanted, Why, is_named,
+};
 use rb_want_search::{Aim, Finding, Question, search};
 use std::alloc::{AllocError, Global};
 
@@ -154,7 +152,7 @@ impl<'b, 'a> Case<'b, 'a> {
 
     /// Asks the client's host, unless it refused that, and tells whether it did.
     fn ask_host(&self, wanted: &mut Wanted<'_>, query: Query) -> Result<bool, AllocError> {
-        if is_refused(self.alloc, self.folder.refused.as_slice(), &query)? {
+        if is_named(self.alloc, self.folder.refused.as_slice(), &query)? {
             return Ok(true);
         }
         let owner = Owner::Client {

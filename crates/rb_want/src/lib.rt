@@ -1,23 +1,14 @@
-//! What is to be fetched next from nodes so that a client's updates can be planned: of what isn't there yet what a search by
-//! halves asks for, which goes by the step rule (`rb_step`) over the answers that are there.
+//! What is to be fetched next from nodes, so that clients' updates and the pending packets of paths can be planned: of the
+//! answers that aren't there yet those that a search by halves asks for, which goes by the step rule (`rb_step`) over those
+//! that are there.
 #![tactic(auto)]
 
-mod answered;
 mod asking;
 mod chain;
 mod client;
-mod content;
-mod keys;
-mod lines;
-mod reason;
+mod packets;
+mod path;
 mod records;
-mod request;
 mod steps;
-mod wanted;
 
 pub use asking::wanted_of;
-pub use content::{Content, Folder, Folders, NodeStatus, content_of};
-pub use lines::RequestLine;
-pub use reason::{End, Missing, Why};
-pub use request::{Owner, Query, Request};
-pub use wanted::{MOST_REQUESTS, Wanted};

@@ -1,6 +1,6 @@
 //! What the folder of a client tells of it.
-use crate::content::{Content, Folder};
 use rb_import_answers::{ClientState, ConsensusPage, ConsensusState};
+use rb_want_requests::{Content, Folder};
 use std::alloc::{AllocError, Global};
 
 /// The client's state, or whether there is one of a client that is frozen or isn't Tendermint's; its consensus states by rising height, how many

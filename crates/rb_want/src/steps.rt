@@ -5,13 +5,13 @@ ghost use Rattle.rb_step.specs.StepRule.{AcceptsWithin, step_of};
 ghost use Rattle.rb_want.specs.Steps.{IsRecordAt, IsStoredAt, IsVerdictOn, header_of, record_of, record_of_state, vote_of};
 
 use crate::chain::ChainAnswers;
-use crate::request::Query;
 use rb_base::{Height, Options, Window};
 use rb_book::{Header, Record, Vote};
 use rb_import_answers::{BlockIdFlag, ConsensusState, Signature, SignedHeader};
 use rb_step::laws::window_is_by_ends;
 use rb_step::{Reason, Verdict, verify};
 use rb_valset::ValidatorSet;
+use rb_want_requests::Query;
 use rb_want_search::{Judge, Judgement};
 use std::alloc::{AllocError, Global};
 

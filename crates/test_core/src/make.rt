@@ -96,6 +96,7 @@ fn make_path(id: &str, order: Order, first: u64, gas: PathGas) -> Option<PathCon
         back: 1,
         gas,
         waits: Waits::NONE,
+        channel: None,
     })
 }
 
@@ -117,14 +118,9 @@ fn make_clients(alloc: Global, more: &[&'static str]) -> Option<Vec<ClientConfig
 }
 
 fn make_paths(alloc: Global) -> Option<Vec<PathConfig>> {
-    let mut paths = Vec::new(alloc);
-    paths
-        .push(make_path("plain", Order::Unordered, 1, PathGas::new(60, 60, 60)?)?)
-        .ok()?;
-    paths
-        .push(make_path("turns", Order::Ordered, 3, PathGas::new(50, 51, 52)?)?)
-        .ok()?;
-    Some(paths)
+    let plain = make_path("plain", Order::Unordered, 1, PathGas::new(60, 60, 60)?)?;
+    let turns = make_path("turns", Order::Ordered, 3, PathGas::new(50, 51, 52)?)?;
+    Vec::from_slice(alloc, &[plain, turns]).ok()
 }
 
 /// Two chains, a client of each that tracks the other, the one of the second chain first, so many more

@@ -1,5 +1,6 @@
-use rb_base::{ChainId, ClientId, Height};
-use rb_want::{Content, Folder, Folders, Owner, Query, Request, RequestLine, content_of};
+use rb_base::{ChainId, ClientId, Height, PathId};
+use rb_script_types::{ChannelEnd, EndId};
+use rb_want_requests::{Content, Folder, Folders, Owner, Query, Request, RequestLine, content_of};
 use std::alloc::Global;
 use std::test::Fail;
 
@@ -26,7 +27,24 @@ const FILES: &[(&str, &str)] = &[
         "other",
     ),
     ("<html>", "other"),
-    (r#"{"result": {"txs": [], "total_count": "0"}}"#, "other"),
+    (
+        r#"{"result": {"txs": [], "total_count": "0"}}"#,
+        "search of 0",
+    ),
+    (
+        r#"{"commitments": [{"sequence": "5"}, {"sequence": "8"}], "pagination": {"next_key": null}}"#,
+        "last commitments of 2",
+    ),
+    (
+        r#"{"commitments": [{"sequence": "5"}], "pagination": {"next_key": "OA=="}}"#,
+        "commitments of 1, then OA==",
+    ),
+    (r#"{"sequences": ["8"], "height": {}}"#, "unreceived 1"),
+    (r#"{"sequences": [8]}"#, "other"),
+    (
+        r#"{"acknowledgements": [{"sequence": "5"}]}"#,
+        "acknowledgements of 1",
+    ),
     (
         r#"{"client_state": {"@type": "/ibc.lightclients.wasm.v1.ClientState"}}"#,
         "other client",
@@ -63,6 +81,26 @@ fn word_of(alloc: Global, content: &Content) -> Result<String, Fail> {
             }
         }
         Content::OtherClient => String::from_str(alloc, "other client")?,
+        Content::Commitments { page, next_key } => {
+            let count = page.sequences.len();
+            match next_key {
+                Some(key) => format!(in alloc; "commitments of {count}, then {key}")?,
+                None if page.is_last => format!(in alloc; "last commitments of {count}")?,
+                None => format!(in alloc; "commitments of {count}")?,
+            }
+        }
+        Content::Unreceived(sequences) => {
+            let count = sequences.len();
+            format!(in alloc; "unreceived {count}")?
+        }
+        Content::Acknowledgements(sequences) => {
+            let count = sequences.len();
+            format!(in alloc; "acknowledgements of {count}")?
+        }
+        Content::Search(page) => {
+            let count = page.events.len();
+            format!(in alloc; "search of {count}")?
+        }
         Content::Other => String::from_str(alloc, "other")?,
     })
 }
@@ -85,6 +123,7 @@ fn writes_requests(rt: HostRuntime) -> Result<(), Fail> {
     let mut folders = Folders {
         chains: Vec::new(rt.alloc()),
         clients: Vec::new(rt.alloc()),
+        paths: Vec::new(rt.alloc()),
     };
     let mut contents = Vec::new(rt.alloc());
     for page in [
@@ -96,7 +135,25 @@ fn writes_requests(rt: HostRuntime) -> Result<(), Fail> {
     folders.clients.push(Folder {
         contents,
         refused: Vec::new(rt.alloc()),
+        searched: Vec::new(rt.alloc()),
     })?;
+    let mut contents = Vec::new(rt.alloc());
+    let page =
+        r#"{"commitments": [{"sequence": "5"}, {"sequence": "8"}], "pagination": {"next_key": "OA=="}}"#;
+    contents.push(content_of(rt.alloc(), page.as_bytes())?)?;
+    folders.paths.push(Folder {
+        contents,
+        refused: Vec::new(rt.alloc()),
+        searched: Vec::new(rt.alloc()),
+    })?;
+    let path = Owner::Path {
+        place: 0,
+        id: PathId::new("transfers").ok_or("path")?,
+        end: ChannelEnd {
+            port: EndId::new("transfer#2").ok_or("port")?,
+            channel: EndId::new("channel-7").ok_or("channel")?,
+        },
+    };
     let rows = [
         (
             Owner::Chain(0),
@@ -126,6 +183,26 @@ fn writes_requests(rt: HostRuntime) -> Result<(), Fail> {
             Owner::Client { place: 0, id },
             Query::ConsensusStates { page: 3 },
             "get hub-4 /ibc/core/client/v1/consensus_states/07-tendermint-3?pagination.limit=1000&pagination.key=MS0%2B%2Fw%3D%3D 07-tendermint-3/consensus_states-3.json",
+        ),
+        (
+            path,
+            Query::Commitments { page: 2 },
+            "get hub-4 /ibc/core/channel/v1/channels/channel-7/ports/transfer%232/packet_commitments?pagination.limit=1000&pagination.key=OA%3D%3D transfers/commitments-2.json",
+        ),
+        (
+            path,
+            Query::Unreceived { part: 1 },
+            "get hub-4 /ibc/core/channel/v1/channels/channel-7/ports/transfer%232/packet_commitments/5,8/unreceived_packets transfers/unreceived-1.json",
+        ),
+        (
+            path,
+            Query::Acknowledgements { part: 1 },
+            "get hub-4 /ibc/core/channel/v1/channels/channel-7/ports/transfer%232/packet_acknowledgements?packet_commitment_sequences=5&packet_commitment_sequences=8 transfers/acknowledgements-1.json",
+        ),
+        (
+            path,
+            Query::Received(8),
+            "get hub-4 /tx_search?query=%22recv_packet.packet_dst_channel='channel-7'%20AND%20recv_packet.packet_sequence='8'%22&per_page=100 transfers/received-8.json",
         ),
     ];
     for (owner, query, wanted) in rows {

@@ -3,14 +3,14 @@ use Rattle.std.proofs.lemmas.Grind.{common_steps}
 use Rattle.std.proofs.lemmas.Option.{gets}
 use Rattle.rb_import.proofs.needed.case_of.Goals as goal
 
-pub returns : goal.returns
-returns c = (
+pub returns-clause-case : goal.returns-clause-case
+returns-clause-case c = (
   c.in_ok-client.client.now,
   c.in_ok-records.records.now,
   c.in_ok-turn.turn.now,
   grind (arith, common_steps, gets),
   grind (arith, common_steps, gets),
   search rules,
-  c.in_ok-judging.ensures,
+  c.in_ok-judging.ensures.judging,
   search rules,
 )

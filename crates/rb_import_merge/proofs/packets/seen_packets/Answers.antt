@@ -2,7 +2,6 @@ use Rattle.std.proofs.Common.{◌≡◌, List, filter, rules, ap, ◌∙◌}
 use Rattle.std.specs.Prelude.{option_map}
 use Rattle.std.specs.List.{flat_map}
 use Rattle.rb_import_answers.specs.Revisions.{IsRevision}
-use Rattle.rb_import_answers.specs.declared.packets.PacketEvent.{PacketEvent}
 use Rattle.rb_import_merge.specs.declared.packets.Page.{Page}
 use Rattle.rb_import_merge.specs.declared.packets.SeenPacket.{SeenPacket}
 use Rattle.rb_import_merge.specs.Packets.{counterparty, events_of, is_wanted, seen_events}
@@ -11,28 +10,26 @@ use Rattle.rb_import_merge.proofs.packets.seen_packets.Goals as goal
 
 pub returns-clause-path : goal.returns-clause-path
 returns-clause-path c =
-    let events : List PacketEvent = events_of c.args.answers.now in
     let all : List SeenPacket = c.in_ok-all.all.items in
-    let are : c.in_ok-wanted.wanted.items ≡ filter (λ (s : SeenPacket). is_wanted c.args.setup.now (counterparty c.args.setup.now events) s.event.now) all =
-    c.in_ok-wanted.ensures.wanted ∙ ap (filter (λ (s : SeenPacket). is_wanted c.args.setup.now (option_map (λ e. e.now) c.counterparty-end.result) s.event.now)) c.as_slice-3.ensures.value
-    ∙ ap (λ e. filter (λ (s : SeenPacket). is_wanted c.args.setup.now e s.event.now) all) c.counterparty-end.ensures in
-    are_of_path c.args.setup.now events all c.in_ok-wanted.wanted.items c.in_ok-lowest.lowest.items c.in_ok-by_block.field-0.items are c.in_ok-lowest.ensures.among c.in_ok-by_block.ensures
+    let are : c.in_ok-wanted.wanted.items ≡ filter (λ (s : SeenPacket). is_wanted c.args.setup.now (counterparty c.args.setup.now (events_of c.args.answers.now)) c.args.answers.now s.event.now) all =
+    c.in_ok-wanted.ensures.wanted ∙ ap (filter (λ (s : SeenPacket). is_wanted c.args.setup.now (option_map (λ e. e.now) c.counterparty-end.result) c.args.answers.now s.event.now)) c.as_slice-3.ensures.value
+    ∙ ap (λ e. filter (λ (s : SeenPacket). is_wanted c.args.setup.now e c.args.answers.now s.event.now) all) c.counterparty-end.ensures in
+    are_of_path c.args.setup.now c.args.answers.now all c.in_ok-wanted.wanted.items c.in_ok-lowest.lowest.items c.in_ok-by_block.field-0.items are c.in_ok-lowest.ensures.among c.in_ok-by_block.ensures
 
 pub returns-clause-events : goal.returns-clause-events
 returns-clause-events c =
-    let events : List PacketEvent = events_of c.args.answers.now in
     let all : List SeenPacket = c.in_ok-all.all.items in
-    let these : seen_events all ≡ events = c.in_ok-all.ensures.events ∙ ap (flat_map (λ (p : Page). p.page.now.events.items)) c.as_slice-2.ensures.value ∙ c.in_ok-pages.ensures.events in
-    let are : c.in_ok-wanted.wanted.items ≡ filter (λ (s : SeenPacket). is_wanted c.args.setup.now (counterparty c.args.setup.now events) s.event.now) all =
-    c.in_ok-wanted.ensures.wanted ∙ ap (filter (λ (s : SeenPacket). is_wanted c.args.setup.now (option_map (λ e. e.now) c.counterparty-end.result) s.event.now)) c.as_slice-3.ensures.value
-    ∙ ap (λ e. filter (λ (s : SeenPacket). is_wanted c.args.setup.now e s.event.now) all) c.counterparty-end.ensures in
-    have_events c.args.setup.now events all c.in_ok-wanted.wanted.items c.in_ok-lowest.lowest.items c.in_ok-by_block.field-0.items these are c.in_ok-lowest.ensures.among
+    let these : seen_events all ≡ events_of c.args.answers.now = c.in_ok-all.ensures.events ∙ ap (flat_map (λ (p : Page). p.page.now.events.items)) c.as_slice-2.ensures.value ∙ c.in_ok-pages.ensures.events in
+    let are : c.in_ok-wanted.wanted.items ≡ filter (λ (s : SeenPacket). is_wanted c.args.setup.now (counterparty c.args.setup.now (events_of c.args.answers.now)) c.args.answers.now s.event.now) all =
+    c.in_ok-wanted.ensures.wanted ∙ ap (filter (λ (s : SeenPacket). is_wanted c.args.setup.now (option_map (λ e. e.now) c.counterparty-end.result) c.args.answers.now s.event.now)) c.as_slice-3.ensures.value
+    ∙ ap (λ e. filter (λ (s : SeenPacket). is_wanted c.args.setup.now e c.args.answers.now s.event.now) all) c.counterparty-end.ensures in
+    have_events c.args.setup.now c.args.answers.now all c.in_ok-wanted.wanted.items c.in_ok-lowest.lowest.items c.in_ok-by_block.field-0.items these are c.in_ok-lowest.ensures.among
     c.in_ok-lowest.ensures.standing c.in_ok-lowest.ensures.once c.in_ok-by_block.ensures
 
 pub returns-clause-expiry : goal.returns-clause-expiry
 returns-clause-expiry c =
     let is : IsRevision c.args.dest.now c.revision_of.result = search rules in
-    let are : c.in_ok-wanted.wanted.items ≡ filter (λ (s : SeenPacket). is_wanted c.args.setup.now (option_map (λ e. e.now) c.counterparty-end.result) s.event.now) c.in_ok-all.all.items =
-    c.in_ok-wanted.ensures.wanted ∙ ap (filter (λ (s : SeenPacket). is_wanted c.args.setup.now (option_map (λ e. e.now) c.counterparty-end.result) s.event.now)) c.as_slice-3.ensures.value in
-    expire c.args.dest.now c.revision_of.result (λ (s : SeenPacket). is_wanted c.args.setup.now (option_map (λ e. e.now) c.counterparty-end.result) s.event.now) c.in_ok-all.all.items
+    let are : c.in_ok-wanted.wanted.items ≡ filter (λ (s : SeenPacket). is_wanted c.args.setup.now (option_map (λ e. e.now) c.counterparty-end.result) c.args.answers.now s.event.now) c.in_ok-all.all.items =
+    c.in_ok-wanted.ensures.wanted ∙ ap (filter (λ (s : SeenPacket). is_wanted c.args.setup.now (option_map (λ e. e.now) c.counterparty-end.result) c.args.answers.now s.event.now)) c.as_slice-3.ensures.value in
+    expire c.args.dest.now c.revision_of.result (λ (s : SeenPacket). is_wanted c.args.setup.now (option_map (λ e. e.now) c.counterparty-end.result) c.args.answers.now s.event.now) c.in_ok-all.all.items
     c.in_ok-wanted.wanted.items c.in_ok-lowest.lowest.items c.in_ok-by_block.field-0.items is c.in_ok-all.ensures.expiry are c.in_ok-lowest.ensures.among c.in_ok-by_block.ensures

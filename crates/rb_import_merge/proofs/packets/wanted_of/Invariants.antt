@@ -6,4 +6,4 @@ use Rattle.rb_import_merge.proofs.packets.wanted_of.Given as goal
 
 -- the wanted ones of the events so far
 abbrev pub invariant-loop-seen : goal.invariant-loop-seen
-invariant-loop-seen l = l.wanted.items ≡ filter (λ (s : SeenPacket). is_wanted l.setup (option_map (λ e. e.now) l.end) s.event.now) (take l.seen-index l.all)
+invariant-loop-seen l = l.wanted.items ≡ filter (λ (s : SeenPacket). is_wanted l.setup (option_map (λ e. e.now) l.end) l.answers s.event.now) (take l.seen-index l.all)

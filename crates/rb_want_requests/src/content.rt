@@ -1,0 +1,170 @@
+//! What the files of a folder hold, as far as it says what is still to be fetched.
+use rb_base::{ChainId, Height};
+use rb_import_answers::{
+    ClientState, ConsensusPage, NodeAnswer, PacketPage, Pending, Query, SequencePage, SignedHeader,
+    ValidatorsPage, read_answer,
+};
+use rb_import_json::{AnswerError, FieldErrorName};
+use serde_json::Value;
+use std::alloc::{AllocError, Global};
+
+/// What a file holds.
+#[derive(Drop)]
+pub enum Content {
+    /// The answer to `/commit`.
+    Commit(SignedHeader),
+    /// A page of the answer to `/validators`.
+    Validators(ValidatorsPage),
+    /// The state of a client.
+    ClientState(ClientState),
+    /// The state of a client that is frozen, or isn't Tendermint's.
+    OtherClient,
+    /// A page of a client's consensus states, and the key of the next page as the gateway wrote it, if there is one.
+    ConsensusStates {
+        page: ConsensusPage,
+        next_key: Option<String>,
+    },
+    /// The node's answer to `/status`.
+    Status(NodeStatus),
+    /// A page of the commitments of a channel's end, and the key of the next page as the gateway wrote it, if there is one.
+    Commitments {
+        page: SequencePage,
+        next_key: Option<String>,
+    },
+    /// Which packets of some a channel's end hasn't received.
+    Unreceived(Vec<u64>),
+    /// Of which packets of some a channel's end has written the acknowledgement.
+    Acknowledgements(Vec<u64>),
+    /// What transactions did with packets.
+    Search(PacketPage),
+    /// Nothing of these.
+    Other,
+}
+
+/// What a node says of itself (CometBFT, `/status`): the height of its latest block, and the chain that
+/// it is a node of, where it says so.
+#[derive(Clone, Copy)]
+pub struct NodeStatus {
+    pub latest: Height,
+    pub network: Option<ChainId>,
+}
+
+/// What there is in the folder of a chain, of a client or of a path: what its files hold, and the names of the requests
+/// that were refused, and of those that have answers of `/tx_search`.
+#[derive(Drop)]
+pub struct Folder {
+    pub contents: Vec<Content>,
+    pub refused: Vec<String>,
+    pub searched: Vec<String>,
+}
+
+/// The folders of each chain, of each client and of each path of a setup, in its order.
+#[derive(Drop)]
+pub struct Folders {
+    pub chains: Vec<Folder>,
+    pub clients: Vec<Folder>,
+    pub paths: Vec<Folder>,
+}
+
+/// What the bytes of a file hold. `AllocError` comes where a growth is refused.
+pub fn content_of(alloc: Global, bytes: &[u8]) -> Result<Content, AllocError> {
+    match read_answer(alloc, bytes) {
+        Ok(NodeAnswer::Commit(header)) => Ok(Content::Commit(header)),
+        Ok(NodeAnswer::Validators(page)) => Ok(Content::Validators(page)),
+        Ok(NodeAnswer::ClientState(state)) => Ok(Content::ClientState(state)),
+        Ok(NodeAnswer::ConsensusStates(page)) => states_in(alloc, bytes, page),
+        Ok(NodeAnswer::Transactions(page)) => Ok(Content::Search(page)),
+        Ok(NodeAnswer::Pending(pending)) => pending_in(alloc, bytes, pending),
+        Ok(NodeAnswer::Other(Query::Status)) => status_in(alloc, bytes),
+        Ok(_) => Ok(Content::Other),
+        Err(AnswerError::NoMemory) => Err(AllocError),
+        Err(AnswerError::Invalid(flaw)) => Ok(match flaw.name {
+            FieldErrorName::FrozenClient | FieldErrorName::ForeignClient => Content::OtherClient,
+            _ => Content::Other,
+        }),
+    }
+}
+
+/// A page of consensus states, with the key of the next.
+fn states_in(alloc: Global, bytes: &[u8], page: ConsensusPage) -> Result<Content, AllocError> {
+    let next_key = key_unless(alloc, bytes, page.is_last)?;
+    Ok(Content::ConsensusStates { page, next_key })
+}
+
+/// What an answer tells of pending packets, of commitments with the key of the next page.
+fn pending_in(alloc: Global, bytes: &[u8], pending: Pending) -> Result<Content, AllocError> {
+    match pending {
+        Pending::Commitments(page) => {
+            let next_key = key_unless(alloc, bytes, page.is_last)?;
+            Ok(Content::Commitments { page, next_key })
+        }
+        Pending::Unreceived(sequences) => Ok(Content::Unreceived(sequences)),
+        Pending::Acknowledgements(sequences) => Ok(Content::Acknowledgements(sequences)),
+    }
+}
+
+/// The key of the page after one that isn't the last.
+fn key_unless(alloc: Global, bytes: &[u8], is_last: bool) -> Result<Option<String>, AllocError> {
+    if is_last {
+        return Ok(None);
+    }
+    next_key_in(alloc, bytes)
+}
+
+/// The JSON of these bytes, if it is any.
+fn json_of(alloc: Global, bytes: &[u8]) -> Result<Option<Value>, AllocError> {
+    match Value::from_slice(alloc, bytes) {
+        Ok(value) => Ok(Some(value)),
+        Err(error) if error.is_memory() => Err(AllocError),
+        Err(_) => Ok(None),
+    }
+}
+
+/// The key of the page after one, in either of the spellings of gateways.
+fn next_key_in(alloc: Global, bytes: &[u8]) -> Result<Option<String>, AllocError> {
+    let Some(value) = json_of(alloc, bytes)? else {
+        return Ok(None);
+    };
+    match next_key_of(&value) {
+        Some(key) => Ok(Some(String::from_str(alloc, key)?)),
+        None => Ok(None),
+    }
+}
+
+fn next_key_of(answer: &Value) -> Option<&str> {
+    let pagination = answer.get("pagination")?;
+    let key = match pagination.get("next_key") {
+        Some(key) => key,
+        None => pagination.get("nextKey")?,
+    };
+    key.as_str()
+}
+
+/// What an answer to `/status` tells.
+fn status_in(alloc: Global, bytes: &[u8]) -> Result<Content, AllocError> {
+    let Some(value) = json_of(alloc, bytes)? else {
+        return Ok(Content::Other);
+    };
+    let answer = value.get("result").unwrap_or(&value);
+    Ok(match status_of(answer) {
+        Some(status) => Content::Status(status),
+        None => Content::Other,
+    })
+}
+
+/// The status that an answer tells.
+fn status_of(answer: &Value) -> Option<NodeStatus> {
+    let text = answer
+        .get("sync_info")?
+        .get("latest_block_height")?
+        .as_str()?;
+    let latest = Height::new(text.parse::<u64>().ok()?)?;
+    Some(NodeStatus {
+        latest,
+        network: network_of(answer),
+    })
+}
+
+fn network_of(answer: &Value) -> Option<ChainId> {
+    ChainId::new(answer.get("node_info")?.get("network")?.as_str()?)
+}

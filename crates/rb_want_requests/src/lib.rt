@@ -1,0 +1,20 @@
+//! Requests to nodes and gateways: what the files of a folder hold, and which requests these answer; lists of requests, each
+//! once and none of them answered, with why they are made; and the lines that say them.
+#![tactic(auto)]
+
+mod answered;
+mod content;
+mod keys;
+mod lines;
+mod packet_lines;
+mod reason;
+mod request;
+mod wanted;
+
+pub use answered::{PartKind, count_pages, count_parts};
+pub use content::{Content, Folder, Folders, NodeStatus, content_of};
+pub use lines::RequestLine;
+pub use packet_lines::SEQUENCES_A_PART;
+pub use reason::{End, Missing, PathEnd, Why};
+pub use request::{Owner, Query, Request, is_named};
+pub use wanted::{MOST_REQUESTS, Wanted};

@@ -1,0 +1,100 @@
+//! Requests, each once and not too many at once, and why they are made.
+ghost use Rattle.std.specs.Prelude.{◌≡◌, ◌<◌, ◌≤◌, ◌++◌, ◌∷◌, [], All, if◌then◌else◌, false, true, IfOk, OnErr, OnOk, length};
+ghost use Rattle.std.specs.List.{list_any};
+ghost use Rattle.rb_want_requests.specs.Requests.{AreDistinct, is_new, is_same, may_be_added};
+
+use crate::content::Folders;
+use crate::lines::RequestLine;
+use crate::reason::{End, PathEnd, Why};
+use crate::request::Request;
+use std::alloc::{AllocError, Global};
+use std::fmt;
+
+/// The most requests that are named at once.
+pub const MOST_REQUESTS: usize = 30;
+
+/// What is to be fetched next: at most 30 requests, each once, none that is answered or was refused; why, by client; and of
+/// which clients and paths no more is asked though they aren't where they should be. No request is there where no more is needed.
+#[derive(Drop)]
+pub struct Wanted<'a> {
+    pub folders: &'a Folders,
+    pub requests: Vec<Request>,
+    pub reasons: Vec<Why>,
+    pub ends: Vec<End>,
+    pub path_ends: Vec<PathEnd>,
+    ghost few: { length requests.items ≤ 30 },
+    ghost distinct: { AreDistinct requests.items },
+    ghost unanswered: { All (λ r. is_new folders.now r ≡ true) requests.items },
+}
+
+/// Shown as a line for each request, and after them a line for each reason.
+impl fmt::Display for Wanted<'_> {
+    fn fmt<W: fmt::Write>(&self, f: &mut fmt::Formatter<W>) -> fmt::Result {
+        let folders = self.folders;
+        for request in &self.requests {
+            writeln!(f, "{}", RequestLine { folders, request })?;
+        }
+        for why in &self.reasons {
+            writeln!(f, "{why}")?;
+        }
+        Ok(())
+    }
+}
+
+impl<'a> Wanted<'a> {
+    /// Nothing, over the folders of what is there.
+    pub fn nothing(alloc: Global, folders: &'a Folders) -> Wanted<'a>
+        ensures { result.requests.items ≡ [] }
+    {
+        Wanted {
+            folders,
+            requests: Vec::new(alloc),
+            reasons: Vec::new(alloc),
+            ends: Vec::new(alloc),
+            path_ends: Vec::new(alloc),
+        }
+    }
+
+    /// Adds a request, unless it is answered, was refused or is there already, or there are as many as are named at once.
+    /// `AllocError` comes where a growth is refused.
+    #[tactic(auto, using(crate::proofs::Distinct::adding))]
+    pub fn ask(&mut self, alloc: Global, request: &Request) -> Result<(), AllocError>
+        ensures asked { OnOk result (self.new.requests.items
+            ≡ (if may_be_added self.old.folders.now self.old.requests.items request.now then self.old.requests.items ++ request.now ∷ [] else self.old.requests.items)) }
+        ensures unchanged { OnErr result (self.new.requests.items ≡ self.old.requests.items) }
+    {
+        if self.takes(alloc, request)? {
+            let Request {
+                chain,
+                owner,
+                query,
+            } = *request;
+            self.requests.push(Request {
+                chain,
+                owner,
+                query,
+            })?;
+        }
+        Ok(())
+    }
+
+    /// Whether a request may be added.
+    fn takes(&self, alloc: Global, request: &Request) -> Result<bool, AllocError>
+        ensures value { IfOk result (λ answer. answer ≡ may_be_added self.now.folders.now self.now.requests.items request.now) }
+        ensures few { IfOk result (λ answer. answer ≡ true → length self.now.requests.items < 30) }
+        ensures distinct { IfOk result (λ answer. answer ≡ true → list_any (is_same request.now) self.now.requests.items ≡ false) }
+        ensures unanswered { IfOk result (λ answer. answer ≡ true → is_new self.now.folders.now request.now ≡ true) }
+    {
+        if self.requests.len() >= MOST_REQUESTS || is_among(self.requests.as_slice(), request) {
+            return Ok(false);
+        }
+        request.is_new(alloc, self.folders)
+    }
+}
+
+/// Whether a request is among others.
+fn is_among(requests: &[Request], request: &Request) -> bool
+    ensures { result ≡ list_any (is_same request.now) requests.now }
+{
+    requests.iter().any(|other| request.is_same(other))
+}
