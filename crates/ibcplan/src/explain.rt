@@ -175,11 +175,11 @@ impl<W: Sink> Teller<'_, W> {
 }
 
 impl<W: Sink> Listener<Global> for Teller<'_, W> {
-    ghost use Rattle.rb_explain.specs.Turn.{IsExplanation};
+    ghost use Rattle.std.specs.Prelude.{None};
 
-    fn explained(&mut self, wanted: &Wanted, turn: &TurnExplanation) -> Result<bool, AllocError>
-        requires { IsExplanation wanted.now turn.now }
-    {
+    ghost explanations = { λ _. None };
+
+    fn explained(&mut self, turn: &TurnExplanation) -> Result<bool, AllocError> {
         let place = self.count;
         self.count = place.saturating_add(1);
         match self.form {
@@ -187,7 +187,7 @@ impl<W: Sink> Listener<Global> for Teller<'_, W> {
                 self.alloc,
                 &self.config,
                 turn,
-                wanted.detail.most,
+                self.form.detail().most,
                 self.output,
             ),
             Form::Json { .. } => put_json(self.alloc, &self.config, turn, place, self.output),
