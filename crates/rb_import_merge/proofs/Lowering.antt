@@ -4,7 +4,7 @@ use Rattle.std.specs.Prelude.{Any, Contains}
 use Rattle.std.specs.Cmp.{IsTotalOrder, both_tied, unsigned_ties, then_total}
 use Rattle.std.specs.List.{IsDistinct, dedup, dedup_from}
 use Rattle.std.specs.List.Sorted.{IsPermutation, IsSorted}
-use Rattle.std.specs.Ordering.{nat_cmp, ordering_then, is_lt, is_eq, eq_by_cmp}
+use Rattle.std.specs.Ordering.{nat_cmp, ordering_reverse, ordering_then, is_lt, is_eq, eq_by_cmp}
 use Rattle.std.specs.declared.cmp.Ordering.{Ordering}
 use Rattle.std.specs.declared.cmp.Ordering.TheVariants.{Less, Equal, Greater}
 use Rattle.std.proofs.lemmas.Bool.{true≢false, and_parts, eqb-true}
@@ -13,7 +13,7 @@ use Rattle.std.proofs.lemmas.List.Elements.{All-contains_itself}
 use Rattle.std.proofs.lemmas.List.Filters.{All-dedup}
 use Rattle.std.proofs.lemmas.List.Kept.{IsStrictlySortedBy-dedup}
 use Rattle.std.proofs.lemmas.List.Sorted.{All-permutation, IsPermutation-sym}
-use Rattle.std.proofs.lemmas.Map.Keys.{IsDistinct-from_sorted, ge_from_not_lt}
+use Rattle.std.proofs.lemmas.Map.Keys.{IsDistinct-from_sorted, Less-from_sorted, ge_from_not_lt}
 use Rattle.rb_import_answers.specs.declared.packets.PacketEvent.{PacketEvent}
 use Rattle.rb_import_answers.specs.declared.packets.PacketKind.{PacketKind}
 use Rattle.rb_import_merge.specs.declared.packets.SeenPacket.{SeenPacket}
@@ -22,7 +22,7 @@ use Rattle.rb_import_merge.specs.Lowest.{AreEqualSendings, block_cmp, packet_cmp
 
 -- ---- what stands for what
 
-same_place : (a b : PacketKind) → place_of a ≡ place_of b → a ≡ b
+pub same_place : (a b : PacketKind) → place_of a ≡ place_of b → a ≡ b
 same_place PacketKind.Sent PacketKind.Sent e = refl
 same_place PacketKind.Sent PacketKind.Received e = absurd (omega (arith, e))
 same_place PacketKind.Sent PacketKind.AckWritten e = absurd (omega (arith, e))
@@ -170,5 +170,12 @@ once sorted order =
     let up : IsSorted packet_cmp sorted = λ k d low small. earlier _ _ (order k d low small) in
     let far : IsDistinct (eq_by_cmp packet_cmp) (dedup are_of_one sorted) = IsDistinct-from_sorted packet_cmp _ (IsStrictlySortedBy-dedup total ties sorted up) in
     subst (λ e. IsDistinct e (dedup are_of_one sorted)) (λ i p q. sym (ties p q) i) far
+
+pub rising : (sorted : List SeenPacket) → IsSorted block_cmp sorted → IsSorted packet_cmp (dedup are_of_one sorted)
+rising sorted order =
+    let up : IsSorted packet_cmp sorted = λ k d low small. earlier _ _ (order k d low small) in
+    λ k d low small. ap is_lt
+    (total.antisymm (get_or (dedup are_of_one sorted) (k + 1) d) (get_or (dedup are_of_one sorted) k d)
+    ∙ ap ordering_reverse (Less-from_sorted packet_cmp (dedup are_of_one sorted) k (k + 1) d (IsStrictlySortedBy-dedup total ties sorted up) (omega arith) small))
 
 pub ruleset lowering = (among, standing, once)

@@ -67,7 +67,7 @@ of_events : (P : PacketEvent → Type 0) (xs : List SeenPacket) → All (λ s. P
 of_events P [] h = λ k d small. absurd (omega (arith, small))
 of_events P (x ∷ xs) h = All-cons P (event_of x) (map event_of xs) (h 0 x (omega arith)) (of_events P xs (λ k d small. h (suc k) d (omega arith)))
 
-any_among : (P : SeenPacket → Type 0) (xs ys : List SeenPacket) → IsPermutation xs ys → Any P xs → Any P ys
+pub any_among : (P : SeenPacket → Type 0) (xs ys : List SeenPacket) → IsPermutation xs ys → Any P xs → Any P ys
 any_among P xs ys same (k, y, small, is, p) =
     let there : Contains ys y = All-contains (Contains ys) xs y (All-permutation (Contains ys) ys xs (IsPermutation-sym xs ys same) (All-contains_itself ys)) (k, small, is) in
     (there.0, y, there.1, there.2, p)

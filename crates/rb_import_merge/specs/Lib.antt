@@ -3,6 +3,7 @@ pub mod Packets
 pub mod Counterparties
 pub mod Sources
 pub mod Lowest
+pub mod Committed
 pub mod Errors
 pub mod Room
 pub mod Sets

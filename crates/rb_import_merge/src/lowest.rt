@@ -4,7 +4,7 @@ ghost use Rattle.std.specs.List.{IsDistinct, dedup};
 ghost use Rattle.std.specs.List.Sorted.{IsPermutation, IsSorted};
 ghost use Rattle.rb_import_check.specs.Errors.{IsToldOf};
 ghost use Rattle.rb_import_merge.specs.Packets.{StandsFor, are_of_one, place_of};
-ghost use Rattle.rb_import_merge.specs.Lowest.{AreEqualSendings, block_cmp};
+ghost use Rattle.rb_import_merge.specs.Lowest.{AreEqualSendings, block_cmp, packet_cmp};
 
 use crate::packets::SeenPacket;
 use rb_import_answers::PacketKind;
@@ -20,6 +20,7 @@ pub fn lowest_of<'a>(
     ensures among { IfOk result (λ lowest. All (Contains packets.entry.items) lowest.items) }
     ensures standing { IfOk result (λ lowest. All (λ p. Any (StandsFor p.event.now) lowest.items) packets.entry.items) }
     ensures once { IfOk result (λ lowest. IsDistinct are_of_one lowest.items) }
+    ensures order { IfOk result (λ lowest. IsSorted packet_cmp lowest.items) }
     ensures told { IfErr result (IsToldOf id.entry.now) }
 {
     let sorted = in_order(packets)?;
@@ -44,7 +45,7 @@ fn in_order<'a>(packets: Vec<SeenPacket<'a>>) -> Result<Vec<SeenPacket<'a>>, All
 }
 
 /// The place of a kind in the order of a packet's way.
-fn place_of(kind: PacketKind) -> u8
+pub fn place_of(kind: PacketKind) -> u8
     ensures { result ≡ place_of kind }
 {
     match kind {

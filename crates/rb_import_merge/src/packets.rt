@@ -1,13 +1,15 @@
 //! What was seen of a path's packets.
 ghost use Rattle.std.specs.Prelude.{◌≡◌, [], ◌∷◌, ◌++◌, if◌then◌else◌, All, IfOk, IfErr, OnOk, count_by, filter, option_map};
 ghost use Rattle.std.specs.List.{flat_map, list_any};
-ghost use Rattle.std.specs.List.Sorted.{IsPermutation};
+ghost use Rattle.std.specs.List.Sorted.{IsPermutation, IsSorted};
 ghost use Rattle.rb_import_check.specs.Errors.{IsToldOf};
+ghost use Rattle.rb_import_merge.specs.Committed.{HaveCommitted, was};
+ghost use Rattle.rb_import_merge.specs.Lowest.{packet_cmp};
 ghost use Rattle.rb_import_merge.specs.Packets.{IsOfPath, HaveEvents, Expires, ExpiresAt, expiry_at, within_heights, is_source, is_dest, is_wanted, counts_as, is_silent, lacks, one_if, some_timed_out, tells_of, events_of, seen_events};
 ghost use Rattle.rb_import_merge.specs.Pending.{tells_done};
 
 use crate::counterparties::counterparty;
-use crate::lowest::lowest_of;
+use crate::lowest::{lowest_of, place_of};
 use crate::pending::{is_pending, judge_pending};
 use rb_base::{ChainId, Height};
 use rb_import_answers::{
@@ -79,6 +81,7 @@ pub fn seen_packets<'a>(
     ensures path { IfOk result (λ packets. All (IsOfPath setup.entry.now answers.entry.now) packets.items) }
     ensures events { IfOk result (λ packets. HaveEvents setup.entry.now answers.entry.now packets.items) }
     ensures expiry { IfOk result (λ packets. All (Expires dest.now) packets.items) }
+    ensures pending { IfOk result (λ packets. HaveCommitted setup.entry.now answers.entry.now packets.items) }
     ensures told { IfErr result (IsToldOf setup.entry.now.config.id) }
 {
     let id = setup.config.id.as_str();
@@ -441,11 +444,13 @@ fn flaw_of(packets: &[SeenPacket], event: &PacketEvent) -> Option<CheckErrorName
     }
 }
 
-/// Whether there is an event of this kind with this sequence.
-pub fn was(packets: &[SeenPacket], kind: PacketKind, sequence: u64) -> bool {
+/// Whether there is an event of this kind with this sequence, among packets that stand by kind and sequence.
+pub fn was(packets: &[SeenPacket], kind: PacketKind, sequence: u64) -> bool
+    ensures { IsSorted packet_cmp packets.now → result ≡ was kind sequence packets.now }
+{
     packets
-        .binary_search_by_key(&(kind, sequence), |seen: &SeenPacket| {
-            (seen.event.kind, seen.event.sequence)
+        .binary_search_by_key(&(place_of(kind), sequence), |seen: &SeenPacket| {
+            (place_of(seen.event.kind), seen.event.sequence)
         })
         .is_ok()
 }

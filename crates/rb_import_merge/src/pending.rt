@@ -1,7 +1,10 @@
 //! Which of a path's packets are pending, where answers tell of it.
-ghost use Rattle.std.specs.Prelude.{◌≡◌, ◌==◌, None, IfErr, option_map};
+ghost use Rattle.std.specs.Prelude.{◌≡◌, ◌==◌, None, All, IfErr, OnOk, option_map};
 ghost use Rattle.std.specs.List.{list_any};
+ghost use Rattle.std.specs.List.Sorted.{IsSorted};
 ghost use Rattle.rb_import_check.specs.Errors.{IsToldOf};
+ghost use Rattle.rb_import_merge.specs.Committed.{HaveCommitted, IsLackIn, IsWhyNotPending, has_last_page, lack_last_page, lack_of};
+ghost use Rattle.rb_import_merge.specs.Lowest.{packet_cmp};
 ghost use Rattle.rb_import_merge.specs.Pending.{committed, committed_in, first_of, has_commitment, is_commitments, is_last, is_last_in, is_of_unreceived, is_pending, is_unreceived, lacks_receipt, least_in, least_of, pending_in, tell_commitments, tell_unreceived, tells_commitments, tells_unreceived, unreceived, unreceived_in, with_sequence};
 
 use crate::packets::{SeenPacket, was};
@@ -211,37 +214,73 @@ fn with_sequence(first: u64, met: Option<u64>, sequence: u64) -> Option<u64>
     }
 }
 
-/// Refuses commitments of which a page isn't there; a pending packet, from the path's first one on, of whose sending no answer
-/// tells, or of whose receiving none tells though it was received. The packets stand by kind and sequence.
+/// Whether one of the answers is the last page of commitments.
+fn has_last_page(answers: &[Saved]) -> bool
+    ensures { result ≡ has_last_page answers.now }
+{
+    answers.iter().any(|saved| is_last_in(&saved.answer))
+}
+
+/// Whether answers tell of commitments, and the last page of them isn't there.
+fn lack_last_page(answers: &[Saved]) -> bool
+    ensures { result ≡ lack_last_page answers.now }
+{
+    tell_commitments(answers) && !has_last_page(answers)
+}
+
+/// Refuses commitments without their last page; then, in the order of the answers and of their sequences, a packet with a
+/// commitment, from the path's first one on, of whose sending no answer tells, or of whose receiving none tells though it was
+/// received. The packets stand by kind and sequence.
 pub fn judge_pending<'a>(
     setup: &'a PathSetup,
     answers: &'a [Saved],
     packets: &[SeenPacket<'a>],
 ) -> Result<(), ImportError<'a>>
-    ensures { IfErr result (IsToldOf setup.entry.now.config.id) }
+    ensures accepted { IsSorted packet_cmp packets.now → OnOk result (HaveCommitted setup.entry.now answers.entry.now packets.now) }
+    ensures refused { IsSorted packet_cmp packets.now → IfErr result (IsWhyNotPending setup.entry.now answers.entry.now packets.now) }
+    ensures told { IfErr result (IsToldOf setup.entry.now.config.id) }
 {
-    let id = setup.config.id.as_str();
-    if tell_commitments(answers) && !answers.iter().any(|saved| is_last_in(&saved.answer)) {
+    if lack_last_page(answers) {
+        let id = setup.config.id.as_str();
         return Err(ImportError::of(CheckErrorName::MissingCommitments, id));
     }
-    let first = setup.config.first.get();
     for saved in answers {
-        for sequence in committed_in(&saved.answer) {
-            if let Some(name) = lack_of(first, answers, packets, *sequence) {
-                return Err(ImportError::at(name, id, *sequence, saved.file.as_str()));
-            }
+        judge_committed(setup, answers, packets, saved)?;
+    }
+    Ok(())
+}
+
+/// Refuses the first packet with a commitment, as one of the answers tells, that lacks an event.
+fn judge_committed<'a>(
+    setup: &'a PathSetup,
+    answers: &[Saved],
+    packets: &[SeenPacket<'a>],
+    saved: &'a Saved,
+) -> Result<(), ImportError<'a>>
+    ensures accepted { IsSorted packet_cmp packets.now → OnOk result (All (λ n. lack_of setup.entry.now.config.first answers.now packets.now n ≡ None) (committed_in saved.entry.now.answer)) }
+    ensures refused { IsSorted packet_cmp packets.now → IfErr result (IsLackIn setup.entry.now answers.now packets.now saved.entry.now) }
+    ensures told { IfErr result (IsToldOf setup.entry.now.config.id) }
+{
+    let id = setup.config.id.as_str();
+    let first = setup.config.first.get();
+    for sequence in committed_in(&saved.answer) {
+        if let Some(name) = lack_of(first, answers, packets, *sequence) {
+            return Err(ImportError::at(name, id, *sequence, saved.file.as_str()));
         }
     }
     Ok(())
 }
 
-/// What a pending packet wants, if it wants something.
+/// What a packet with a commitment lacks, if it lacks something: its sending, or else its receiving. The packets stand by
+/// kind and sequence.
 fn lack_of(
     first: u64,
     answers: &[Saved],
     packets: &[SeenPacket<'_>],
     sequence: u64,
-) -> Option<CheckErrorName> {
+) -> Option<CheckErrorName>
+    ensures { IsSorted packet_cmp packets.now → result ≡ lack_of first answers.now packets.now sequence }
+{
     if sequence < first {
         None
     } else if !was(packets, PacketKind::Sent, sequence) {

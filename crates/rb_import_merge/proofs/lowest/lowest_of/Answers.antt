@@ -1,10 +1,11 @@
 use Rattle.std.proofs.Common.{ℕ, ◌+◌, ◌<◌, All, length, get_or, sym, subst}
 use Rattle.std.specs.Prelude.{Any, Contains}
 use Rattle.std.specs.List.{IsDistinct}
+use Rattle.std.specs.List.Sorted.{IsSorted}
 use Rattle.rb_import_merge.specs.declared.packets.SeenPacket.{SeenPacket}
 use Rattle.rb_import_merge.specs.Packets.{StandsFor, are_of_one}
-use Rattle.rb_import_merge.specs.Lowest.{AreEqualSendings}
-use Rattle.rb_import_merge.proofs.Lowering.{among, standing, once}
+use Rattle.rb_import_merge.specs.Lowest.{AreEqualSendings, packet_cmp}
+use Rattle.rb_import_merge.proofs.Lowering.{among, standing, once, rising}
 use Rattle.rb_import_merge.proofs.lowest.lowest_of.Goals as goal
 
 pub returns-clause-among : goal.returns-clause-among
@@ -19,3 +20,6 @@ returns-clause-standing c =
 
 pub returns-clause-once : goal.returns-clause-once
 returns-clause-once c = subst (IsDistinct are_of_one) (sym c.firsts_of.ensures) (once c.in_ok-sorted.sorted.items c.in_ok-sorted.ensures.order)
+
+pub returns-clause-order : goal.returns-clause-order
+returns-clause-order c = subst (IsSorted packet_cmp) (sym c.firsts_of.ensures) (rising c.in_ok-sorted.sorted.items c.in_ok-sorted.ensures.order)

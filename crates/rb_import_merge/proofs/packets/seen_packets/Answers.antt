@@ -1,10 +1,14 @@
-use Rattle.std.proofs.Common.{◌≡◌, List, filter, rules, ap, ◌∙◌}
+use Rattle.std.proofs.Common.{◌≡◌, List, filter, rules, sym, subst, ap, ◌∙◌}
 use Rattle.std.specs.Prelude.{option_map}
 use Rattle.std.specs.List.{flat_map}
+use Rattle.std.specs.List.Sorted.{IsSorted}
 use Rattle.rb_import_answers.specs.Revisions.{IsRevision}
 use Rattle.rb_import_merge.specs.declared.packets.Page.{Page}
 use Rattle.rb_import_merge.specs.declared.packets.SeenPacket.{SeenPacket}
+use Rattle.rb_import_merge.specs.Committed.{HaveCommitted}
+use Rattle.rb_import_merge.specs.Lowest.{packet_cmp}
 use Rattle.rb_import_merge.specs.Packets.{counterparty, events_of, is_wanted, seen_events}
+use Rattle.rb_import_merge.proofs.Committing.{committed_too}
 use Rattle.rb_import_merge.proofs.Seeing.{are_of_path, expire, have_events}
 use Rattle.rb_import_merge.proofs.packets.seen_packets.Goals as goal
 
@@ -33,3 +37,10 @@ returns-clause-expiry c =
     c.in_ok-wanted.ensures.wanted ∙ ap (filter (λ (s : SeenPacket). is_wanted c.args.setup.now (option_map (λ e. e.now) c.counterparty-end.result) c.args.answers.now s.event.now)) c.as_slice-3.ensures.value in
     expire c.args.dest.now c.revision_of.result (λ (s : SeenPacket). is_wanted c.args.setup.now (option_map (λ e. e.now) c.counterparty-end.result) c.args.answers.now s.event.now) c.in_ok-all.all.items
     c.in_ok-wanted.wanted.items c.in_ok-lowest.lowest.items c.in_ok-by_block.field-0.items is c.in_ok-all.ensures.expiry are c.in_ok-lowest.ensures.among c.in_ok-by_block.ensures
+
+pub returns-clause-pending : goal.returns-clause-pending
+returns-clause-pending c =
+    let order : IsSorted packet_cmp c.as_slice-5.result.now = subst (IsSorted packet_cmp) (sym c.as_slice-5.ensures.value) c.in_ok-lowest.ensures.order in
+    let have : HaveCommitted c.args.setup.now c.args.answers.now c.in_ok-lowest.lowest.items =
+    subst (HaveCommitted c.args.setup.now c.args.answers.now) c.as_slice-5.ensures.value (c.in_ok-judge_pending.ensures.accepted order) in
+    committed_too c.args.setup.now c.args.answers.now c.in_ok-lowest.lowest.items c.in_ok-by_block.field-0.items c.in_ok-by_block.ensures have

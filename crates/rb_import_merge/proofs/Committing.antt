@@ -1,0 +1,122 @@
+-- That packets with a commitment have their events.
+use Rattle.std.proofs.Common.{◌≡◌, ℕ, ◌+◌, ◌<◌, ◌≤◌, ◌==◌, ◌&&◌, nat_lt, not, List, [], ◌∷◌, Ok, Err, Result, Option, Some, None, Bool, true, false, if◌then◌else◌, All, length, get_or, take, inl, inr, refl, sym, subst, ap, ◌∙◌, arith}
+use Rattle.std.specs.Prelude.{Any, is_ok}
+use Rattle.std.specs.List.{list_any}
+use Rattle.std.specs.List.Sorted.{IsBinarySearchResult, IsPermutation, IsSearchInRange, IsSorted}
+use Rattle.std.specs.Cmp.{IsTotalOrder, both_tied, unsigned_ties}
+use Rattle.std.specs.Ordering.{nat_cmp, ordering_then, is_eq}
+use Rattle.std.specs.declared.cmp.Ordering.{Ordering}
+use Rattle.std.proofs.lemmas.Bool.{and_parts, cases_lt, eqb-true, le-ltb, true≢false}
+use Rattle.std.proofs.lemmas.Cmp.{nat_cmp_total, on_total, then_total}
+use Rattle.std.proofs.lemmas.List.{take_all}
+use Rattle.std.proofs.lemmas.List.Elements.{All-more}
+use Rattle.std.proofs.lemmas.List.Folds.{Any-from_list_any, list_any_at, list_any_none}
+use Rattle.std.proofs.lemmas.List.Sorted.{searchable_from_sorted}
+use Rattle.std.proofs.lemmas.Option.{none-some}
+use Rattle.rb_import_answers.specs.declared.packets.PacketKind.{PacketKind}
+use Rattle.rb_import_setup.specs.declared.setup.PathSetup.{PathSetup}
+use Rattle.rb_import_check.specs.declared.error.CheckErrorName.{CheckErrorName}
+use Rattle.rb_import_check.specs.declared.error.ImportError.{ImportError}
+use Rattle.rb_import_check.specs.declared.error.ImportError.TheVariants as errors
+use Rattle.rb_import_check.specs.declared.saved.Saved.{Saved}
+use Rattle.rb_import_merge.specs.declared.packets.SeenPacket.{SeenPacket}
+use Rattle.rb_import_merge.specs.Committed.{HasEvents, HaveCommitted, IsLackIn, IsWhyNotPending, WasSeen, lack_last_page, lack_of, was}
+use Rattle.rb_import_merge.specs.Lowest.{packet_cmp}
+use Rattle.rb_import_merge.specs.Packets.{place_of}
+use Rattle.rb_import_merge.specs.Pending.{committed_in, is_unreceived}
+use Rattle.rb_import_merge.proofs.Lowering.{same_place}
+use Rattle.rb_import_merge.proofs.Seeing.{any_among}
+
+-- ---- a search by kind and sequence
+
+-- pairs by the first number, then by the second
+abbrev pair_cmp : ℕ × ℕ → ℕ × ℕ → Ordering
+pair_cmp a b = ordering_then (nat_cmp a.0 b.0) (nat_cmp a.1 b.1)
+
+pair_total : IsTotalOrder pair_cmp
+pair_total = then_total (on_total (λ (p : ℕ × ℕ). p.0) nat_cmp_total) (on_total (λ (p : ℕ × ℕ). p.1) nat_cmp_total)
+
+abbrev pub key : SeenPacket → ℕ × ℕ
+key p = (place_of p.event.now.kind, p.event.now.sequence)
+
+abbrev is_it : PacketKind → ℕ → SeenPacket → Bool
+is_it kind n p = place_of p.event.now.kind == place_of kind && p.event.now.sequence == n
+
+tied : (kind : PacketKind) (n : ℕ) (p : SeenPacket) → is_it kind n p ≡ is_eq (pair_cmp (key p) (place_of kind, n))
+tied kind n p =
+    both_tied _ _ (nat_cmp (place_of p.event.now.kind) (place_of kind)) (nat_cmp p.event.now.sequence n)
+    (unsigned_ties (place_of p.event.now.kind) (place_of kind)) (unsigned_ties p.event.now.sequence n)
+
+-- it finds one where there is one
+pub searched : (kind : PacketKind) (place n : ℕ) (packets : List SeenPacket) (r : Result ℕ ℕ) → place ≡ place_of kind → IsSearchInRange r (length packets)
+    → IsBinarySearchResult (λ (p : SeenPacket). pair_cmp (key p) (place, n)) packets r → IsSorted packet_cmp packets → is_ok r ≡ was kind n packets
+searched kind place n packets r is small at order =
+    search_at packets r small (subst (λ m. IsBinarySearchResult (λ (p : SeenPacket). pair_cmp (key p) (m, n)) packets r) is at) order
+  where
+    search_at : (packets : List SeenPacket) (r : Result ℕ ℕ) → IsSearchInRange r (length packets)
+        → IsBinarySearchResult (λ (p : SeenPacket). pair_cmp (key p) (place_of kind, n)) packets r → IsSorted packet_cmp packets → is_ok r ≡ was kind n packets
+    search_at [] (Ok i) small at order = absurd (omega (arith, small))
+    search_at (p ∷ packets) (Ok i) small at order =
+        sym (list_any_at (is_it kind n) (p ∷ packets) i p small (tied kind n (get_or (p ∷ packets) i p) ∙ ap is_eq (at p)))
+    search_at packets (Err i) small at order =
+        let parts = at (searchable_from_sorted pair_total key packets (place_of kind, n) order) in
+        sym
+        (list_any_none (is_it kind n) packets (λ k d less.
+        elim (cases_lt k i) [
+          | inl before ↦ tied kind n (get_or packets k d) ∙ ap is_eq (parts.0 k d (omega arith) before)
+          | inr behind ↦ tied kind n (get_or packets k d) ∙ ap is_eq (parts.1 k d behind less)
+        ]))
+
+was_seen : (kind : PacketKind) (n : ℕ) (packets : List SeenPacket) → was kind n packets ≡ true → WasSeen packets kind n
+was_seen kind n packets e =
+    let (k, p, small, is, it) = Any-from_list_any (is_it kind n) packets e in
+    let parts = and_parts _ _ it in
+    (k, p, small, is, (same_place p.event.now.kind kind (eqb-true _ _ parts.0), eqb-true _ _ parts.1))
+
+-- ---- one more
+
+pub one_more : {X : Type 0} (P : X → Type 0) (xs : List X) (i : ℕ) (x : X) → i < length xs → x ≡ get_or xs i x → All P (take i xs) → P x → All P (take (i + 1) xs)
+one_more P xs i x small is so_far this = All-more P xs i x small so_far (subst P is this)
+
+pub number_more : (P : ℕ → Type 0) (xs ys : List ℕ) (i : ℕ) → xs ≡ ys → i < length xs → All P (take i ys) → P (get_or xs i 0) → All P (take (i + 1) ys)
+number_more P xs ys i same small so_far this = All-more P ys i 0 (subst (λ (l : List ℕ). i < length l) same small) so_far (subst (λ (l : List ℕ). P (get_or l i 0)) same this)
+
+pub at_end : {X : Type 0} (P : X → Type 0) (xs : List X) (i : ℕ) → length xs ≤ i → All P (take i xs) → All P xs
+at_end P xs i done so_far = subst (All P) (take_all i xs done) so_far
+
+-- ---- what lacks nothing has its events
+
+abbrev lack_at : Bool → Bool → Bool → Bool → Option CheckErrorName
+lack_at below sent waits received =
+    if below then None else if not sent then Some CheckErrorName.MissingSend else if not waits && not received then Some CheckErrorName.MissingReceive else None
+
+nothing_at : (below sent waits received : Bool) → lack_at below sent waits received ≡ None → below ≡ false → (sent ≡ true) × (waits ≡ false → received ≡ true)
+nothing_at true sent waits received none late = absurd (true≢false late)
+nothing_at false false waits received none late = absurd (none-some _ (sym none))
+nothing_at false true true received none late = (refl, λ e. absurd (true≢false e))
+nothing_at false true false true none late = (refl, λ e. refl)
+nothing_at false true false false none late = absurd (none-some _ (sym none))
+
+has_events : (setup : PathSetup) (saved : List Saved) (packets : List SeenPacket) (n : ℕ) → lack_of setup.config.first saved packets n ≡ None → HasEvents setup saved packets n
+has_events setup saved packets n none late =
+    let (sent, received) = nothing_at (nat_lt n setup.config.first) (was PacketKind.Sent n packets) (is_unreceived saved n) (was PacketKind.Received n packets) none (le-ltb n setup.config.first late) in
+    (was_seen PacketKind.Sent n packets sent, λ e. was_seen PacketKind.Received n packets (received e))
+
+pub all_have : (setup : PathSetup) (saved : List Saved) (packets : List SeenPacket)
+    → All (λ (s : Saved). All (λ n. lack_of setup.config.first saved packets n ≡ None) (committed_in s.answer)) saved
+    → All (λ (s : Saved). All (HasEvents setup saved packets) (committed_in s.answer)) saved
+all_have setup saved packets none = λ k s small i n low. has_events setup saved packets (get_or (committed_in (get_or saved k s).answer) i n) (none k s small i n low)
+
+-- in another order they are the same
+pub committed_too : (setup : PathSetup) (saved : List Saved) (lowest packets : List SeenPacket) → IsPermutation lowest packets → HaveCommitted setup saved lowest → HaveCommitted setup saved packets
+committed_too setup saved lowest packets same (last, each) = (
+  last,
+  λ k s small i n low late.
+      let (sent, received) = each k s small i n low late in
+      (any_among _ lowest packets same sent, λ e. any_among _ lowest packets same (received e)),
+)
+
+pub why_of_answer : (setup : PathSetup) (saved : List Saved) (packets : List SeenPacket) (i : ℕ) (s : Saved) (e : ImportError) → i < length saved → s ≡ get_or saved i s
+    → lack_last_page saved ≡ false → IsLackIn setup saved packets s e → IsWhyNotPending setup saved packets e
+why_of_answer setup saved packets i s (errors.CheckError p) small is last lack = inr (last, (i, s, small, sym is, lack))
+why_of_answer setup saved packets i s errors.NoMemory small is last lack = absurd lack
