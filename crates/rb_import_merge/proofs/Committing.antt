@@ -1,7 +1,6 @@
 -- That packets with a commitment have their events.
 use Rattle.std.proofs.Common.{◌≡◌, ℕ, ◌+◌, ◌<◌, ◌≤◌, ◌==◌, ◌&&◌, nat_lt, not, List, [], ◌∷◌, Ok, Err, Result, Option, Some, None, Bool, true, false, if◌then◌else◌, All, length, get_or, take, inl, inr, refl, sym, subst, ap, ◌∙◌, arith}
-use Rattle.std.specs.Prelude.{Any, is_ok}
-use Rattle.std.specs.List.{list_any}
+use Rattle.std.specs.Prelude.{is_ok}
 use Rattle.std.specs.List.Sorted.{IsBinarySearchResult, IsPermutation, IsSearchInRange, IsSorted}
 use Rattle.std.specs.Cmp.{IsTotalOrder, both_tied, unsigned_ties}
 use Rattle.std.specs.Ordering.{nat_cmp, ordering_then, is_eq}
@@ -67,7 +66,7 @@ searched kind place n packets r is small at order =
           | inr behind ↦ tied kind n (get_or packets k d) ∙ ap is_eq (parts.1 k d behind less)
         ]))
 
-was_seen : (kind : PacketKind) (n : ℕ) (packets : List SeenPacket) → was kind n packets ≡ true → WasSeen packets kind n
+pub was_seen : (kind : PacketKind) (n : ℕ) (packets : List SeenPacket) → was kind n packets ≡ true → WasSeen packets kind n
 was_seen kind n packets e =
     let (k, p, small, is, it) = Any-from_list_any (is_it kind n) packets e in
     let parts = and_parts _ _ it in

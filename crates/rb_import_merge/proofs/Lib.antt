@@ -1,4 +1,5 @@
 pub mod Committing
+pub mod Going
 pub mod Found
 pub mod Highest
 pub mod Lowering
@@ -7,5 +8,6 @@ pub mod Rooms
 pub mod Seeing
 pub mod Sendings
 pub mod Told
+pub mod Totalling
 pub mod Watched
 pub mod Counts

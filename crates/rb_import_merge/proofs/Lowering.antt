@@ -16,9 +16,12 @@ use Rattle.std.proofs.lemmas.List.Sorted.{All-permutation, IsPermutation-sym}
 use Rattle.std.proofs.lemmas.Map.Keys.{IsDistinct-from_sorted, Less-from_sorted, ge_from_not_lt}
 use Rattle.rb_import_answers.specs.declared.packets.PacketEvent.{PacketEvent}
 use Rattle.rb_import_answers.specs.declared.packets.PacketKind.{PacketKind}
+use Rattle.rb_import_check.specs.declared.error.ImportError.{ImportError}
+use Rattle.rb_import_check.specs.declared.error.ImportError.TheVariants as errors
 use Rattle.rb_import_merge.specs.declared.packets.SeenPacket.{SeenPacket}
 use Rattle.rb_import_merge.specs.Packets.{StandsFor, are_of_one, place_of}
-use Rattle.rb_import_merge.specs.Lowest.{AreEqualSendings, block_cmp, packet_cmp}
+use Rattle.rb_import_merge.specs.Lowest.{AreEqualSendings, AreTwoOf, AreTwoSendings, block_cmp, packet_cmp}
+use Rattle.rb_import_merge.proofs.Seeing.{any_among}
 
 -- ---- what stands for what
 
@@ -177,5 +180,11 @@ rising sorted order =
     λ k d low small. ap is_lt
     (total.antisymm (get_or (dedup are_of_one sorted) (k + 1) d) (get_or (dedup are_of_one sorted) k d)
     ∙ ap ordering_reverse (Less-from_sorted packet_cmp (dedup are_of_one sorted) k (k + 1) d (IsStrictlySortedBy-dedup total ties sorted up) (omega arith) small))
+
+-- two that differ are among the packets in another order, too
+pub two_too : (xs ys : List SeenPacket) (e : ImportError) → IsPermutation xs ys → AreTwoOf xs e → AreTwoOf ys e
+two_too xs ys (errors.CheckError problem) same (name, (k, p, small, is, other)) =
+    (name, any_among (λ (q : SeenPacket). Any (AreTwoSendings q) ys) xs ys same (k, p, small, is, any_among (AreTwoSendings p) xs ys same other))
+two_too xs ys errors.NoMemory same two = tt
 
 pub ruleset lowering = (among, standing, once)

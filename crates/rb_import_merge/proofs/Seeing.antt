@@ -118,7 +118,7 @@ is_of_path setup saved p e =
     )
 
 -- what holds of the wanted ones holds of what is seen
-carried : (P : SeenPacket → Type 0) (wanted lowest packets : List SeenPacket) → All P wanted → All (Contains wanted) lowest → IsPermutation lowest packets → All P packets
+pub carried : (P : SeenPacket → Type 0) (wanted lowest packets : List SeenPacket) → All P wanted → All (Contains wanted) lowest → IsPermutation lowest packets → All P packets
 carried P wanted lowest packets h among same =
     All-permutation P lowest packets same (λ k d small. All-contains P wanted (get_or lowest k d) h (among k d small))
 

@@ -4,6 +4,8 @@ pub mod Counterparties
 pub mod Sources
 pub mod Lowest
 pub mod Committed
+pub mod Ways
+pub mod Totals
 pub mod Errors
 pub mod Room
 pub mod Sets

@@ -1,8 +1,11 @@
 -- (internal) The order in which the lowest events of each kind and sequence are taken.
-use Rattle.std.specs.Prelude.{◌≡◌}
+use Rattle.std.specs.Prelude.{◌≡◌, List, Any}
 use Rattle.std.specs.Ordering.{nat_cmp, ordering_then}
 use Rattle.std.specs.declared.cmp.Ordering.{Ordering}
 use Rattle.rb_import_answers.specs.declared.packets.PacketKind.{PacketKind}
+use Rattle.rb_import_check.specs.declared.error.CheckErrorName.{CheckErrorName}
+use Rattle.rb_import_check.specs.declared.error.ImportError.{ImportError}
+use Rattle.rb_import_check.specs.Errors.{IsTold}
 use Rattle.rb_import_merge.specs.declared.packets.SeenPacket.{SeenPacket}
 use Rattle.rb_import_merge.specs.Packets.{IsSameSending, place_of}
 
@@ -17,3 +20,13 @@ block_cmp p q = ordering_then (packet_cmp p q) (nat_cmp p.event.now.block q.even
 -- where two events tell of one sending, they are equal
 abbrev pub AreEqualSendings : SeenPacket → SeenPacket → Type 0
 AreEqualSendings p q = p.event.now.kind ≡ PacketKind.Sent → q.event.now.kind ≡ PacketKind.Sent → p.event.now.sequence ≡ q.event.now.sequence → IsSameSending q.event.now p.event.now
+
+-- two events tell of one sending, and aren't equal
+abbrev pub AreTwoSendings : SeenPacket → SeenPacket → Type 0
+AreTwoSendings p q =
+    (p.event.now.kind ≡ PacketKind.Sent) × (q.event.now.kind ≡ PacketKind.Sent) × (p.event.now.sequence ≡ q.event.now.sequence)
+    × (IsSameSending q.event.now p.event.now → ⊥)
+
+-- the problem is that two of the packets' events tell of one sending, and aren't equal
+abbrev pub AreTwoOf : List SeenPacket → ImportError → Type 0
+AreTwoOf packets e = IsTold CheckErrorName.TwoAnswers (Any (λ (p : SeenPacket). Any (AreTwoSendings p) packets) packets) e

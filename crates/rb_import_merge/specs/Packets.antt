@@ -1,5 +1,5 @@
 -- What was seen of a path's packets (ICS 4).
-use Rattle.std.specs.Prelude.{◌≡◌, ℕ, ◌+◌, ◌-◌, ◌^◌, ◌≤◌, ◌==◌, nat_le, nat_lt, Bool, true, false, not, ◌&&◌, ◌||◌, if◌then◌else◌, List, [], ◌∷◌, Option, Some, None, IfSome, option_map, String, All, Any, Contains, length, map, filter, string_bytes}
+use Rattle.std.specs.Prelude.{◌≡◌, ℕ, ◌+◌, ◌-◌, ◌^◌, ◌≤◌, ◌==◌, nat_le, nat_lt, Bool, true, false, not, ◌&&◌, ◌||◌, if◌then◌else◌, List, [], ◌∷◌, Option, Some, None, IfSome, IsSomeAnd, option_map, String, All, Any, Contains, length, map, filter, string_bytes}
 use Rattle.std.specs.Global.{Global}
 use Rattle.std.specs.List.{flat_map, list_any, IsDistinct}
 use Rattle.std.specs.Option.{option_or}
@@ -11,6 +11,9 @@ use Rattle.rb_import_answers.specs.declared.packets.PacketKind.{PacketKind}
 use Rattle.rb_import_answers.specs.declared.packets.RevisionHeight.{RevisionHeight}
 use Rattle.rb_import_answers.specs.Revisions.{IsRevision}
 use Rattle.rb_import_setup.specs.declared.setup.PathSetup.{PathSetup}
+use Rattle.rb_import_check.specs.declared.error.CheckErrorName.{CheckErrorName}
+use Rattle.rb_import_check.specs.declared.error.ImportError.{ImportError}
+use Rattle.rb_import_check.specs.declared.error.ImportError.TheVariants as errors
 use Rattle.rb_import_check.specs.declared.saved.Saved.{Saved}
 use Rattle.rb_import_merge.specs.Pending.{is_pending, tells_done}
 use Rattle.rb_import_merge.specs.declared.packets.Searches.{Searches}
@@ -119,6 +122,28 @@ are_of_one p q = place_of p.event.now.kind == place_of q.event.now.kind && p.eve
 -- whether one of these packets timed out
 abbrev pub some_timed_out : List SeenPacket → Bool
 some_timed_out packets = list_any (λ (p : SeenPacket). counts_as p.event.now.kind PacketKind.TimedOut) packets
+
+-- the packets are from one source
+abbrev pub AreFromOne : List SeenPacket → Type 0
+AreFromOne packets = (source : List ℕ) × All (λ (p : SeenPacket). string_bytes p.event.now.source ≡ source) packets
+
+-- whether a path may have an answer: on its packets, or of a kind that isn't needed
+abbrev pub is_on_packets : NodeAnswer → Bool
+is_on_packets (answers.Commit header) = false
+is_on_packets (answers.Validators page) = false
+is_on_packets (answers.ClientState state) = false
+is_on_packets (answers.ConsensusStates page) = false
+is_on_packets (answers.Transactions page) = true
+is_on_packets (answers.Pending p) = true
+is_on_packets (answers.Verdicts v) = false
+is_on_packets (answers.Other query) = true
+
+-- the problem is that one of the answers belongs into another folder: its file
+abbrev pub IsOfOtherFolder : List Saved → ImportError → Type 0
+IsOfOtherFolder saved (errors.CheckError p) =
+    (p.name ≡ CheckErrorName.WrongFolder)
+    × Any (λ (s : Saved). (is_on_packets s.answer ≡ false) × IsSomeAnd p.file (λ file. file.now ≡ string_bytes s.file)) saved
+IsOfOtherFolder saved errors.NoMemory = ⊥
 
 -- what is seen are wanted events; each wanted event has one that stands for it; no two are of one kind and sequence
 abbrev pub HaveEvents : PathSetup → List Saved → List SeenPacket → Type 0

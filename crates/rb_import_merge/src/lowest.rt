@@ -1,10 +1,10 @@
 //! Of several events of one kind and sequence the one of the lowest block.
-ghost use Rattle.std.specs.Prelude.{◌≡◌, ◌+◌, ◌<◌, ℕ, All, Any, IfOk, IfErr, IsTrue, OnOk, Contains, length, slice_index_or};
+ghost use Rattle.std.specs.Prelude.{◌≡◌, ◌+◌, ◌<◌, ℕ, false, All, Any, IfOk, IfErr, IsTrue, OnOk, Contains, length, slice_index_or};
 ghost use Rattle.std.specs.List.{IsDistinct, dedup};
 ghost use Rattle.std.specs.List.Sorted.{IsPermutation, IsSorted};
 ghost use Rattle.rb_import_check.specs.Errors.{IsToldOf};
 ghost use Rattle.rb_import_merge.specs.Packets.{StandsFor, are_of_one, place_of};
-ghost use Rattle.rb_import_merge.specs.Lowest.{AreEqualSendings, block_cmp, packet_cmp};
+ghost use Rattle.rb_import_merge.specs.Lowest.{AreEqualSendings, AreTwoOf, AreTwoSendings, block_cmp, packet_cmp};
 
 use crate::packets::SeenPacket;
 use rb_import_answers::PacketKind;
@@ -21,6 +21,7 @@ pub fn lowest_of<'a>(
     ensures standing { IfOk result (λ lowest. All (λ p. Any (StandsFor p.event.now) lowest.items) packets.entry.items) }
     ensures once { IfOk result (λ lowest. IsDistinct are_of_one lowest.items) }
     ensures order { IfOk result (λ lowest. IsSorted packet_cmp lowest.items) }
+    ensures refused { IfErr result (AreTwoOf packets.entry.items) }
     ensures told { IfErr result (IsToldOf id.entry.now) }
 {
     let sorted = in_order(packets)?;
@@ -69,6 +70,7 @@ fn firsts_of<'a>(packets: Vec<SeenPacket<'a>>) -> Vec<SeenPacket<'a>>
 /// Refuses neighbours that tell of one sending and differ.
 fn judge_sendings<'a>(id: &'a str, packets: &[SeenPacket<'a>]) -> Result<(), ImportError<'a>>
     ensures equal { OnOk result ((k : ℕ) (d : SeenPacket) → k + 1 < length packets.now → AreEqualSendings (slice_index_or packets.now k d) (slice_index_or packets.now (k + 1) d)) }
+    ensures refused { IfErr result (AreTwoOf packets.now) }
     ensures told { IfErr result (IsToldOf id.entry.now) }
 {
     for place in 1..packets.len() {
@@ -85,7 +87,8 @@ fn judge_sendings<'a>(id: &'a str, packets: &[SeenPacket<'a>]) -> Result<(), Imp
 
 /// Whether two events that tell of one sending are equal.
 fn are_equal(packet: &SeenPacket, other: &SeenPacket) -> bool
-    ensures { IsTrue result → AreEqualSendings packet.now other.now }
+    ensures equal { IsTrue result → AreEqualSendings packet.now other.now }
+    ensures differ { result ≡ false → AreTwoSendings packet.now other.now }
 {
     match (packet.event.kind, other.event.kind) {
         (PacketKind::Sent, PacketKind::Sent) => {

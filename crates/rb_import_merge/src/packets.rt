@@ -1,12 +1,14 @@
 //! What was seen of a path's packets.
-ghost use Rattle.std.specs.Prelude.{◌≡◌, [], ◌∷◌, ◌++◌, if◌then◌else◌, All, IfOk, IfErr, OnOk, count_by, filter, option_map};
+ghost use Rattle.std.specs.Prelude.{◌≡◌, [], ◌∷◌, ◌++◌, if◌then◌else◌, true, None, All, IfOk, IfErr, IfSome, OnOk, count_by, filter, map, option_map, string_bytes};
 ghost use Rattle.std.specs.List.{flat_map, list_any};
 ghost use Rattle.std.specs.List.Sorted.{IsPermutation, IsSorted};
 ghost use Rattle.rb_import_check.specs.Errors.{IsToldOf};
 ghost use Rattle.rb_import_merge.specs.Committed.{HaveCommitted, was};
 ghost use Rattle.rb_import_merge.specs.Lowest.{packet_cmp};
-ghost use Rattle.rb_import_merge.specs.Packets.{IsOfPath, HaveEvents, Expires, ExpiresAt, expiry_at, within_heights, is_source, is_dest, is_wanted, counts_as, is_silent, lacks, one_if, some_timed_out, tells_of, events_of, seen_events};
+ghost use Rattle.rb_import_merge.specs.Packets.{AreFromOne, IsOfPath, IsOfOtherFolder, HaveEvents, Expires, ExpiresAt, expiry_at, within_heights, is_on_packets, is_source, is_dest, is_wanted, counts_as, is_silent, lacks, one_if, some_timed_out, tells_of, events_of, seen_events};
 ghost use Rattle.rb_import_merge.specs.Pending.{tells_done};
+ghost use Rattle.rb_import_merge.specs.Totals.{IsCutShort, count_in, count_with, is_whole, pages_of};
+ghost use Rattle.rb_import_merge.specs.Ways.{HasBefore, IsFlawIn, flaw_of, unless};
 
 use crate::counterparties::counterparty;
 use crate::lowest::{lowest_of, place_of};
@@ -81,11 +83,16 @@ pub fn seen_packets<'a>(
     ensures path { IfOk result (λ packets. All (IsOfPath setup.entry.now answers.entry.now) packets.items) }
     ensures events { IfOk result (λ packets. HaveEvents setup.entry.now answers.entry.now packets.items) }
     ensures expiry { IfOk result (λ packets. All (Expires dest.now) packets.items) }
+    ensures source { IfOk result (λ packets. setup.entry.now.source_channel ≡ None → AreFromOne packets.items) }
+    ensures before { IfOk result (λ packets. All (HasBefore packets.items) packets.items) }
     ensures pending { IfOk result (λ packets. HaveCommitted setup.entry.now answers.entry.now packets.items) }
+    ensures answers { OnOk result (All (λ s. is_on_packets s.answer ≡ true) answers.entry.now) }
+    ensures whole { OnOk result (All (λ p. is_whole p.total (pages_of answers.entry.now) ≡ true) (pages_of answers.entry.now)) }
     ensures told { IfErr result (IsToldOf setup.entry.now.config.id) }
 {
     let id = setup.config.id.as_str();
-    let pages = pages_of(alloc, id, answers)?;
+    judge_kinds(id, answers)?;
+    let pages = pages_of(alloc, answers)?;
     judge_totals(id, pages.as_slice())?;
     let all = all_events(alloc, revision_of(dest.as_str()), pages.as_slice())?;
     let end = counterparty(setup, answers);
@@ -241,51 +248,94 @@ fn is_silent(saved: &Saved) -> bool
     }
 }
 
-#[tactic(auto, using(rb_import_check::proofs::Sorting::taking))]
-fn pages_of<'a>(
-    alloc: Global,
-    id: &'a str,
-    answers: &'a [Saved],
-) -> Result<Vec<Page<'a>>, ImportError<'a>>
-    ensures events { IfOk result (λ pages. flat_map (λ p. p.page.now.events.items) pages.items ≡ events_of answers.entry.now) }
+/// Refuses the first answer that is neither on packets nor of a kind that isn't needed: it belongs into another folder.
+fn judge_kinds<'a>(id: &'a str, answers: &'a [Saved]) -> Result<(), ImportError<'a>>
+    ensures accepted { OnOk result (All (λ s. is_on_packets s.answer ≡ true) answers.entry.now) }
+    ensures refused { IfErr result (IsOfOtherFolder answers.entry.now) }
     ensures told { IfErr result (IsToldOf id.entry.now) }
+{
+    for saved in answers {
+        if !is_on_packets(&saved.answer) {
+            let file = saved.file.as_str();
+            return Err(ImportError::at(CheckErrorName::WrongFolder, id, 0, file));
+        }
+    }
+    Ok(())
+}
+
+/// Whether a path may have an answer.
+fn is_on_packets(answer: &NodeAnswer) -> bool
+    ensures { result ≡ is_on_packets answer.now }
+{
+    match answer {
+        NodeAnswer::Transactions(_) | NodeAnswer::Pending(_) | NodeAnswer::Other(_) => true,
+        _ => false,
+    }
+}
+
+/// The pages of transactions among a path's answers.
+#[tactic(auto, using(rb_import_check::proofs::Sorting::taking))]
+fn pages_of(alloc: Global, answers: &[Saved]) -> Result<Vec<Page<'_>>, AllocError>
+    ensures { IfOk result (λ pages. map (λ p. p.page.now) pages.items ≡ pages_of answers.now) }
 {
     let mut pages = Vec::new(alloc);
     for saved in answers {
-        let file = saved.file.as_str();
-        match &saved.answer {
-            NodeAnswer::Transactions(page) => pages.push(Page { file, page })?,
-            NodeAnswer::Pending(_) | NodeAnswer::Other(_) => {}
-            _ => return Err(ImportError::at(CheckErrorName::WrongFolder, id, 0, file)),
+        if let NodeAnswer::Transactions(page) = &saved.answer {
+            let file = saved.file.as_str();
+            pages.push(Page { file, page })?;
         }
     }
     Ok(pages)
 }
 
-/// Refuses pages whose transactions aren't all of some searches: those with one total are pages of
+/// Refuses the first page whose transactions aren't all of some searches: the pages with one total are those of
 /// searches with that total.
 fn judge_totals<'a>(id: &'a str, pages: &[Page<'a>]) -> Result<(), ImportError<'a>>
-    ensures { IfErr result (IsToldOf id.entry.now) }
+    ensures accepted { OnOk result (All (λ p. is_whole p.page.now.total (map (λ q. q.page.now) pages.now) ≡ true) pages.now) }
+    ensures refused { IfErr result (IsCutShort pages.now) }
+    ensures told { IfErr result (IsToldOf id.entry.now) }
 {
     for page in pages {
         let total = page.page.total;
-        let count = count_with(total, pages);
-        if total == 0 && count != 0 || total != 0 && count % total != 0 {
+        if !is_whole(total, pages) {
             return Err(ImportError::at(CheckErrorName::MissingTransactions, id, total, page.file));
         }
     }
     Ok(())
 }
 
-/// How many transactions stand on the pages with this total.
-fn count_with(total: u64, pages: &[Page]) -> u64 {
+/// Whether the pages with this total are those of whole searches.
+fn is_whole(total: u64, pages: &[Page]) -> bool
+    ensures { result ≡ is_whole total (map (λ p. p.page.now) pages.now) }
+{
+    let count = count_with(total, pages);
+    if total == 0 {
+        count == 0
+    } else {
+        count % total == 0
+    }
+}
+
+/// How many transactions stand on the pages with this total, up to 2^64 - 1.
+fn count_with(total: u64, pages: &[Page]) -> u64
+    ensures { result ≡ count_with total (map (λ p. p.page.now) pages.now) }
+{
     let mut count: u64 = 0;
     for page in pages {
-        if page.page.total == total {
-            count = count.saturating_add(page.page.count as u64);
-        }
+        count = count.saturating_add(count_in(total, page.page));
     }
     count
+}
+
+/// How many transactions stand on a page, if it has this total.
+fn count_in(total: u64, page: &PacketPage) -> u64
+    ensures { result ≡ count_in total page.now }
+{
+    if page.total == total {
+        page.count as u64
+    } else {
+        0
+    }
 }
 
 /// The events of these pages, for a destination of this revision.
@@ -356,6 +406,7 @@ fn wanted_of<'a>(
     answers: &[Saved],
     all: &[SeenPacket<'a>],
 ) -> Result<Vec<SeenPacket<'a>>, ImportError<'a>>
+    ensures source { IfOk result (λ wanted. setup.entry.now.source_channel ≡ None → AreFromOne wanted.items) }
     ensures wanted { IfOk result (λ wanted. wanted.items ≡ filter (λ s. is_wanted setup.entry.now (option_map (λ e. e.now) end.entry) answers.now s.event.now) all.now) }
     ensures told { IfErr result (IsToldOf setup.entry.now.config.id) }
 {
@@ -374,6 +425,7 @@ fn add_wanted<'a>(
     seen: SeenPacket<'a>,
     wanted: &mut Vec<SeenPacket<'a>>,
 ) -> Result<(), ImportError<'a>>
+    ensures source { OnOk result (setup.entry.now.source_channel ≡ None → AreFromOne wanted.old.items → AreFromOne wanted.new.items) }
     ensures wanted { OnOk result (wanted.new.items ≡ wanted.old.items ++ (if is_wanted setup.entry.now (option_map (λ e. e.now) end.entry) answers.now seen.entry.event.now then seen.entry ∷ [] else [])) }
     ensures told { IfErr result (IsToldOf setup.entry.now.config.id) }
 {
@@ -392,6 +444,7 @@ fn is_wanted<'a>(
     first: Option<&SeenPacket<'a>>,
     seen: &SeenPacket<'a>,
 ) -> Result<bool, ImportError<'a>>
+    ensures source { OnOk result (setup.entry.now.source_channel ≡ None → IfSome first.entry (λ first. string_bytes first.now.event.now.source ≡ string_bytes seen.now.event.now.source)) }
     ensures wanted { IfOk result (λ is. is ≡ is_wanted setup.entry.now (option_map (λ e. e.now) end.entry) answers.now seen.now.event.now) }
     ensures told { IfErr result (IsToldOf setup.entry.now.config.id) }
 {
@@ -417,10 +470,12 @@ fn is_wanted<'a>(
     }
 }
 
-/// Refuses a packet that was received or cleared and not sent, or acknowledged and not received. They
+/// Refuses the first packet that was received or cleared and not sent, or acknowledged and not received. They
 /// stand by kind and sequence.
 fn judge_packets<'a>(id: &'a str, packets: &[SeenPacket<'a>]) -> Result<(), ImportError<'a>>
-    ensures { IfErr result (IsToldOf id.entry.now) }
+    ensures accepted { IsSorted packet_cmp packets.now → OnOk result (All (HasBefore packets.now) packets.now) }
+    ensures refused { IsSorted packet_cmp packets.now → IfErr result (IsFlawIn packets.now) }
+    ensures told { IfErr result (IsToldOf id.entry.now) }
 {
     for seen in packets {
         if let Some(name) = flaw_of(packets, seen.event) {
@@ -431,17 +486,27 @@ fn judge_packets<'a>(id: &'a str, packets: &[SeenPacket<'a>]) -> Result<(), Impo
 }
 
 /// What an event wants, if it wants something.
-fn flaw_of(packets: &[SeenPacket], event: &PacketEvent) -> Option<CheckErrorName> {
+fn flaw_of(packets: &[SeenPacket], event: &PacketEvent) -> Option<CheckErrorName>
+    ensures { IsSorted packet_cmp packets.now → result ≡ flaw_of packets.now event.now }
+{
     match event.kind {
-        PacketKind::Received | PacketKind::Cleared | PacketKind::TimedOut
-            if !was(packets, PacketKind::Sent, event.sequence) => {
-            Some(CheckErrorName::MissingSend)
+        PacketKind::Sent => None,
+        PacketKind::Received | PacketKind::Cleared | PacketKind::TimedOut => {
+            let was_sent = was(packets, PacketKind::Sent, event.sequence);
+            unless(was_sent, CheckErrorName::MissingSend)
         }
-        PacketKind::AckWritten if !was(packets, PacketKind::Received, event.sequence) => {
-            Some(CheckErrorName::MissingReceive)
+        PacketKind::AckWritten => {
+            let was_received = was(packets, PacketKind::Received, event.sequence);
+            unless(was_received, CheckErrorName::MissingReceive)
         }
-        _ => None,
     }
+}
+
+/// This problem, unless something holds.
+fn unless(holds: bool, name: CheckErrorName) -> Option<CheckErrorName>
+    ensures { result ≡ unless holds name }
+{
+    if holds { None } else { Some(name) }
 }
 
 /// Whether there is an event of this kind with this sequence, among packets that stand by kind and sequence.

@@ -2,10 +2,12 @@ use Rattle.std.proofs.Common.{ℕ, ◌+◌, ◌<◌, All, length, get_or, sym, s
 use Rattle.std.specs.Prelude.{Any, Contains}
 use Rattle.std.specs.List.{IsDistinct}
 use Rattle.std.specs.List.Sorted.{IsSorted}
+use Rattle.std.proofs.lemmas.List.Sorted.{IsPermutation-sym}
+use Rattle.std.proofs.lemmas.Result.{err_from_is_err_and}
 use Rattle.rb_import_merge.specs.declared.packets.SeenPacket.{SeenPacket}
 use Rattle.rb_import_merge.specs.Packets.{StandsFor, are_of_one}
-use Rattle.rb_import_merge.specs.Lowest.{AreEqualSendings, packet_cmp}
-use Rattle.rb_import_merge.proofs.Lowering.{among, standing, once, rising}
+use Rattle.rb_import_merge.specs.Lowest.{AreEqualSendings, AreTwoOf, packet_cmp}
+use Rattle.rb_import_merge.proofs.Lowering.{among, standing, once, rising, two_too}
 use Rattle.rb_import_merge.proofs.lowest.lowest_of.Goals as goal
 
 pub returns-clause-among : goal.returns-clause-among
@@ -23,3 +25,10 @@ returns-clause-once c = subst (IsDistinct are_of_one) (sym c.firsts_of.ensures) 
 
 pub returns-clause-order : goal.returns-clause-order
 returns-clause-order c = subst (IsSorted packet_cmp) (sym c.firsts_of.ensures) (rising c.in_ok-sorted.sorted.items c.in_ok-sorted.ensures.order)
+
+pub returns-in_err-judge_sendings-clause-refused : goal.returns-in_err-judge_sendings-clause-refused
+returns-in_err-judge_sendings-clause-refused c =
+    let p = err_from_is_err_and c.from_residual-in_err-judge_sendings.result c.from_residual-in_err-judge_sendings.ensures.1 in
+    let e = c.in_err-judge_sendings.field-0.0 in
+    let two : AreTwoOf c.in_ok-sorted.sorted.items e = subst (λ l. AreTwoOf l e) c.as_slice.ensures.value c.in_err-judge_sendings.ensures.refused in
+    rw (p.1, p.2) (two_too c.in_ok-sorted.sorted.items c.args.packets.items e (IsPermutation-sym c.args.packets.items c.in_ok-sorted.sorted.items c.in_ok-sorted.ensures.same) two)

@@ -1,5 +1,5 @@
-use Rattle.std.proofs.Common.{◌≡◌, List, filter, rules, sym, subst, ap, ◌∙◌}
-use Rattle.std.specs.Prelude.{option_map}
+use Rattle.std.proofs.Common.{◌≡◌, true, List, All, filter, map, rules, sym, subst, ap, ◌∙◌}
+use Rattle.std.specs.Prelude.{option_map, string_bytes}
 use Rattle.std.specs.List.{flat_map}
 use Rattle.std.specs.List.Sorted.{IsSorted}
 use Rattle.rb_import_answers.specs.Revisions.{IsRevision}
@@ -9,7 +9,11 @@ use Rattle.rb_import_merge.specs.Committed.{HaveCommitted}
 use Rattle.rb_import_merge.specs.Lowest.{packet_cmp}
 use Rattle.rb_import_merge.specs.Packets.{counterparty, events_of, is_wanted, seen_events}
 use Rattle.rb_import_merge.proofs.Committing.{committed_too}
-use Rattle.rb_import_merge.proofs.Seeing.{are_of_path, expire, have_events}
+use Rattle.rb_import_merge.specs.Totals.{is_whole}
+use Rattle.rb_import_merge.specs.Ways.{HasBefore}
+use Rattle.rb_import_merge.proofs.Going.{before_too}
+use Rattle.rb_import_merge.proofs.Seeing.{are_of_path, carried, expire, have_events}
+use Rattle.rb_import_merge.proofs.Totalling.{all_whole, events_of_pages}
 use Rattle.rb_import_merge.proofs.packets.seen_packets.Goals as goal
 
 pub returns-clause-path : goal.returns-clause-path
@@ -23,7 +27,7 @@ returns-clause-path c =
 pub returns-clause-events : goal.returns-clause-events
 returns-clause-events c =
     let all : List SeenPacket = c.in_ok-all.all.items in
-    let these : seen_events all ≡ events_of c.args.answers.now = c.in_ok-all.ensures.events ∙ ap (flat_map (λ (p : Page). p.page.now.events.items)) c.as_slice-2.ensures.value ∙ c.in_ok-pages.ensures.events in
+    let these : seen_events all ≡ events_of c.args.answers.now = c.in_ok-all.ensures.events ∙ ap (flat_map (λ (p : Page). p.page.now.events.items)) c.as_slice-2.ensures.value ∙ events_of_pages c.args.answers.now c.in_ok-pages.pages.items c.in_ok-pages.ensures in
     let are : c.in_ok-wanted.wanted.items ≡ filter (λ (s : SeenPacket). is_wanted c.args.setup.now (counterparty c.args.setup.now (events_of c.args.answers.now)) c.args.answers.now s.event.now) all =
     c.in_ok-wanted.ensures.wanted ∙ ap (filter (λ (s : SeenPacket). is_wanted c.args.setup.now (option_map (λ e. e.now) c.counterparty-end.result) c.args.answers.now s.event.now)) c.as_slice-3.ensures.value
     ∙ ap (λ e. filter (λ (s : SeenPacket). is_wanted c.args.setup.now e c.args.answers.now s.event.now) all) c.counterparty-end.ensures in
@@ -44,3 +48,21 @@ returns-clause-pending c =
     let have : HaveCommitted c.args.setup.now c.args.answers.now c.in_ok-lowest.lowest.items =
     subst (HaveCommitted c.args.setup.now c.args.answers.now) c.as_slice-5.ensures.value (c.in_ok-judge_pending.ensures.accepted order) in
     committed_too c.args.setup.now c.args.answers.now c.in_ok-lowest.lowest.items c.in_ok-by_block.field-0.items c.in_ok-by_block.ensures have
+
+pub returns-clause-source : goal.returns-clause-source
+returns-clause-source c = λ none.
+    let (source, all) = c.in_ok-wanted.ensures.source none in
+    let From : SeenPacket → Type 0 = λ p. string_bytes p.event.now.source ≡ source in
+    (source, carried From c.in_ok-wanted.wanted.items c.in_ok-lowest.lowest.items c.in_ok-by_block.field-0.items all c.in_ok-lowest.ensures.among c.in_ok-by_block.ensures)
+
+pub returns-clause-before : goal.returns-clause-before
+returns-clause-before c =
+    let order : IsSorted packet_cmp c.as_slice-4.result.now = subst (IsSorted packet_cmp) (sym c.as_slice-4.ensures.value) c.in_ok-lowest.ensures.order in
+    let all : All (HasBefore c.in_ok-lowest.lowest.items) c.in_ok-lowest.lowest.items =
+    subst (λ (l : List SeenPacket). All (HasBefore l) l) c.as_slice-4.ensures.value (c.in_ok-judge_packets.ensures.accepted order) in
+    before_too c.in_ok-lowest.lowest.items c.in_ok-by_block.field-0.items c.in_ok-by_block.ensures all
+
+pub returns-clause-whole : goal.returns-clause-whole
+returns-clause-whole c =
+    let all = subst (λ (l : List Page). All (λ (p : Page). is_whole p.page.now.total (map (λ (q : Page). q.page.now) l) ≡ true) l) c.as_slice.ensures.value c.in_ok-judge_totals.ensures.accepted in
+    all_whole c.args.answers.now c.in_ok-pages.pages.items c.in_ok-pages.ensures all
