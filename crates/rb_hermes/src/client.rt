@@ -1,6 +1,6 @@
 //! The clients that a setup is made for.
-ghost use Rattle.std.specs.Prelude.{◌≡◌, ◌≢◌, IfSome};
-ghost use Rattle.rb_hermes.specs.Clients.{word_of};
+ghost use Rattle.std.specs.Prelude.{◌≡◌, ◌≢◌, IfOk, IfSome, string_bytes};
+ghost use Rattle.rb_hermes.specs.Clients.{setup_id, word_of};
 
 use rb_base::{ChainId, ClientId};
 use std::alloc::{AllocError, Global};
@@ -45,11 +45,12 @@ impl NamedClient {
         })
     }
 
-    /// The identifier in a setup, `HOST.ID`; none where that is too long.
-    pub(crate) fn setup_id(&self, alloc: Global) -> Result<Option<ClientId>, AllocError> {
+    /// The identifier in a setup, `HOST.ID`, which may be too long for one.
+    pub(crate) fn setup_id(&self, alloc: Global) -> Result<String, AllocError>
+        ensures { IfOk result (λ text. string_bytes text ≡ setup_id self.now) }
+    {
         let host = self.host.as_str();
         let id = self.id.as_str();
-        let text = format!(in alloc; "{host}.{id}")?;
-        Ok(ClientId::new(text.as_str()))
+        format!(in alloc; "{host}.{id}")
     }
 }

@@ -1,13 +1,18 @@
 //! The text of a setup.
-ghost use Rattle.std.specs.Prelude.{IfOk, string_bytes};
-ghost use Rattle.rb_hermes.specs.Setups.{EndsWithTurn};
+ghost use Rattle.std.specs.Prelude.{◌≡◌, ◌++◌, IfErr, IfOk, IsOkAnd, OnOk, if◌then◌else◌, [], is_some, map, option_map, string_bytes};
+ghost use Rattle.std.specs.List.{flat_map, list_any};
+ghost use Rattle.rb_script_toml.specs.Faults.{Fails};
+ghost use Rattle.rb_hermes.specs.Chains.{chain_view};
+ghost use Rattle.rb_hermes.specs.Configs.{chains_of};
+ghost use Rattle.rb_hermes.specs.Refusals.{IfConfig, IfLongIdentifier, IfUnknownChain, IsRefusal, refusal, refusal_of};
+ghost use Rattle.rb_hermes.specs.Setups.{EndsWithTurn, chain_table, chain_with, identity_lines, is_needed, needed, needs, node_line, setup_text, table_of, terms_lines, text_line, three_line};
 
-use crate::chain::{Chain, read_chains};
+use crate::chain::{Chain, read_config};
 use crate::client::NamedClient;
 use crate::error::HermesError;
 use crate::fees::{GAS, TRANSACTION_GAS, fees_of};
-use rb_base::{ChainId, ClientId};
-use rb_script_toml::read_table;
+use rb_base::ChainId;
+use rb_script_toml::is_identifier;
 use std::alloc::{AllocError, Global};
 
 /// How a setup begins.
@@ -29,47 +34,85 @@ pub fn setup_of(
     config: &[u8],
     clients: &[NamedClient],
 ) -> Result<String, HermesError>
+    ensures text { IfOk result (λ text. IsOkAnd (chains_of config.now) (λ chains. string_bytes text ≡ setup_text chains clients.now)) }
     ensures turn { IfOk result (λ text. EndsWithTurn (string_bytes text)) }
+    ensures accepted { OnOk result (IsOkAnd (chains_of config.now) (λ chains. refusal chains clients.now ≡ None)) }
+    ensures config { IfErr result (λ e. IfConfig e (λ fault. Fails fault (chains_of config.now))) }
+    ensures unknown_chain { IfErr result (λ e. IfUnknownChain e (λ client.
+        IsOkAnd (chains_of config.now) (λ chains. refusal chains clients.now ≡ Some (HermesError.UnknownChain client)))) }
+    ensures long_identifier { IfErr result (λ e. IfLongIdentifier e (λ client.
+        IsOkAnd (chains_of config.now) (λ chains. refusal chains clients.now ≡ Some (HermesError.LongIdentifier client)))) }
 {
-    let table = read_table(alloc, config)?;
-    let chains = read_chains(alloc, &table)?;
+    let chains = read_config(alloc, config)?;
+    setup_with(alloc, chains.as_slice(), clients)
+}
+
+/// The setup of clients, by the chains of a configuration.
+fn setup_with(
+    alloc: Global,
+    chains: &[Chain],
+    clients: &[NamedClient],
+) -> Result<String, HermesError>
+    ensures text { IfOk result (λ text. string_bytes text ≡ setup_text (map chain_view chains.now) clients.now) }
+    ensures turn { IfOk result (λ text. EndsWithTurn (string_bytes text)) }
+    ensures accepted { OnOk result (refusal (map chain_view chains.now) clients.now ≡ None) }
+    ensures refused { IfErr result (λ e. IsRefusal e (refusal (map chain_view chains.now) clients.now)) }
+{
     let mut text = String::new(alloc);
     text.push_str(HEAD)?;
-    push_nodes(&mut text, chains.as_slice(), clients)?;
-    push_chains(&mut text, chains.as_slice(), clients)?;
-    for client in clients {
-        let host = host_of(chains.as_slice(), client)?;
-        match client.setup_id(alloc)? {
-            Some(id) => push_client(&mut text, id, client, host)?,
-            None => return Err(HermesError::LongIdentifier(*client)),
-        }
-    }
+    push_nodes(&mut text, chains, clients)?;
+    text.push_str("version = 1\n\n")?;
+    push_chains(&mut text, chains, clients)?;
+    push_clients(&mut text, alloc, chains, clients)?;
     text.push_str(END)?;
     Ok(text)
 }
 
 /// Whether one of the clients is on a chain or tracks it.
-fn is_needed(clients: &[NamedClient], chain: ChainId) -> bool {
-    clients
-        .iter()
-        .any(|client| client.host == chain || client.chain == chain)
+fn is_needed(clients: &[NamedClient], chain: &Chain) -> bool
+    ensures { result ≡ is_needed clients.now (chain_view chain.now) }
+{
+    clients.iter().any(|client| needs(chain.id, client))
 }
 
-/// Adds a line of comment for the node of each chain.
+/// Whether a client is on a chain or tracks it.
+fn needs(chain: ChainId, client: &NamedClient) -> bool
+    ensures { result ≡ needs chain client.now }
+{
+    client.host.as_str() == chain.as_str() || client.chain.as_str() == chain.as_str()
+}
+
+/// Adds a line of comment for the node of each chain that the clients need.
 fn push_nodes(
     text: &mut String,
     chains: &[Chain],
     clients: &[NamedClient],
-) -> Result<(), AllocError> {
+) -> Result<(), AllocError>
+    ensures { OnOk result (string_bytes text.new ≡ string_bytes text.old ++ flat_map node_line (needed clients.now (map chain_view chains.now))) }
+{
     for chain in chains {
-        if is_needed(clients, chain.id) {
-            push_node(text, chain)?;
-        }
+        push_node_if_needed(text, chain, clients)?;
     }
-    text.push_str("version = 1\n\n")
+    Ok(())
 }
 
-fn push_node(text: &mut String, chain: &Chain) -> Result<(), AllocError> {
+fn push_node_if_needed(
+    text: &mut String,
+    chain: &Chain,
+    clients: &[NamedClient],
+) -> Result<(), AllocError>
+    ensures { OnOk result (string_bytes text.new
+        ≡ string_bytes text.old ++ (if is_needed clients.now (chain_view chain.now) then node_line (chain_view chain.now) else [])) }
+{
+    if is_needed(clients, chain) {
+        push_node(text, chain)?;
+    }
+    Ok(())
+}
+
+fn push_node(text: &mut String, chain: &Chain) -> Result<(), AllocError>
+    ensures { OnOk result (string_bytes text.new ≡ string_bytes text.old ++ node_line (chain_view chain.now)) }
+{
     let id = chain.id.as_str();
     match &chain.address {
         Some(address) => {
@@ -80,53 +123,141 @@ fn push_node(text: &mut String, chain: &Chain) -> Result<(), AllocError> {
     }
 }
 
-/// Adds the chains.
+/// Adds the chains that the clients need.
 fn push_chains(
     text: &mut String,
     chains: &[Chain],
     clients: &[NamedClient],
-) -> Result<(), AllocError> {
+) -> Result<(), AllocError>
+    ensures { OnOk result (string_bytes text.new ≡ string_bytes text.old ++ flat_map chain_table (needed clients.now (map chain_view chains.now))) }
+{
     for chain in chains {
-        if is_needed(clients, chain.id) {
-            let id = chain.id.as_str();
-            write!(text, "[[chain]]\nid = \"{id}\"\n\n")?;
-        }
+        push_chain_if_needed(text, chain, clients)?;
     }
     Ok(())
 }
 
-/// The host of a client; its tracked chain has to be there, too.
-fn host_of<'c>(chains: &'c [Chain], client: &NamedClient) -> Result<&'c Chain, HermesError> {
-    let has_chain = chains.iter().any(|chain| chain.id == client.chain);
-    match chains.iter().find(|chain| chain.id == client.host) {
-        Some(host) if has_chain => Ok(host),
-        _ => Err(HermesError::UnknownChain(*client)),
+fn push_chain_if_needed(
+    text: &mut String,
+    chain: &Chain,
+    clients: &[NamedClient],
+) -> Result<(), AllocError>
+    ensures { OnOk result (string_bytes text.new
+        ≡ string_bytes text.old ++ (if is_needed clients.now (chain_view chain.now) then chain_table (chain_view chain.now) else [])) }
+{
+    if is_needed(clients, chain) {
+        push_chain(text, chain)?;
     }
+    Ok(())
 }
 
-/// Adds a client.
+fn push_chain(text: &mut String, chain: &Chain) -> Result<(), AllocError>
+    ensures { OnOk result (string_bytes text.new ≡ string_bytes text.old ++ chain_table (chain_view chain.now)) }
+{
+    text.push_str("[[chain]]\n")?;
+    push_text(text, "id", chain.id.as_str())?;
+    text.push_str("\n")
+}
+
+/// Adds the clients.
+fn push_clients(
+    text: &mut String,
+    alloc: Global,
+    chains: &[Chain],
+    clients: &[NamedClient],
+) -> Result<(), HermesError>
+    ensures text { OnOk result (string_bytes text.new ≡ string_bytes text.old ++ flat_map (table_of (map chain_view chains.now)) clients.now) }
+    ensures accepted { OnOk result (refusal (map chain_view chains.now) clients.now ≡ None) }
+    ensures refused { IfErr result (λ e. IsRefusal e (refusal (map chain_view chains.now) clients.now)) }
+{
+    for client in clients {
+        push_client(text, alloc, chains, client)?;
+    }
+    Ok(())
+}
+
+/// Adds a client, whose host and tracked chain have to be among the chains.
 fn push_client(
     text: &mut String,
-    id: ClientId,
+    alloc: Global,
+    chains: &[Chain],
+    client: &NamedClient,
+) -> Result<(), HermesError>
+    ensures text { OnOk result (string_bytes text.new ≡ string_bytes text.old ++ table_of (map chain_view chains.now) client.now) }
+    ensures accepted { OnOk result (refusal_of (map chain_view chains.now) client.now ≡ None) }
+    ensures refused { IfErr result (λ e. IsRefusal e (refusal_of (map chain_view chains.now) client.now)) }
+{
+    let Some(host) = chain_with(chains, client.host) else {
+        return Err(HermesError::UnknownChain(*client));
+    };
+    if !has_chain(chains, client.chain) {
+        return Err(HermesError::UnknownChain(*client));
+    }
+    let id = client.setup_id(alloc)?;
+    if !is_identifier(id.as_str()) {
+        return Err(HermesError::LongIdentifier(*client));
+    }
+    push_table(text, id.as_str(), client, host)?;
+    Ok(())
+}
+
+/// The first of the chains with an identifier.
+fn chain_with(chains: &[Chain], id: ChainId) -> Option<&Chain>
+    ensures { option_map (λ c. chain_view c.now) result ≡ chain_with id (map chain_view chains.now) }
+{
+    chains.iter().find(|chain| chain.id.as_str() == id.as_str())
+}
+
+/// Whether one of the chains has an identifier.
+fn has_chain(chains: &[Chain], id: ChainId) -> bool
+    ensures { result ≡ is_some (chain_with id (map chain_view chains.now)) }
+{
+    chain_with(chains, id).is_some()
+}
+
+/// Adds the table of a client with this identifier.
+fn push_table(
+    text: &mut String,
+    id: &str,
     client: &NamedClient,
     host: &Chain,
-) -> Result<(), AllocError> {
-    let own = client.host.as_str();
-    let chain = client.chain.as_str();
-    let name = id.as_str();
-    write!(
-        text,
-        "[[client]]\nid = \"{name}\"\nhost = \"{own}\"\nof = \"{chain}\"\n"
-    )?;
+) -> Result<(), AllocError>
+    ensures { OnOk result (string_bytes text.new ≡ string_bytes text.old ++ identity_lines id.now client.now ++ terms_lines (chain_view host.now)) }
+{
+    push_identity(text, id, client)?;
+    push_terms(text, host)
+}
+
+fn push_identity(text: &mut String, id: &str, client: &NamedClient) -> Result<(), AllocError>
+    ensures { OnOk result (string_bytes text.new ≡ string_bytes text.old ++ identity_lines id.now client.now) }
+{
+    text.push_str("[[client]]\n")?;
+    push_text(text, "id", id)?;
+    push_text(text, "host", client.host.as_str())?;
+    push_text(text, "of", client.chain.as_str())
+}
+
+fn push_terms(text: &mut String, host: &Chain) -> Result<(), AllocError>
+    ensures { OnOk result (string_bytes text.new ≡ string_bytes text.old ++ terms_lines (chain_view host.now)) }
+{
     push_three(text, "fee", fees_of(host.price))?;
     push_three(text, "gas", GAS)?;
-    let limits = [host.max_gas, host.max_messages, TRANSACTION_GAS];
+    let limits = (host.max_gas, host.max_messages, TRANSACTION_GAS);
     push_three(text, "limits", limits)?;
     text.push_str("\n")
 }
 
+/// Adds a key with a text.
+fn push_text(text: &mut String, key: &str, value: &str) -> Result<(), AllocError>
+    ensures { OnOk result (string_bytes text.new ≡ string_bytes text.old ++ text_line key.now value.now) }
+{
+    writeln!(text, "{key} = \"{value}\"")
+}
+
 /// Adds a key with three numbers.
-fn push_three(text: &mut String, key: &str, numbers: [u64; 3]) -> Result<(), AllocError> {
-    let [first, second, third] = numbers;
+fn push_three(text: &mut String, key: &str, numbers: (u64, u64, u64)) -> Result<(), AllocError>
+    ensures { OnOk result (string_bytes text.new ≡ string_bytes text.old ++ three_line key.now numbers) }
+{
+    let (first, second, third) = numbers;
     writeln!(text, "{key} = [{first}, {second}, {third}]")
 }

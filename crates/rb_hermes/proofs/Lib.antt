@@ -1,0 +1,2 @@
+pub mod FeesLemmas
+pub mod SetupsLemmas
