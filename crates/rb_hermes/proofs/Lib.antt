@@ -1,2 +1,3 @@
 pub mod FeesLemmas
 pub mod SetupsLemmas
+pub mod WordsLemmas

@@ -1,6 +1,8 @@
 //! The clients that a setup is made for.
-ghost use Rattle.std.specs.Prelude.{◌≡◌, ◌≢◌, IfOk, IfSome, string_bytes};
-ghost use Rattle.rb_hermes.specs.Clients.{setup_id, word_of};
+ghost use Rattle.std.specs.Prelude.{◌≡◌, ◌≢◌, ℕ, List, ◌++◌, ◌∷◌, All, IfNone, IfOk, IfSome, IsSomeAnd, string_bytes};
+ghost use Rattle.rb_base.specs.Identifier.{IsIdentifierByte};
+ghost use Rattle.rb_hermes.specs.Clients.{Names, setup_id, word_of};
+ghost use Rattle.rb_hermes.specs.declared.client.NamedClient.{NamedClient};
 
 use rb_base::{ChainId, ClientId};
 use std::alloc::{AllocError, Global};
@@ -32,9 +34,10 @@ impl NamedClient {
     pub fn of_word(word: &str) -> Option<NamedClient>
         ensures word { IfSome result (λ client. word.now ≡ word_of client) }
         ensures chains { IfSome result (λ client. client.host ≢ client.chain) }
+        ensures none { IfNone result ((client : NamedClient) → ¬ Names word.now client) }
     {
-        let (host, rest) = word.split_once(':')?;
-        let (id, chain) = rest.split_once(':')?;
+        let (host, rest) = split_at_colon(word)?;
+        let (id, chain) = split_at_colon(rest)?;
         if host == chain {
             return None;
         }
@@ -53,4 +56,13 @@ impl NamedClient {
         let id = self.id.as_str();
         format!(in alloc; "{host}.{id}")
     }
+}
+
+/// What stands before the first colon of a word, and what stands behind it, where there is one.
+fn split_at_colon(word: &str) -> Option<(&str, &str)>
+    ensures parts { IfSome result (λ parts. word.now ≡ parts.0.now ++ 58 ∷ parts.1.now) }
+    ensures first { (front rest : List ℕ) → word.now ≡ front ++ 58 ∷ rest → All IsIdentifierByte front
+        → IsSomeAnd result (λ parts. (parts.0.now ≡ front) × (parts.1.now ≡ rest)) }
+{
+    word.split_once(':')
 }
