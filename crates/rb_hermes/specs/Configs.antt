@@ -9,7 +9,7 @@ use Rattle.std.specs.Str.{chars}
 use Rattle.toml.specs.Data.{Data, integer, float, get_member, as_table}
 use Rattle.rb_script_toml.specs.Documents.{document}
 use Rattle.rb_script_toml.specs.Faults.{Fault, ◌>>=◌, fault}
-use Rattle.rb_script_toml.specs.Fields.{Field, Section, array, elements, identifier, maybe, needs, number, optional, or_default, text, typed}
+use Rattle.rb_script_toml.specs.Fields.{Field, Section, array, elements, identifier, needs, number, optional, or_default, text, typed}
 use Rattle.rb_script_toml.specs.KeyPaths.{is_active}
 use Rattle.rb_script_toml.specs.declared.fault.FaultName.TheVariants.{MissingKey, OutOfRange, WrongType}
 use Rattle.rb_hermes.specs.Chains.{HermesChain}

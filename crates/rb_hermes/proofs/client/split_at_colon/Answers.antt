@@ -1,4 +1,4 @@
-use Rattle.std.proofs.Common.{◌≡◌, ℕ, rules, lit<}
+use Rattle.std.proofs.Common.{lit<}
 use Rattle.std.proofs.lemmas.Str.Pattern.{split_after, split_parts}
 use Rattle.rb_hermes.proofs.WordsLemmas.{no_colon, parted, some_parts}
 use Rattle.rb_hermes.proofs.client.split_at_colon.Goals as goal

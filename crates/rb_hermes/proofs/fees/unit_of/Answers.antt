@@ -1,6 +1,6 @@
-use Rattle.std.proofs.Common.{◌≡◌, ◌<◌, ◌-◌, ◌+◌, ◌/◌, ◌^◌, sym, ◌∙◌, arith, below_more}
+use Rattle.std.proofs.Common.{◌≡◌, ◌<◌, ◌-◌, ◌+◌, ◌/◌, sym, ◌∙◌, arith, below_more}
 use Rattle.rb_hermes.specs.Fees.{max_fee}
-use Rattle.rb_hermes.proofs.FeesLemmas.{is_positive, is_small, last_fits, next_power, unit_from-here, unit_from-next, unit_from-none}
+use Rattle.rb_hermes.proofs.FeesLemmas.{is_positive, last_fits, next_power, unit_from-here, unit_from-next, unit_from-none}
 use Rattle.rb_hermes.proofs.fees.unit_of.Goals as goal
 
 pub nonzero_div-amount : goal.nonzero_div-amount

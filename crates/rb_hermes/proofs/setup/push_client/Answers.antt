@@ -1,4 +1,4 @@
-use Rattle.std.proofs.Common.{◌≡◌, ◌++◌, false, true, Some, is_some, map, string_bytes, ap, sym, ◌∙◌, append_assoc, rules}
+use Rattle.std.proofs.Common.{◌≡◌, ◌++◌, false, true, is_some, map, string_bytes, ap, sym, ◌∙◌, append_assoc, rules}
 use Rattle.rb_script_toml.specs.Identifiers.{is_identifier}
 use Rattle.rb_hermes.specs.Chains.{chain_view}
 use Rattle.rb_hermes.specs.Clients.{setup_id}
