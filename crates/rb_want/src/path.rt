@@ -117,8 +117,7 @@ impl PathCase<'_> {
         if is_named(self.alloc, self.folder.refused.as_slice(), &query)? {
             let path = self.id;
             let chain = side.chain;
-            wanted.path_ends.push(PathEnd { path, chain })?;
-            return Ok(());
+            return wanted.end_path(PathEnd { path, chain });
         }
         self.ask(wanted, side, query)
     }

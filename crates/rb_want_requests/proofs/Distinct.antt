@@ -6,6 +6,8 @@ use Rattle.std.proofs.lemmas.List.Elements.{All-push}
 use Rattle.std.proofs.lemmas.List.Folds.{list_any_at}
 use Rattle.std.proofs.lemmas.List.Quantifiers.{all_pairs_push}
 use Rattle.rb_want_requests.specs.declared.request.Request.{Request}
+use Rattle.rb_want_requests.specs.declared.reason.PathEnd.{PathEnd}
+use Rattle.rb_want_requests.specs.Ends.{AreDistinctEnds, is_same_end}
 use Rattle.rb_want_requests.specs.Requests.{AreDistinct, is_same}
 
 -- of a test that no element passes each element's answer is no
@@ -14,6 +16,13 @@ apart rs r none k d small = grind (arith, none, small, list_any_at (is_same r) r
 
 pub adding : (rs : List Request) (r : Request) → AreDistinct rs → list_any (is_same r) rs ≡ false → AreDistinct (rs ++ r ∷ [])
 adding rs r distinct none = all_pairs_push (λ earlier later. is_same later earlier ≡ false) rs r distinct (apart rs r none)
+
+-- of a test that no end passes each end's answer is no
+ends_apart : (es : List PathEnd) (e : PathEnd) → list_any (is_same_end e) es ≡ false → (k : ℕ) (d : PathEnd) → k < length es → is_same_end e (get_or es k d) ≡ false
+ends_apart es e none k d small = grind (arith, none, small, list_any_at (is_same_end e) es k d small)
+
+pub adding_end : (es : List PathEnd) (e : PathEnd) → AreDistinctEnds es → list_any (is_same_end e) es ≡ false → AreDistinctEnds (es ++ e ∷ [])
+adding_end es e distinct none = all_pairs_push (λ earlier later. is_same_end later earlier ≡ false) es e distinct (ends_apart es e none)
 
 -- ---- what holds of the requests after one was pushed, or wasn't
 

@@ -1,4 +1,7 @@
 //! Why something is asked for, or no more is.
+ghost use Rattle.std.specs.Prelude.{◌≡◌};
+ghost use Rattle.rb_want_requests.specs.Ends.{is_same_end};
+
 use rb_base::{ChainId, ClientId, Height, PathId};
 use rb_import_answers::TrustLevel;
 use rb_step::Verdict;
@@ -165,7 +168,21 @@ pub struct PathEnd {
     pub chain: ChainId,
 }
 
+impl PathEnd {
+    /// Whether it is of the same path and the same chain as another.
+    pub fn is_same(&self, other: &PathEnd) -> bool
+        ensures { result ≡ is_same_end self.now other.now }
+    {
+        self.path.as_str() == other.path.as_str() && self.chain.as_str() == other.chain.as_str()
+    }
+}
+
 impl fmt::Display for PathEnd {
+    ghost use Rattle.std.specs.Prelude.{Some};
+    ghost use Rattle.rb_want_requests.specs.Ends.{end_line};
+
+    ghost output = { λ end. Some (end_line end) };
+
     fn fmt<W: fmt::Write>(&self, f: &mut fmt::Formatter<W>) -> fmt::Result {
         let PathEnd { path, chain } = self;
         write!(

@@ -1,6 +1,7 @@
 //! Requests, each once and not too many at once, and why they are made.
 ghost use Rattle.std.specs.Prelude.{◌≡◌, ◌<◌, ◌≤◌, ◌++◌, ◌∷◌, [], All, if◌then◌else◌, false, true, IfOk, OnErr, OnOk, length};
 ghost use Rattle.std.specs.List.{list_any};
+ghost use Rattle.rb_want_requests.specs.Ends.{AreDistinctEnds, is_same_end, with_end};
 ghost use Rattle.rb_want_requests.specs.Requests.{AreDistinct, is_new, is_same, may_be_added};
 
 use crate::content::Folders;
@@ -14,7 +15,8 @@ use std::fmt;
 pub const MOST_REQUESTS: usize = 30;
 
 /// What is to be fetched next: at most 30 requests, each once, none that is answered or was refused; why, by client; and of
-/// which clients and paths no more is asked though they aren't where they should be. No request is there where no more is needed.
+/// which clients and paths no more is asked though they aren't where they should be, of a path and a chain once. No request is there
+/// where no more is needed.
 #[derive(Drop)]
 pub struct Wanted<'a> {
     pub folders: &'a Folders,
@@ -25,6 +27,7 @@ pub struct Wanted<'a> {
     ghost few: { length requests.items ≤ 30 },
     ghost distinct: { AreDistinct requests.items },
     ghost unanswered: { All (λ r. is_new folders.now r ≡ true) requests.items },
+    ghost told_once: { AreDistinctEnds path_ends.items },
 }
 
 /// Shown as a line for each request, and after them a line for each reason.
@@ -44,7 +47,11 @@ impl fmt::Display for Wanted<'_> {
 impl<'a> Wanted<'a> {
     /// Nothing, over the folders of what is there.
     pub fn nothing(alloc: Global, folders: &'a Folders) -> Wanted<'a>
-        ensures { result.requests.items ≡ [] }
+        ensures folders { result.folders.now ≡ folders.entry.now }
+        ensures requests { result.requests.items ≡ [] }
+        ensures reasons { result.reasons.items ≡ [] }
+        ensures ends { result.ends.items ≡ [] }
+        ensures path_ends { result.path_ends.items ≡ [] }
     {
         Wanted {
             folders,
@@ -62,6 +69,10 @@ impl<'a> Wanted<'a> {
         ensures asked { OnOk result (self.new.requests.items
             ≡ (if may_be_added self.old.folders.now self.old.requests.items request.now then self.old.requests.items ++ request.now ∷ [] else self.old.requests.items)) }
         ensures unchanged { OnErr result (self.new.requests.items ≡ self.old.requests.items) }
+        ensures folders { self.new.folders ≡ self.old.folders }
+        ensures reasons { self.new.reasons ≡ self.old.reasons }
+        ensures ends { self.new.ends ≡ self.old.ends }
+        ensures path_ends { self.new.path_ends ≡ self.old.path_ends }
     {
         if self.takes(alloc, request)? {
             let Request {
@@ -74,6 +85,23 @@ impl<'a> Wanted<'a> {
                 owner,
                 query,
             })?;
+        }
+        Ok(())
+    }
+
+    /// Adds why no more is asked for a path, behind the others, unless it is there already. `AllocError` comes where a growth
+    /// is refused.
+    #[tactic(auto, using(crate::proofs::Distinct::adding_end))]
+    pub fn end_path(&mut self, end: PathEnd) -> Result<(), AllocError>
+        ensures ended { OnOk result (self.new.path_ends.items ≡ with_end self.old.path_ends.items end) }
+        ensures unchanged { OnErr result (self.new.path_ends.items ≡ self.old.path_ends.items) }
+        ensures folders { self.new.folders ≡ self.old.folders }
+        ensures requests { self.new.requests ≡ self.old.requests }
+        ensures reasons { self.new.reasons ≡ self.old.reasons }
+        ensures ends { self.new.ends ≡ self.old.ends }
+    {
+        if !is_told(self.path_ends.as_slice(), &end) {
+            self.path_ends.push(end)?;
         }
         Ok(())
     }
@@ -97,4 +125,11 @@ fn is_among(requests: &[Request], request: &Request) -> bool
     ensures { result ≡ list_any (is_same request.now) requests.now }
 {
     requests.iter().any(|other| request.is_same(other))
+}
+
+/// Whether an end of a path is among others.
+fn is_told(ends: &[PathEnd], end: &PathEnd) -> bool
+    ensures { result ≡ list_any (is_same_end end.now) ends.now }
+{
+    ends.iter().any(|other| end.is_same(other))
 }

@@ -15,4 +15,5 @@ invariant_of-self c =
       distinct = subst AreDistinct (sym c.push.ensures.items) (distinct (is_ok c.push.result) requests request (search rules) (search rules));
       unanswered = subst (All (λ r. is_new folders r ≡ true)) (sym c.push.ensures.items)
           (unanswered (is_ok c.push.result) (λ r. is_new folders r ≡ true) requests request (search rules) (search rules));
+      told_once = c.args.self.now.told_once;
     }
