@@ -163,6 +163,16 @@ def done(what, sequence):
     return get(f"/tx_search?query={query}&per_page=100", f"transfers/{what}-{sequence}.json", chain)
 
 
+class OnceCase(Case):
+    """A run that writes one line to standard error."""
+
+    def is_met_by(self, output, error, status):
+        lines = error.splitlines()
+        if len(lines) > 1:
+            print(f"== {self.what}", *lines, sep="\n-- and not in one line: ")
+        return super().is_met_by(output, error, status) and len(lines) < 2
+
+
 def want_path_cases(top):
     """What is asked for of a path, whose clients have what they need: its commitments, which of these packets weren't received and which acknowledgements were
     written; and the transactions that sent, received and acknowledged them."""
@@ -201,13 +211,21 @@ def want_path_cases(top):
             asked = nodes.urllib.parse.parse_qs(words)
             answers.write(folder / file, (transfers.search(asked["query"][0]) if address == "/tx_search" else transfers.pending(address, asked))[1])
         yield Case(f"want of a path {number}", ["want", str(setup), str(folder)], b"", wanted.encode(), told, 0)
-    for name, chain, wanted in ("commitments-1", b"hub-4", ""), ("unreceived-1", b"zone-1", parts(PACKETS).splitlines(True)[1] + sent):
-        folder = top / f"want-path-{name}"
-        shutil.copytree(top / "want-path-2", folder)
-        (folder / "transfers" / f"{name}.json").unlink(missing_ok=True)
-        (folder / "transfers" / f"{name}.refused").write_text("")
+    few, many_sent = parts(PACKETS).splitlines(True), "".join(done("sent", sequence) for sequence in range(1, 31))
+    for number, names, chain, wanted in (
+        (2, ["commitments-1"], b"hub-4", ""),
+        (2, ["unreceived-1"], b"zone-1", few[1] + sent),
+        (2, ["unreceived-1", "acknowledgements-1"], b"zone-1", sent),
+        (10, ["unreceived-1", "acknowledgements-1", "unreceived-2", "acknowledgements-2"], b"zone-1", many_sent),
+    ):
+        refused = ", ".join(names)
+        folder = top / f"want-path-{number}-{'-'.join(names)}"
+        shutil.copytree(top / f"want-path-{number}", folder)
+        for name in names:
+            (folder / "transfers" / f"{name}.json").unlink(missing_ok=True)
+            (folder / "transfers" / f"{name}.refused").write_text("")
         told = b"end transfers: the gateway of %s doesn't give which of its packets are pending\n" % chain
-        yield Case(f"want of a path, {name} refused", ["want", str(top / "want-path-2.toml"), str(folder)], b"", wanted.encode(), told, 0)
+        yield OnceCase(f"want of a path, {refused} refused", ["want", str(top / f"want-path-{number}.toml"), str(folder)], b"", wanted.encode(), told, 0)
 
 
 def packet_flaws(program, folder):

@@ -1,4 +1,5 @@
 pub mod Answered
 pub mod Ends
 pub mod Pending
+pub mod Reasons
 pub mod Requests

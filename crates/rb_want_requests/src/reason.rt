@@ -1,6 +1,7 @@
 //! Why something is asked for, or no more is.
 ghost use Rattle.std.specs.Prelude.{◌≡◌};
 ghost use Rattle.rb_want_requests.specs.Ends.{is_same_end};
+ghost use Rattle.rb_want_requests.specs.Reasons.{client_of, needed_of, refused_of};
 
 use rb_base::{ChainId, ClientId, Height, PathId};
 use rb_import_answers::TrustLevel;
@@ -20,53 +21,83 @@ pub struct Why {
 }
 
 impl fmt::Display for Why {
+    ghost use Rattle.std.specs.Prelude.{Some};
+    ghost use Rattle.rb_want_requests.specs.Reasons.{why_line};
+
+    ghost output = { λ why. Some (why_line why) };
+
     fn fmt<W: fmt::Write>(&self, f: &mut fmt::Formatter<W>) -> fmt::Result {
-        let Why {
-            client,
-            trusted,
-            accepted,
-            refused,
-            ..
-        } = *self;
-        write!(f, "why {client} from {trusted}: ")?;
-        match (accepted, refused) {
-            (None, None) => f.write_str("nothing judged yet"),
-            (Some(accepted), None) => write!(f, "{accepted} accepted"),
-            (None, Some(refused)) => write_refused(f, refused, self.verdict, self.trust),
-            (Some(accepted), Some(refused)) => {
-                write!(f, "{accepted} accepted, ")?;
-                write_refused(f, refused, self.verdict, self.trust)
+        let client = self.client;
+        let trusted = self.trusted;
+        match (self.accepted, self.refused) {
+            (None, None) => write!(f, "why {client} from {trusted}: nothing judged yet"),
+            (Some(accepted), None) => {
+                write!(f, "why {client} from {trusted}: {accepted} accepted")
+            }
+            (None, Some(height)) => {
+                let refused = refused_of(height, self);
+                write!(f, "why {client} from {trusted}: {refused}")
+            }
+            (Some(accepted), Some(height)) => {
+                let refused = refused_of(height, self);
+                write!(
+                    f,
+                    "why {client} from {trusted}: {accepted} accepted, {refused}"
+                )
             }
         }
     }
 }
 
-/// Writes a height that is refused, and why.
-fn write_refused<W: fmt::Write>(
-    f: &mut fmt::Formatter<W>,
+/// A height that is refused, and why, where that was judged.
+#[derive(Clone, Copy)]
+struct Refused {
     height: Height,
     verdict: Option<Verdict>,
     trust: TrustLevel,
-) -> fmt::Result {
-    match verdict {
-        None => write!(f, "{height} not given by the node"),
-        Some(Verdict::Success) => write!(f, "{height} accepted"),
-        Some(Verdict::Invalid(reason)) => {
-            let name = reason.name();
-            write!(f, "{height} refused ({name})")
-        }
-        Some(Verdict::NotEnoughTrust { signed, total }) => {
-            let needed = needed_of(total, trust);
-            write!(
-                f,
-                "{height} refused ({signed} of {total} signed, more than {needed} needed)"
-            )
+}
+
+/// The height that a reason has as refused.
+fn refused_of(height: Height, why: &Why) -> Refused
+    ensures { result ≡ refused_of height why.now }
+{
+    Refused {
+        height,
+        verdict: why.verdict,
+        trust: why.trust,
+    }
+}
+
+impl fmt::Display for Refused {
+    ghost use Rattle.std.specs.Prelude.{Some};
+    ghost use Rattle.rb_want_requests.specs.Reasons.{refused_text};
+
+    ghost output = { λ refused. Some (refused_text refused) };
+
+    fn fmt<W: fmt::Write>(&self, f: &mut fmt::Formatter<W>) -> fmt::Result {
+        let height = self.height;
+        match self.verdict {
+            None => write!(f, "{height} not given by the node"),
+            Some(Verdict::Success) => write!(f, "{height} accepted"),
+            Some(Verdict::Invalid(reason)) => {
+                let name = reason.name();
+                write!(f, "{height} refused ({name})")
+            }
+            Some(Verdict::NotEnoughTrust { signed, total }) => {
+                let needed = needed_of(total, self.trust);
+                write!(
+                    f,
+                    "{height} refused ({signed} of {total} signed, more than {needed} needed)"
+                )
+            }
         }
     }
 }
 
 /// The greatest power of so much in all that isn't enough for a trust level.
-fn needed_of(total: u64, trust: TrustLevel) -> u128 {
+fn needed_of(total: u64, trust: TrustLevel) -> u128
+    ensures { result ≡ needed_of total trust }
+{
     if trust.denominator == 0 {
         return 0;
     }
@@ -82,12 +113,17 @@ pub enum Missing {
 }
 
 impl fmt::Display for Missing {
+    ghost use Rattle.std.specs.Prelude.{Some};
+    ghost use Rattle.rb_want_requests.specs.Reasons.{missing_text};
+
+    ghost output = { λ missing. Some (missing_text missing) };
+
     fn fmt<W: fmt::Write>(&self, f: &mut fmt::Formatter<W>) -> fmt::Result {
-        f.write_str(match self {
-            Missing::State => "its state",
-            Missing::Records => "all of its records",
-            Missing::LatestHeight => "the latest height of the chain that it tracks",
-        })
+        match self {
+            Missing::State => write!(f, "its state"),
+            Missing::Records => write!(f, "all of its records"),
+            Missing::LatestHeight => write!(f, "the latest height of the chain that it tracks"),
+        }
     }
 }
 
@@ -127,36 +163,73 @@ pub enum End {
 }
 
 impl fmt::Display for End {
+    ghost use Rattle.std.specs.Prelude.{Some};
+    ghost use Rattle.rb_want_requests.specs.Reasons.{client_end_line};
+
+    ghost output = { λ end. Some (client_end_line end) };
+
     fn fmt<W: fmt::Write>(&self, f: &mut fmt::Formatter<W>) -> fmt::Result {
-        match self {
-            End::NotGiven { client, missing } => {
-                write!(f, "end {client}: the node doesn't give {missing}")
-            }
-            End::NoRecord { client } => write!(
+        let client = client_of(self);
+        let cause = Cause { end: self };
+        write!(f, "end {client}: {cause}")
+    }
+}
+
+/// The client that an end is of.
+fn client_of(end: &End) -> ClientId
+    ensures { result ≡ client_of end.now }
+{
+    match end {
+        End::NotGiven { client, .. }
+        | End::NoRecord { client }
+        | End::OtherClient { client }
+        | End::BadOptions { client }
+        | End::OtherNetwork { client, .. }
+        | End::GoalAhead { client, .. } => *client,
+        End::Stuck(why) => why.client,
+    }
+}
+
+/// Why an end is one.
+#[derive(Clone, Copy)]
+struct Cause<'a> {
+    end: &'a End,
+}
+
+impl fmt::Display for Cause<'_> {
+    ghost use Rattle.std.specs.Prelude.{Some};
+    ghost use Rattle.rb_want_requests.specs.Reasons.{cause_text};
+
+    ghost output = { λ cause. Some (cause_text cause.end.now) };
+
+    fn fmt<W: fmt::Write>(&self, f: &mut fmt::Formatter<W>) -> fmt::Result {
+        match self.end {
+            End::NotGiven { missing, .. } => write!(f, "the node doesn't give {missing}"),
+            End::NoRecord { .. } => write!(
                 f,
-                "end {client}: it has stored no record below the height that it should get to"
+                "it has stored no record below the height that it should get to"
             ),
-            End::OtherClient { client } => {
-                write!(f, "end {client}: it is frozen, or no Tendermint client")
+            End::OtherClient { .. } => write!(f, "it is frozen, or no Tendermint client"),
+            End::BadOptions { .. } => {
+                write!(f, "its trust level, period or drift is out of range")
             }
-            End::BadOptions { client } => {
-                write!(
-                    f,
-                    "end {client}: its trust level, period or drift is out of range"
-                )
+            End::OtherNetwork { chain, .. } => {
+                write!(f, "the node's status is not one of {chain}")
             }
-            End::OtherNetwork { client, chain } => {
-                write!(f, "end {client}: the node's status is not one of {chain}")
-            }
-            End::GoalAhead {
-                client,
-                goal,
-                latest,
-            } => write!(
+            End::GoalAhead { goal, latest, .. } => write!(
                 f,
-                "end {client}: its goal is {goal}, and the votes of no height above {latest} are final"
+                "its goal is {goal}, and the votes of no height above {latest} are final"
             ),
-            End::Stuck(why) => write_stuck(f, why),
+            End::Stuck(why) => {
+                let trusted = why.trusted;
+                match why.refused {
+                    Some(height) => {
+                        let refused = refused_of(height, why);
+                        write!(f, "nothing goes on from {trusted}: {refused}")
+                    }
+                    None => { write!(f, "nothing goes on from {trusted}: no height is above it") }
+                }
+            }
         }
     }
 }
@@ -189,19 +262,5 @@ impl fmt::Display for PathEnd {
             f,
             "end {path}: the gateway of {chain} doesn't give which of its packets are pending"
         )
-    }
-}
-
-/// Writes from which height nothing goes on, and why.
-fn write_stuck<W: fmt::Write>(f: &mut fmt::Formatter<W>, why: &Why) -> fmt::Result {
-    let Why {
-        client,
-        trusted,
-        ..
-    } = *why;
-    write!(f, "end {client}: nothing goes on from {trusted}: ")?;
-    match why.refused {
-        Some(refused) => write_refused(f, refused, why.verdict, why.trust),
-        None => f.write_str("no height is above it"),
     }
 }
