@@ -1,2 +1,3 @@
 pub mod Zipped
 pub mod Memory
+pub mod Missing

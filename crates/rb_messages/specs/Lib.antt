@@ -1,3 +1,4 @@
 pub mod Names
 pub mod Sources
+pub mod Votes
 pub mod Messages

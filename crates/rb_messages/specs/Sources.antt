@@ -1,7 +1,8 @@
 -- What a message is made of, and why it isn't made.
-use Rattle.std.specs.Prelude.{◌≡◌, ◌<◌, ⊤, ℕ, ℤ, List, [], ◌==◌, Bool, All, Contains, length, position, Option, Result, Err, IfSome, IsSomeAnd, MatchOption, option_and_then, option_map, slice_get, slice_index_or}
+use Rattle.std.specs.Prelude.{◌≡◌, ◌<◌, ⊤, ℕ, ℤ, List, [], ◌==◌, Bool, All, Contains, length, position, Option, Result, Err, IfSome, IsSomeAnd, MatchOption, Ok, Some, option_and_then, option_map, slice_get, slice_index_or}
 use Rattle.std.specs.List.{AllZip, enumerate_from, find}
 use Rattle.std.specs.Str.{bytes_eq}
+use Rattle.jiff_core.specs.declared.civil.datetime.DateTime.{DateTime}
 use Rattle.rb_book.specs.Header.{Record}
 use Rattle.rb_import_answers.specs.Answers.{whole}
 use Rattle.rb_import_answers.specs.declared.commit.SignedHeader.{SignedHeader}
@@ -14,10 +15,12 @@ use Rattle.rb_import_check.specs.declared.chain.SeenChain.{SeenChain}
 use Rattle.rb_import_json.specs.FieldErrors.{◌>>=◌, or_flaw}
 use Rattle.rb_import_json.specs.declared.error.FieldError.{FieldError}
 use Rattle.rb_import_json.specs.declared.error.FieldErrorName.TheVariants.{NotJson}
-use Rattle.rb_message_text.specs.Signed.{SignedHeader as Signed, signed_of_bytes}
+use Rattle.rb_message_text.specs.Signed.{SignedHeader as Signed, in_nanos, signed_of_bytes}
+use Rattle.rb_step.specs.Sent.{sent_view}
+use Rattle.rb_messages.specs.Votes.{missing_vote}
 use Rattle.rb_messages.specs.declared.answers.ChainAnswers.{ChainAnswers}
 use Rattle.rb_messages.specs.declared.error.MessageError.{MessageError}
-use Rattle.rb_messages.specs.declared.error.MessageError.TheVariants.{Answers, MissingHeader, OtherHeader, MissingSet, Flawed, NoMemory}
+use Rattle.rb_messages.specs.declared.error.MessageError.TheVariants.{Answers, MissingHeader, OtherHeader, MissingSet, Flawed, MissingVotes, NoMemory}
 use Rattle.rb_messages.specs.declared.update.PlannedUpdate.{PlannedUpdate}
 
 -- what was seen is what the answers on a chain tell: their headers, each with its file; all headers are of the chain with this identifier, and have
@@ -85,12 +88,22 @@ LacksTrustedSet seen u = IfSome u.trusted_record (λ r. ¬ WasSeen seen.sets.set
 abbrev pub HasFlaw : SeenChain → Option ChainAnswers → PlannedUpdate → List ℕ → FieldError → Type 0
 HasFlaw seen answers u file flaw = IsSomeAnd (commit_at seen u.height) (λ c. (file ≡ c.file.now) × (signed_from answers c.digest ≡ Err flaw))
 
+-- the signed header in this file, which is that of the height's commit, lacks votes that the update needs: the first of them is this validator's
+abbrev pub LacksVotes : SeenChain → Option ChainAnswers → PlannedUpdate → List ℕ → List ℕ → Type 0
+LacksVotes seen answers u file validator =
+    IsSomeAnd (commit_at seen u.height) (λ c.
+    (file ≡ c.file.now)
+    × (signed : Signed DateTime) × (signed_from answers c.digest ≡ Ok (in_nanos signed))
+    × (missing_vote signed.commit (option_map sent_view u.votes) ≡ Some validator))
+
 -- the error is why no message of an update is made of what was seen of its chain, and of the answers on it
 abbrev pub IsRefusedFor : List ℕ → SeenChain → Option ChainAnswers → PlannedUpdate → MessageError → Type 0
 IsRefusedFor id seen answers u (MissingHeader chain height) = (chain.now ≡ id) × (height ≡ u.height) × LacksHeader seen u.height
 IsRefusedFor id seen answers u (OtherHeader chain height file) = (chain.now ≡ id) × (height ≡ u.height) × HasOtherHeader seen u file.now
 IsRefusedFor id seen answers u (MissingSet chain height) = (chain.now ≡ id) × (height ≡ u.trusted) × LacksTrustedSet seen u
 IsRefusedFor id seen answers u (Flawed file flaw) = HasFlaw seen answers u file.now flaw
+IsRefusedFor id seen answers u (MissingVotes chain height file validator) =
+    (chain.now ≡ id) × (height ≡ u.height) × LacksVotes seen answers u file.now validator
 IsRefusedFor id seen answers u (Answers e) = ⊥
 IsRefusedFor id seen answers u NoMemory = ⊤
 
@@ -111,6 +124,7 @@ IsRefusedOn id (MissingHeader chain height) = ⊥
 IsRefusedOn id (OtherHeader chain height file) = ⊥
 IsRefusedOn id (MissingSet chain height) = ⊥
 IsRefusedOn id (Flawed file flaw) = ⊥
+IsRefusedOn id (MissingVotes chain height file validator) = ⊥
 IsRefusedOn id (Answers e) = IsToldOf id e
 IsRefusedOn id NoMemory = ⊤
 

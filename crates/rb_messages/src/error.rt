@@ -31,6 +31,13 @@ pub enum MessageError<'a> {
         file: &'a str,
         flaw: FieldError,
     },
+    /// The header's commit lacks votes that the update needs; the first of them is this validator's.
+    MissingVotes {
+        chain: &'a str,
+        height: Height,
+        file: &'a str,
+        validator: [u8; 20],
+    },
     /// A growth was refused.
     NoMemory,
 }
@@ -59,9 +66,32 @@ impl fmt::Display for MessageError<'_> {
                 let advice = flaw.name.advice();
                 write!(f, "refused {flaw}\n{file}: {advice}")
             }
+            MessageError::MissingVotes {
+                chain,
+                height,
+                file,
+                validator,
+            } => {
+                write!(
+                    f,
+                    "refused MissingVotes at {chain} {height}\n{file}: the update needs the vote of the validator "
+                )?;
+                write_address(f, validator)?;
+                f.write_str(
+                    ", which this commit lacks; give the answers that the script was made of, or import these answers anew",
+                )
+            }
             MessageError::NoMemory => f.write_str("no memory"),
         }
     }
+}
+
+/// Writes the hexadecimal digits of an address.
+fn write_address<W: fmt::Write>(f: &mut fmt::Formatter<W>, address: &[u8; 20]) -> fmt::Result {
+    for byte in address {
+        write!(f, "{byte:02X}")?;
+    }
+    Ok(())
 }
 
 impl From<AllocError> for MessageError<'_> {

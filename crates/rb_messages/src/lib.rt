@@ -7,6 +7,7 @@ mod error;
 mod message;
 mod source;
 mod update;
+mod votes;
 
 pub use answers::ChainAnswers;
 pub use error::MessageError;

@@ -10,6 +10,7 @@ use crate::answers::ChainAnswers;
 use crate::error::MessageError;
 use crate::source::{commit_of, id_of, own_set, signed_in_file, trusted_set};
 use crate::update::{PlannedUpdate, file_name};
+use crate::votes::missing_vote;
 use rb_base::ChainId;
 use rb_import_answers::revision_of;
 use rb_import_check::SeenChain;
@@ -25,6 +26,11 @@ pub struct MessageFile {
 }
 
 /// The files of the messages of updates, in their order, by what the answers on each chain tell, and by the answers.
+///
+/// The first update without a message refuses all. Of its errors the first of these comes: MissingHeader, OtherHeader,
+/// MissingHeader for want of the header's set, MissingSet, Flawed, MissingVotes. The last is of an update that carries only
+/// the votes that it needs. An update that carries all votes has those of the commit in the answers, which may be others
+/// than the planner counted; whether they are enough isn't judged.
 #[tactic(auto, using(crate::proofs::Zipped::zipped_more, crate::proofs::Zipped::zipped_all))]
 pub fn message_files<'a>(
     alloc: Global,
@@ -104,8 +110,21 @@ fn message_of<'a>(
         }
         Err(AnswerError::NoMemory) => return Err(MessageError::NoMemory),
     };
-    let revision = revision_of(chain);
     let votes = &update.votes;
+    match missing_vote(votes, &signed.commit) {
+        None => {}
+        Some(validator) => {
+            let height = update.height;
+            let file = commit.file;
+            return Err(MessageError::MissingVotes {
+                chain,
+                height,
+                file,
+                validator,
+            });
+        }
+    }
+    let revision = revision_of(chain);
     let text = message_text(
         alloc,
         votes,
