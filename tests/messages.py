@@ -322,6 +322,40 @@ def refusal_cases(top, script, folder):
         yield Case(f"messages, {what}", ["messages", *words], b"", b"", b"device\n", 4), top / "none"
 
 
+def lacking_cases(program, top, folder):
+    """Commits that were fetched anew and lack votes, each with the folder of its messages and whether this is made: not where an update needs one of these
+    votes, which is told by its validator."""
+    def spoiled(name, change):
+        copy = top / f"spoiled-{name}"
+        shutil.copytree(folder, copy)
+        file = copy / "hub-4" / "commit-80.json"
+        value = json.loads(file.read_text())
+        commit = value["result"]["signed_header"]["commit"]
+        commit["signatures"] = [change(s) for s in commit["signatures"]]
+        file.write_text(json.dumps(value))
+        return copy, f"{copy}/hub-4/commit-80.json: ".encode()
+
+    absent = {"block_id_flag": 1, "validator_address": "", "timestamp": "0001-01-01T00:00:00Z", "signature": None}
+    needing, sending = top / "seed-1-needed.toml", top / "seed-1-all.toml"
+    report = json.loads(subprocess.run([*program, "plan", "--json", str(needing)], stdout=subprocess.PIPE, check=True).stdout)
+    trusted = next(t for _, _, height, t in sent_in(tomllib.loads(needing.read_text()), report) if height == 80)
+    senders = {a.hex().upper() for a in senders_in(relayer_of(needing.read_text()), CLIENT, 80, trusted)}
+    output = subprocess.run([*program, "messages", str(needing), str(folder), str(top / "whole")], stdout=subprocess.PIPE, check=True).stdout
+    error = b"refused MissingVotes at hub-4 80\n"
+    for number, sender in enumerate(sorted(senders)):
+        for what, lacking in (("absent", absent), ("nil", None)):
+            copy, file = spoiled(f"{what}-{number}", lambda s: s if s["validator_address"] != sender else lacking or s | {"block_id_flag": 3})
+            named, made = (file, f"the validator {sender}, ".encode()), top / f"none-{what}-{number}"
+            yield Case(f"messages, a needed vote {what}", ["messages", str(needing), str(copy), str(made)], b"", b"", error, 1, named=named), made, False
+            yield Case(f"messages, all votes, one {what}", ["messages", str(sending), str(copy), f"{made}-all"], b"", output, b"", 0), top / f"{made.name}-all", True
+    copy, _ = spoiled("others", lambda s: s if s["validator_address"] in senders else absent)
+    made = top / "made-others"
+    yield Case("messages, the needed votes alone", ["messages", str(needing), str(copy), str(made)], b"", output, b"", 0), made, True
+    copy, file = spoiled("none", lambda s: absent)
+    made = top / "none-none"
+    yield Case("messages, no votes", ["messages", str(needing), str(copy), str(made)], b"", b"", error, 1, named=(file,)), made, False
+
+
 def message_runs(program, top):
     """How many runs of `messages` there are, and how many go wrong."""
     folder, runs, sent, few, wrong = top / "sending", 0, 0, 0, 0
@@ -339,8 +373,9 @@ def message_runs(program, top):
         setup.write_text(text)
         count, fewer, good = run_messages(program, folder, setup, folder / what, f"{what}-{'needed' if needed else 'all'}", needed)
         runs, sent, few, wrong = runs + 1, sent + count, few + fewer, wrong + (not good)
-    for case, folder_made in refusal_cases(folder, folder / "seed-1-all.toml", folder / "seed-1"):
-        runs, wrong = runs + 1, wrong + run_program(program, [case]) + folder_made.exists()
+    refusals = ((case, made, False) for case, made in refusal_cases(folder, folder / "seed-1-all.toml", folder / "seed-1"))
+    for case, folder_made, is_made in itertools.chain(refusals, lacking_cases(program, folder, folder / "seed-1")):
+        runs, wrong = runs + 1, wrong + run_program(program, [case]) + (folder_made.exists() != is_made)
     if sent < 24 or few < 8:
         print(f"== messages: only {sent} updates were sent, {few} with fewer votes")
         wrong += 1
