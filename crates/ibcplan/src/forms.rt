@@ -6,7 +6,7 @@ use ibcplan_cli::{WantedTurns, WorkerCount};
 use ibcplan_errors::{Input, ProgramError, Turns};
 use rb_base::Gate;
 use rb_health::{healths_of, run_to_end, with_health};
-use rb_script_read::read_script;
+use rb_script_read::{read_script, read_script_by};
 use rb_script_toml::RunError;
 use rb_script_types::Script;
 use rb_text::report_of;
@@ -46,7 +46,7 @@ fn json_of_bytes<R: Threads + Sync, G: Gate + Sync>(
     is_strict: bool,
     gate: &G,
 ) -> Result<JsonText, RunError> {
-    let script = read_script(alloc, bytes)?;
+    let script = read_script_by(rt, alloc, bytes, workers.count())?;
     let (report, relayer) = run_to_end(rt, alloc, script, workers.count(), gate)?;
     let clients = healths_of(alloc, &relayer)?;
     let json = json_of(alloc, &report)?;

@@ -4,6 +4,7 @@ pub use Rattle.rb_script_toml.specs.Faults
 pub mod Names
 pub mod TurnNames
 pub mod Sets
+pub mod Ready
 pub mod Packets
 pub mod Events
 pub mod Work

@@ -28,7 +28,7 @@ fn in_document(alloc: Global, error: RunError) -> RunError
     }
 }
 
-#[tactic(auto, using(crate::proofs::DocumentsLemmas::documents))]
+#[tactic(auto, using(crate::proofs::DocumentsLemmas::documents, crate::proofs::ReadyLemmas::readies))]
 fn read_top(
     alloc: Global,
     table: &Table,
@@ -42,7 +42,7 @@ fn read_top(
         path: "",
         table,
     };
-    match read_turn(&section, setup, reading) {
+    match read_turn(&section, setup, reading, Vec::new(alloc)) {
         Ok(next) => Ok(next),
         Err(error) => Err(in_document(alloc, error)),
     }

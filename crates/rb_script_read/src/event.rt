@@ -1,14 +1,17 @@
 //! The events of a turn.
-ghost use Rattle.std.specs.Prelude.{◌≡◌, ◌<◌, [], codes, length};
+ghost use Rattle.std.specs.Prelude.{◌≡◌, ◌<◌, [], codes, length, IfSome};
 ghost use Rattle.toml.specs.View.{view, items_view};
 ghost use Rattle.rb_script_toml.specs.Faults.{Gives};
 ghost use Rattle.rb_script_toml.specs.Fields.{field_view, section_view, only, needs, next_in_sequence, in_sequence};
+ghost use Rattle.rb_script_read.specs.Ready.{AreReady, validators_at};
+ghost use Rattle.rb_script_read.specs.Sets.{validators};
 ghost use Rattle.rb_script_read.specs.TurnNames.{names_now};
 ghost use Rattle.rb_script_read.specs.Events.{kind, vote_of, votes, votes_after, set_seen, set_keys, header_seen, header_keys, stored_seen, stored_keys, tracked_by, event};
 ghost use Rattle.rb_script_config.specs.Setups.{setup_view};
 
 use crate::names::{needed_set_hash, needed_set_name};
 use crate::packet::{read_ack, read_cleared, read_closed, read_received, read_sent};
+use crate::ready::{ReadySet, take_set};
 use crate::set::needed_validators;
 use crate::turn_names::TurnNames;
 use rb_base::ChainId;
@@ -108,14 +111,19 @@ fn read_set(
     section: &Section<'_>,
     chains: &Directory<ChainId>,
     names: &mut TurnNames<'_>,
+    ready: Option<ReadySet>,
 ) -> Result<Observation, RunError>
+    requires ready { IfSome ready (λ r. Gives (λ s. s) r.set (needs (codes "validators") validators (section_view section.now))) }
     ensures read { Gives (λ e. (e, names_now names.new)) result (set_seen chains.now (names_now names.old) (section_view section.now)) }
     ensures earlier { names.new.earlier.now ≡ names.old.earlier.now }
 {
     only_set_keys(section)?;
     let chain = reference(section, "chain", chains)?;
     let name = needed_set_name(section, chain, names)?;
-    let set = needed_validators(section)?;
+    let set = match ready {
+        Some(ready) => ready.set?,
+        None => needed_validators(section)?,
+    };
     names.add(chain, name, *set.hash())?;
     Ok(Observation::SetSeen { chain, set })
 }
@@ -190,12 +198,14 @@ fn read_event(
     section: &Section<'_>,
     setup: &Setup,
     names: &mut TurnNames<'_>,
+    ready: Option<ReadySet>,
 ) -> Result<Observation, RunError>
+    requires ready { IfSome ready (λ r. Gives (λ s. s) r.set (needs (codes "validators") validators (section_view section.now))) }
     ensures read { Gives (λ e. (e, names_now names.new)) result (event (setup_view setup.now) (names_now names.old) (section_view section.now)) }
     ensures earlier { names.new.earlier.now ≡ names.old.earlier.now }
 {
     match needed_kind(section)? {
-        EventKind::Set => read_set(section, &setup.chains, names),
+        EventKind::Set => read_set(section, &setup.chains, names, ready),
         EventKind::Header => read_header(section, &setup.chains, names),
         EventKind::Stored => read_stored(section, &setup.clients, names),
         EventKind::Sent => read_sent(section, &setup.paths),
@@ -213,29 +223,36 @@ fn read_event_at(
     value: &Value,
     setup: &Setup,
     names: &mut TurnNames<'_>,
+    ready: Option<ReadySet>,
 ) -> Result<Observation, RunError>
+    requires ready { IfSome ready (λ r. Gives (λ s. s) r.set (validators_at path.now index (view value.now))) }
     ensures read { Gives (λ e. (e, names_now names.new)) result (next_in_sequence (event (setup_view setup.now)) path.now index (names_now names.old) (view value.now)) }
     ensures earlier { names.new.earlier.now ≡ names.old.earlier.now }
 {
     let alloc = names.alloc;
     let path = element_path(alloc, path, index)?;
     let section = section_at(alloc, path.as_str(), value)?;
-    read_event(&section, setup, names)
+    read_event(&section, setup, names, ready)
 }
 
-/// Reads the events of a turn, each after the names that were given before it.
+/// Reads the events of a turn, each after the names that were given before it. Some sets may be ready.
+#[tactic(auto, using(crate::proofs::ReadyLemmas::readies))]
 pub fn read_events(
     path: &str,
     items: &[Value],
     setup: &Setup,
     names: &mut TurnNames<'_>,
+    mut ready: Vec<ReadySet>,
 ) -> Result<Vec<Observation>, RunError>
+    requires ready { AreReady path.now (items_view items.now) ready.items }
     ensures read { Gives (λ v. (v.items, names_now names.new)) result (in_sequence (event (setup_view setup.now)) path.now (names_now names.old) [] (items_view items.now)) }
     ensures earlier { names.new.earlier.now ≡ names.old.earlier.now }
 {
     let mut events = Vec::with_capacity(names.alloc, items.len())?;
     for value in items {
-        let event = read_event_at(path, events.len(), value, setup, names)?;
+        let place = events.len();
+        let set = take_set(&mut ready, place);
+        let event = read_event_at(path, place, value, setup, names, set)?;
         events.push(event)?;
     }
     Ok(events)

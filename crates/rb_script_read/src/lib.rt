@@ -7,6 +7,7 @@ mod document;
 mod event;
 mod names;
 mod packet;
+mod ready;
 mod script;
 mod set;
 mod turn;
@@ -15,5 +16,5 @@ mod work;
 
 pub use document::read_turn_document;
 pub use names::{Naming, SetNames};
-pub use script::read_script;
+pub use script::{read_script, read_script_by};
 pub use turn::{NextTurn, Reading, ReadingChange};

@@ -1,15 +1,17 @@
 //! The turns of a script.
-ghost use Rattle.std.specs.Prelude.{◌≡◌, ◌+◌, ◌-◌, ◌≤◌, OnOk, SomeIff};
-ghost use Rattle.toml.specs.View.{view};
+ghost use Rattle.std.specs.Prelude.{◌≡◌, ◌+◌, ◌-◌, ◌≤◌, IfOk, Ok, OnOk, SomeIff};
+ghost use Rattle.toml.specs.View.{view, items_view};
 ghost use Rattle.rb_script_types.specs.Script.{turn_view};
 ghost use Rattle.rb_script_toml.specs.Faults.{Gives};
 ghost use Rattle.rb_script_toml.specs.Fields.{section_view, only};
 ghost use Rattle.rb_script_read.specs.Turns.{turn, turn_at, turn_keys, is_taken, frame, head_view, opening, reading_view};
+ghost use Rattle.rb_script_read.specs.Ready.{AreReadyAt, AreReadyIn, events_of};
 ghost use Rattle.rb_script_read.specs.NextTurns.{next_turn_view, reading_after};
 ghost use Rattle.rb_script_config.specs.Setups.{setup_view};
 
 use crate::event::read_events;
 use crate::names::{Naming, SetNames};
+use crate::ready::ReadySet;
 use crate::turn_names::TurnNames;
 use rb_base::Window;
 use rb_script_config::{Setup, read_goals, read_settlements};
@@ -112,6 +114,7 @@ fn read_head<'a>(
     room: usize,
 ) -> Result<TurnHead<'a>, RunError>
     ensures read { Gives head_view result (frame version room (section_view section.entry)) }
+    ensures events { IfOk result (λ head. events_of (section_view section.entry) ≡ Ok (items_view head.events.now)) }
 {
     only_turn_keys(version, &section)?;
     let from = section.time("from")?;
@@ -136,13 +139,15 @@ fn read_head<'a>(
     }
 }
 
-/// Reads a turn from its table, after those before it, which stay as they are.
-#[tactic(auto, using(rb_script_toml::proofs::Steps::steps), unfolding(crate::specs::Turns::turn))]
+/// Reads a turn from its table, after those before it, which stay as they are. Some of its sets may be ready.
+#[tactic(auto, using(rb_script_toml::proofs::Steps::steps, crate::proofs::ReadyLemmas::readies), unfolding(crate::specs::Turns::turn))]
 pub(crate) fn read_turn(
     section: &Section<'_>,
     setup: &Setup,
     reading: &Reading,
+    ready: Vec<ReadySet>,
 ) -> Result<NextTurn, RunError>
+    requires ready { AreReadyIn (section_view section.now) ready.items }
     ensures { Gives (next_turn_view (reading_view reading.now)) result (turn (setup_view setup.now) (reading_view reading.now) (section_view section.now)) }
 {
     let frame = read_head(setup.version, *section, reading.room)?;
@@ -150,7 +155,7 @@ pub(crate) fn read_turn(
     let goals = read_goals(section.alloc, path.as_str(), frame.goals, &setup.clients)?;
     let path = child_path(section.alloc, section.path, "event")?;
     let mut names = TurnNames::after(&reading.names);
-    let events = read_events(path.as_str(), frame.events, setup, &mut names)?;
+    let events = read_events(path.as_str(), frame.events, setup, &mut names, ready)?;
     let path = child_path(section.alloc, section.path, "settle")?;
     let settlements = read_settlements(
         section.alloc,
@@ -172,20 +177,22 @@ pub(crate) fn read_turn(
     Ok(NextTurn { turn, change })
 }
 
-/// Reads the turn of this number, after those before it.
-#[tactic(auto, using(rb_script_toml::proofs::Steps::steps))]
+/// Reads the turn of this number, after those before it. Some of its sets may be ready.
+#[tactic(auto, using(rb_script_toml::proofs::Steps::steps, crate::proofs::ReadyLemmas::readies))]
 pub(crate) fn read_turn_at(
     index: usize,
     value: &Value,
     setup: &Setup,
     reading: &mut Reading,
+    ready: Vec<ReadySet>,
 ) -> Result<Turn, RunError>
+    requires ready { AreReadyAt index (view value.now) ready.items }
     ensures { Gives (λ t. (turn_view t, reading_view reading.new)) result (turn_at (setup_view setup.now) index (reading_view reading.old) (view value.now)) }
 {
     let alloc = reading.names.alloc;
     let path = element_path(alloc, "turn", index)?;
     let section = section_at(alloc, path.as_str(), value)?;
-    let next = read_turn(&section, setup, reading)?;
+    let next = read_turn(&section, setup, reading, ready)?;
     reading.take(next.change)?;
     Ok(next.turn)
 }

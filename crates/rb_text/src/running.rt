@@ -13,7 +13,7 @@ ghost use Rattle.rb_text.specs.Headline.{WritesReport, WritesThisReport, BeginsR
 
 use crate::write::write_report;
 use rb_base::{Gate, Sink};
-use rb_script_read::read_script;
+use rb_script_read::read_script_by;
 use rb_script_toml::RunError;
 use rb_script_types::Script;
 use rb_super::{read_scripts_are_scripts, run_by_workers, run_script};
@@ -102,7 +102,7 @@ pub fn report_over<
     ensures device { IsErrOf result RunError.Device ↔ (W.is_broken writer.new ≡ true) }
     ensures begun { OnErr result ((writer.new ≡ writer.old) ⊎ BeginsReport bytes.now (W.taken writer.old) (W.taken writer.new)) }
 {
-    let script = read_script(alloc, bytes)?;
+    let script = read_script_by(rt, alloc, bytes, workers)?;
     let report = report_of(rt, alloc, script, workers, gate)?;
     write_report(alloc, &report, writer)?;
     Ok(report)
