@@ -62,6 +62,7 @@ pub enum FieldErrorName {
 }
 
 impl FieldErrorName {
+    ghost use Rattle.rb_import_json.specs.Advice.{field_error_advice};
     ghost use Rattle.rb_import_json.specs.Names.{field_error_name};
 
     /// The name.
@@ -98,7 +99,9 @@ impl FieldErrorName {
     }
 
     /// What belongs there, or what to do.
-    pub fn advice(self) -> &'static str {
+    pub fn advice(self) -> &'static str
+        ensures { result.now ≡ field_error_advice self }
+    {
         match self {
             FieldErrorName::TooBig => {
                 "an answer has at most 16,777,216 bytes; ask for fewer of them on a page (per_page=20)"
