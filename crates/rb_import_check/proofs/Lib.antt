@@ -4,3 +4,4 @@ pub mod ReasonsLemmas
 pub mod Accords
 pub mod Heights
 pub mod Pages
+pub mod Digits

@@ -1,4 +1,7 @@
 pub mod Names
+pub mod Advice
+pub mod Hexadecimals
+pub mod ErrorTexts
 pub mod Errors
 pub mod Saved
 pub mod Sets

@@ -2,8 +2,6 @@
 ghost use Rattle.std.specs.Prelude.{◌≡◌, Some, None};
 
 use std::alloc::{AllocError, AllocFailed};
-use std::fmt;
-use thiserror::Error;
 
 /// What doesn't hold between answers.
 #[derive(Clone, Copy, Debug)]
@@ -57,6 +55,7 @@ pub enum CheckErrorName {
 }
 
 impl CheckErrorName {
+    ghost use Rattle.rb_import_check.specs.Advice.{check_error_advice};
     ghost use Rattle.rb_import_check.specs.Names.{check_error_name};
 
     /// The name.
@@ -92,7 +91,9 @@ impl CheckErrorName {
 
     /// What is wrong, and what to do; of answers that are to be fetched for a height, and of another chain's, `CheckError`
     /// tells which.
-    pub fn advice(self) -> &'static str {
+    pub fn advice(self) -> &'static str
+        ensures { result.now ≡ check_error_advice self }
+    {
         match self {
             CheckErrorName::WrongFolder => {
                 "a chain's folder has answers of /commit and /validators, a client's of client_states and consensus_states, a path's of /tx_search, packet_commitments, unreceived_packets and packet_acknowledgements; move the file, or give the chain, the client and the path different identifiers"
@@ -172,117 +173,12 @@ pub struct CheckError<'a> {
     pub chain: Option<&'a str>,
 }
 
-impl CheckError<'_> {
-    /// Writes into which folder the answer belongs that isn't there: a chain's, a client's and a path's have
-    /// its identifier.
-    fn write_folder<W: fmt::Write>(&self, f: &mut fmt::Formatter<W>) -> fmt::Result {
-        let object = self.object;
-        match self.name {
-            CheckErrorName::MissingPage
-            | CheckErrorName::MissingSet
-            | CheckErrorName::MissingClientState
-            | CheckErrorName::MissingConsensusStates
-            | CheckErrorName::MissingCommitments
-            | CheckErrorName::MissingTransactions
-            | CheckErrorName::MissingSend
-            | CheckErrorName::MissingReceive => write!(
-                f,
-                " into files *.json of the folder {object}"
-            ),
-            _ => Ok(()),
-        }
-    }
-
-    /// Writes what else can be done, where the answer may be gone.
-    fn write_other_way<W: fmt::Write>(&self, f: &mut fmt::Formatter<W>) -> fmt::Result {
-        match self.name {
-            CheckErrorName::MissingSend => f.write_str(
-                ", or, where the node keeps it no more, set the path's `first` above it",
-            ),
-            _ => Ok(()),
-        }
-    }
-
-    /// Writes which answers of a height are to be fetched, where such are wrong or missing. Height 0 is none:
-    /// an answer on another chain is then a client's.
-    fn write_request<W: fmt::Write>(&self, f: &mut fmt::Formatter<W>, height: u64) -> fmt::Result {
-        match self.name {
-            CheckErrorName::OtherTotal | CheckErrorName::BadSet => write!(
-                f,
-                "; fetch all pages of /validators?height={height}&per_page=100 again"
-            ),
-            CheckErrorName::MissingPage | CheckErrorName::MissingSet => {
-                write!(
-                    f,
-                    "; fetch all pages of /validators?height={height}&per_page=100"
-                )
-            }
-            CheckErrorName::SignatureCount | CheckErrorName::OtherSigner => {
-                write!(f, "; fetch /commit?height={height} again")
-            }
-            CheckErrorName::OtherHeader => write!(
-                f,
-                "; fetch /commit?height={height} again, from another node if it stays"
-            ),
-            CheckErrorName::OtherChain if height == 0 => f.write_str(
-                "; this client follows, or these verdicts are on, another chain than the setup says: is the identifier right? if the chain was upgraded, write its new identifier into the setup",
-            ),
-            CheckErrorName::OtherChain => f.write_str(
-                "; fetch it from this chain's node, or, if the chain was upgraded, write its new identifier into the setup",
-            ),
-            _ => Ok(()),
-        }
-    }
-}
-
-impl fmt::Display for CheckError<'_> {
-    fn fmt<W: fmt::Write>(&self, f: &mut fmt::Formatter<W>) -> fmt::Result {
-        let name = self.name.name();
-        let object = self.object;
-        match self.number {
-            Some(number) => writeln!(f, "refused {name} at {object} {number}")?,
-            None => writeln!(f, "refused {name} at {object}")?,
-        }
-        match (self.file, self.other) {
-            (Some(file), Some(other)) => write!(f, "{file} and {other}: ")?,
-            (Some(file), None) => write!(f, "{file}: ")?,
-            _ => {}
-        }
-        f.write_str(self.name.advice())?;
-        if let Some(chain) = self.chain {
-            write!(f, ", {chain}")?;
-        }
-        if let Some(hashes) = self.hashes {
-            f.write_str(" (")?;
-            write_hash(f, &hashes.header)?;
-            f.write_str(", and not ")?;
-            write_hash(f, &hashes.block)?;
-            f.write_str(")")?;
-        }
-        if let Some(height) = self.number {
-            self.write_request(f, height)?;
-        }
-        self.write_folder(f)?;
-        self.write_other_way(f)
-    }
-}
-
-/// Writes the hexadecimal digits of a hash.
-fn write_hash<W: fmt::Write>(f: &mut fmt::Formatter<W>, hash: &[u8; 32]) -> fmt::Result {
-    for byte in hash {
-        write!(f, "{byte:02X}")?;
-    }
-    Ok(())
-}
-
 /// Why answers make no script.
-#[derive(Clone, Copy, Debug, Error)]
+#[derive(Clone, Copy, Debug)]
 pub enum ImportError<'a> {
     /// Something doesn't hold between answers.
-    #[error("{0}")]
     CheckError(CheckError<'a>),
     /// A growth was refused.
-    #[error("no memory")]
     NoMemory,
 }
 
