@@ -1,6 +1,6 @@
 //! Why a message isn't made.
 use rb_base::Height;
-use rb_import_check::ImportError;
+use rb_import_check::{Hexadecimal, ImportError};
 use rb_import_json::FieldError;
 use std::alloc::{AllocError, AllocFailed};
 use std::fmt;
@@ -43,6 +43,11 @@ pub enum MessageError<'a> {
 }
 
 impl fmt::Display for MessageError<'_> {
+    ghost use Rattle.std.specs.Prelude.{Some};
+    ghost use Rattle.rb_messages.specs.Errors.{message_error_text};
+
+    ghost output = { λ error. Some (message_error_text error) };
+
     fn fmt<W: fmt::Write>(&self, f: &mut fmt::Formatter<W>) -> fmt::Result {
         match self {
             MessageError::Answers(error) => write!(f, "{error}"),
@@ -72,26 +77,15 @@ impl fmt::Display for MessageError<'_> {
                 file,
                 validator,
             } => {
+                let validator = Hexadecimal { bytes: validator };
                 write!(
                     f,
-                    "refused MissingVotes at {chain} {height}\n{file}: the update needs the vote of the validator "
-                )?;
-                write_address(f, validator)?;
-                f.write_str(
-                    ", which this commit lacks; give the answers that the script was made of, or import these answers anew",
+                    "refused MissingVotes at {chain} {height}\n{file}: the update needs the vote of the validator {validator}, which this commit lacks; give the answers that the script was made of, or import these answers anew"
                 )
             }
             MessageError::NoMemory => f.write_str("no memory"),
         }
     }
-}
-
-/// Writes the hexadecimal digits of an address.
-fn write_address<W: fmt::Write>(f: &mut fmt::Formatter<W>, address: &[u8; 20]) -> fmt::Result {
-    for byte in address {
-        write!(f, "{byte:02X}")?;
-    }
-    Ok(())
 }
 
 impl From<AllocError> for MessageError<'_> {
