@@ -10,6 +10,7 @@ mod moment;
 mod refusal;
 mod report;
 mod running;
+mod threads;
 mod verdict;
 mod write;
 

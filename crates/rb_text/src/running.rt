@@ -11,8 +11,10 @@ ghost use Rattle.rb_super_turn.specs.Turns.{IsReportOf};
 ghost use Rattle.rb_super_turn.specs.Views.{report_view};
 ghost use Rattle.rb_text.specs.Headline.{WritesReport, WritesThisReport, BeginsReport};
 
+use crate::threads::is_faster_by_workers;
 use crate::write::write_report;
 use rb_base::{Gate, Sink};
+use rb_health::run_to_end;
 use rb_script_read::read_script_by;
 use rb_script_toml::RunError;
 use rb_script_types::Script;
@@ -48,6 +50,33 @@ pub fn report_of<
     } else {
         run_by_workers(rt, alloc, script, workers, gate)
     }
+}
+
+/// Runs a script by at most so many threads, at most 64: they make its step tables, and its plans, too, where that is faster; with 0 the
+/// calling thread does all. What is said of `report_of` holds here, too.
+fn report_by<
+    R: Threads + Wait + Copy + Send + Sync + 'static,
+    G: Gate + Send + Sync + Drop + 'static,
+>(
+    rt: &R,
+    alloc: Global,
+    script: Script,
+    threads: usize,
+    gate: &Arc<G, Global>,
+) -> Result<Report, AllocError>
+    requires script { IsReadScript (script_view script) }
+    requires threads { threads ≤ 64 }
+    ensures kept { relayed.IsScript (as_events (script_view script)) }
+    ensures version { IfOk result (λ report. report.version ≡ script.config.version) }
+    ensures paths { IfOk result (λ report. report.paths.items ≡ map (λ (p : PathConfig). p.id) script.config.paths.items) }
+    ensures turns { IfOk result (λ report. IsReportOf (as_events (script_view script)) (report_view report)) }
+{
+    read_scripts_are_scripts(&script);
+    if threads == 0 || is_faster_by_workers(alloc, &script)? {
+        return report_of(rt, alloc, script, threads, gate);
+    }
+    let (report, _) = run_to_end(rt, alloc, script, threads, &**gate)?;
+    Ok(report)
 }
 
 /// Reads the script that the bytes hold, runs it, and writes its report, which doesn't go by how many
@@ -103,7 +132,7 @@ pub fn report_over<
     ensures begun { OnErr result ((writer.new ≡ writer.old) ⊎ BeginsReport bytes.now (W.taken writer.old) (W.taken writer.new)) }
 {
     let script = read_script_by(rt, alloc, bytes, workers)?;
-    let report = report_of(rt, alloc, script, workers, gate)?;
+    let report = report_by(rt, alloc, script, workers, gate)?;
     write_report(alloc, &report, writer)?;
     Ok(report)
 }

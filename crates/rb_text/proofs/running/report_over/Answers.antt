@@ -9,7 +9,7 @@ returns-clause-report g c = record {
   writes = record {
     script = script_view c.in_ok-script.script;
     report = report_view c.in_ok-report.report;
-    planned = record { read = c.in_ok-script.ensures.read; kept = c.report_of.ensures.kept; reported = c.in_ok-report.ensures.turns };
+    planned = record { read = c.in_ok-script.ensures.read; kept = c.report_by.ensures.kept; reported = c.in_ok-report.ensures.turns };
     written = search rules;
   };
   paths = c.in_ok-report.ensures.paths;
