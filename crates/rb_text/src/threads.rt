@@ -1,4 +1,4 @@
-//! Whether a script is run faster where workers make its plans.
+//! Whether workers are to make the plans of a script.
 use rb_script_types::{ClientConfig, Observation, Script, Turn};
 use std::alloc::{AllocError, Global};
 
@@ -6,7 +6,10 @@ use std::alloc::{AllocError, Global};
 const EVENT: u64 = 100;
 
 /// What it costs to hand a turn's jobs to workers, in the same units.
-const TURN: u64 = 200_000;
+const TURN: u64 = 60_000;
+
+/// What is spent without a thought, in the same units: a run that is over in a few milliseconds.
+const LITTLE: u64 = 300_000;
 
 /// How many headers and validator sets a chain has so far.
 #[derive(Clone, Copy)]
@@ -59,8 +62,9 @@ fn spent(turn: &Turn) -> u64 {
     events.saturating_mul(EVENT).saturating_add(TURN)
 }
 
-/// Whether workers save more by planning clients side by side than they cost. Only time goes by the answer.
-pub(crate) fn is_faster_by_workers(alloc: Global, script: &Script) -> Result<bool, AllocError> {
+/// Whether workers are to make the plans: they save more by planning clients side by side than they cost, or cost little. Only time
+/// goes by the answer.
+pub(crate) fn are_plans_for_workers(alloc: Global, script: &Script) -> Result<bool, AllocError> {
     let none = StoreSize {
         headers: 0,
         sets: 0,
@@ -74,5 +78,5 @@ pub(crate) fn is_faster_by_workers(alloc: Global, script: &Script) -> Result<boo
         saving = saving.saturating_add(saved(stores.as_slice(), script.config.clients.as_slice()));
         spending = spending.saturating_add(spent(turn));
     }
-    Ok(spending < saving)
+    Ok(spending < saving.max(LITTLE))
 }
