@@ -5,3 +5,5 @@ pub mod Accords
 pub mod Heights
 pub mod Pages
 pub mod Digits
+pub mod Searches
+pub mod Zips

@@ -11,10 +11,11 @@ use Rattle.std.proofs.lemmas.List.Elements.{All-tail, All-map, All-more, All-pus
 use Rattle.rb_valset.specs.Validator.{Member}
 use Rattle.rb_valset.specs.ValidatorSet.{set_hash, in_set_order}
 use Rattle.rb_import_answers.specs.declared.validators.ValidatorsPage.{ValidatorsPage}
+use Rattle.rb_import_check.specs.declared.chain.Commit.{Commit}
 use Rattle.rb_import_check.specs.declared.chain.Page.{Page}
 use Rattle.rb_import_check.specs.declared.saved.Saved.{Saved}
 use Rattle.rb_import_check.specs.declared.sets.SeenSet.{SeenSet}
-use Rattle.rb_import_check.specs.Chains.{AreAllPages, AreWhole, AreSetsAt, HaveSets, IsSetAt, IsSetOf, TakesSetOf, pages_at, validators_at, validators_of, without_files}
+use Rattle.rb_import_check.specs.Chains.{AreAllPages, AreWhole, AreSetsAt, HasItsValidators, HasValidators, HaveSets, IsSetAt, IsSetOf, TakesSetOf, pages_at, validators_at, validators_of, without_files}
 use Rattle.rb_import_check.specs.Sets.{KeepsSet, WasSeen}
 use Rattle.rb_import_check.proofs.ReasonsLemmas.{any_left}
 
@@ -193,3 +194,52 @@ pub have_sets : (saved : List Saved) (sets : List SeenSet) (pages : List Page) (
 unfolding HaveSets
 have_sets saved sets pages last same ((heights, are, bound), seen, old) =
     ((heights, are), λ height whole. of_some (IsSeenAt saved sets) pages height seen (omega (arith, whole.0, ap length (same height), length-map (filter (λ (p : Page). p.page.now.height == height) pages) (λ (p : Page). p.page.now))) whole)
+
+-- ---- the commits of the heights so far
+
+-- the set of these pages is that of each commit of their height
+pub takes_all : (commits : List Commit) (height : ℕ) (commit : Option Commit) (pages : List ValidatorsPage) (set : List Member)
+    → All (λ (c : Commit). c.header.now.height ≡ height → commit ≡ Some c) commits → IfSome commit (λ (c : Commit). c.header.now.set ≡ set_hash set)
+    → AreAllPages pages → set ≡ in_set_order (validators_of pages) → All (HasValidators pages height) commits
+unfolding HasValidators
+takes_all commits height (Some c) pages set only its all is = λ k d small same.
+    (all, subst (λ l. set_hash l ≡ (get_or commits k d).header.now.set) is (sym its ∙ ap (λ (x : Commit). x.header.now.set) (same_Some c (get_or commits k d) (only k d small same))))
+takes_all commits height None pages set only its all is = λ k d small same. absurd (none-some (get_or commits k d) (only k d small same))
+
+-- there is no commit of their height
+pub takes_none : (commits : List Commit) (height : ℕ) (commit : Option Commit) (pages : List ValidatorsPage)
+    → All (λ (c : Commit). c.header.now.height ≡ height → commit ≡ Some c) commits → commit ≡ None → All (HasValidators pages height) commits
+unfolding HasValidators
+takes_none commits height commit pages only none = λ k d small same. absurd (none-some (get_or commits k d) (sym none ∙ only k d small same))
+
+-- where there are pages of a height, its commits have their validators
+abbrev pub IsTakenAt : List Saved → List Commit → ℕ → Type 0
+IsTakenAt saved commits height = 0 < length (pages_at saved height) → All (HasValidators (pages_at saved height) height) commits
+
+-- this is so of the pages so far, and of the last height
+abbrev pub AreTaken : List Saved → List Commit → List Page → Option ℕ → Type 0
+AreTaken saved commits pages last = All (λ (p : Page). IsTakenAt saved commits p.page.now.height) pages × IfSome last (IsTakenAt saved commits)
+
+pub none_taken : (saved : List Saved) (commits : List Commit) (pages : List Page) → AreTaken saved commits (take 0 pages) None
+none_taken saved commits pages = ((λ k d small. absurd (omega (arith, small))), tt)
+
+pub taken_at : (saved : List Saved) (commits : List Commit) (height : ℕ) (group : List Page) → without_files group ≡ pages_at saved height
+    → (0 < length group → All (HasValidators (without_files group) height) commits) → IsTakenAt saved commits height
+taken_at saved commits height group are its =
+    subst (λ l. 0 < length l → All (HasValidators l height) commits) are (λ some. its (omega (arith, some, length-map group (λ (p : Page). p.page.now))))
+
+-- a page more
+pub taken_next : (saved : List Saved) (commits : List Commit) (pages : List Page) (i : ℕ) (page : Page) (last : Option ℕ) → i < length pages → page ≡ get_or pages i page
+    → IsTakenAt saved commits page.page.now.height → AreTaken saved commits (take i pages) last → AreTaken saved commits (take (i + 1) pages) (Some page.page.now.height)
+taken_next saved commits pages i page last small is now (each, old) =
+    (All-more (λ (p : Page). IsTakenAt saved commits p.page.now.height) pages i page small each (subst (λ (p : Page). IsTakenAt saved commits p.page.now.height) is now), now)
+
+pub have_validators : (saved : List Saved) (commits : List Commit) (pages : List Page) (last : Option ℕ)
+    → ((height : ℕ) → without_files (filter (λ (p : Page). p.page.now.height == height) pages) ≡ pages_at saved height)
+    → AreTaken saved commits pages last → All (HasItsValidators saved) commits
+unfolding HasValidators HasItsValidators
+have_validators saved commits pages last same (each, old) = λ k d small some.
+    let height : ℕ = (get_or commits k d).header.now.height in
+    let long = length-map (filter (λ (p : Page). p.page.now.height == height) pages) (λ (p : Page). p.page.now) in
+    let taken : IsTakenAt saved commits height = of_some (IsTakenAt saved commits) pages height each (omega (arith, some, ap length (same height), long)) in
+    taken some k d small refl

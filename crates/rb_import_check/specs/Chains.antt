@@ -1,17 +1,19 @@
 -- What was seen of a chain (CometBFT's `/commit` and `/validators`).
-use Rattle.std.specs.Prelude.{◌≡◌, ◌⊎◌, ◌<◌, ◌==◌, ◌++◌, ℕ, List, [], ◌∷◌, All, Contains, length, map, filter, option_map}
+use Rattle.std.specs.Prelude.{◌≡◌, ◌≢◌, ◌⊎◌, ◌<◌, ◌==◌, ◌++◌, ℕ, List, [], ◌∷◌, All, Contains, IfSome, length, map, filter, option_map}
 use Rattle.std.specs.List.{AllZip, flat_map}
 use Rattle.std.specs.List.Sorted.{IsPermutation, IsStrictlyIncreasing}
-use Rattle.rb_valset.specs.Validator.{Member}
+use Rattle.rb_valset.specs.Validator.{Member, address_of}
 use Rattle.rb_valset.specs.ValidatorSet.{set_hash, in_set_order}
 use Rattle.rb_import_answers.specs.declared.answer.NodeAnswer.{NodeAnswer}
 use Rattle.rb_import_answers.specs.declared.answer.NodeAnswer.TheVariants as answers
+use Rattle.rb_import_answers.specs.declared.commit.Signature.{Signature}
 use Rattle.rb_import_answers.specs.declared.commit.SignedHeader.{SignedHeader}
 use Rattle.rb_import_answers.specs.declared.validators.ValidatorsPage.{ValidatorsPage}
 use Rattle.rb_import_answers.specs.declared.verdicts.Verdicts.{Verdicts}
 use Rattle.rb_import_check.specs.declared.saved.Saved.{Saved}
 use Rattle.rb_import_check.specs.declared.chain.Commit.{Commit}
 use Rattle.rb_import_check.specs.declared.chain.Page.{Page}
+use Rattle.rb_import_check.specs.declared.error.CheckErrorName.{CheckErrorName}
 use Rattle.rb_import_check.specs.declared.sets.SeenSet.{SeenSet}
 use Rattle.rb_import_check.specs.Sets.{WasSeen}
 use Rattle.rb_import_check.specs.Verdicts.{IsVerdictOn, HasVotes, verdict_list, verdicts_of}
@@ -62,13 +64,28 @@ IsJudged saved c = IsJudgedBy (verdicts_of saved) c
 abbrev pub IsOfChain : List ℕ → Commit → Type 0
 IsOfChain id c = c.header.now.chain ≡ id
 
+-- the commit is one of these, of this height
+abbrev pub IsAmong : List Commit → ℕ → Commit → Type 0
+IsAmong commits height c = Contains commits c × (c.header.now.height ≡ height)
+
 -- the commit is for the block whose hash the header has
 abbrev pub IsOfItsBlock : Commit → Type 0
 IsOfItsBlock c = c.header.now.hash ≡ c.header.now.block
 
--- the set that the header names was seen: its hash is `validators_hash`, and it has a member for each signature
+-- the signature is absent, or of this member: it has the member's address
+unfoldable pub IsAbsentOrOf : Signature → Member → Type 0
+IsAbsentOrOf s m = IfSome s.address (λ address. address ≡ address_of m.key)
+
+-- the set that the header names was seen: its hash is `validators_hash`, and each signature is absent or of the member at its place
+-- (CometBFT: a commit has a signature for each validator, in set order)
 unfoldable pub HasSet : List SeenSet → Commit → Type 0
-HasSet sets c = (s : SeenSet) × Contains sets s × (set_hash s.set ≡ c.header.now.set) × (length c.header.now.signatures.items ≡ length s.set)
+HasSet sets c = (s : SeenSet) × Contains sets s × (set_hash s.set ≡ c.header.now.set) × AllZip IsAbsentOrOf c.header.now.signatures.items s.set
+
+-- how signatures don't fit a set, by the name that is told
+abbrev pub Differ : CheckErrorName → List Signature → List Member → Type 0
+Differ CheckErrorName.SignatureCount signatures set = length signatures ≢ length set
+Differ CheckErrorName.OtherSigner signatures set = (length signatures ≡ length set) × (¬ AllZip IsAbsentOrOf signatures set)
+Differ _ signatures set = ⊥
 
 -- ---- the sets of a chain
 
@@ -112,6 +129,17 @@ validators_at saved height = validators_of (pages_at saved height)
 -- the answers have all the validators of this height
 abbrev pub AreWhole : List Saved → ℕ → Type 0
 AreWhole saved height = AreAllPages (pages_at saved height)
+
+-- the commit is of another height, or these are all the validators of its height, and make the set that its header names
+unfoldable pub HasValidators : List ValidatorsPage → ℕ → Commit → Type 0
+HasValidators pages height c =
+    c.header.now.height ≡ height → AreAllPages pages × (set_hash (in_set_order (validators_of pages)) ≡ c.header.now.set)
+
+-- where the answers have validators of the commit's height, they have all of them, who make the set that its header names
+unfoldable pub HasItsValidators : List Saved → Commit → Type 0
+HasItsValidators saved c =
+    0 < length (pages_at saved c.header.now.height) →
+    AreWhole saved c.header.now.height × (set_hash (in_set_order (validators_at saved c.header.now.height)) ≡ c.header.now.set)
 
 -- it is the set of all the validators of this height
 abbrev pub IsSetAt : List Saved → ℕ → List Member → Type 0

@@ -1,10 +1,11 @@
 //! The sets and headers of a chain: each height once, rising, and each header with its set.
-ghost use Rattle.std.specs.Prelude.{◌≡◌, ◌≤◌, ◌==◌, ℕ, List, length, map, filter, All, IfOk, IfErr, OnOk, IfSome, IfNone, option_map, option_to_list};
+ghost use Rattle.std.specs.Prelude.{◌≡◌, ◌↔◌, ◌<◌, ◌≤◌, ◌==◌, ℕ, List, length, map, filter, All, IsTrue, IfOk, IfErr, OnOk, Some, None, IfSome, IfNone, option_map, option_to_list};
+ghost use Rattle.std.specs.List.{AllZip};
 ghost use Rattle.std.specs.List.Sorted.{IsNonDecreasingBy, IsStrictlyIncreasing};
 ghost use Rattle.rb_valset.specs.ValidatorSet.{set_hash, in_set_order};
 ghost use Rattle.rb_import_check.specs.Errors.{IsToldOf};
 ghost use Rattle.rb_import_check.specs.Sets.{WasSeen};
-ghost use Rattle.rb_import_check.specs.Chains.{AreAllPages, AreOfFiles, HaveHeaders, HaveSets, HasSet, IsJudged, IsJudgedBy, IsOfChain, IsOfItsBlock, TakesSetOf, filed, filed_of, headers_of, pages_at, pages_of, validators_of, without_files};
+ghost use Rattle.rb_import_check.specs.Chains.{AreAllPages, AreOfFiles, Differ, HaveHeaders, HaveSets, HasItsValidators, HasSet, HasValidators, IsAbsentOrOf, IsAmong, IsJudged, IsJudgedBy, IsOfChain, IsOfItsBlock, TakesSetOf, filed, filed_of, headers_of, pages_at, pages_of, validators_of, without_files};
 
 use crate::error::{CheckErrorName, HeaderHashes, ImportError};
 use crate::repeat::repeated;
@@ -55,6 +56,7 @@ pub fn seen_chain<'a>(
     ensures blocks { IfOk result (λ chain. All IsOfItsBlock chain.commits.items) }
     ensures sets { IfOk result (λ chain. All (HasSet chain.sets.sets.items) chain.commits.items) }
     ensures all_sets { IfOk result (λ chain. HaveSets answers.entry.now chain.sets.sets.items) }
+    ensures validators { IfOk result (λ chain. All (HasItsValidators answers.entry.now) chain.commits.items) }
     ensures told { IfErr result (IsToldOf id.entry.now) }
 {
     let commits = commits_of(alloc, id, answers)?;
@@ -251,10 +253,14 @@ fn all_pages<'a>(alloc: Global, answers: &'a [Saved]) -> Result<Vec<Page<'a>>, A
     Ok(pages)
 }
 
-/// The commit at the height of a page, if there is one.
-fn commit_of<'a>(commits: &[Commit<'a>], page: &Page<'a>) -> Option<Commit<'a>> {
+/// The commit of a height, if there is one, among commits that stand by rising height.
+fn commit_of<'a>(commits: &[Commit<'a>], height: Height) -> Option<Commit<'a>>
+    requires { IsStrictlyIncreasing (map (λ c. c.header.now.height) commits.now) }
+    ensures found { IfSome result (IsAmong commits.now height) }
+    ensures only { All (λ c. c.header.now.height ≡ height → result ≡ Some c) commits.now }
+{
     let place = commits
-        .binary_search_by_key(&page.page.height, |commit: &Commit| commit.header.height)
+        .binary_search_by_key(&height, |commit: &Commit| commit.header.height)
         .ok()?;
     commits.get(place).copied()
 }
@@ -278,7 +284,9 @@ fn sets_of<'a>(
     answers: &'a [Saved],
     commits: &[Commit<'a>],
 ) -> Result<SeenSets<'a>, ImportError<'a>>
+    requires { IsStrictlyIncreasing (map (λ c. c.header.now.height) commits.now) }
     ensures sets { IfOk result (λ sets. HaveSets answers.entry.now sets.sets.items) }
+    ensures validators { OnOk result (All (HasItsValidators answers.entry.now) commits.now) }
     ensures told { IfErr result (IsToldOf id.entry.now) }
 {
     let pages = pages_of(alloc, answers)?;
@@ -288,7 +296,7 @@ fn sets_of<'a>(
         let height = page.page.height;
         if last != Some(height) {
             let same = of_height(pages.as_slice(), height);
-            add_set(alloc, id, same, commits, &mut sets)?;
+            add_set(alloc, id, height, same, commits, &mut sets)?;
             last = Some(height);
         }
     }
@@ -300,19 +308,22 @@ fn sets_of<'a>(
 fn add_set<'a>(
     alloc: Global,
     id: &'a str,
+    height: Height,
     pages: &[Page<'a>],
     commits: &[Commit<'a>],
     sets: &mut SeenSets<'a>,
 ) -> Result<(), ImportError<'a>>
+    requires { IsStrictlyIncreasing (map (λ c. c.header.now.height) commits.now) }
     ensures kept { OnOk result ((hash : List ℕ) → WasSeen sets.old.sets.items hash → WasSeen sets.new.sets.items hash) }
     ensures sets { OnOk result (TakesSetOf (without_files pages.now) sets.old.sets.items sets.new.sets.items) }
     ensures seen { OnOk result (AreAllPages (without_files pages.now) → WasSeen sets.new.sets.items (set_hash (in_set_order (validators_of (without_files pages.now))))) }
+    ensures validators { OnOk result (0 < length pages.now → All (HasValidators (without_files pages.now) height) commits.now) }
     ensures told { IfErr result (IsToldOf id.entry.now) }
 {
     let Some(first) = pages.first() else {
         return Ok(());
     };
-    let commit = commit_of(commits, first);
+    let commit = commit_of(commits, height);
     let members = members_of(alloc, id, pages)?;
     if (members.len() as u64) < first.page.total {
         return missing_page(id, first, commit);
@@ -332,7 +343,8 @@ fn missing_page<'a>(
     page: &Page<'a>,
     commit: Option<Commit<'a>>,
 ) -> Result<(), ImportError<'a>>
-    ensures { IfErr result (IsToldOf id.entry.now) }
+    ensures none { OnOk result (commit.entry ≡ None) }
+    ensures told { IfErr result (IsToldOf id.entry.now) }
 {
     match commit {
         Some(commit) => Err(ImportError::between(
@@ -478,24 +490,25 @@ fn judge_commit<'a>(
 /// How signatures don't fit a set, if they don't: there is one for each member, in set order, and
 /// each that isn't absent has its member's address.
 fn discord(signatures: &[Signature], set: &ValidatorSet) -> Option<CheckErrorName>
-    ensures { IfNone result (length signatures.now ≡ length set.now) }
+    ensures fit { IfNone result (AllZip IsAbsentOrOf signatures.now set.now) }
+    ensures discord { IfSome result (λ name. Differ name signatures.now set.now) }
 {
     if signatures.len() != set.size() {
         return Some(CheckErrorName::SignatureCount);
     }
-    let fits = signatures
-        .iter()
-        .zip(set.members())
-        .all(|(signature, member)| is_signer(signature, member));
-    if fits {
-        None
-    } else {
-        Some(CheckErrorName::OtherSigner)
+    for (place, member) in set.members().iter().enumerate() {
+        if !is_signer(&signatures[place], member) {
+            return Some(CheckErrorName::OtherSigner);
+        }
     }
+    None
 }
 
 /// Whether a signature is absent or this member's.
-fn is_signer(signature: &Signature, member: &Validator) -> bool {
+#[tactic(auto, unfolding(crate::specs::Chains::IsAbsentOrOf))]
+fn is_signer(signature: &Signature, member: &Validator) -> bool
+    ensures { IsTrue result ↔ IsAbsentOrOf signature.now member.now }
+{
     match signature.address {
         Some(address) => address == *member.address(),
         None => true,

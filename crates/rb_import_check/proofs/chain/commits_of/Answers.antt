@@ -1,9 +1,9 @@
 use Rattle.std.proofs.Common.{List, map, subst}
 use Rattle.std.specs.List.Sorted.{IsPermutation}
-use Rattle.std.proofs.lemmas.List.Sorted.{All-permutation, IsPermutation-map}
+use Rattle.std.proofs.lemmas.List.Sorted.{IsPermutation-map}
 use Rattle.rb_import_answers.specs.declared.commit.SignedHeader.{SignedHeader}
 use Rattle.rb_import_check.specs.declared.chain.Commit.{Commit}
-use Rattle.rb_import_check.specs.Chains.{Filed, IsJudged, filed}
+use Rattle.rb_import_check.specs.Chains.{Filed, filed}
 use Rattle.rb_import_check.proofs.chain.commits_of.Goals as goal
 
 pub returns-clause-headers : goal.returns-clause-headers

@@ -6,12 +6,14 @@ use Rattle.rb_import_check.specs.declared.sets.SeenSets.{SeenSets}
 use Rattle.rb_import_check.specs.Chains.{pages_at}
 use Rattle.std.specs.List.Sorted.{IsNonDecreasingBy}
 use Rattle.rb_import_check.proofs.Heights.{is_last, is_other}
-use Rattle.rb_import_check.proofs.Pages.{AreSoFar, IsReached, have_sets, height_of, next_height, none_so_far, reached_more, reached_next, same_height}
+use Rattle.rb_import_check.proofs.Pages.{AreSoFar, AreTaken, IsReached, have_sets, have_validators, height_of, next_height, none_so_far, none_taken, reached_more, reached_next, same_height, taken_at, taken_next}
 use Rattle.rb_import_check.proofs.chain.sets_of.Goals as goal
 use Rattle.rb_import_check.proofs.chain.sets_of.Goals.{then-ne+in_ok-add_set, else-ne}
 
 pub loop-page-init : goal.loop-page-init
-loop-page-init c = none_so_far c.args.answers.now c.new-sets.result.sets.items c.deref-page-items.result.now (search rules)
+loop-page-init c =
+    let none = none_so_far c.args.answers.now c.new-sets.result.sets.items c.deref-page-items.result.now (search rules) in
+    (none.0, none.1, none_taken c.args.answers.now c.args.commits.now c.deref-page-items.result.now)
 
 pub loop-page-preserved : goal.loop-page-preserved
 loop-page-preserved c =
@@ -30,16 +32,24 @@ loop-page-preserved c =
           let now : AreSoFar c.args.answers.now w.add_set.new.sets.sets.items (take next items) (Some height) =
           next_height c.args.answers.now c.loop-page.sets.sets.items w.add_set.new.sets.sets.items items c.loop-page.page-index c.page-item.result c.loop-page.last _
           small c.page-item.is these other c.loop-page.invariant.1 w.in_ok-add_set.ensures.kept w.in_ok-add_set.ensures.sets w.in_ok-add_set.ensures.seen c.loop-page.invariant.0 in
-          let last = subst (λ o. AreSoFar c.args.answers.now w.add_set.new.sets.sets.items (take next items) o × IsReached items next o) (sym w.last-is) (now, reached_next items c.loop-page.page-index c.page-item.result rises small c.page-item.is) in
-          subst (λ (s : SeenSets). AreSoFar c.args.answers.now s.sets.items (take next items) c.if-ne.last × IsReached items next c.if-ne.last) (sym w.sets-is) last
+          let at = taken_at c.args.answers.now c.args.commits.now height w.of_height-same.result.now these w.in_ok-add_set.ensures.validators in
+          let taken = taken_next c.args.answers.now c.args.commits.now items c.loop-page.page-index c.page-item.result c.loop-page.last small c.page-item.is at c.loop-page.invariant.2 in
+          let last = subst (λ o. AreSoFar c.args.answers.now w.add_set.new.sets.sets.items (take next items) o × IsReached items next o × AreTaken c.args.answers.now c.args.commits.now (take next items) o)
+          (sym w.last-is) (now, reached_next items c.loop-page.page-index c.page-item.result rises small c.page-item.is, taken) in
+          subst (λ (s : SeenSets). AreSoFar c.args.answers.now s.sets.items (take next items) c.if-ne.last × IsReached items next c.if-ne.last × AreTaken c.args.answers.now c.args.commits.now (take next items) c.if-ne.last)
+          (sym w.sets-is) last
       | else-ne w ↦
           let same : c.loop-page.last ≡ Some height = is_last c.loop-page.last height (sym c.ne.ensures ∙ w.if-ne.false) in
           let was : AreSoFar c.args.answers.now c.loop-page.sets.sets.items (take c.loop-page.page-index items) (Some height) =
           subst (AreSoFar c.args.answers.now c.loop-page.sets.sets.items (take c.loop-page.page-index items)) same c.loop-page.invariant.0 in
           let now = same_height c.args.answers.now c.loop-page.sets.sets.items items c.loop-page.page-index c.page-item.result small c.page-item.is was in
           let reached = reached_more items c.loop-page.page-index (Some height) (subst (IsReached items c.loop-page.page-index) same c.loop-page.invariant.1) in
-          let last = subst (λ o. AreSoFar c.args.answers.now c.loop-page.sets.sets.items (take next items) o × IsReached items next o) (sym (w.last-is ∙ same)) (now, reached) in
-          subst (λ (s : SeenSets). AreSoFar c.args.answers.now s.sets.items (take next items) c.if-ne.last × IsReached items next c.if-ne.last) (sym w.sets-is) last
+          let so_far = subst (AreTaken c.args.answers.now c.args.commits.now (take c.loop-page.page-index items)) same c.loop-page.invariant.2 in
+          let taken = taken_next c.args.answers.now c.args.commits.now items c.loop-page.page-index c.page-item.result (Some height) small c.page-item.is so_far.1 so_far in
+          let last = subst (λ o. AreSoFar c.args.answers.now c.loop-page.sets.sets.items (take next items) o × IsReached items next o × AreTaken c.args.answers.now c.args.commits.now (take next items) o)
+          (sym (w.last-is ∙ same)) (now, reached, taken) in
+          subst (λ (s : SeenSets). AreSoFar c.args.answers.now s.sets.items (take next items) c.if-ne.last × IsReached items next c.if-ne.last × AreTaken c.args.answers.now c.args.commits.now (take next items) c.if-ne.last)
+          (sym w.sets-is) last
     ]
 
 pub returns-clause-sets : goal.returns-clause-sets
@@ -47,3 +57,9 @@ returns-clause-sets c =
     let all : take c.loop-page.page-index c.deref-page-items.result.now ≡ c.in_ok-pages.pages.items = take_all _ _ (search rules) ∙ c.deref-page-items.ensures.value in
     have_sets c.args.answers.now c.loop-page.sets.sets.items c.in_ok-pages.pages.items c.loop-page.last c.in_ok-pages.ensures.same
     (subst (λ l. AreSoFar c.args.answers.now c.loop-page.sets.sets.items l c.loop-page.last) all c.loop-page.invariant.0)
+
+pub returns-clause-validators : goal.returns-clause-validators
+returns-clause-validators c =
+    let all : take c.loop-page.page-index c.deref-page-items.result.now ≡ c.in_ok-pages.pages.items = take_all _ _ (search rules) ∙ c.deref-page-items.ensures.value in
+    have_validators c.args.answers.now c.args.commits.now c.in_ok-pages.pages.items c.loop-page.last c.in_ok-pages.ensures.same
+    (subst (λ l. AreTaken c.args.answers.now c.args.commits.now l c.loop-page.last) all c.loop-page.invariant.2)
