@@ -1,5 +1,9 @@
 pub mod Answered
+pub mod Contents
 pub mod Ends
+pub mod Keys
+pub mod Lines
+pub mod PacketPaths
 pub mod Pending
 pub mod Reasons
 pub mod Requests

@@ -1,10 +1,18 @@
 //! What the files of a folder hold, as far as it says what is still to be fetched.
+ghost use Rattle.std.specs.Prelude.{◌≡◌, IfOk, option_and_then, option_map, string_bytes, codes};
+ghost use Rattle.serde_json.specs.Find.{get};
+ghost use Rattle.serde_json.specs.View.{view};
+ghost use Rattle.rb_import_answers.specs.Answers.{json};
+ghost use Rattle.rb_import_answers.specs.Clients.{states_view};
+ghost use Rattle.rb_import_answers.specs.Pending.{pending_view};
+ghost use Rattle.rb_want_requests.specs.Contents.{answer_in, content_in, content_view, key_unless, latest_of, network_of, next_key_of, other_content, pending_content, states, status_in, status_of};
+
 use rb_base::{ChainId, Height};
 use rb_import_answers::{
     ClientState, ConsensusPage, NodeAnswer, PacketPage, Pending, Query, SequencePage, SignedHeader,
     ValidatorsPage, read_answer,
 };
-use rb_import_json::{AnswerError, FieldErrorName};
+use rb_import_json::{AnswerError, FieldErrorName, number_of};
 use serde_json::Value;
 use std::alloc::{AllocError, Global};
 
@@ -67,7 +75,9 @@ pub struct Folders {
 }
 
 /// What the bytes of a file hold. `AllocError` comes where a growth is refused.
-pub fn content_of(alloc: Global, bytes: &[u8]) -> Result<Content, AllocError> {
+pub fn content_of(alloc: Global, bytes: &[u8]) -> Result<Content, AllocError>
+    ensures content { IfOk result (λ content. content_view content ≡ content_in bytes.now) }
+{
     match read_answer(alloc, bytes) {
         Ok(NodeAnswer::Commit(header)) => Ok(Content::Commit(header)),
         Ok(NodeAnswer::Validators(page)) => Ok(Content::Validators(page)),
@@ -75,8 +85,8 @@ pub fn content_of(alloc: Global, bytes: &[u8]) -> Result<Content, AllocError> {
         Ok(NodeAnswer::ConsensusStates(page)) => states_in(alloc, bytes, page),
         Ok(NodeAnswer::Transactions(page)) => Ok(Content::Search(page)),
         Ok(NodeAnswer::Pending(pending)) => pending_in(alloc, bytes, pending),
-        Ok(NodeAnswer::Other(Query::Status)) => status_in(alloc, bytes),
-        Ok(_) => Ok(Content::Other),
+        Ok(NodeAnswer::Verdicts(_)) => Ok(Content::Other),
+        Ok(NodeAnswer::Other(query)) => other_in(alloc, bytes, query),
         Err(AnswerError::NoMemory) => Err(AllocError),
         Err(AnswerError::Invalid(flaw)) => Ok(match flaw.name {
             FieldErrorName::FrozenClient | FieldErrorName::ForeignClient => Content::OtherClient,
@@ -86,13 +96,17 @@ pub fn content_of(alloc: Global, bytes: &[u8]) -> Result<Content, AllocError> {
 }
 
 /// A page of consensus states, with the key of the next.
-fn states_in(alloc: Global, bytes: &[u8], page: ConsensusPage) -> Result<Content, AllocError> {
+fn states_in(alloc: Global, bytes: &[u8], page: ConsensusPage) -> Result<Content, AllocError>
+    ensures { IfOk result (λ content. content_view content ≡ states (states_view page) (key_unless page.is_last bytes.now)) }
+{
     let next_key = key_unless(alloc, bytes, page.is_last)?;
     Ok(Content::ConsensusStates { page, next_key })
 }
 
 /// What an answer tells of pending packets, of commitments with the key of the next page.
-fn pending_in(alloc: Global, bytes: &[u8], pending: Pending) -> Result<Content, AllocError> {
+fn pending_in(alloc: Global, bytes: &[u8], pending: Pending) -> Result<Content, AllocError>
+    ensures { IfOk result (λ content. content_view content ≡ pending_content bytes.now (pending_view pending)) }
+{
     match pending {
         Pending::Commitments(page) => {
             let next_key = key_unless(alloc, bytes, page.is_last)?;
@@ -103,8 +117,20 @@ fn pending_in(alloc: Global, bytes: &[u8], pending: Pending) -> Result<Content, 
     }
 }
 
+/// What an answer to another query tells.
+fn other_in(alloc: Global, bytes: &[u8], query: Query) -> Result<Content, AllocError>
+    ensures { IfOk result (λ content. content_view content ≡ other_content bytes.now query) }
+{
+    match query {
+        Query::Status => status_in(alloc, bytes),
+        _ => Ok(Content::Other),
+    }
+}
+
 /// The key of the page after one that isn't the last.
-fn key_unless(alloc: Global, bytes: &[u8], is_last: bool) -> Result<Option<String>, AllocError> {
+fn key_unless(alloc: Global, bytes: &[u8], is_last: bool) -> Result<Option<String>, AllocError>
+    ensures { IfOk result (λ key. option_map string_bytes key ≡ key_unless is_last bytes.now) }
+{
     if is_last {
         return Ok(None);
     }
@@ -112,7 +138,9 @@ fn key_unless(alloc: Global, bytes: &[u8], is_last: bool) -> Result<Option<Strin
 }
 
 /// The JSON of these bytes, if it is any.
-fn json_of(alloc: Global, bytes: &[u8]) -> Result<Option<Value>, AllocError> {
+fn json_of(alloc: Global, bytes: &[u8]) -> Result<Option<Value>, AllocError>
+    ensures { IfOk result (λ value. option_map view value ≡ json bytes.now) }
+{
     match Value::from_slice(alloc, bytes) {
         Ok(value) => Ok(Some(value)),
         Err(error) if error.is_memory() => Err(AllocError),
@@ -121,7 +149,9 @@ fn json_of(alloc: Global, bytes: &[u8]) -> Result<Option<Value>, AllocError> {
 }
 
 /// The key of the page after one, in either of the spellings of gateways.
-fn next_key_in(alloc: Global, bytes: &[u8]) -> Result<Option<String>, AllocError> {
+fn next_key_in(alloc: Global, bytes: &[u8]) -> Result<Option<String>, AllocError>
+    ensures { IfOk result (λ key. option_map string_bytes key ≡ option_and_then next_key_of (json bytes.now)) }
+{
     let Some(value) = json_of(alloc, bytes)? else {
         return Ok(None);
     };
@@ -131,7 +161,10 @@ fn next_key_in(alloc: Global, bytes: &[u8]) -> Result<Option<String>, AllocError
     }
 }
 
-fn next_key_of(answer: &Value) -> Option<&str> {
+#[tactic(auto, unfolding(crate::specs::Contents::next_key_of))]
+fn next_key_of(answer: &Value) -> Option<&str>
+    ensures { option_map (λ key. key.now) result ≡ next_key_of (view answer.now) }
+{
     let pagination = answer.get("pagination")?;
     let key = match pagination.get("next_key") {
         Some(key) => key,
@@ -141,30 +174,52 @@ fn next_key_of(answer: &Value) -> Option<&str> {
 }
 
 /// What an answer to `/status` tells.
-fn status_in(alloc: Global, bytes: &[u8]) -> Result<Content, AllocError> {
+fn status_in(alloc: Global, bytes: &[u8]) -> Result<Content, AllocError>
+    ensures { IfOk result (λ content. content_view content ≡ status_in bytes.now) }
+{
     let Some(value) = json_of(alloc, bytes)? else {
         return Ok(Content::Other);
     };
-    let answer = value.get("result").unwrap_or(&value);
-    Ok(match status_of(answer) {
+    Ok(match status_of(answer_in(&value)) {
         Some(status) => Content::Status(status),
         None => Content::Other,
     })
 }
 
+/// The answer itself, which CometBFT puts into a member `result`.
+fn answer_in(whole: &Value) -> &Value
+    ensures { view result.now ≡ answer_in (get (codes "result") (view whole.now)) (view whole.now) }
+{
+    whole.get("result").unwrap_or(whole)
+}
+
 /// The status that an answer tells.
-fn status_of(answer: &Value) -> Option<NodeStatus> {
-    let text = answer
-        .get("sync_info")?
-        .get("latest_block_height")?
-        .as_str()?;
-    let latest = Height::new(text.parse::<u64>().ok()?)?;
+#[tactic(auto, unfolding(crate::specs::Contents::status_of))]
+fn status_of(answer: &Value) -> Option<NodeStatus>
+    ensures { result ≡ status_of (view answer.now) }
+{
     Some(NodeStatus {
-        latest,
+        latest: latest_of(answer)?,
         network: network_of(answer),
     })
 }
 
-fn network_of(answer: &Value) -> Option<ChainId> {
+/// The height of the latest block.
+#[tactic(auto, using(rb_import_json::proofs::Values::heights), unfolding(crate::specs::Contents::latest_of))]
+fn latest_of(answer: &Value) -> Option<Height>
+    ensures { result ≡ latest_of (view answer.now) }
+{
+    let text = answer
+        .get("sync_info")?
+        .get("latest_block_height")?
+        .as_str()?;
+    Height::new(number_of(text)?)
+}
+
+/// The chain that the node is one of.
+#[tactic(auto, using(rb_import_json::proofs::Values::identifiers), unfolding(crate::specs::Contents::network_of))]
+fn network_of(answer: &Value) -> Option<ChainId>
+    ensures { result ≡ network_of (view answer.now) }
+{
     ChainId::new(answer.get("node_info")?.get("network")?.as_str()?)
 }

@@ -1,8 +1,16 @@
 //! The keys of pages of consensus states and of commitments.
+ghost use Rattle.std.specs.Prelude.{◌≡◌, [], MatchOption};
+ghost use Rattle.std.specs.Option.{option_copied};
+ghost use Rattle.rb_want_requests.specs.Keys.{IsGreatest, digit_of, greater_of, is_above, key_in, keys_in, next_key};
+
 use crate::content::Content;
 
 /// The greatest key of a next page: what comes before it is there.
-pub fn next_key(contents: &[Content]) -> Option<&str> {
+#[tactic(auto, using(crate::proofs::Greatest::steps))]
+pub fn next_key(contents: &[Content]) -> Option<&str>
+    ensures key { option_copied result ≡ next_key contents.now }
+    ensures greatest { MatchOption (option_copied result) (keys_in contents.now ≡ []) (IsGreatest (keys_in contents.now)) }
+{
     let mut greatest: Option<&str> = None;
     for content in contents {
         if let Some(key) = key_in(content) {
@@ -13,7 +21,9 @@ pub fn next_key(contents: &[Content]) -> Option<&str> {
 }
 
 /// The key of the page after one that a file holds.
-fn key_in(content: &Content) -> Option<&str> {
+fn key_in(content: &Content) -> Option<&str>
+    ensures { option_copied result ≡ key_in content.now }
+{
     match content {
         Content::ConsensusStates {
             next_key: Some(key),
@@ -28,7 +38,9 @@ fn key_in(content: &Content) -> Option<&str> {
 }
 
 /// The greater of two keys, where there is another.
-fn greater<'a>(other: Option<&'a str>, key: &'a str) -> &'a str {
+fn greater<'a>(other: Option<&'a str>, key: &'a str) -> &'a str
+    ensures { result.now ≡ greater_of (option_copied other.entry) key.entry.now }
+{
     match other {
         Some(other) if !is_above(key, other) => other,
         _ => key,
@@ -36,18 +48,28 @@ fn greater<'a>(other: Option<&'a str>, key: &'a str) -> &'a str {
 }
 
 /// Whether the bytes of one text in base64 come after those of another (RFC 4648).
-fn is_above(key: &str, other: &str) -> bool {
-    for (character, than) in key.as_bytes().iter().zip(other.as_bytes()) {
+#[tactic(auto, using(crate::proofs::KeyOrder::steps))]
+fn is_above(key: &str, other: &str) -> bool
+    ensures { result ≡ is_above key.now other.now }
+{
+    let others = other.as_bytes();
+    for (place, character) in key.as_bytes().iter().enumerate() {
+        let Some(than) = others.get(place) else {
+            return true;
+        };
         let (digit, than) = (digit_of(*character), digit_of(*than));
         if digit != than {
             return digit > than;
         }
     }
-    key.len() > other.len()
+    false
 }
 
 /// The value of a character of base64, above 0; of a filling one 0.
-fn digit_of(character: u8) -> u8 {
+#[tactic(auto, unfolding(crate::specs::Keys::digit_of))]
+fn digit_of(character: u8) -> u8
+    ensures { result ≡ digit_of character }
+{
     match character {
         b'A'..=b'Z' => character - b'A' + 1,
         b'a'..=b'z' => character - b'a' + 27,

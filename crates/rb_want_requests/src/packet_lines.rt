@@ -1,5 +1,7 @@
 //! The paths of requests about packets.
-ghost use Rattle.std.specs.Prelude.{◌≡◌};
+ghost use Rattle.std.specs.Prelude.{◌≡◌, ◌++◌};
+ghost use Rattle.std.specs.Fmt.{WritesOnOk, decimal};
+ghost use Rattle.rb_want_requests.specs.PacketPaths.{encoded, encoded_byte, is_plain, listed, packet_path, part_of, pending_in, search_path, states_path};
 ghost use Rattle.rb_want_requests.specs.Pending.{committed_in};
 
 use crate::content::Content;
@@ -30,7 +32,9 @@ pub fn write_packet_path<W: fmt::Write>(
     query: &Query,
     end: &ChannelEnd,
     contents: &[Content],
-) -> fmt::Result {
+) -> fmt::Result
+    ensures path { WritesOnOk W.write_str_gives f.old result (packet_path query.now end.now contents.now) f.new }
+{
     match query {
         Query::Sent(sequence) => write_search(f, "send_packet", "src", end, *sequence),
         Query::Received(sequence) => write_search(f, "recv_packet", "dst", end, *sequence),
@@ -52,7 +56,9 @@ fn write_states_path<W: fmt::Write>(
     f: &mut fmt::Formatter<W>,
     query: &Query,
     contents: &[Content],
-) -> fmt::Result {
+) -> fmt::Result
+    ensures { WritesOnOk W.write_str_gives f.old result (states_path query.now contents.now) f.new }
+{
     match query {
         Query::Commitments { .. } => {
             write!(
@@ -86,20 +92,36 @@ fn write_part<W: fmt::Write>(
     part: u64,
     first: &str,
     next: &str,
-) -> fmt::Result {
-    let end = part.saturating_mul(SEQUENCES_A_PART);
-    let start = end.saturating_sub(SEQUENCES_A_PART);
-    let mut place: u64 = 0;
+) -> fmt::Result
+    ensures { WritesOnOk W.write_str_gives f.old result (listed first.now next.now (part_of part (pending_in contents.now))) f.new }
+{
+    let end = u128::from(part) * u128::from(SEQUENCES_A_PART);
+    let mut before = end.saturating_sub(u128::from(SEQUENCES_A_PART));
+    let mut left = end - before;
+    let mut separator = first;
     for content in contents {
         for sequence in committed_in(content) {
-            if start <= place && place < end {
-                f.write_str(if place == start { first } else { next })?;
-                write!(f, "{sequence}")?;
+            if before > 0 {
+                before -= 1;
+            } else if left > 0 {
+                write_sequence(f, separator, *sequence)?;
+                separator = next;
+                left -= 1;
             }
-            place = place.saturating_add(1);
         }
     }
     Ok(())
+}
+
+/// Writes a sequence, with what stands before it.
+fn write_sequence<W: fmt::Write>(
+    f: &mut fmt::Formatter<W>,
+    separator: &str,
+    sequence: u64,
+) -> fmt::Result
+    ensures { WritesOnOk W.write_str_gives f.old result (separator.now ++ decimal sequence) f.new }
+{
+    write!(f, "{separator}{sequence}")
 }
 
 /// Writes the path of a search for transactions with an event on the packet of a sequence, whose end is the packet's source
@@ -110,7 +132,9 @@ fn write_search<W: fmt::Write>(
     side: &str,
     end: &ChannelEnd,
     sequence: u64,
-) -> fmt::Result {
+) -> fmt::Result
+    ensures { WritesOnOk W.write_str_gives f.old result (search_path event.now side.now end.now sequence) f.new }
+{
     write!(f, "/tx_search?query=%22{event}.packet_{side}_channel='")?;
     write_encoded(f, end.channel.as_str())?;
     write!(
@@ -120,14 +144,30 @@ fn write_search<W: fmt::Write>(
 }
 
 /// Writes an identifier in a URL, in which other characters than letters, digits and `-._` stand as their numbers (RFC 3986).
-fn write_encoded<W: fmt::Write>(f: &mut fmt::Formatter<W>, id: &str) -> fmt::Result {
+fn write_encoded<W: fmt::Write>(f: &mut fmt::Formatter<W>, id: &str) -> fmt::Result
+    ensures { WritesOnOk W.write_str_gives f.old result (encoded id.now) f.new }
+{
     for byte in id.as_bytes() {
-        match *byte {
-            b'a'..=b'z' | b'A'..=b'Z' | b'0'..=b'9' | b'-' | b'.' | b'_' => {
-                f.write_char(char::from(*byte))?
-            }
-            other => write!(f, "%{other:02X}")?,
-        }
+        write_encoded_byte(f, *byte)?;
     }
     Ok(())
+}
+
+/// Writes a byte of an identifier in a URL.
+fn write_encoded_byte<W: fmt::Write>(f: &mut fmt::Formatter<W>, byte: u8) -> fmt::Result
+    ensures { WritesOnOk W.write_str_gives f.old result (encoded_byte byte) f.new }
+{
+    if is_plain(byte) {
+        f.write_char(char::from(byte))
+    } else {
+        write!(f, "%{byte:02X}")
+    }
+}
+
+/// Whether a byte is a letter, a digit or one of `-._`.
+#[tactic(auto, unfolding(crate::specs::PacketPaths::is_plain))]
+fn is_plain(byte: u8) -> bool
+    ensures { result ≡ is_plain byte }
+{
+    byte.is_ascii_alphanumeric() || b"-._".contains(&byte)
 }

@@ -32,6 +32,11 @@ pub struct Wanted<'a> {
 
 /// Shown as a line for each request, and after them a line for each reason.
 impl fmt::Display for Wanted<'_> {
+    ghost use Rattle.std.specs.Prelude.{Some};
+    ghost use Rattle.rb_want_requests.specs.Lines.{wanted_text};
+
+    ghost output = { λ wanted. Some (wanted_text wanted.folders.now wanted.requests.items wanted.reasons.items) };
+
     fn fmt<W: fmt::Write>(&self, f: &mut fmt::Formatter<W>) -> fmt::Result {
         let folders = self.folders;
         for request in &self.requests {

@@ -1,4 +1,3 @@
-use Rattle.std.proofs.Common.{append_assoc}
 use Rattle.rb_want_requests.proofs.reason.CauseDisplay.fmt.Goals as goal
 
 pub returns-in-GoalAhead-clause-writes : goal.returns-in-GoalAhead-clause-writes
