@@ -31,7 +31,10 @@ pub halved_up : (total within beyond middle : ℕ) (r : Ratio) → IsHalved tota
 halved_up total within beyond middle r is above below without = record { within = without; beyond = is.beyond; order = below; range = is.range }
 
 pub halved_end : (total within beyond : ℕ) (r : Ratio) → IsHalved total within beyond r → beyond ≤ within + 1 → IsThreshold total r within
-halved_end total within beyond r is end = λ power le. (above power, below power le)
+halved_end total within beyond r is end =
+    let order = is.order in
+    let range = is.range in
+    record { within = omega arith; parts = λ power le. (above power, below power le) }
   where
     above : (power : ℕ) → Exceeds power total r → within < power
     above power h = go (cases_lt within power)

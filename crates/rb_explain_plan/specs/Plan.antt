@@ -1,5 +1,5 @@
 -- Why a plan is as it is: its steps, and the lists beside it.
-use Rattle.std.specs.Prelude.{◌≡◌, ℕ, ◌-◌, ◌≤◌, ◌^◌, ◌+◌, List, [], length, slice_get, Option, Some, None, MatchOption, IsSomeAnd}
+use Rattle.std.specs.Prelude.{◌≡◌, ℕ, ◌-◌, ◌≤◌, ◌^◌, ◌+◌, List, [], ◌∷◌, length, slice_get, Option, Some, None, MatchOption, IsSomeAnd}
 use Rattle.std.specs.List.{AllZip}
 use Rattle.std.specs.Option.{option_map}
 use Rattle.rb_step.specs.LightClient.{Update, total_fee}
@@ -44,3 +44,7 @@ pub record IsPlanExplained {A : Type 0} (v : View) (goal : Goal) (us : List Upda
   pub direct : IsDirect v x.newest (last_height us) x.direct
   pub fewest : IsSomeAnd x.fewest (IsFewestPriced v goal)
   pub bisection : IsBisected v x.newest (last_height us) x.bisection
+
+-- the plan is one step: the one from the highest height that was stored and live
+abbrev pub IsOnlyStep : {A : Type 0} → PlanExplanation A → Type 0
+IsOnlyStep x = IsSomeAnd x.direct (λ direct. x.steps.items ≡ Some direct ∷ [])

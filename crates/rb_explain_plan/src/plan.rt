@@ -1,8 +1,8 @@
 //! A plan, and the lists beside it.
-ghost use Rattle.std.specs.Prelude.{◌≡◌, IfOk};
+ghost use Rattle.std.specs.Prelude.{◌≡◌, ◌↔◌, IfOk, IsTrue};
 ghost use Rattle.rb_plan.specs.Least.{IsLeast};
 ghost use Rattle.rb_step.specs.View.{client_of};
-ghost use Rattle.rb_explain_plan.specs.Plan.{IsBisected, IsFewestPriced, IsPlanExplained, last_height};
+ghost use Rattle.rb_explain_plan.specs.Plan.{IsBisected, IsFewestPriced, IsOnlyStep, IsPlanExplained, last_height};
 
 use crate::bisecting::bisection;
 use crate::fewest_updates::fewest;
@@ -30,7 +30,9 @@ pub struct PlanExplanation<A: Allocator = Global> {
 
 impl<A: Allocator> PlanExplanation<A> {
     /// Whether the plan is the one step from the highest height that was stored and live.
-    pub fn is_only_step(&self) -> bool {
+    pub fn is_only_step(&self) -> bool
+        ensures { IsTrue result ↔ IsOnlyStep self.now }
+    {
         match (self.steps.as_slice(), &self.direct) {
             ([Some(only)], Some(direct)) => *only == *direct,
             _ => false,
