@@ -1,13 +1,14 @@
 //! How many votes of a header an update carries.
-ghost use Rattle.std.specs.Prelude.{◌≡◌, ◌≤◌, ◌-◌, IfOk, Some, None, length, sum_by, take};
+ghost use Rattle.std.specs.Prelude.{◌≡◌, ◌≤◌, ◌-◌, [], ◌++◌, IfOk, Some, None, length, sum_by, drop};
 ghost use Rattle.std.specs.Option.{option_copied};
 ghost use Rattle.rb_book.specs.Header.{IsSignedBy};
 ghost use Rattle.rb_valset.specs.ValidatorSet.{IsValidatorSet};
 ghost use Rattle.rb_votes.specs.Places.{StandByPlace};
 ghost use Rattle.rb_votes.specs.Votes.{fewest_by, sent_votes};
-ghost use Rattle.rb_step.specs.Carried.{power_in, voters_of, own_needed, trusted_needed, needed_of, needed_voters, carried_votes, least_votes};
+ghost use Rattle.rb_step.specs.Carried.{power_in, voters_from, voters_of, own_needed, trusted_needed, needed_of, needed_voters, carried_votes, least_votes};
 
 use crate::checks::is_adjacent;
+use arrayvec::ArrayVec;
 use rb_base::{CarriedVotes, Fraction, Height, Options};
 use rb_book::Header;
 use rb_valset::{MAX_MEMBERS, Validator, ValidatorSet};
@@ -52,17 +53,25 @@ pub fn least_votes<A: Allocator + Copy>(
     }
 }
 
-/// The fewest votes that an update to the header carries where it carries what is needed.
+/// The fewest votes that an update to the header carries where it carries what is needed: by the set's order
+/// power falls, so no fewer than the first that have it have the needed power of its own set.
 fn least_needed<A: Allocator + Copy>(header: &Header<A>, own: &ValidatorSet<A>) -> usize
     requires { IsSignedBy header.now own.now }
     ensures { result ≡ length (fewest_by (λ v. v.own) (own_needed own.now) (voters_of None header.now own.now)) }
 {
-    let needed = Needed {
-        own: own_needed(own),
-        trusted: 0,
-    };
-    // No power of another set is needed, so the own set may stand for it.
-    first_votes(needed, Some(own), header, own).0
+    let votes = header.votes();
+    let mut count = 0;
+    let mut left = own_needed(own);
+    for (place, member) in own.members().iter().enumerate() {
+        if left == 0 {
+            return count;
+        }
+        if votes[place].is_commit() {
+            count += 1;
+            left = left.saturating_sub(member.power());
+        }
+    }
+    count
 }
 
 /// The least power that is more than two thirds of the set's.
@@ -137,39 +146,13 @@ fn power_of<A: Allocator + Copy>(set: &ValidatorSet<A>, member: &Validator, plac
     }
 }
 
-/// How many of the header's commit votes, from the first on, have the needed power of its own set, and what
-/// they lack of the needed power of the other: by the set's order power falls, so no fewer have it. All of
-/// them where they haven't.
-fn first_votes<A: Allocator + Copy>(
-    needed: Needed,
-    next: Option<&ValidatorSet<A>>,
-    header: &Header<A>,
-    own: &ValidatorSet<A>,
-) -> (usize, u64)
-    requires { IsSignedBy header.now own.now }
-    ensures count { result.0 ≡ length (fewest_by (λ v. v.own) needed.own (voters_of (option_copied next.entry) header.now own.now)) }
-    ensures set { IsValidatorSet own.now }
-    ensures lacking { result.1 ≡ needed.trusted - sum_by (λ v. v.trusted) (fewest_by (λ v. v.own) needed.own (voters_of (option_copied next.entry) header.now own.now)) }
-{
-    let votes = header.votes();
-    let mut count = 0;
-    let mut left = needed.own;
-    let mut lacking = needed.trusted;
-    for (place, member) in own.members().iter().enumerate() {
-        if left == 0 {
-            return (count, lacking);
-        }
-        if votes[place].is_commit() {
-            count += 1;
-            left = left.saturating_sub(member.power());
-            lacking = lacking.saturating_sub(power_in(next, member, place));
-        }
-    }
-    (count, lacking)
-}
+/// Sizes of sets whose voters take less room than those of the largest.
+const FEW: usize = 256;
 
-/// How many votes are carried where an update carries what is needed: the fewest that have the own set's
-/// power, where these pass the other test too.
+const MORE: usize = 2048;
+
+/// How many votes are carried where an update carries what is needed. Room for voters is written over first,
+/// so a small set takes little of it.
 fn needed_count<A: Allocator + Copy>(
     options: &Options,
     trusted_height: Height,
@@ -181,23 +164,51 @@ fn needed_count<A: Allocator + Copy>(
     ensures { result ≡ length (needed_voters options.now trusted_height (option_copied next.entry) header.now own.now) }
 {
     let needed = needed_of(options, trusted_height, next, header, own);
-    let first = first_votes(needed, next, header, own);
-    let lacking = first.1;
-    if lacking == 0 {
-        return first.0;
+    let size = own.size();
+    if size <= FEW {
+        count_of_few(needed, next, header, own)
+    } else if size <= MORE {
+        count_of_more(needed, next, header, own)
+    } else {
+        count_of_most(needed, next, header, own)
     }
-    both_count(needed, next, header, own)
 }
 
-/// A place for a voter.
-const NO_VOTER: Voter = Voter {
-    place: 0,
-    own: 0,
-    trusted: 0,
-};
+/// The same for a small set. A call pays for the room that a function has, so the three are not inlined.
+#[inline(never)]
+fn count_of_few<A: Allocator + Copy>(
+    needed: Needed,
+    next: Option<&ValidatorSet<A>>,
+    header: &Header<A>,
+    own: &ValidatorSet<A>,
+) -> usize
+    requires signed { IsSignedBy header.now own.now }
+    requires room { length own.now ≤ 256 }
+    ensures { result ≡ length (sent_votes needed (voters_of (option_copied next.entry) header.now own.now)) }
+{
+    let mut voters: ArrayVec<Voter, FEW> = ArrayVec::new();
+    count_within(&mut voters, needed, next, header, own)
+}
 
-/// How many votes are carried where each test needs votes of its own.
-fn both_count<A: Allocator + Copy>(
+/// The same for a larger set.
+#[inline(never)]
+fn count_of_more<A: Allocator + Copy>(
+    needed: Needed,
+    next: Option<&ValidatorSet<A>>,
+    header: &Header<A>,
+    own: &ValidatorSet<A>,
+) -> usize
+    requires signed { IsSignedBy header.now own.now }
+    requires room { length own.now ≤ 2048 }
+    ensures { result ≡ length (sent_votes needed (voters_of (option_copied next.entry) header.now own.now)) }
+{
+    let mut voters: ArrayVec<Voter, MORE> = ArrayVec::new();
+    count_within(&mut voters, needed, next, header, own)
+}
+
+/// The same for any set.
+#[inline(never)]
+fn count_of_most<A: Allocator + Copy>(
     needed: Needed,
     next: Option<&ValidatorSet<A>>,
     header: &Header<A>,
@@ -207,38 +218,101 @@ fn both_count<A: Allocator + Copy>(
     ensures { result ≡ length (sent_votes needed (voters_of (option_copied next.entry) header.now own.now)) }
 {
     prove!(own.size() <= MAX_MEMBERS);
-    let mut voters = [NO_VOTER; MAX_MEMBERS];
-    let count = put_voters(&mut voters, next, header, own);
-    sent_count(&mut voters[..count], needed)
+    let mut voters: ArrayVec<Voter, MAX_MEMBERS> = ArrayVec::new();
+    count_within(&mut voters, needed, next, header, own)
 }
 
-/// Puts the commit voters from the first place on, and answers how many they are.
-fn put_voters<A: Allocator + Copy>(
-    voters: &mut [Voter],
+/// How many votes are carried of a set whose voters have a place: the fewest that have the own set's power,
+/// where these pass the other test too.
+fn count_within<A: Allocator + Copy, const N: usize>(
+    voters: &mut ArrayVec<Voter, N>,
+    needed: Needed,
     next: Option<&ValidatorSet<A>>,
     header: &Header<A>,
     own: &ValidatorSet<A>,
 ) -> usize
     requires signed { IsSignedBy header.now own.now }
-    requires room { length own.now ≤ length voters.old }
-    ensures voters { take result voters.new ≡ voters_of (option_copied next.entry) header.now own.now }
-    ensures places { StandByPlace (take result voters.new) }
-    ensures room { length voters.new ≡ length voters.old }
-    ensures within { result ≤ length voters.new }
+    requires room { length own.now ≤ N }
+    requires empty { voters.old.items ≡ [] }
+    ensures { result ≡ length (sent_votes needed (voters_of (option_copied next.entry) header.now own.now)) }
+{
+    let first = put_first(&mut *voters, needed, next, header, own);
+    let lacking = first.1;
+    if lacking == 0 {
+        return voters.len();
+    }
+    put_rest(&mut *voters, first.0, next, header, own);
+    sent_count(voters, needed)
+}
+
+/// Puts the header's commit voters, from the first on, until they have the needed power of its own set: by
+/// the set's order power falls, so no fewer have it. All of them where they haven't. Answers the place after
+/// the last of them, and what they lack of the needed power of the other set.
+fn put_first<A: Allocator + Copy, const N: usize>(
+    voters: &mut ArrayVec<Voter, N>,
+    needed: Needed,
+    next: Option<&ValidatorSet<A>>,
+    header: &Header<A>,
+    own: &ValidatorSet<A>,
+) -> (usize, u64)
+    requires signed { IsSignedBy header.now own.now }
+    requires room { length own.now ≤ N }
+    requires empty { voters.old.items ≡ [] }
+    ensures first { voters.new.items ≡ fewest_by (λ v. v.own) needed.own (voters_of (option_copied next.entry) header.now own.now) }
+    ensures rest { voters.new.items ++ voters_from result.0 (option_copied next.entry) (drop result.0 own.now) (drop result.0 header.now.votes)
+        ≡ voters_of (option_copied next.entry) header.now own.now }
+    ensures few { length voters.new.items ≤ result.0 }
+    ensures lacking { result.1 ≡ needed.trusted - sum_by (λ v. v.trusted) voters.new.items }
 {
     let votes = header.votes();
-    let mut count = 0;
+    let mut left = needed.own;
+    let mut lacking = needed.trusted;
     for (place, member) in own.members().iter().enumerate() {
+        if left == 0 {
+            return (place, lacking);
+        }
         if votes[place].is_commit() {
-            voters[count] = Voter {
+            let trusted = power_in(next, member, place);
+            voters.push(Voter {
+                place,
+                own: member.power(),
+                trusted,
+            });
+            left = left.saturating_sub(member.power());
+            lacking = lacking.saturating_sub(trusted);
+        }
+    }
+    (own.size(), lacking)
+}
+
+/// Puts the header's commit voters from a place on after those before it.
+fn put_rest<A: Allocator + Copy, const N: usize>(
+    voters: &mut ArrayVec<Voter, N>,
+    start: usize,
+    next: Option<&ValidatorSet<A>>,
+    header: &Header<A>,
+    own: &ValidatorSet<A>,
+)
+    requires signed { IsSignedBy header.now own.now }
+    requires room { length own.now ≤ N }
+    requires few { length voters.old.items ≤ start }
+    requires before { voters.old.items ++ voters_from start (option_copied next) (drop start own.now) (drop start header.now.votes)
+        ≡ voters_of (option_copied next) header.now own.now }
+    ensures voters { voters.new.items ≡ voters_of (option_copied next.entry) header.now own.now }
+    ensures places { StandByPlace voters.new.items }
+{
+    let votes = header.votes();
+    let members = own.members();
+    for place in start..members.len() {
+        let member = &members[place];
+        if votes[place].is_commit() {
+            voters.push(Voter {
                 place,
                 own: member.power(),
                 trusted: power_in(next, member, place),
-            };
-            count += 1;
+            });
         }
     }
-    count
 }
 
 /// The voters whose votes an update carries that carries what is needed, by their places.
@@ -254,7 +328,8 @@ pub(crate) fn needed_voters<A: Allocator + Copy>(
     ensures { IfOk result (λ voters. voters.items ≡ needed_voters options.now trusted_height (option_copied next.entry) header.now own.now) }
 {
     let needed = needed_of(options, trusted_height, next, header, own);
-    let mut voters = vec![in alloc; NO_VOTER; own.size()]?;
-    let count = put_voters(voters.as_mut_slice(), next, header, own);
-    sent_votes(alloc, &voters[..count], needed)
+    prove!(own.size() <= MAX_MEMBERS);
+    let mut voters: ArrayVec<Voter, MAX_MEMBERS> = ArrayVec::new();
+    put_rest(&mut voters, 0, next, header, own);
+    sent_votes(alloc, voters.as_slice(), needed)
 }

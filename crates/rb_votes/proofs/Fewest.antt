@@ -1,7 +1,6 @@
 -- what is sent against the fewest for the own set's test alone, and against all voters where these pass too little
-use Rattle.std.proofs.Common.{◌≡◌, ℕ, ◌+◌, ◌-◌, ◌≤◌, ◌<◌, ◌⊎◌, eqb, List, [], ◌∷◌, ◌++◌, length, drop, refl, sym, ap, ◌∙◌, subst, inl, inr, arith}
+use Rattle.std.proofs.Common.{◌≡◌, ℕ, ◌-◌, ◌≤◌, ◌<◌, ◌⊎◌, eqb, List, [], ◌∷◌, ◌++◌, length, refl, sym, ap, ◌∙◌, subst, inl, inr, arith}
 use Rattle.std.specs.List.{sum_by}
-use Rattle.std.specs.List.Sorted.{IsPermutation}
 use Rattle.std.proofs.lemmas.Bool.{cond_both, eqb-true, cases_lt}
 use Rattle.std.proofs.lemmas.List.{length-append, append_assoc}
 use Rattle.std.proofs.lemmas.List.Sums.{sum_by-cons, sum_by-append}
@@ -11,7 +10,7 @@ use Rattle.rb_votes.specs.declared.voter.Needed.{Needed}
 use Rattle.rb_votes.specs.Votes.{Passes, IsPart, are_enough, falling, least_prefix, fewest_by, fewest_then, thinned, sent_votes}
 use Rattle.rb_votes.proofs.Orders.{falling_same}
 use Rattle.rb_votes.proofs.Thinned.{Passes-from}
-use Rattle.rb_votes.proofs.Sent.{others, fewest_split, fewest_reach, part_power, fewest_least, then_part, sent_part, sent_enough, sent_least, either, all_by_own, all_by_trusted, by_own, by_trusted}
+use Rattle.rb_votes.proofs.Sent.{others, fewest_split, fewest_reach, part_power, fewest_least, then_part, sent_part, sent_enough, sent_least, either, all_by_own, all_by_trusted}
 
 module _ (needed : Needed) where
   -- votes that don't pass are left as they are

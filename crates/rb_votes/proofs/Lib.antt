@@ -5,6 +5,8 @@ mod Ordered
 mod Thinned
 pub mod Sent
 pub mod Fewest
+mod Others
 mod Taken
+mod Putting
 mod Thinning
 mod Counted

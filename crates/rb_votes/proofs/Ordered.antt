@@ -1,5 +1,5 @@
 -- a list that is sorted by power falling, then by an order that the given voters rise in, is the given voters by power falling
-use Rattle.std.proofs.Common.{◌≡◌, ℕ, ◌<◌, ◌≤◌, Bool, true, false, leb, List, [], ◌∷◌, drop, get_or, refl, sym, ap, ◌∙◌, subst, arith}
+use Rattle.std.proofs.Common.{◌≡◌, ℕ, ◌<◌, ◌≤◌, false, leb, List, [], ◌∷◌, get_or, refl, sym, ap, ◌∙◌, arith}
 use Rattle.std.specs.List.{All, IsDistinct}
 use Rattle.std.specs.List.Sorted.{IsPermutation, IsSortedBy}
 use Rattle.std.specs.Ordering.{nat_cmp, is_lt, is_eq, eq_by_cmp, ordering_then, ordering_reverse}
@@ -15,7 +15,7 @@ use Rattle.rb_votes.specs.declared.voter.Voter.{Voter}
 use Rattle.rb_votes.specs.Places.{StandByPlace}
 use Rattle.rb_votes.specs.Votes.{inserted, falling}
 use Rattle.rb_votes.proofs.Orders.{inserted_same, falling_same}
-use Rattle.rb_votes.proofs.Rising.{Rises, Rises-from_pairs, Rises-at, Rises-drop, same_elements}
+use Rattle.rb_votes.proofs.Rising.{Rises, Rises-from_pairs, Rises-at, same_elements}
 
 -- places rising
 abbrev pub by_place : Voter → Voter → Ordering
@@ -28,7 +28,7 @@ by_power f base v w = ordering_then (nat_cmp (f w) (f v)) (base v w)
 pub by_place_total : IsTotalOrder by_place
 by_place_total = on_total (λ (v : Voter). v.place) nat_cmp_total
 
-less_from : (a b : ℕ) → a < b → nat_cmp a b ≡ Less
+pub less_from : (a b : ℕ) → a < b → nat_cmp a b ≡ Less
 less_from a b less =
     by_ranked (a < b) (a ≡ b) (b < a) (nat_cmp a b) (ranked a b (nat_cmp a b) refl)
     (λ e _. e) (λ _ same. absurd (omega (arith, less, same))) (λ _ more. absurd (omega (arith, less, more)))
@@ -122,24 +122,3 @@ module _ (f : Voter → ℕ) {base : Voter → Voter → Ordering} (o : IsTotalO
 pub falling_is_sorted : (f : Voter → ℕ) (given sorted : List Voter) → StandByPlace given → IsPermutation given sorted
     → IsSortedBy (λ v w. is_lt (by_power f by_place v w)) sorted → sorted ≡ falling f given
 falling_is_sorted f given sorted stand same ordered = sorted_falls f by_place_total given sorted (places_rise given stand) same ordered
-
-then_assoc : (p q r : Ordering) → ordering_then (ordering_then p q) r ≡ ordering_then p (ordering_then q r)
-then_assoc Less q r = refl
-then_assoc Equal q r = refl
-then_assoc Greater q r = refl
-
--- by a power, then by another, then by place
-abbrev pub by_both : (Voter → ℕ) → (Voter → ℕ) → Voter → Voter → Ordering
-by_both f g v w = ordering_then (ordering_then (nat_cmp (f w) (f v)) (nat_cmp (g w) (g v))) (by_place v w)
-
-nested : (f g : Voter → ℕ) → ◌≡◌ {A = Voter → Voter → Bool} (λ v w. is_lt (by_both f g v w)) (λ v w. is_lt (by_power f (by_power g by_place) v w))
-nested f g = λ i. λ v w. is_lt (then_assoc (nat_cmp (f w) (f v)) (nat_cmp (g w) (g v)) (by_place v w) i)
-
--- the last of those, sorted by another power, ties by the first and then by place
-pub rest_is_sorted : (f g : Voter → ℕ) (given rest sorted : List Voter) (n : ℕ) → StandByPlace given → rest ≡ drop n (falling g given) → IsPermutation rest sorted
-    → IsSortedBy (λ v w. is_lt (by_both f g v w)) sorted → sorted ≡ falling f rest
-rest_is_sorted f g given rest sorted n stand is same ordered =
-    let total = by_power_total g by_place_total in
-    let rises : Rises total rest =
-    subst (Rises total) (sym is) (Rises-drop total n (falling g given) (falling_rises g by_place_total given (places_rise given stand))) in
-    sorted_falls f total rest sorted rises same (subst (λ (lt : Voter → Voter → Bool). IsSortedBy lt sorted) (nested f g) ordered)

@@ -7,7 +7,22 @@ use Rattle.std.proofs.lemmas.List.Sums.{sum_by-cons, sum_by-append}
 use Rattle.std.proofs.lemmas.List.Elements.{All-nil, All-cons, All-head, All-tail, All-weaker}
 use Rattle.std.proofs.lemmas.List.Sorted.{All-permutation, IsPermutation-refl, IsPermutation-sym, IsPermutation-cons, IsPermutation-trans, IsPermutation-middle, sum_by-IsPermutation}
 use Rattle.rb_votes.specs.declared.voter.Voter.{Voter}
-use Rattle.rb_votes.specs.Votes.{inserted, falling}
+use Rattle.rb_votes.specs.Votes.{inserted, falling, placed, rising}
+
+pub placed_same : (v : Voter) (ws : List Voter) → IsPermutation (v ∷ ws) (placed v ws)
+placed_same v [] = IsPermutation-refl (v ∷ [])
+placed_same v (w ∷ ws) =
+    cond_both (leb v.place w.place) (v ∷ w ∷ ws) (w ∷ placed v ws) (IsPermutation (v ∷ w ∷ ws))
+    (λ _. IsPermutation-refl (v ∷ w ∷ ws))
+    (λ _. IsPermutation-trans (v ∷ w ∷ ws) (w ∷ v ∷ ws) (w ∷ placed v ws)
+    (IsPermutation-sym (w ∷ v ∷ ws) (v ∷ w ∷ ws) (IsPermutation-middle (w ∷ []) v ws))
+    (IsPermutation-cons w (v ∷ ws) (placed v ws) (placed_same v ws)))
+
+pub rising_same : (vs : List Voter) → IsPermutation vs (rising vs)
+rising_same [] = IsPermutation-refl []
+rising_same (v ∷ vs) =
+    IsPermutation-trans (v ∷ vs) (v ∷ rising vs) (rising (v ∷ vs))
+    (IsPermutation-cons v vs (rising vs) (rising_same vs)) (placed_same v (rising vs))
 
 module _ (f : Voter → ℕ) where
   -- each has no more power than those before it

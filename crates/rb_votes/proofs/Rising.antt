@@ -1,12 +1,14 @@
 -- lists that rise strictly: two of them with the same elements are one list
-use Rattle.std.proofs.Common.{◌≡◌, ◌≢◌, ℕ, zero, suc, ◌<◌, List, [], ◌∷◌, length, drop, get_or, refl, sym, ap, ◌∙◌, arith}
+use Rattle.std.proofs.Common.{◌≡◌, ◌≢◌, ℕ, zero, suc, ◌<◌, Bool, List, [], ◌∷◌, length, get_or, filter, refl, sym, ap, ◌∙◌, arith}
 use Rattle.std.specs.Prelude.{AllPairs}
 use Rattle.std.specs.List.{All, Contains}
 use Rattle.std.specs.Ordering.{ordering_reverse}
 use Rattle.std.specs.Cmp.{IsTotalOrder}
 use Rattle.std.specs.declared.cmp.Ordering.{Ordering}
 use Rattle.std.specs.declared.cmp.Ordering.TheVariants.{Less, Equal, Greater}
+use Rattle.std.proofs.lemmas.Bool.{cond_both}
 use Rattle.std.proofs.lemmas.Cmp.{tied_itself}
+use Rattle.std.proofs.lemmas.List.Elements.{All-filter}
 
 module _ {X : Type 0} {R : X → X → Ordering} (o : IsTotalOrder R) where
   -- each element is below all later ones
@@ -27,10 +29,11 @@ module _ {X : Type 0} {R : X → X → Ordering} (o : IsTotalOrder R) where
   Rises-at (x ∷ xs) rises zero (suc j) d less within = rises.0 j d (omega (arith, within))
   Rises-at (x ∷ xs) rises (suc i) (suc j) d less within = Rises-at xs rises.1 i j d (omega (arith, less)) (omega (arith, within))
 
-  pub Rises-drop : (n : ℕ) (xs : List X) → Rises xs → Rises (drop n xs)
-  Rises-drop zero xs rises = rises
-  Rises-drop (suc n) [] rises = rises
-  Rises-drop (suc n) (x ∷ xs) rises = Rises-drop n xs rises.1
+  pub Rises-filter : (p : X → Bool) (xs : List X) → Rises xs → Rises (filter p xs)
+  Rises-filter p [] rises = tt
+  Rises-filter p (x ∷ xs) rises =
+      let rest = Rises-filter p xs rises.1 in
+      cond_both (p x) (x ∷ filter p xs) (filter p xs) Rises (λ _. (All-filter p (λ y. R x y ≡ Less) xs rises.0, rest)) (λ _. rest)
 
   not_itself : (x y : X) → R x y ≡ Less → x ≢ y
   not_itself x y less e = let same : R x y ≡ Equal = sym (ap (λ z. R x z) e) ∙ tied_itself o x in cc

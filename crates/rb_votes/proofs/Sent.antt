@@ -8,8 +8,8 @@ use Rattle.std.proofs.lemmas.List.Sums.{sum_by-append}
 use Rattle.std.proofs.lemmas.List.Sorted.{IsPermutation-refl, IsPermutation-trans, IsPermutation-append_left, IsPermutation-append_right, sum_by-IsPermutation}
 use Rattle.rb_votes.specs.declared.voter.Voter.{Voter}
 use Rattle.rb_votes.specs.declared.voter.Needed.{Needed}
-use Rattle.rb_votes.specs.Votes.{Passes, IsPart, falling, fewest_by, fewest_then, thinned, sent_votes}
-use Rattle.rb_votes.proofs.Orders.{falling_same, at_most_first}
+use Rattle.rb_votes.specs.Votes.{Passes, IsPart, falling, fewest_by, fewest_then, thinned, rising, sent_votes}
+use Rattle.rb_votes.proofs.Orders.{falling_same, rising_same, at_most_first}
 use Rattle.rb_votes.proofs.Thinned.{thinned_le, thinned_part, thinned_passes, thinned_needed}
 use Rattle.rb_votes.proofs.Prefixes.{prefix_reaches, prefix_short, prefix_none, prefix_and_rest}
 
@@ -22,13 +22,17 @@ part_of_part some more voters inner outer = (
 )
 
 module _ (f : Voter → ℕ) where
-  -- the voters that the fewest votes leave
+  -- the voters that the fewest votes leave, by place
   abbrev pub others : ℕ → List Voter → List Voter
-  others needed voters = drop (length (fewest_by f needed voters)) (falling f voters)
+  others needed voters = rising (drop (length (fewest_by f needed voters)) (falling f voters))
 
   pub fewest_split : (needed : ℕ) (voters : List Voter) → IsPermutation voters (fewest_by f needed voters ++ others needed voters)
   fewest_split needed voters =
-      subst (IsPermutation voters) (sym (prefix_and_rest f needed (falling f voters))) (falling_same f voters)
+      let first = fewest_by f needed voters in
+      let rest = drop (length first) (falling f voters) in
+      IsPermutation-trans voters (first ++ rest) (first ++ rising rest)
+      (subst (IsPermutation voters) (sym (prefix_and_rest f needed (falling f voters))) (falling_same f voters))
+      (IsPermutation-append_right first rest (rising rest) (rising_same rest))
 
   pub fewest_reach : (needed : ℕ) (voters : List Voter) → needed ≤ sum_by f voters → needed ≤ sum_by f (fewest_by f needed voters)
   fewest_reach needed voters enough =

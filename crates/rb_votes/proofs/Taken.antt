@@ -1,12 +1,16 @@
 -- the definitions by places: what the functions compute
-use Rattle.std.proofs.Common.{◌≡◌, ℕ, ◌+◌, ◌-◌, ◌≤◌, eqb, List, [], ◌∷◌, ◌++◌, length, take, drop, refl, sym, ap, ◌∙◌, arith}
+use Rattle.std.proofs.Common.{◌≡◌, ℕ, ◌-◌, eqb, List, [], ◌∷◌, ◌++◌, length, take, drop, refl, ap, ◌∙◌, arith}
 use Rattle.std.specs.List.{sum_by}
 use Rattle.std.proofs.lemmas.Bool.{cond_both}
-use Rattle.std.proofs.lemmas.List.{append-nil, length-drop, length-take-le, take-append-drop, take-take, take_at, take_rest, drop_at, drop_all, drop-take}
-use borrow.Rule.Slice.PartMut.{mid_of, put_mid}
+use Rattle.std.proofs.lemmas.List.{length-append, take_all}
+use Rattle.std.proofs.lemmas.List.Sorted.{length_permutation}
 use Rattle.rb_votes.specs.declared.voter.Voter.{Voter}
-use Rattle.rb_votes.specs.Votes.{falling, least_prefix, fewest_then}
+use Rattle.rb_votes.specs.Places.{StandByPlace, not_before}
+use Rattle.rb_votes.specs.Votes.{falling, rising, least_prefix, fewest_then}
+use Rattle.rb_votes.proofs.Orders.{falling_same}
 use Rattle.rb_votes.proofs.Prefixes.{prefix_none}
+use Rattle.rb_votes.proofs.Sent.{then_part}
+use Rattle.rb_votes.proofs.Others.{others_are}
 
 module _ (f : Voter → ℕ) where
   pub prefix_taken : (needed : ℕ) (vs : List Voter) → take (length (least_prefix f needed vs)) vs ≡ least_prefix f needed vs
@@ -18,66 +22,40 @@ module _ (f : Voter → ℕ) where
   pub prefix_done : (left : ℕ) (vs : List Voter) → left ≡ 0 → length (least_prefix f left vs) ≡ 0
   prefix_done left vs none = ap (λ n. length (least_prefix f n vs)) none ∙ ap length (prefix_none f vs)
 
--- the two prefixes as taken from lists that are sorted
-pub then_taken : (f g : Voter → ℕ) (needed more : ℕ) (voters sorted others : List Voter) (first lack second : ℕ)
-    → sorted ≡ falling f voters → first ≡ length (least_prefix f needed sorted)
-    → lack ≡ more - sum_by g (take first sorted) → others ≡ falling g (drop first sorted)
-    → second ≡ length (least_prefix g lack others)
-    → take first sorted ++ take second others ≡ fewest_then f needed g more voters
-then_taken f g needed more voters sorted others first lack second is_sorted is_first is_lack is_others is_second =
-    by_sorted (falling f voters) is_sorted first is_first lack is_lack others is_others second is_second
-  where
-    at_second : (n : ℕ) (ws : List Voter) (m : ℕ) → m ≡ length (least_prefix g n ws) → take m ws ≡ least_prefix g n ws
-    at_second n ws m is = ap (λ k. take k ws) is ∙ prefix_taken g n ws
+module _ (f g : Voter → ℕ) (needed more : ℕ) (given : List Voter) where
+  abbrev chosen : List Voter
+  chosen = fewest_then f needed g more given
 
-    by_sorted : (ordered : List Voter) → sorted ≡ ordered → (i : ℕ) → i ≡ length (least_prefix f needed sorted)
-        → (n : ℕ) → n ≡ more - sum_by g (take i sorted) → (ws : List Voter) → ws ≡ falling g (drop i sorted)
-        → (m : ℕ) → m ≡ length (least_prefix g n ws)
-        → take i sorted ++ take m ws
-        ≡ least_prefix f needed ordered
-        ++ least_prefix g (more - sum_by g (least_prefix f needed ordered)) (falling g (drop (length (least_prefix f needed ordered)) ordered))
-    by_sorted ordered is i is_i n is_n ws is_ws m is_m =
-        let prefix : take i sorted ≡ least_prefix f needed ordered =
-        at_first i is_i ∙ ap (least_prefix f needed) is in
-        let rest : drop i sorted ≡ drop (length (least_prefix f needed ordered)) ordered =
-        ap (λ k. drop k sorted) is_i ∙ ap (λ us. drop (length (least_prefix f needed us)) us) is in
-        let lacks : n ≡ more - sum_by g (least_prefix f needed ordered) = is_n ∙ ap (λ us. more - sum_by g us) prefix in
-        let then : ws ≡ falling g (drop (length (least_prefix f needed ordered)) ordered) = is_ws ∙ ap (falling g) rest in
-        ap (λ us. us ++ take m ws) prefix
-        ∙ ap (λ us. least_prefix f needed ordered ++ us) (at_second n ws m is_m ∙ ap (λ k. least_prefix g k ws) lacks ∙ ap (least_prefix g (more - sum_by g (least_prefix f needed ordered))) then)
-      where
-        at_first : (i : ℕ) → i ≡ length (least_prefix f needed sorted) → take i sorted ≡ least_prefix f needed sorted
-        at_first i is = ap (λ k. take k sorted) is ∙ prefix_taken f needed sorted
+  -- no more are chosen than there are
+  whole : (sorted : List Voter) → sorted ≡ falling f given → take (length sorted) chosen ≡ chosen
+  whole sorted is =
+      let part = then_part f needed g more given in
+      let same = ap (λ vs. length vs) is in
+      take_all (length sorted) chosen
+      (omega (
+        arith,
+        same,
+        length_permutation given (falling f given) (falling_same f given),
+        length_permutation given (chosen ++ part.0) part.1,
+        length-append chosen part.0,
+      ))
 
-taken_more : (xs ys : List Voter) (a n : ℕ) → length xs ≡ a → take (a + n) (xs ++ ys) ≡ xs ++ take n ys
-taken_more xs ys a n long =
-    sym (take-append-drop a (take (a + n) (xs ++ ys)))
-    ∙ ap (λ zs. zs ++ drop a (take (a + n) (xs ++ ys))) (take-take a (a + n) (xs ++ ys) (omega arith) ∙ take_at xs ys a long)
-    ∙ ap (λ zs. xs ++ zs) (drop-take a n (xs ++ ys) ∙ ap (λ zs. take n zs) (drop_at xs ys a long))
-
--- a list whose end is written anew
-end_put : (xs ys : List Voter) (a : ℕ) → put_mid a (length xs - a) xs ys ≡ take a xs ++ ys
-end_put xs ys a =
-    ap (λ zs. take a xs ++ (ys ++ zs)) (drop_all (length xs - a) (drop a xs) (omega (arith, length-drop a xs)))
-    ∙ ap (λ zs. take a xs ++ zs) (append-nil ys)
-
-read_end : (xs ys all : List Voter) (a : ℕ) → length xs ≡ a → all ≡ xs ++ ys → take (length all - a) (drop a all) ≡ ys
-read_end xs ys all a long is = take_rest all a ∙ ap (λ zs. drop a zs) is ∙ drop_at xs ys a long
-
--- the same from one list whose end is sorted anew
-pub brought : (f g : Voter → ℕ) (needed more : ℕ) (voters sorted others : List Voter) (first lack second : ℕ)
-    → sorted ≡ falling f voters → first ≡ length (least_prefix f needed sorted) → first ≤ length sorted
-    → lack ≡ more - sum_by g (take first sorted) → others ≡ falling g (mid_of first (length sorted - first) sorted)
-    → second
-    ≡ length (least_prefix g lack (take (length (put_mid first (length sorted - first) sorted others) - first) (drop first (put_mid first (length sorted - first) sorted others))))
-    → take (first + second) (put_mid first (length sorted - first) sorted others) ≡ fewest_then f needed g more voters
-brought f g needed more voters sorted others first lack second is_sorted is_first within is_lack is_others is_second =
-    let all = put_mid first (length sorted - first) sorted others in
-    let whole = end_put sorted others first in
-    let long = length-take-le first sorted within in
-    let last : others ≡ falling g (drop first sorted) = is_others ∙ ap (falling g) (take_rest sorted first) in
-    let count : second ≡ length (least_prefix g lack others) =
-    is_second ∙ ap (λ vs. length (least_prefix g lack vs)) (read_end (take first sorted) others all first long whole) in
-    ap (λ vs. take (first + second) vs) whole
-    ∙ taken_more (take first sorted) others first second long
-    ∙ then_taken f g needed more voters sorted others first lack second is_sorted is_first is_lack last count
+  -- the two prefixes as taken from lists that are sorted
+  pub brought : StandByPlace given → (sorted others taken : List Voter) (first lack : ℕ) → sorted ≡ falling f given → others ≡ falling g given
+      → first ≡ length (least_prefix f needed sorted) → lack ≡ more - sum_by g (take first sorted)
+      → taken ≡ take (length sorted) (take first sorted ++ least_prefix g lack (not_before f (drop first sorted) others)) → taken ≡ chosen
+  brought stand sorted others taken first lack is_sorted is_others is_first is_lack is_taken =
+      let start = least_prefix f needed (falling f given) in
+      let prefix : take first sorted ≡ start =
+      ap (λ n. take n sorted) is_first ∙ prefix_taken f needed sorted ∙ ap (λ vs. least_prefix f needed vs) is_sorted in
+      let long : first ≡ length start = is_first ∙ ap (λ vs. length (least_prefix f needed vs)) is_sorted in
+      let left : drop first sorted ≡ drop (length start) (falling f given) = ap (λ n. drop n sorted) long ∙ ap (λ vs. drop (length start) vs) is_sorted in
+      let rest : not_before f (drop first sorted) others ≡ falling g (rising (drop (length start) (falling f given))) =
+      ap (λ vs. not_before f vs others) left ∙ ap (λ vs. not_before f (drop (length start) (falling f given)) vs) is_others
+      ∙ others_are f g given stand (drop (length start) (falling f given)) (length start) refl in
+      let lacks : lack ≡ more - sum_by g start = is_lack ∙ ap (λ vs. more - sum_by g vs) prefix in
+      is_taken
+      ∙ ap (λ vs. take (length sorted) (vs ++ least_prefix g lack (not_before f (drop first sorted) others))) prefix
+      ∙ ap (λ n. take (length sorted) (start ++ least_prefix g n (not_before f (drop first sorted) others))) lacks
+      ∙ ap (λ vs. take (length sorted) (start ++ least_prefix g (more - sum_by g start) vs)) rest
+      ∙ whole sorted is_sorted

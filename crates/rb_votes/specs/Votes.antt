@@ -44,11 +44,21 @@ least_prefix power needed (v ∷ vs) = if needed == 0 then [] else v ∷ least_p
 abbrev pub fewest_by : (Voter → ℕ) → ℕ → List Voter → List Voter
 fewest_by power needed voters = least_prefix power needed (falling power voters)
 
--- the fewest votes that have the needed power, and of the others the fewest that with them have what is needed of the other power
+-- voters by place rising, with one more put before the first that has no lower one
+abbrev pub placed : Voter → List Voter → List Voter
+placed v [] = v ∷ []
+placed v (w ∷ ws) = if nat_le v.place w.place then v ∷ w ∷ ws else w ∷ placed v ws
+
+-- the voters by place rising
+abbrev pub rising : List Voter → List Voter
+rising [] = []
+rising (v ∷ vs) = placed v (rising vs)
+
+-- the fewest votes that have the needed power, and of the others, by place, the fewest that with them have what is needed of the other power
 abbrev pub fewest_then : (Voter → ℕ) → ℕ → (Voter → ℕ) → ℕ → List Voter → List Voter
 fewest_then power needed other more voters =
     let first = fewest_by power needed voters in
-    first ++ fewest_by other (more - sum_by other first) (drop (length first) (falling power voters))
+    first ++ fewest_by other (more - sum_by other first) (rising (drop (length first) (falling power voters)))
 
 -- from the last back each vote goes without which those before it and what is left of those behind it pass both tests
 abbrev pub thinned : Needed → List Voter → List Voter → List Voter

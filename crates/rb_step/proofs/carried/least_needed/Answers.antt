@@ -1,13 +1,16 @@
-use Rattle.std.proofs.Common.{◌∙◌, ap, Some, None, length}
-use Rattle.rb_votes.specs.Votes.{fewest_by}
-use Rattle.rb_step.specs.Carried.{voters_of}
-use Rattle.rb_step.proofs.CarriedBy.{same_fewest}
+use Rattle.std.proofs.Common.{ap, arith, List, length}
+use Rattle.rb_valset.specs.Validator.{Member}
+use Rattle.rb_step.specs.Carried.{own_needed}
+use Rattle.rb_step.proofs.Walked.{walk_enough, walk_end}
 use Rattle.rb_step.proofs.carried.least_needed.Goals as goal
+
+pub returns-then-left-eq0 : goal.returns-then-left-eq0
+returns-then-left-eq0 g c =
+    walk_enough c.args.own.now c.args.header.now (own_needed c.args.own.now) c.loop-place.place c.loop-place.count c.loop-place.left
+    c.members-member-items.ensures.set c.loop-place.invariant c.if-left-eq0.true
 
 pub returns : goal.returns
 returns g c =
-    let own = c.args.own.now in
-    let h = c.args.header.now in
-    c.first_votes.ensures.count
-    ∙ same_fewest (Some own) None c.own_needed.result h own c.first_votes.ensures.set
-    ∙ ap (λ n. length (fewest_by (λ v. v.own) n (voters_of None h own))) c.own_needed.ensures
+    let same = ap (λ (ms : List Member). length ms) c.members-member-items.ensures.members in
+    walk_end c.args.own.now c.args.header.now (own_needed c.args.own.now) c.loop-place.place c.loop-place.count c.loop-place.left
+    c.members-member-items.ensures.set c.loop-place.invariant (omega (arith, same))
