@@ -8,6 +8,9 @@ const EVENT: u64 = 100;
 /// What it costs to hand a turn's jobs to workers, in the same units.
 const TURN: u64 = 60_000;
 
+/// What it costs that a worker plans one client of a turn: its job, what the job's answer is made of, and their places in the queues.
+const CLIENT: u64 = 10_000;
+
 /// What is spent without a thought, in the same units: a run that is over in a few milliseconds.
 const LITTLE: u64 = 300_000;
 
@@ -57,9 +60,10 @@ fn saved(stores: &[StoreSize], clients: &[ClientConfig]) -> u64 {
 }
 
 /// What workers cost in a turn.
-fn spent(turn: &Turn) -> u64 {
-    let events = turn.events.len() as u64;
-    events.saturating_mul(EVENT).saturating_add(TURN)
+fn spent(turn: &Turn, clients: &[ClientConfig]) -> u64 {
+    let events = (turn.events.len() as u64).saturating_mul(EVENT);
+    let jobs = (clients.len() as u64).saturating_mul(CLIENT);
+    events.saturating_add(jobs).saturating_add(TURN)
 }
 
 /// Whether workers are to make the plans: they save more by planning clients side by side than they cost, or cost little. Only time
@@ -76,7 +80,7 @@ pub(crate) fn are_plans_for_workers(alloc: Global, script: &Script) -> Result<bo
             count(stores.as_mut_slice(), event);
         }
         saving = saving.saturating_add(saved(stores.as_slice(), script.config.clients.as_slice()));
-        spending = spending.saturating_add(spent(turn));
+        spending = spending.saturating_add(spent(turn, script.config.clients.as_slice()));
     }
     Ok(spending < saving.max(LITTLE))
 }
