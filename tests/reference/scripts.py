@@ -514,7 +514,7 @@ def refuse_too_much(limit, chains, clients, paths, turns):
             records, sets, _, votes, _ = stores[client.of]
             work, space = work + records * (2 * sets + 51), space + 3 * records
             if client.votes == "needed":
-                work, space = work + (votes + 50 * records) * (sets + 10), space + 2 * votes
+                work, space = work + (60 * votes + 50 * records) * (sets + 10), space + 2 * votes
         work += 36 * sent + sum(3 * stores[path.dest][0] for path in paths.values()) + sum(store[0] * store[4] for store in stores.values())
         space += 13 * sent
         need(work <= MAX_WORK and space + 2 * sum(records * sets for records, sets, *_ in stores.values()) <= MAX_SPACE, 1032, f"turn[{i}]")

@@ -91,11 +91,11 @@ sums_after n (s ∷ ss) = sums_after (counted n (s.records * s.sums)) ss
 abbrev pub after_tables : Work → Work
 after_tables w = record w { work = sums_after w.work w.stores }
 
--- the work of the votes of a labelling, where updates carry those that they need: the votes, and 50 for each record, for each set, and ten times
+-- the work of the votes where updates carry those that they need: 60 for each vote and 50 for each record, for each set, and ten times for the updates
 abbrev pub walked : CarriedVotes → StoreSize → ℕ
 walked Commit s = 0
 walked Cast s = 0
-walked Needed s = (s.votes + s.records * 50) * (s.sets + 10)
+walked Needed s = (s.votes * 60 + s.records * 50) * (s.sets + 10)
 
 -- the space of the votes that updates carry, where these carry those that they need
 abbrev pub carried : CarriedVotes → StoreSize → ℕ

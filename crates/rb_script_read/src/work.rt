@@ -119,15 +119,16 @@ impl StoreSize {
         self.records.saturating_mul(steps)
     }
 
-    /// The work of the votes of a labelling, where updates carry those that they need: the votes, and 50 for
-    /// each consensus state, for each set, and ten times.
+    /// The work of the votes where updates carry those that they need: 60 for each vote and 50 for each
+    /// consensus state, for each set, and ten times for the updates.
     fn walked(self, votes: CarriedVotes) -> u64
         ensures { min result 4294967296 ≡ min (walked votes self) 4294967296 }
     {
         match votes {
             CarriedVotes::Needed => {
-                let votes = self.votes.saturating_add(self.records.saturating_mul(50));
-                votes.saturating_mul(self.sets.saturating_add(10))
+                let votes = self.votes.saturating_mul(60);
+                let headers = votes.saturating_add(self.records.saturating_mul(50));
+                headers.saturating_mul(self.sets.saturating_add(10))
             }
             CarriedVotes::Commit | CarriedVotes::Cast => 0,
         }
