@@ -1,6 +1,6 @@
 -- (internal) Where a search goes from a trusted height.
 use Rattle.std.specs.Prelude.{◌≡◌, ℕ}
-use Rattle.rb_want_search.specs.Search.{Judgements, IsFarthestStep, IsNotAccepted, IsQuestion, IsWithin}
+use Rattle.rb_want_search.specs.Search.{Judgements, IsDeadEnd, IsFarthestStep, IsNotAccepted, IsQuestion, IsWithin}
 use Rattle.rb_want_search.specs.declared.searching.Aim.{Aim}
 use Rattle.rb_want_search.specs.declared.searching.Hop.{Hop}
 use Rattle.rb_want_search.specs.declared.searching.Hop.TheVariants.{To, Asks, Stuck}
@@ -12,4 +12,4 @@ IsRefusedStep judges aim trusted height = IsWithin aim trusted height × IsNotAc
 abbrev pub IsHop : Judgements → Aim → ℕ → Hop → Type 0
 IsHop judges aim trusted (To height) = IsFarthestStep judges aim trusted height
 IsHop judges aim trusted (Asks q) = (q.trusted ≡ trusted) × IsQuestion judges aim q
-IsHop judges aim trusted (Stuck height) = IsRefusedStep judges aim trusted height
+IsHop judges aim trusted (Stuck height) = IsWithin aim trusted height × IsDeadEnd judges trusted height

@@ -1,7 +1,7 @@
 -- What a search for accepted steps comes to, by how steps are judged.
-use Rattle.std.specs.Prelude.{◌≡◌, ◌≢◌, ◌⊎◌, ◌+◌, ◌-◌, ◌/◌, ◌<◌, ◌≤◌, ℕ, List, [], ◌∷◌, Option, Some, None, IfSome}
+use Rattle.std.specs.Prelude.{◌≡◌, ◌≢◌, ◌⊎◌, ◌+◌, ◌-◌, ◌/◌, ◌<◌, ◌≤◌, ℕ, List, [], ◌∷◌, Option, Some, None, IfSome, unwrap_or}
 use Rattle.rb_want_search.specs.declared.judge.Judgement.{Judgement}
-use Rattle.rb_want_search.specs.declared.judge.Judgement.TheVariants.{Accepted, Gone, Unknown}
+use Rattle.rb_want_search.specs.declared.judge.Judgement.TheVariants.{Accepted, Gone, Never, Unknown}
 use Rattle.rb_want_search.specs.declared.searching.Aim.{Aim}
 use Rattle.rb_want_search.specs.declared.searching.Question.{Question}
 use Rattle.rb_want_search.specs.declared.searching.Finding.{Finding}
@@ -37,10 +37,10 @@ abbrev pub IsFarthestStep : Judgements → Aim → ℕ → ℕ → Type 0
 IsFarthestStep judges aim trusted height =
     IsWithin aim trusted height × judges trusted height Accepted × IsFarthest judges aim trusted height
 
--- farthest steps to these heights in turn lead from a height to another
+-- farthest steps to these heights in turn lead from a height to another, each from one below what serves
 abbrev pub Lead : Judgements → Aim → ℕ → List ℕ → ℕ → Type 0
 Lead judges aim from [] to = from ≡ to
-Lead judges aim from (h ∷ hs) to = IsFarthestStep judges aim from h × Lead judges aim h hs to
+Lead judges aim from (h ∷ hs) to = (from < aim.least) × IsFarthestStep judges aim from h × Lead judges aim h hs to
 
 -- farthest steps lead to the height from the first one
 abbrev pub IsReached : Judgements → Aim → ℕ → ℕ → Type 0
@@ -50,30 +50,34 @@ IsReached judges aim first height = (hops : List ℕ) × Lead judges aim first h
 abbrev pub Suffices : Aim → ℕ → Type 0
 Suffices aim height = (aim.least ≤ height) ⊎ (aim.most ≤ height)
 
--- a search goes up from the trusted height, from one to which a step is accepted, or from one that isn't given
-abbrev pub IsLowerEnd : Judgements → ℕ → ℕ → Type 0
-IsLowerEnd judges trusted floor = (floor ≡ trusted) ⊎ judges trusted floor Accepted ⊎ judges trusted floor Gone
+-- the height halves the gap between one from which a search goes up, which is the greatest that is accepted or else the trusted one, or a greater
+-- one that isn't given, and a greater one to which no step is accepted
+abbrev pub HalvesGap : Judgements → ℕ → ℕ → Option ℕ → ℕ → Type 0
+HalvesGap judges trusted height accepted ceiling =
+    IsNotAccepted judges trusted ceiling
+    × ((floor : ℕ) × IsFloor judges trusted (unwrap_or accepted trusted) floor × (height ≡ floor + (ceiling - floor) / 2))
 
--- the height halves the gap between one from which a search goes up and a greater one to which no step is accepted
-abbrev pub HalvesGap : Judgements → ℕ → ℕ → ℕ → Type 0
-HalvesGap judges trusted height ceiling =
-    IsNotAccepted judges trusted ceiling × ((floor : ℕ) × IsLowerEnd judges trusted floor × (height ≡ floor + (ceiling - floor) / 2))
-
--- the height is the greatest that the aim takes where no other was refused yet, and else halves the gap below the least that was
-abbrev pub IsNext : Judgements → Aim → ℕ → ℕ → Option ℕ → Type 0
-IsNext judges aim trusted height None = height ≡ aim.most
-IsNext judges aim trusted height (Some ceiling) = HalvesGap judges trusted height ceiling
+-- the height is the greatest that the aim takes where no other was judged yet, and else halves the gap below the least that was refused
+abbrev pub IsNext : Judgements → Aim → ℕ → ℕ → Option ℕ → Option ℕ → Type 0
+IsNext judges aim trusted height accepted None = (height ≡ aim.most) × (accepted ≡ None)
+IsNext judges aim trusted height accepted (Some ceiling) = HalvesGap judges trusted height accepted ceiling
 
 -- a question is about the next step, which can't be judged yet; the height that it names as accepted is
 abbrev pub IsQuestion : Judgements → Aim → Question → Type 0
 IsQuestion judges aim q =
     IsWithin aim q.trusted q.height × judges q.trusted q.height Unknown × IfSome q.accepted (λ h. judges q.trusted h Accepted)
-    × IsNext judges aim q.trusted q.height q.refused
+    × IsNext judges aim q.trusted q.height q.accepted q.refused
 
--- A search ends where farthest steps lead: at a height that suffices; or at one from which a step is asked for that can't be judged yet,
--- or from which a step that is judged isn't accepted.
+-- no step goes on from the trusted height: the one to the height is refused as each other is, or it isn't accepted, and none is left below
+abbrev pub IsDeadEnd : Judgements → ℕ → ℕ → Type 0
+IsDeadEnd judges trusted height =
+    judges trusted height Never
+    ⊎ (IsNotAccepted judges trusted height × ((floor : ℕ) × IsFloor judges trusted trusted floor × (floor < height) × (height ≤ floor + 1)))
+
+-- A search ends where farthest steps lead: at a height that suffices; or at one below what serves, from which a step is asked for that can't be
+-- judged yet, or no step goes on.
 abbrev pub IsFinding : Judgements → ℕ → Aim → Finding → Type 0
 IsFinding judges first aim (Reached height) = IsReached judges aim first height × Suffices aim height
-IsFinding judges first aim (Asks q) = IsReached judges aim first q.trusted × IsQuestion judges aim q
+IsFinding judges first aim (Asks q) = IsReached judges aim first q.trusted × (q.trusted < aim.least) × IsQuestion judges aim q
 IsFinding judges first aim (Stuck trusted height) =
-    IsReached judges aim first trusted × IsWithin aim trusted height × IsNotAccepted judges trusted height
+    IsReached judges aim first trusted × (trusted < aim.least) × IsWithin aim trusted height × IsDeadEnd judges trusted height

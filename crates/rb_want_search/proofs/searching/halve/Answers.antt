@@ -9,7 +9,6 @@ halvings-preserved-in-Gone g c =
       above = omega (arith, c.halvings.invariant.above, c.in-Some.ensures.inside.0);
       below = c.in-Some.ensures.inside.1;
       ceiling = c.halvings.invariant.ceiling;
-      lower = inr (inr gone);
-      accepted = λ h is. let before = c.halvings.invariant.accepted h is in
-          (before.0, before.1, (omega (arith, before.2.0, c.in-Some.ensures.inside.0), inr gone));
+      lower = (omega (arith, c.halvings.invariant.lower.0, c.in-Some.ensures.inside.0), inr gone);
+      accepted = c.halvings.invariant.accepted;
     }

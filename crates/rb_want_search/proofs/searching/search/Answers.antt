@@ -1,4 +1,4 @@
-use Rattle.std.proofs.Common.{subst}
+use Rattle.std.proofs.Common.{rules, subst}
 use Rattle.rb_want_search.specs.Hop.{IsHop}
 use Rattle.rb_want_search.proofs.Leading.{further}
 use Rattle.rb_want_search.proofs.searching.search.Goals as goal
@@ -7,5 +7,5 @@ use Rattle.rb_want_search.proofs.searching.search.Goals as goal
 pub hops-preserved : goal.hops-preserved
 hops-preserved g c =
     let judges = g.J.Judge.judges c.args.judge.now in
-    further judges c.args.aim.now c.args.first c.hops.trusted c.in-To.height c.hops.invariant
+    further judges c.args.aim.now c.args.first c.hops.trusted c.in-To.height c.hops.invariant (search rules)
     (subst (λ hop. IsHop judges c.args.aim.now c.hops.trusted hop) c.in-To.is c.in_ok-height.ensures)
