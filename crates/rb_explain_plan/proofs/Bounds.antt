@@ -1,10 +1,11 @@
 -- What an update costs at most, by the greatest set of a book.
-use Rattle.std.proofs.Common.{◌≡◌, ℕ, ◌+◌, ◌*◌, ◌≤◌, ◌==◌, ◌<◌, List, [], ◌∷◌, length, Option, Some, None, All, take, get_or, ap, sym, refl, ◌∙◌, subst, arith}
+use Rattle.std.proofs.Common.{◌≡◌, ℕ, ◌+◌, ◌*◌, ◌≤◌, ◌==◌, ◌<◌, List, [], ◌∷◌, length, max, Option, Some, None, All, take, get_or, ap, sym, refl, ◌∙◌, subst, arith}
 use Rattle.std.specs.Option.{option_map_or}
 use Rattle.std.specs.Str.{bytes_eq}
 use Rattle.std.proofs.Math.Nat.{mul-le-mul_left}
 use Rattle.std.proofs.lemmas.List.{take_all}
 use Rattle.std.proofs.lemmas.List.Elements.{All-more}
+use Rattle.std.proofs.lemmas.List.Sums.{fold_more}
 use Rattle.std.proofs.lemmas.Option.{same_Some}
 use Rattle.rb_base.specs.Fee.{Fees, charge_of}
 use Rattle.rb_base.specs.Options.{ClientOptions}
@@ -18,6 +19,7 @@ use Rattle.rb_step.specs.Fee.{size_of, fee_of}
 use Rattle.rb_step.specs.KnownStep.{step_at}
 use Rattle.rb_step.specs.StepRule.{Step, step_of}
 use Rattle.rb_step.specs.View.{View, IsView, client_of}
+use Rattle.rb_explain_plan.specs.Greatest.{most_members}
 use Rattle.rb_step.proofs.CarriedBy.{carried_few}
 use Rattle.rb_step.proofs.Orderly.{found, bind_some}
 
@@ -37,6 +39,19 @@ small_more sets i set most next lt is up size small =
 
 pub small_all : (sets : List (List Member)) (i most : ℕ) → length sets ≤ i → AreSmall most (take i sets) → AreSmall most sets
 small_all sets i most le small = subst (AreSmall most) (take_all i sets le) small
+
+pub most_none : (sets : List (List Member)) → 0 ≡ most_members (take 0 sets)
+most_none [] = refl
+most_none (x ∷ xs) = refl
+
+pub most_more : (sets : List (List Member)) (i : ℕ) (set : List Member) (most next : ℕ) → i < length sets → set ≡ get_or sets i set → next ≡ max most (length set)
+    → most ≡ most_members (take i sets) → next ≡ most_members (take (i + 1) sets)
+most_more sets i set most next lt is next_is most_is =
+    next_is ∙ ap (λ (n : ℕ). max n (length set)) most_is ∙ ap (λ (m : List Member). max (most_members (take i sets)) (length m)) is
+    ∙ sym (fold_more (λ (n : ℕ) (m : List Member). max n (length m)) 0 sets i set lt)
+
+pub most_all : (sets : List (List Member)) (i most : ℕ) → length sets ≤ i → most ≡ most_members (take i sets) → most ≡ most_members sets
+most_all sets i most le is = is ∙ ap most_members (take_all i sets le)
 
 -- what a step is charged for
 record IsSmallStep (o : ClientOptions) (n : ℕ) (s : Step) : Type 0 where

@@ -4,6 +4,7 @@ pub mod Step
 pub mod Steps
 pub mod Charges
 pub mod Fewest
+pub mod Greatest
 pub mod Bisection
 pub mod Search
 pub mod Plan

@@ -34,7 +34,8 @@ pub record IsBisectionPriced {A : Type 0} (v : View) (from to : ℕ) (l : Priced
 abbrev pub IsBisected : {A : Type 0} → View → Option ℕ → Option ℕ → Option (PricedList A) → Type 0
 IsBisected v None to o = o ≡ None
 IsBisected v (Some from) None o = o ≡ None
-IsBisected v (Some from) (Some to) o = MatchOption o ((us : List Update) → IsBisection (client_of v) v.book from to us → ⊥) (IsBisectionPriced v from to)
+IsBisected v (Some from) (Some to) o =
+    MatchOption o ((us : List Update) → IsBisection (client_of v) v.book from to us → ⊥) (IsBisectionPriced v from to)
 
 -- the step of each update is explained; the highest height that is stored and live before them; the one step from there
 -- to the last update's height; the fewest updates; and those of a bisection

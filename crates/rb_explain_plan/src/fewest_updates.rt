@@ -1,11 +1,12 @@
 //! The fewest updates that meet a goal.
-ghost use Rattle.std.specs.Prelude.{◌≡◌, ℕ, ◌+◌, ◌*◌, ◌<◌, ◌≤◌, ◌^◌, List, Some, None, All, IfOk, IfSome, length};
+ghost use Rattle.std.specs.Prelude.{◌≡◌, ℕ, ◌+◌, ◌*◌, ◌<◌, ◌≤◌, ◌^◌, List, Some, None, All, IfOk, IfSome, length, max};
 ghost use Rattle.rb_valset.specs.Validator.{Member};
 ghost use Rattle.rb_valset.specs.ValidatorSet.{max_members};
 ghost use Rattle.rb_step.specs.LightClient.{total_fee};
 ghost use Rattle.rb_step.specs.View.{client_of};
 ghost use Rattle.rb_plan.specs.Least.{IsLeast, IsUnreachable};
 ghost use Rattle.rb_explain_plan.specs.Fewest.{IsFewest, IsCheapestOfFewest};
+ghost use Rattle.rb_explain_plan.specs.Greatest.{most_members, most_for_one};
 
 use crate::charges::charges_of;
 use crate::prices::priced;
@@ -108,6 +109,7 @@ fn fewest_by_few<A: Allocator + Copy>(
 
 /// The greater one of a number and the number of a set's members.
 fn or_size<A: Allocator + Copy>(most: usize, set: &ValidatorSet<A>) -> usize
+    ensures greater { result ≡ max most (length set.now) }
     ensures most { most ≤ result }
     ensures size { length set.now ≤ result }
     ensures range { most ≤ max_members → result ≤ max_members }
@@ -118,6 +120,7 @@ fn or_size<A: Allocator + Copy>(most: usize, set: &ValidatorSet<A>) -> usize
 
 /// The most members that a set of the book has.
 fn most_members<A: Allocator + Copy>(book: &ChainBook<A>) -> usize
+    ensures greatest { result ≡ most_members book.now.sets }
     ensures most { All (λ (set : List Member). length set ≤ result) book.now.sets }
     ensures range { result ≤ max_members }
 {
@@ -132,7 +135,8 @@ fn most_members<A: Allocator + Copy>(book: &ChainBook<A>) -> usize
 /// What one update costs at most by the client's fees.
 #[tactic(auto, using(crate::proofs::Bounds::fee_at_most))]
 fn most_for_one<A: Allocator + Copy>(view: &ClientView<'_, A>) -> u64
-    ensures { (trusted height : ℕ) → (client_of view.now).fee trusted height ≤ result }
+    ensures charge { result ≡ most_for_one view.now }
+    ensures most { (trusted height : ℕ) → (client_of view.now).fee trusted height ≤ result }
 {
     let members = most_members(view.book()) as u64;
     view.fees().charge(members, 2 * members)
