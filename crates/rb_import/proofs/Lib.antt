@@ -6,3 +6,5 @@ pub mod Serving
 pub mod Adding
 pub mod Using
 pub mod Orders
+pub mod Tallying
+pub mod Firsts

@@ -4,3 +4,4 @@ pub mod Steps
 pub mod Starts
 pub mod Parts
 pub mod Finding
+pub mod Tallies

@@ -1,10 +1,13 @@
 //! The line that a script of answers begins with: who verified signatures.
-ghost use Rattle.std.specs.Prelude.{◌≡◌, IfOk, All, string_bytes};
+ghost use Rattle.std.specs.Prelude.{◌≡◌, ◌++◌, ◌∷◌, [], List, IfOk, All, option_map, slice_get, string_bytes};
 ghost use Rattle.rb_import_answers.specs.Said.{IsPlain};
-ghost use Rattle.rb_import.specs.Openings.{IsCredit, IsOpening, credit, hold_verdicts};
+ghost use Rattle.rb_import_check.specs.declared.chain.Commit.{Commit};
+ghost use Rattle.rb_import_check.specs.Verdicts.{verdicts_of};
+ghost use Rattle.rb_import.specs.Openings.{IsCredit, IsOpening, credit, hold_verdicts, seen_commits, verifier_of};
+ghost use Rattle.rb_import.specs.Tallies.{IsTally};
 
-use rb_import_answers::{NodeAnswer, plain_text};
-use rb_import_check::{Commit, SavedAnswers, has_verdicts};
+use rb_import_answers::{NodeAnswer, Verdicts, plain_text};
+use rb_import_check::{Commit, Saved, SavedAnswers, has_verdicts};
 use rb_import_merge::Seen;
 use std::alloc::{AllocError, Global};
 
@@ -88,7 +91,10 @@ struct Tally {
     unchecked: usize,
 }
 
-fn tally_of(seen: &Seen<'_>) -> Tally {
+/// The tally of the commits that were seen.
+fn tally_of(seen: &Seen<'_>) -> Tally
+    ensures { IsTally (seen_commits seen.now) result }
+{
     let mut tally = Tally {
         commits: 0,
         verified: 0,
@@ -97,15 +103,26 @@ fn tally_of(seen: &Seen<'_>) -> Tally {
         unchecked: 0,
     };
     for chain in &seen.chains {
-        for commit in &chain.commits {
-            tally = with_commit(tally, commit);
-        }
+        tally = with_commits(tally, chain.commits.as_slice());
     }
     tally
 }
 
+/// The tally with more commits.
+fn with_commits(tally: Tally, commits: &[Commit<'_>]) -> Tally
+    ensures { (counted : List Commit) → IsTally counted tally → IsTally (counted ++ commits.now) result }
+{
+    let mut whole = tally;
+    for commit in commits {
+        whole = with_commit(whole, commit);
+    }
+    whole
+}
+
 /// The tally with a commit more.
-fn with_commit(tally: Tally, commit: &Commit<'_>) -> Tally {
+fn with_commit(tally: Tally, commit: &Commit<'_>) -> Tally
+    ensures { (counted : List Commit) → IsTally counted tally → IsTally (counted ++ commit.now ∷ []) result }
+{
     let commits = tally.commits.saturating_add(1);
     match commit.verdict {
         Some(verdict) => Tally {
@@ -120,13 +137,25 @@ fn with_commit(tally: Tally, commit: &Commit<'_>) -> Tally {
 }
 
 /// Who verified the first of the chains that have verdicts.
-fn verifier_of(answers: &SavedAnswers) -> &str {
+fn verifier_of(answers: &SavedAnswers) -> &str
+    ensures { result.now ≡ verifier_of answers.now }
+{
     for saved in &answers.chains {
-        for one in saved {
-            if let NodeAnswer::Verdicts(verdicts) = &one.answer {
-                return verdicts.verifier.as_str();
-            }
+        if let Some(verdicts) = first_verdicts(saved.as_slice()) {
+            return verdicts.verifier.as_str();
         }
     }
     "nobody"
+}
+
+/// The first verdicts that answers hold.
+fn first_verdicts(answers: &[Saved]) -> Option<&Verdicts>
+    ensures { option_map (λ v. v.now) result ≡ slice_get (verdicts_of answers.now) 0 }
+{
+    for saved in answers {
+        if let NodeAnswer::Verdicts(verdicts) = &saved.answer {
+            return Some(verdicts);
+        }
+    }
+    None
 }
