@@ -4,3 +4,4 @@ pub mod Rows
 pub mod Sent
 pub mod Telling
 pub mod Windows
+pub mod Unwritten

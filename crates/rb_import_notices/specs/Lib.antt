@@ -9,3 +9,4 @@ pub mod Unusable
 pub mod Verified
 pub mod Passed
 pub mod Whole
+pub mod NoticeTexts

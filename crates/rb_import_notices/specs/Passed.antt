@@ -2,8 +2,10 @@
 use Rattle.std.specs.Prelude.{◌≡◌, ℕ, List, Vec, Bool, true, false}
 use Rattle.std.specs.Global.{Global}
 use Rattle.std.specs.List.{list_any}
+use Rattle.std.specs.Str.{bytes_eq}
 use Rattle.rb_import_answers.specs.declared.answer.NodeAnswer.{NodeAnswer}
 use Rattle.rb_import_answers.specs.declared.answer.NodeAnswer.TheVariants as answers
+use Rattle.rb_import_answers.specs.Queries.{query_path}
 use Rattle.rb_import_setup.specs.declared.setup.ClientSetup.{ClientSetup}
 use Rattle.rb_import_setup.specs.declared.setup.PathSetup.{PathSetup}
 use Rattle.rb_import_setup.specs.declared.setup.Setup.{Setup}
@@ -22,6 +24,17 @@ is_other (answers.Transactions page) = false
 is_other (answers.Pending p) = false
 is_other (answers.Verdicts v) = false
 is_other (answers.Other query) = true
+
+-- whether an answer is to the query of this path
+abbrev pub is_to : List ℕ → NodeAnswer → Bool
+is_to path (answers.Commit header) = false
+is_to path (answers.Validators page) = false
+is_to path (answers.ClientState state) = false
+is_to path (answers.ConsensusStates page) = false
+is_to path (answers.Transactions page) = false
+is_to path (answers.Pending p) = false
+is_to path (answers.Verdicts v) = false
+is_to path (answers.Other query) = bytes_eq (query_path query) path
 
 abbrev pub has_others : List Saved → Bool
 has_others saved = list_any (λ s. is_other s.answer) saved

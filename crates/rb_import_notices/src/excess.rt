@@ -1,8 +1,9 @@
 //! Notices of what there is no room for: headers and sets of a chain, records of a client, packets of a path.
 ghost use Rattle.std.specs.Prelude.{◌≡◌, IfOk, MatchOption, slice_get};
-ghost use Rattle.rb_import_notices.specs.Excess.{LeavesHeaders, LeavesPackets, LeavesRecords, LeavesSets, SaysHeaders, SaysPackets, SaysRecords, SaysSets, TellExcessHeaders, TellExcessPackets, TellExcessRecords, TellExcessSets, is_sent, sent_in, sent_of};
+ghost use Rattle.rb_import_notices.specs.Excess.{LeavesHeaders, LeavesPackets, LeavesRecords, LeavesSets, SaysHeaders, SaysPackets, SaysRecords, SaysSets, TellExcessHeaders, TellExcessPackets, TellExcessRecords, TellExcessSets, headers_without_set, is_sent, lacks_set, sent_in, sent_of};
 
 use rb_import_answers::PacketKind;
+use rb_import_check::Commit;
 use rb_import_merge::{Seen, SeenPacket};
 use rb_import_setup::{ClientSetup, PathSetup, Setup};
 use std::alloc::{AllocError, Global};
@@ -16,6 +17,11 @@ pub struct TooManyHeaders<'a> {
 }
 
 impl fmt::Display for TooManyHeaders<'_> {
+    ghost use Rattle.std.specs.Prelude.{Some};
+    ghost use Rattle.rb_import_notices.specs.NoticeTexts.{too_many_headers_text};
+
+    ghost output = { λ n. Some (too_many_headers_text n) };
+
     fn fmt<W: fmt::Write>(&self, f: &mut fmt::Formatter<W>) -> fmt::Result {
         let chain = self.chain;
         let left_out = self.left_out;
@@ -35,6 +41,11 @@ pub struct TooManySets<'a> {
 }
 
 impl fmt::Display for TooManySets<'_> {
+    ghost use Rattle.std.specs.Prelude.{Some};
+    ghost use Rattle.rb_import_notices.specs.NoticeTexts.{too_many_sets_text};
+
+    ghost output = { λ n. Some (too_many_sets_text n) };
+
     fn fmt<W: fmt::Write>(&self, f: &mut fmt::Formatter<W>) -> fmt::Result {
         let chain = self.chain;
         let left_out = self.left_out;
@@ -55,6 +66,11 @@ pub struct TooManyRecords<'a> {
 }
 
 impl fmt::Display for TooManyRecords<'_> {
+    ghost use Rattle.std.specs.Prelude.{Some};
+    ghost use Rattle.rb_import_notices.specs.NoticeTexts.{too_many_records_text};
+
+    ghost output = { λ n. Some (too_many_records_text n) };
+
     fn fmt<W: fmt::Write>(&self, f: &mut fmt::Formatter<W>) -> fmt::Result {
         let client = self.client;
         let left_out = self.left_out;
@@ -75,6 +91,11 @@ pub struct TooManyPackets<'a> {
 }
 
 impl fmt::Display for TooManyPackets<'_> {
+    ghost use Rattle.std.specs.Prelude.{Some};
+    ghost use Rattle.rb_import_notices.specs.NoticeTexts.{too_many_packets_text};
+
+    ghost output = { λ n. Some (too_many_packets_text n) };
+
     fn fmt<W: fmt::Write>(&self, f: &mut fmt::Formatter<W>) -> fmt::Result {
         let path = self.path;
         let sent = self.sent;
@@ -148,15 +169,24 @@ fn sets_at<'a>(seen: &Seen<'_>, place: usize, chain: &'a str) -> Option<TooManyS
 }
 
 /// How many headers of the chain at a place aren't written, since their sets aren't.
-fn headers_without_set(seen: &Seen<'_>, place: usize) -> usize {
+fn headers_without_set(seen: &Seen<'_>, place: usize) -> usize
+    ensures { result ≡ headers_without_set seen.now place }
+{
     match seen.chains.get(place) {
         Some(chain) => chain
             .commits
             .iter()
-            .filter(|commit| !seen.is_written(place, &commit.header.set))
+            .filter(|commit| lacks_set(seen, place, commit))
             .count(),
         None => 0,
     }
+}
+
+/// Whether the set of a commit's header isn't written of the chain at a place.
+fn lacks_set(seen: &Seen<'_>, place: usize, commit: &Commit<'_>) -> bool
+    ensures { result ≡ lacks_set seen.now place commit.now }
+{
+    !seen.is_written(place, &commit.header.set)
 }
 
 /// The clients of whose records some are left out.

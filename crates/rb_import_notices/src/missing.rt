@@ -16,6 +16,11 @@ pub struct MissingHeaders<'a> {
 }
 
 impl fmt::Display for MissingHeaders<'_> {
+    ghost use Rattle.std.specs.Prelude.{Some};
+    ghost use Rattle.rb_import_notices.specs.NoticeTexts.{missing_headers_text};
+
+    ghost output = { λ n. Some (missing_headers_text n) };
+
     fn fmt<W: fmt::Write>(&self, f: &mut fmt::Formatter<W>) -> fmt::Result {
         let chain = self.chain;
         write!(

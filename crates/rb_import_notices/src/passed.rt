@@ -1,7 +1,7 @@
 //! Notices of answers to queries that aren't needed.
 ghost use Rattle.std.specs.Prelude.{◌≡◌, IfOk, MatchOption};
 ghost use Rattle.rb_import_merge.specs.Seen.{answers_at};
-ghost use Rattle.rb_import_notices.specs.Passed.{HasOthers, SaysOthers, TellOthersOfChains, TellOthersOfClients, TellOthersOfPaths, has_others, is_other};
+ghost use Rattle.rb_import_notices.specs.Passed.{HasOthers, SaysOthers, TellOthersOfChains, TellOthersOfClients, TellOthersOfPaths, has_others, is_other, is_to};
 
 use rb_import_answers::{NodeAnswer, Query};
 use rb_import_check::{Saved, SavedAnswers};
@@ -26,9 +26,9 @@ impl fmt::Display for PassedOver<'_> {
         )?;
         let mut separator = " ";
         for query in Query::ALL {
-            let count = self.count_of(query);
+            let path = query.path();
+            let count = self.count_of(path);
             if count > 0 {
-                let path = query.path();
                 write!(f, "{separator}{count} of {path}")?;
                 separator = ", ";
             }
@@ -38,19 +38,26 @@ impl fmt::Display for PassedOver<'_> {
 }
 
 impl PassedOver<'_> {
-    /// How many answers are to a query.
-    fn count_of(&self, query: Query) -> usize {
+    ghost use Rattle.std.specs.Prelude.{◌≡◌, count_by};
+    ghost use Rattle.rb_import_notices.specs.Passed.{is_to};
+
+    /// How many answers are to the query of this path.
+    fn count_of(&self, path: &str) -> usize
+        ensures { result ≡ count_by (λ s. is_to path.now s.answer) self.now.answers.now }
+    {
         self.answers
             .iter()
-            .filter(|saved| is_to(&saved.answer, query))
+            .filter(|saved| is_to(&saved.answer, path))
             .count()
     }
 }
 
-/// Whether an answer is to this query.
-fn is_to(answer: &NodeAnswer, query: Query) -> bool {
+/// Whether an answer is to the query of this path.
+fn is_to(answer: &NodeAnswer, path: &str) -> bool
+    ensures { result ≡ is_to path.now answer.now }
+{
     match answer {
-        NodeAnswer::Other(other) => *other == query,
+        NodeAnswer::Other(query) => query.path() == path,
         _ => false,
     }
 }

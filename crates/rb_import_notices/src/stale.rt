@@ -18,6 +18,11 @@ pub struct NothingFresh<'a> {
 }
 
 impl fmt::Display for NothingFresh<'_> {
+    ghost use Rattle.std.specs.Prelude.{Some};
+    ghost use Rattle.rb_import_notices.specs.NoticeTexts.{nothing_fresh_text};
+
+    ghost output = { λ n. Some (nothing_fresh_text n) };
+
     fn fmt<W: fmt::Write>(&self, f: &mut fmt::Formatter<W>) -> fmt::Result {
         let client = self.client;
         let chain = self.chain;

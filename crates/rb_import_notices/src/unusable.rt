@@ -54,6 +54,11 @@ pub struct FutureHeaders<'a> {
 }
 
 impl fmt::Display for FutureHeaders<'_> {
+    ghost use Rattle.std.specs.Prelude.{Some};
+    ghost use Rattle.rb_import_notices.specs.NoticeTexts.{future_headers_text};
+
+    ghost output = { λ n. Some (future_headers_text n) };
+
     fn fmt<W: fmt::Write>(&self, f: &mut fmt::Formatter<W>) -> fmt::Result {
         let client = self.client;
         let chain = self.chain;

@@ -18,6 +18,11 @@ pub struct NotVerified<'a> {
 }
 
 impl fmt::Display for NotVerified<'_> {
+    ghost use Rattle.std.specs.Prelude.{Some};
+    ghost use Rattle.rb_import_notices.specs.NoticeTexts.{not_verified_text};
+
+    ghost output = { λ n. Some (not_verified_text n) };
+
     fn fmt<W: fmt::Write>(&self, f: &mut fmt::Formatter<W>) -> fmt::Result {
         let chain = self.chain;
         let unverified = self.unverified;
