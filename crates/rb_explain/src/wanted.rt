@@ -1,5 +1,5 @@
 //! What is to be explained.
-ghost use Rattle.std.specs.Prelude.{◌≡◌, ◌≤◌, ℕ, IsTrue, false};
+ghost use Rattle.std.specs.Prelude.{◌≡◌, ◌≤◌, ◌↔◌, ℕ, IsTrue, false};
 ghost use Rattle.rb_explain.specs.Wanted.{has_client, has_turn};
 
 /// How much is told of a client: of an unreachable goal up to so many steps, and whether the known heights of the chain are.
@@ -41,7 +41,7 @@ impl Wanted {
 
     /// Whether no turn from this number on is wanted.
     pub(crate) fn ends_before(&self, number: usize) -> bool
-        ensures { IsTrue result → (later : ℕ) → number ≤ later → has_turn self.now later ≡ false }
+        ensures { IsTrue result ↔ ((later : ℕ) → number ≤ later → has_turn self.now later ≡ false) }
     {
         match self.turn {
             Some(turn) => turn < number,

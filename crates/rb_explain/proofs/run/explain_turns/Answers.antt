@@ -109,7 +109,7 @@ returns-then-ends_before-clause-given g c =
     let sum = c.saturating_add-number.ensures in
     let at : c.saturating_add-number.result ≡ n + 1 = omega (arith, long.0, long.1, turn.0) in
     so_far_whole c.args.wanted.now (standing_in c.args.relayer) (map code_turn_as_events items) (g.L.Listener.explanations c.args.listener.now) n (standing_in c.loop-turn.relayer)
-    (g.L.Listener.explanations c.loop-turn.listener) inv.so_far (λ k lt. c.ends_before.ensures c.if-ends_before.true k (omega (arith, at)))
+    (g.L.Listener.explanations c.loop-turn.listener) inv.so_far (λ k lt. c.ends_before.ensures.0 c.if-ends_before.true k (omega (arith, at)))
 
 -- the listener asks for no more
 pub returns-then-not-branch-clause-given : goal.returns-then-not-branch-clause-given
