@@ -122,6 +122,21 @@ def collide_late(size=4077, turns=2, votes=""):
     return text, lines(turns, client=turns, label=(turns - 1) * sets, unreachable=turns)
 
 
+def needed_votes(size=172, full=172, sets=500, width=200):
+    """Headers whose updates carry the votes that they need, and sets, each trusted at a stored height. A set has the members of the headers' own
+    set, with powers of its own, and for each of these one more, of little power, whose address begins with the same two bytes. The members of the
+    greatest powers in the own set have too little of a trusted set."""
+    chance, sets, width = random.Random(7), share(sets, size, full), share(width, size, full, least=3)
+    mine, others = alike(width, 300 * width)
+    begin_of = lambda k: hashlib.sha256(bytes.fromhex(k)).digest()[:2]
+    weak = ",".join(f'["{k}",1]' for k in {begin_of(k): k for k in others}.values())
+    of_keys = lambda: ",".join(f'["{k}",{chance.randint(2, 10**6)}]' for k in mine)
+    events = [a_set("o", f"[{of_keys()}]", "a")] + [a_set(f"s{n}", f"[{of_keys()},{weak}]", "a") for n in range(sets)]
+    events += [stored("c", n + 1, f"s{n}") for n in range(sets)] + [header(sets + n, "C" * width, "o", "o", "a") for n in range(1, size + 1)]
+    text = VERSION_3 + '[[chain]]\nid = "b"\n' + chain("a") + follower("c", "b", "a") + NEEDED + "trust = [9, 10]\n"
+    return text + turn(sets + size, events, [goal("c", sets + size)]), lines(1, client=1, label=sets + size, update=1, total=1)
+
+
 def reverse_headers(size=4096, chains=40, late=False):
     """Headers of each chain from the highest down; late: in a second turn, when each chain has a table."""
     ids = names(chains)
@@ -274,7 +289,8 @@ def kinds():
         Kind("late_18_rising", part(tables, chains=18, late="rising"), 1024, 6, {"chains": 3}, 1, {"chains": 5}),
         Kind("late_1", part(tables, chains=1, late="falling"), 1024, 16),
         Kind("collide_late", collide_late, 4077, 40),
-        Kind("collide_turns", part(collide_late, turns=100, votes=NEEDED), 4077, 40, {"turns": 3}, 12, {"turns": 12}),
+        Kind("collide_turns", part(collide_late, turns=100, votes=NEEDED), 4077, 40, {"turns": 3}, 0, {"size": 1280, "turns": 3}),
+        Kind("needed_votes", needed_votes, 172, 12, {}, 0, {"size": 171, "full": 171}),
         Kind("large_sets", large_sets, 200, 3, {"headers": 20, "width": 40}, 126, {"size": 125}),
         Kind("reverse_headers", reverse_headers, 4096, 20, {"chains": 3}, 0, {"size": 3650}),
         Kind("reverse_headers_late", part(reverse_headers, late=True), 4096, 20, {"chains": 3}, 1, {"size": 3650}),
