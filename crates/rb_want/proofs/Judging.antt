@@ -1,34 +1,63 @@
 -- What is judged of a step by a verdict on it.
-use Rattle.std.proofs.Common.{◌≡◌, ℕ, List, Some, inr, refl}
+use Rattle.std.proofs.Common.{◌≡◌, ◌≢◌, ℕ, ◌+◌, ◌≤◌, ◌⊎◌, List, Some, None, inl, inr, refl, sym, subst, ◌∙◌, arith}
+use Rattle.std.proofs.lemmas.Option.{none-some}
+use Rattle.rb_base.specs.Options.{ClientOptions}
+use Rattle.rb_base.specs.Window.{Span, IsWithin}
 use Rattle.std.specs.Prelude.{◌↔◌}
 use Rattle.rb_book.specs.Header.{Record, Header, IsSignedBy, Names}
 use Rattle.rb_valset.specs.Validator.{Member}
-use Rattle.rb_step.specs.StepRule.{AcceptsWithin, step_of}
+use Rattle.rb_step.specs.Answer.{answer_at}
+use Rattle.rb_step.specs.Conditions.{Condition}
+use Rattle.rb_step.specs.Laws.{AnswerApplies}
+use Rattle.rb_step.specs.StepRule.{AcceptsWithin, Step, step_of}
+use Rattle.rb_step.specs.declared.verdict.Reason.TheVariants.{Expired, TrustedSetUnknown}
 use Rattle.rb_step.specs.declared.verdict.Verdict.{Verdict}
-use Rattle.rb_step.specs.declared.verdict.Verdict.TheVariants.{Success}
+use Rattle.rb_step.specs.declared.verdict.Verdict.TheVariants.{Invalid, Success}
 use Rattle.rb_import_answers.specs.declared.commit.SignedHeader.{SignedHeader}
 use Rattle.rb_want_search.specs.declared.judge.Judgement.{Judgement}
 use Rattle.rb_want_search.specs.declared.judge.Judgement.TheVariants.{Accepted, Refused, Never, Gone, Unknown}
-use Rattle.rb_want.specs.declared.steps.Steps.{Steps}
-use Rattle.rb_want.specs.Steps.{AreByRule, IsHeaderAt, IsRecordAt, IsVerdictOn, header_of, record_of}
+use Rattle.rb_want.specs.declared.judged.Steps.{Steps}
+use Rattle.rb_want.specs.Clients.{IsHeaderAt}
+use Rattle.rb_want.specs.Judgements.{AreByRule, IsExpiring, LacksTrust}
+use Rattle.rb_want.specs.Steps.{HoldsWithin, IsRecordAt, IsVerdictOn, header_of, record_of}
 
 -- the record of a header that is there
 pub storing : (s : Steps) (height : ℕ) (h : SignedHeader) (r : Record)
     → IsHeaderAt s.chain.now.folder.now.contents.items height h → r ≡ record_of h → IsRecordAt s height r
 storing s height h r there is = inr (h, there, is)
 
+-- what a verifier answers at a moment of a window holds at one of them
+pub holding : (law : AnswerApplies) (o : ClientOptions) (w : Span) (step : Step) (moment : ℕ) (v : Verdict)
+    → IsWithin w moment → v ≡ answer_at o moment step → HoldsWithin o w step v
+holding law o w step moment v inside is =
+    let applies = (law o (record { from = moment; until = moment }) step v).0 (sym is) in
+    (moment, inside, applies.0)
+
 -- a verdict on the step between a record and a header that are there
 pub verdict : (s : Steps) (trusted height : ℕ) (r : Record) (h : SignedHeader) (header : Header) (next own : List Member) (v : Verdict)
     → IsRecordAt s trusted r → Names r next → IsHeaderAt s.chain.now.folder.now.contents.items height h → header ≡ header_of h → IsSignedBy header own
-    → ((v ≡ Success) ↔ AcceptsWithin s.options s.window (step_of trusted r (Some next) header own)) → IsVerdictOn s trusted height v
-verdict s trusted height r h header next own v stored named there is signed rule =
-    (step_of trusted r (Some next) header own, (refl, stored, (next, refl, named), (h, there, is), signed), rule)
+    → ((v ≡ Success) ↔ AcceptsWithin s.options s.window (step_of trusted r (Some next) header own))
+    → HoldsWithin s.options s.window (step_of trusted r (Some next) header own) v → IsVerdictOn s trusted height v
+verdict s trusted height r h header next own v stored named there is signed rule holds =
+    (step_of trusted r (Some next) header own, (refl, stored, (next, refl, named), (h, there, is), signed), rule, holds)
+
+-- a verdict that no step from the trusted height is accepted: the record expires within the window
+never : (s : Steps) (trusted height : ℕ) (v : Verdict) → IsVerdictOn s trusted height v → (v ≡ Invalid Expired) ⊎ (v ≡ Invalid TrustedSetUnknown)
+    → IsExpiring s trusted ⊎ LacksTrust s trusted
+never s trusted height v (step, at, rule, (moment, inside, holds)) (inl expired) =
+    let over : step.trusted.time + s.options.period ≤ moment =
+    subst (λ w. Condition w s.options (record { from = moment; until = moment }) step) expired holds in
+    inl (step.trusted, at.1, omega (arith, over, inside.1))
+never s trusted height v (step, at, rule, (moment, inside, holds)) (inr unknown) =
+    let none : step.next ≡ None = subst (λ w. Condition w s.options (record { from = moment; until = moment }) step) unknown holds in
+    absurd (none-some at.2.0 (sym none ∙ at.2.1))
 
 -- a judgement that calls a step accepted only where the verdict is success, and refused only where it isn't
 pub by_rule : (s : Steps) (trusted height : ℕ) (v : Verdict) (j : Judgement)
-    → IsVerdictOn s trusted height v → (j ≡ Accepted → v ≡ Success) → (j ≡ Refused → ¬ (v ≡ Success)) → AreByRule s trusted height j
-by_rule s trusted height v Accepted is accepted refused = (is.0, is.1, is.2.0 (accepted refl))
-by_rule s trusted height v Refused is accepted refused = (is.0, is.1, λ accepts. refused refl (is.2.1 accepts))
-by_rule s trusted height v Never is accepted refused = tt
-by_rule s trusted height v Gone is accepted refused = tt
-by_rule s trusted height v Unknown is accepted refused = tt
+    → IsVerdictOn s trusted height v → (j ≡ Accepted → v ≡ Success) → (j ≡ Refused → ¬ (v ≡ Success))
+    → (j ≡ Never → (v ≡ Invalid Expired) ⊎ (v ≡ Invalid TrustedSetUnknown)) → (j ≢ Gone) × (j ≢ Unknown) → AreByRule s trusted height j
+by_rule s trusted height v Accepted is accepted refused last decided = (is.0, is.1, is.2.0 (accepted refl))
+by_rule s trusted height v Refused is accepted refused last decided = (is.0, is.1, λ accepts. refused refl (is.2.1 accepts))
+by_rule s trusted height v Never is accepted refused last decided = never s trusted height v is (last refl)
+by_rule s trusted height v Gone is accepted refused last decided = absurd (decided.0 refl)
+by_rule s trusted height v Unknown is accepted refused last decided = absurd (decided.1 refl)

@@ -1,1 +1,12 @@
+pub mod Adding
+pub mod Asked
+pub mod Firsts
 pub mod Judging
+pub mod Pages
+pub mod Searches
+pub mod Seeking
+pub mod Sequences
+pub mod Starting
+pub mod Taking
+pub mod Waiting
+pub mod Zipped

@@ -1,4 +1,13 @@
 pub use Rattle.rb_base.specs.Options
 pub use Rattle.rb_base.specs.Window
 pub use Rattle.rb_step.specs.StepRule
+pub mod Adding
+pub mod Clients
+pub mod Judgements
+pub mod Laws
+pub mod Needs
+pub mod Packets
+pub mod Paths
 pub mod Steps
+pub mod Waiting
+pub mod Wanted

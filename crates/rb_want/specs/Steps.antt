@@ -1,10 +1,13 @@
 -- Steps of a client, judged by the answers that are there.
-use Rattle.std.specs.Prelude.{◌≡◌, ◌↔◌, ◌⊎◌, ⊤, ℕ, List, Some, Any, Contains, map}
+use Rattle.std.specs.Prelude.{◌≡◌, ◌↔◌, ◌⊎◌, ℕ, List, Some, Any, map}
 use Rattle.std.specs.Borrow.{Bor}
 use Rattle.rb_book.specs.Header.{Record, Header, IsSignedBy, Names}
 use Rattle.rb_book.specs.declared.vote.Vote.{Vote}
 use Rattle.rb_book.specs.declared.vote.Vote.TheVariants as votes
 use Rattle.rb_valset.specs.Validator.{Member}
+use Rattle.rb_base.specs.Options.{ClientOptions}
+use Rattle.rb_base.specs.Window.{Span, IsWithin}
+use Rattle.rb_step.specs.Conditions.{Condition}
 use Rattle.rb_step.specs.StepRule.{Step, AcceptsWithin}
 use Rattle.rb_step.specs.declared.verdict.Verdict.{Verdict}
 use Rattle.rb_step.specs.declared.verdict.Verdict.TheVariants.{Success}
@@ -12,11 +15,8 @@ use Rattle.rb_import_answers.specs.declared.client.ConsensusState.{ConsensusStat
 use Rattle.rb_import_answers.specs.declared.commit.BlockIdFlag.{BlockIdFlag}
 use Rattle.rb_import_answers.specs.declared.commit.BlockIdFlag.TheVariants as flags
 use Rattle.rb_import_answers.specs.declared.commit.SignedHeader.{SignedHeader}
-use Rattle.rb_want_search.specs.declared.judge.Judgement.{Judgement}
-use Rattle.rb_want_search.specs.declared.judge.Judgement.TheVariants.{Accepted, Refused, Never, Gone, Unknown}
-use Rattle.rb_want_requests.specs.declared.content.Content.{Content}
-use Rattle.rb_want_requests.specs.declared.content.Content.TheVariants as contents
-use Rattle.rb_want.specs.declared.steps.Steps.{Steps}
+use Rattle.rb_want.specs.Clients.{IsHeaderAt}
+use Rattle.rb_want.specs.declared.judged.Steps.{Steps}
 
 -- what a client has stored at a height
 abbrev pub record_of_state : ConsensusState → Record
@@ -34,10 +34,6 @@ vote_of flags.Nil = votes.Nil
 -- a header with its votes, as the step rule takes it
 abbrev pub header_of : SignedHeader → Header
 header_of h = record { height = h.height; record_of = record_of h; set_hash = h.set; votes = map (λ s. vote_of s.flag) h.signatures.items }
-
--- the header is among these contents, and is of this height
-abbrev pub IsHeaderAt : List Content → ℕ → SignedHeader → Type 0
-IsHeaderAt there height h = Contains there (contents.Commit h) × (h.height ≡ height)
 
 -- the client has stored this at the height
 abbrev pub IsStoredAt : List (Bor ConsensusState) → ℕ → ConsensusState → Type 0
@@ -57,16 +53,12 @@ IsStepAt s trusted height step =
     × ((h : SignedHeader) × IsHeaderAt s.chain.now.folder.now.contents.items height h × (step.header ≡ header_of h))
     × IsSignedBy step.header step.own
 
--- the verdict is success exactly where the step is accepted at every moment of the window
+-- what the verdict says of the step holds at a moment of the window
+abbrev pub HoldsWithin : ClientOptions → Span → Step → Verdict → Type 0
+HoldsWithin o w step verdict = (moment : ℕ) × IsWithin w moment × Condition verdict o (record { from = moment; until = moment }) step
+
+-- the verdict is success exactly where the step is accepted at every moment of the window, and else holds at one of them
 abbrev pub IsVerdictOn : Steps → ℕ → ℕ → Verdict → Type 0
 IsVerdictOn s trusted height verdict =
     (step : Step) × IsStepAt s trusted height step × ((verdict ≡ Success) ↔ AcceptsWithin s.options s.window step)
-
--- What is judged to be accepted is accepted by the step rule at every moment of the window, and what is judged to be refused isn't. The others say
--- nothing of the rule.
-abbrev pub AreByRule : Steps → ℕ → ℕ → Judgement → Type 0
-AreByRule s trusted height Accepted = (step : Step) × IsStepAt s trusted height step × AcceptsWithin s.options s.window step
-AreByRule s trusted height Refused = (step : Step) × IsStepAt s trusted height step × (¬ AcceptsWithin s.options s.window step)
-AreByRule s trusted height Never = ⊤
-AreByRule s trusted height Gone = ⊤
-AreByRule s trusted height Unknown = ⊤
+    × HoldsWithin s.options s.window step verdict

@@ -1,8 +1,16 @@
 //! What is to be fetched next for a setup.
+ghost use Rattle.std.specs.Prelude.{◌≡◌, List, IfOk, OnOk, map};
+ghost use Rattle.std.specs.List.{AllZip, enumerate_from, flat_map};
+ghost use Rattle.rb_want_requests.specs.declared.request.Request.{Request};
+ghost use Rattle.rb_want.specs.Adding.{with_needed};
+ghost use Rattle.rb_want.specs.Needs.{IsNeededAt};
+ghost use Rattle.rb_want.specs.Paths.{needs_at};
+ghost use Rattle.rb_want.specs.Wanted.{AreAsked};
+
 use crate::chain::ChainAnswers;
 use crate::client::case_of;
 use crate::path::path_case_of;
-use rb_import_setup::Setup;
+use rb_import_setup::{ClientSetup, PathSetup, Setup};
 use rb_want_requests::{Folders, Wanted};
 use std::alloc::{AllocError, Global};
 
@@ -14,27 +22,109 @@ pub fn wanted_of<'a>(
     alloc: Global,
     setup: &'a Setup,
     folders: &'a Folders,
-) -> Result<Wanted<'a>, AllocError> {
+) -> Result<Wanted<'a>, AllocError>
+    ensures folders { IfOk result (λ wanted. wanted.folders.now ≡ folders.entry.now) }
+    ensures requests { IfOk result (λ wanted. AreAsked setup.entry.now folders.entry.now wanted.requests.items) }
+{
     let mut wanted = Wanted::nothing(alloc, folders);
     let chains = answers_of(alloc, folders)?;
-    for (place, client) in setup.clients.iter().enumerate() {
-        if let Some(case) = case_of(alloc, setup, folders, chains.as_slice(), place, client)? {
-            case.add_wanted(&mut wanted)?;
-        }
-    }
-    for (place, path) in setup.paths.iter().enumerate() {
-        if let Some(case) = path_case_of(alloc, setup, folders, place, path)? {
-            case.add_wanted(&mut wanted)?;
-        }
-    }
+    let clients = setup.clients.as_slice();
+    add_clients(
+        alloc,
+        setup,
+        folders,
+        chains.as_slice(),
+        clients,
+        &mut wanted,
+    )?;
+    add_paths(alloc, setup, folders, setup.paths.as_slice(), &mut wanted)?;
     Ok(wanted)
 }
 
-/// What there is of each chain.
-fn answers_of<'a>(
+/// Adds what is wanted for each client.
+fn add_clients<'a>(
     alloc: Global,
+    setup: &'a Setup,
     folders: &'a Folders,
-) -> Result<Vec<ChainAnswers<'a>>, AllocError> {
+    chains: &[ChainAnswers<'a>],
+    clients: &'a [ClientSetup],
+    wanted: &mut Wanted<'_>,
+) -> Result<(), AllocError>
+    requires { map (λ a. a.folder.now) chains.now ≡ folders.now.chains.items }
+    ensures requests { OnOk result ((needs : List (List Request)) × AllZip (IsNeededAt setup.entry.now folders.entry.now) (enumerate_from 0 clients.entry.now) needs
+        × (wanted.new.requests.items ≡ with_needed wanted.old.folders.now wanted.old.requests.items (flat_map (λ rs. rs) needs))) }
+    ensures folders { wanted.new.folders ≡ wanted.old.folders }
+{
+    for (place, client) in clients.iter().enumerate() {
+        add_client(alloc, setup, folders, chains, place, client, wanted)?;
+    }
+    Ok(())
+}
+
+/// Adds what is wanted for the client at a place.
+fn add_client<'a>(
+    alloc: Global,
+    setup: &'a Setup,
+    folders: &'a Folders,
+    chains: &[ChainAnswers<'a>],
+    place: usize,
+    client: &'a ClientSetup,
+    wanted: &mut Wanted<'_>,
+) -> Result<(), AllocError>
+    requires { map (λ a. a.folder.now) chains.now ≡ folders.now.chains.items }
+    ensures requests { OnOk result ((needed : List Request) × IsNeededAt setup.entry.now folders.entry.now (place, client.entry.now) needed
+        × (wanted.new.requests.items ≡ with_needed wanted.old.folders.now wanted.old.requests.items needed)) }
+    ensures folders { wanted.new.folders ≡ wanted.old.folders }
+{
+    match case_of(alloc, setup, folders, chains, place, client)? {
+        Some(case) => case.add_wanted(wanted),
+        None => Ok(()),
+    }
+}
+
+/// Adds what is wanted for each path.
+#[tactic(auto, using(crate::proofs::Adding::adding))]
+fn add_paths<'a>(
+    alloc: Global,
+    setup: &Setup,
+    folders: &'a Folders,
+    paths: &[PathSetup],
+    wanted: &mut Wanted<'_>,
+) -> Result<(), AllocError>
+    ensures requests { OnOk result (wanted.new.requests.items ≡ with_needed wanted.old.folders.now wanted.old.requests.items
+        (flat_map (needs_at setup.now.chains.items folders.entry.now.paths.items) (enumerate_from 0 paths.now))) }
+    ensures folders { wanted.new.folders ≡ wanted.old.folders }
+{
+    for (place, path) in paths.iter().enumerate() {
+        add_path(alloc, setup, folders, place, path, wanted)?;
+    }
+    Ok(())
+}
+
+/// Adds what is wanted for the path at a place.
+#[tactic(auto, using(crate::proofs::Adding::adding))]
+fn add_path<'a>(
+    alloc: Global,
+    setup: &Setup,
+    folders: &'a Folders,
+    place: usize,
+    path: &PathSetup,
+    wanted: &mut Wanted<'_>,
+) -> Result<(), AllocError>
+    ensures requests { OnOk result (wanted.new.requests.items ≡ with_needed wanted.old.folders.now wanted.old.requests.items
+        (needs_at setup.now.chains.items folders.entry.now.paths.items (place, path.now))) }
+    ensures folders { wanted.new.folders ≡ wanted.old.folders }
+{
+    match path_case_of(alloc, setup, folders, place, path)? {
+        Some(case) => case.add_wanted(wanted),
+        None => Ok(()),
+    }
+}
+
+/// What there is of each chain.
+fn answers_of<'a>(alloc: Global, folders: &'a Folders) -> Result<Vec<ChainAnswers<'a>>, AllocError>
+    ensures { IfOk result (λ answers. map (λ a. a.folder.now) answers.items ≡ folders.entry.now.chains.items) }
+{
     let mut answers = Vec::with_capacity(alloc, folders.chains.len())?;
     for folder in &folders.chains {
         answers.push(ChainAnswers::of(alloc, folder)?)?;

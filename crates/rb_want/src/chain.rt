@@ -1,6 +1,11 @@
 //! What the answers of a chain give to judge steps with.
-ghost use Rattle.std.specs.Prelude.{IfSome};
-ghost use Rattle.rb_want.specs.Steps.{IsHeaderAt};
+ghost use Rattle.std.specs.Prelude.{◌≡◌, ◌↔◌, false, IfNone, IfOk, IfSome, IsSome, IsTrue, min, not, slice_get, ◌-◌, ◌^◌};
+ghost use Rattle.std.specs.List.{list_any};
+ghost use Rattle.std.specs.Option.{option_copied, option_to_list};
+ghost use Rattle.rb_import_check.specs.Sets.{WasSeen};
+ghost use Rattle.rb_want_requests.specs.Answered.{is_commit_of};
+ghost use Rattle.rb_want_requests.specs.Requests.{is_named};
+ghost use Rattle.rb_want.specs.Clients.{IsHeaderAt, later_status, members_at, next_page, page_at, pages_at, status_in};
 
 use rb_base::Height;
 use rb_import_answers::{SignedHeader, ValidatorsPage};
@@ -19,11 +24,14 @@ pub struct ChainAnswers<'a> {
     pub folder: &'a Folder,
     pub status: Option<NodeStatus>,
     sets: SeenSets<'a>,
+    ghost told: { status ≡ status_in folder.now.contents.items },
 }
 
 impl<'a> ChainAnswers<'a> {
     /// What the files in the folder of a chain give.
-    pub fn of(alloc: Global, folder: &'a Folder) -> Result<ChainAnswers<'a>, AllocError> {
+    pub fn of(alloc: Global, folder: &'a Folder) -> Result<ChainAnswers<'a>, AllocError>
+        ensures folder { IfOk result (λ answers. answers.folder.now ≡ folder.entry.now) }
+    {
         let contents = folder.contents.as_slice();
         let mut pages = all_pages(alloc, contents)?;
         pages.sort_by_key(|page: &&ValidatorsPage| page.height)?;
@@ -36,21 +44,34 @@ impl<'a> ChainAnswers<'a> {
 
     /// The header of a height, where it is there.
     pub fn header_at(&self, height: Height) -> Option<&'a SignedHeader>
-        ensures { IfSome result (λ header. IsHeaderAt self.now.folder.now.contents.items height header.now) }
+        ensures found { IfSome result (λ header. IsHeaderAt self.now.folder.now.contents.items height header.now) }
+        ensures none { IfNone result (list_any (is_commit_of height) self.now.folder.now.contents.items ≡ false) }
     {
         header_in(self.folder.contents.as_slice(), height)
     }
 
     /// The set of this hash, where it is there.
-    pub fn set_with(&self, hash: &[u8; 32]) -> Option<&ValidatorSet> {
+    pub fn set_with(&self, hash: &[u8; 32]) -> Option<&ValidatorSet>
+        ensures { IsSome result ↔ WasSeen self.now.sets.sets.items hash.now }
+    {
         match self.sets.with_hash(hash) {
             Some(seen) => Some(&seen.set),
             None => None,
         }
     }
 
+    /// Whether the set of this hash is there.
+    pub fn has_set(&self, hash: &[u8; 32]) -> bool
+        ensures { IsTrue result ↔ WasSeen self.now.sets.sets.items hash.now }
+    {
+        self.set_with(hash).is_some()
+    }
+
     /// The next page of the validators of a height; none where all are there.
-    pub fn next_page_at(&self, height: Height) -> Option<Query> {
+    #[tactic(auto, unfolding(crate::specs::Clients::next_page))]
+    pub fn next_page_at(&self, height: Height) -> Option<Query>
+        ensures { option_to_list result ≡ next_page height self.now.folder.now.contents.items }
+    {
         let contents = self.folder.contents.as_slice();
         let Some(first) = first_page(contents, height) else {
             return Some(Query::Validators {
@@ -71,34 +92,40 @@ impl<'a> ChainAnswers<'a> {
     }
 
     /// Whether a query may still be answered: it wasn't refused.
-    pub fn is_open(&self, alloc: Global, query: Query) -> Result<bool, AllocError> {
+    pub fn is_open(&self, alloc: Global, query: Query) -> Result<bool, AllocError>
+        ensures { IfOk result (λ answer. answer ≡ not (is_named self.now.folder.now.refused.items query)) }
+    {
         let is_refused = is_named(alloc, self.folder.refused.as_slice(), &query)?;
         Ok(!is_refused)
-    }
-
-    /// Whether the validators of a height may still come: a page of them isn't there, and wasn't refused.
-    pub fn is_set_open(&self, alloc: Global, height: Height) -> Result<bool, AllocError> {
-        match self.next_page_at(height) {
-            Some(query) => self.is_open(alloc, query),
-            None => Ok(false),
-        }
     }
 }
 
 /// What a node says of itself, where several answers do the last.
-fn status_in(contents: &[Content]) -> Option<NodeStatus> {
+#[tactic(auto, using(crate::proofs::Taking::taking))]
+fn status_in(contents: &[Content]) -> Option<NodeStatus>
+    ensures { result ≡ status_in contents.now }
+{
     let mut last = None;
     for content in contents {
-        if let Content::Status(status) = content {
-            last = Some(*status);
-        }
+        last = later_status(last, content);
     }
     last
 }
 
+/// What a node says of itself, where the content has it, else what it said before.
+fn later_status(before: Option<NodeStatus>, content: &Content) -> Option<NodeStatus>
+    ensures { result ≡ later_status before content.now }
+{
+    match content {
+        Content::Status(status) => Some(*status),
+        _ => before,
+    }
+}
+
 /// The header of a height.
 fn header_in(contents: &[Content], height: Height) -> Option<&SignedHeader>
-    ensures { IfSome result (λ header. IsHeaderAt contents.now height header.now) }
+    ensures found { IfSome result (λ header. IsHeaderAt contents.now height header.now) }
+    ensures none { IfNone result (list_any (is_commit_of height) contents.now ≡ false) }
 {
     for content in contents {
         if let Content::Commit(header) = content {
@@ -111,25 +138,37 @@ fn header_in(contents: &[Content], height: Height) -> Option<&SignedHeader>
 }
 
 /// The first page of the validators of a height.
-fn first_page(contents: &[Content], height: Height) -> Option<&ValidatorsPage> {
+#[tactic(auto, using(crate::proofs::Pages::paging))]
+fn first_page(contents: &[Content], height: Height) -> Option<&ValidatorsPage>
+    ensures { option_copied result ≡ slice_get (pages_at height contents.now) 0 }
+{
     for content in contents {
-        if let Content::Validators(page) = content {
-            if page.height == height {
-                return Some(page);
-            }
+        if let Some(page) = page_at(content, height) {
+            return Some(page);
         }
     }
     None
 }
 
+/// The page, if a content is one of the validators of a height.
+fn page_at(content: &Content, height: Height) -> Option<&ValidatorsPage>
+    ensures { option_copied result ≡ page_at height content.now }
+{
+    match content {
+        Content::Validators(page) if page.height == height => Some(page),
+        _ => None,
+    }
+}
+
 /// How many validators are on the pages of a height.
-fn count_members(contents: &[Content], height: Height) -> u64 {
+#[tactic(auto, using(crate::proofs::Pages::paging))]
+fn count_members(contents: &[Content], height: Height) -> u64
+    ensures { result ≡ min (members_at height contents.now) (2 ^ 64 - 1) }
+{
     let mut members: u64 = 0;
     for content in contents {
-        if let Content::Validators(page) = content {
-            if page.height == height {
-                members = members.saturating_add(page.validators.len() as u64);
-            }
+        if let Some(page) = page_at(content, height) {
+            members = members.saturating_add(page.validators.len() as u64);
         }
     }
     members

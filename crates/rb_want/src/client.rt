@@ -1,14 +1,23 @@
 //! What is wanted for one client.
+ghost use Rattle.std.specs.Prelude.{◌≡◌, ◌==◌, ◌-◌, ◌<◌, ◌^◌, ◌∷◌, [], List, IfOk, OnOk, Some, SomeIff, if◌then◌else◌, not, map, option_map};
+ghost use Rattle.std.specs.List.{list_any};
+ghost use Rattle.std.specs.List.Sorted.{IsNonDecreasingBy};
+ghost use Rattle.rb_want_requests.specs.declared.request.Query.{Query};
+ghost use Rattle.rb_want_requests.specs.declared.request.Query.TheVariants as queries;
+ghost use Rattle.rb_want_requests.specs.declared.request.Request.{Request};
+ghost use Rattle.rb_want.specs.Adding.{with_needed};
+ghost use Rattle.rb_want.specs.Clients.{state_in};
+ghost use Rattle.rb_want.specs.Needs.{AreStepsOf, IsCaseOf, IsNeeded, IsSought, IsSoughtFrom, IsStart, aim_below, aim_of, first_needs, goal_at, goal_if, highest_of, host_request, is_elsewhere, is_told, lacks_first, lacks_state, lacks_states, lacks_status, least_of, most_of, next_states, node_request, options_of, start_with, tracking_of};
+ghost use Rattle.rb_want.specs.Waiting.{WaitsFor};
+
 use crate::chain::ChainAnswers;
+use crate::judged::Steps;
 use crate::records::ClientAnswers;
-use crate::steps::Steps;
 use rb_base::{ChainId, ClientId, Fraction, Height, Options, Window};
 use rb_import_answers::{ConsensusState, TrustLevel, revision_of};
 use rb_import_setup::{ClientSetup, Setup};
 use rb_script_types::{Asked, Goal};
-use rb_want_requests::{
-    End, Folder, Folders, Missing, Owner, Query, Request, Wanted, Why, is_named,
-};
+use rb_want_requests::{End, Folders, Missing, Owner, Query, Request, Wanted, Why, is_named};
 use rb_want_search::{Aim, Finding, Question, search};
 use std::alloc::{AllocError, Global};
 
@@ -25,12 +34,12 @@ pub struct Case<'b, 'a> {
     tracks: ChainId,
     goal: Option<Goal>,
     window: Window,
-    folder: &'a Folder,
     answers: ClientAnswers<'a>,
     chain: &'b ChainAnswers<'a>,
 }
 
 /// The case of the client at a place.
+#[tactic(auto, unfolding(crate::specs::Needs::tracking_at))]
 pub fn case_of<'b, 'a>(
     alloc: Global,
     setup: &'a Setup,
@@ -38,7 +47,9 @@ pub fn case_of<'b, 'a>(
     chains: &'b [ChainAnswers<'a>],
     place: usize,
     client: &'a ClientSetup,
-) -> Result<Option<Case<'b, 'a>>, AllocError> {
+) -> Result<Option<Case<'b, 'a>>, AllocError>
+    ensures { IfOk result (IsCaseOf setup.entry.now folders.entry.now.clients.items (map (λ a. a.folder.now) chains.entry.now) (place, client.entry.now)) }
+{
     let (Some(turn), Some(host), Some(tracks), Some(folder), Some(chain)) = (
         setup.turns.last(),
         setup.chains.get(client.host),
@@ -57,20 +68,33 @@ pub fn case_of<'b, 'a>(
         tracks: *tracks,
         goal: goal_of(turn.goals.as_slice(), place),
         window: turn.window,
-        folder,
         answers: ClientAnswers::of(alloc, folder, revision)?,
         chain,
     }))
 }
 
 /// The goal of the client at a place.
-fn goal_of(goals: &[Asked], place: usize) -> Option<Goal> {
+#[tactic(auto, using(crate::proofs::Firsts::firsts))]
+fn goal_of(goals: &[Asked], place: usize) -> Option<Goal>
+    ensures { result ≡ goal_at place goals.now }
+{
     for asked in goals {
-        if asked.client == place {
-            return Some(asked.goal);
+        if let Some(goal) = goal_if(asked, place) {
+            return Some(goal);
         }
     }
     None
+}
+
+/// What is asked of the client at a place.
+fn goal_if(asked: &Asked, place: usize) -> Option<Goal>
+    ensures { result ≡ goal_if place asked.now }
+{
+    if asked.client == place {
+        Some(asked.goal)
+    } else {
+        None
+    }
 }
 
 /// How a client judges headers.
@@ -81,80 +105,110 @@ struct Judging {
 }
 
 impl<'b, 'a> Case<'b, 'a> {
-    fn id(&self) -> ClientId {
+    fn id(&self) -> ClientId
+        ensures { result ≡ self.now.setup.now.id }
+    {
         self.setup.id
     }
 
     /// Adds what is wanted for the client.
-    pub fn add_wanted(&self, wanted: &mut Wanted<'_>) -> Result<(), AllocError> {
-        let client = self.id();
+    #[tactic(auto, using(crate::proofs::Adding::adding))]
+    pub fn add_wanted(&self, wanted: &mut Wanted<'_>) -> Result<(), AllocError>
+        ensures requests { OnOk result ((needed : List Request) × IsNeeded (tracking_of self.now) (map (λ r. r.now) self.now.answers.records.items) needed
+            × (wanted.new.requests.items ≡ with_needed wanted.old.folders.now wanted.old.requests.items needed)) }
+        ensures folders { wanted.new.folders ≡ wanted.old.folders }
+    {
         if self.answers.is_other {
-            wanted.ends.push(End::OtherClient { client })?;
+            let client = self.id();
+            add_end(wanted, End::OtherClient { client })?;
             return Ok(());
         }
         if self.add_missing(wanted)? {
             return Ok(());
         }
-        let Some(judging) = self.judging() else {
-            wanted.ends.push(End::BadOptions { client })?;
-            return Ok(());
-        };
-        let Some(aim) = self.aim(wanted)? else {
-            return Ok(());
-        };
-        match first_for(self.answers.records.as_slice(), self.goal) {
-            Some(first) => self.add_search(wanted, &judging, first, &aim),
-            None => {
-                wanted.ends.push(End::NoRecord { client })?;
-                Ok(())
-            }
-        }
+        self.add_sought(wanted)
     }
 
     /// Adds what is missing of the client's state, its records and the chain's latest height, and tells whether something is.
-    fn add_missing(&self, wanted: &mut Wanted<'_>) -> Result<bool, AllocError> {
-        let state = self.needs_state() && self.answers.state.is_none();
-        if state {
-            if self.ask_host(wanted, Query::ClientState)? {
-                wanted.ends.push(self.not_given(Missing::State))?;
-            }
-        }
-        let records = !self.answers.has_last;
-        if records {
-            let page = self.answers.pages.saturating_add(1);
-            if self.ask_host(wanted, Query::ConsensusStates { page })? {
-                wanted.ends.push(self.not_given(Missing::Records))?;
-            }
-        }
-        let status = self.latest().is_none();
-        if status {
-            if self.chain.is_open(self.alloc, Query::Status)? {
-                self.ask_node(wanted, Query::Status)?;
-            } else {
-                wanted.ends.push(self.not_given(Missing::LatestHeight))?;
-            }
-        }
+    #[tactic(auto, unfolding(crate::specs::Needs::first_needs), using(crate::proofs::Adding::adding))]
+    fn add_missing(&self, wanted: &mut Wanted<'_>) -> Result<bool, AllocError>
+        ensures lacks { IfOk result (λ lacks. lacks ≡ lacks_first (tracking_of self.now)) }
+        ensures requests { OnOk result (wanted.new.requests.items ≡ with_needed wanted.old.folders.now wanted.old.requests.items (first_needs (tracking_of self.now))) }
+        ensures folders { wanted.new.folders ≡ wanted.old.folders }
+    {
+        let state = self.add_state(wanted)?;
+        let records = self.add_states(wanted)?;
+        let status = self.add_status(wanted)?;
         Ok(state || records || status)
     }
 
-    /// The latest height of the chain that the client tracks, as its node says.
-    fn latest(&self) -> Option<Height> {
-        match self.chain.status {
-            Some(status) => Some(status.latest),
-            None => None,
+    /// Adds the client's state, if it is needed and isn't there, and tells whether that is so.
+    #[tactic(auto, using(crate::proofs::Adding::adding))]
+    fn add_state(&self, wanted: &mut Wanted<'_>) -> Result<bool, AllocError>
+        ensures lacks { IfOk result (λ lacks. lacks ≡ lacks_state (tracking_of self.now)) }
+        ensures requests { OnOk result (wanted.new.requests.items ≡ with_needed wanted.old.folders.now wanted.old.requests.items
+            (if lacks_state (tracking_of self.now) then host_request (tracking_of self.now) queries.ClientState ∷ [] else [])) }
+        ensures folders { wanted.new.folders ≡ wanted.old.folders }
+    {
+        if !self.needs_state() || self.answers.state.is_some() {
+            return Ok(false);
         }
+        self.ask_host(wanted, Query::ClientState, Missing::State)?;
+        Ok(true)
+    }
+
+    /// Adds the next page of the client's records, if one isn't there, and tells whether that is so.
+    #[tactic(auto, using(crate::proofs::Adding::adding))]
+    fn add_states(&self, wanted: &mut Wanted<'_>) -> Result<bool, AllocError>
+        ensures lacks { IfOk result (λ lacks. lacks ≡ lacks_states (tracking_of self.now)) }
+        ensures requests { OnOk result (wanted.new.requests.items ≡ with_needed wanted.old.folders.now wanted.old.requests.items
+            (if lacks_states (tracking_of self.now) then host_request (tracking_of self.now) (queries.ConsensusStates (next_states (tracking_of self.now))) ∷ [] else [])) }
+        ensures folders { wanted.new.folders ≡ wanted.old.folders }
+    {
+        if self.answers.has_last {
+            return Ok(false);
+        }
+        let page = self.answers.pages.saturating_add(1);
+        self.ask_host(wanted, Query::ConsensusStates { page }, Missing::Records)?;
+        Ok(true)
+    }
+
+    /// Adds what the node of the chain says of itself, if it isn't there, and tells whether that is so.
+    #[tactic(auto, using(crate::proofs::Adding::adding))]
+    fn add_status(&self, wanted: &mut Wanted<'_>) -> Result<bool, AllocError>
+        ensures lacks { IfOk result (λ lacks. lacks ≡ lacks_status (tracking_of self.now)) }
+        ensures requests { OnOk result (wanted.new.requests.items ≡ with_needed wanted.old.folders.now wanted.old.requests.items
+            (if lacks_status (tracking_of self.now) then node_request (tracking_of self.now) queries.Status ∷ [] else [])) }
+        ensures folders { wanted.new.folders ≡ wanted.old.folders }
+    {
+        if self.chain.status.is_some() {
+            return Ok(false);
+        }
+        self.ask_node(wanted, Query::Status)?;
+        if !self.chain.is_open(self.alloc, Query::Status)? {
+            add_end(wanted, self.not_given(Missing::LatestHeight))?;
+        }
+        Ok(true)
     }
 
     /// Whether the setup leaves out how the client judges headers.
-    fn needs_state(&self) -> bool {
+    fn needs_state(&self) -> bool
+        ensures { result ≡ not (is_told self.now.setup.now) }
+    {
         self.setup.period.is_none() || self.setup.drift.is_none() || self.setup.trust.is_none()
     }
 
-    /// Asks the client's host, unless it refused that, and tells whether it did.
-    fn ask_host(&self, wanted: &mut Wanted<'_>, query: Query) -> Result<bool, AllocError> {
-        if is_named(self.alloc, self.folder.refused.as_slice(), &query)? {
-            return Ok(true);
-        }
+    /// Asks the client's host for what is missing, and tells where it refused that.
+    #[tactic(auto, using(crate::proofs::Adding::adding))]
+    fn ask_host(
+        &self,
+        wanted: &mut Wanted<'_>,
+        query: Query,
+        missing: Missing,
+    ) -> Result<(), AllocError>
+        ensures requests { OnOk result (wanted.new.requests.items ≡ with_needed wanted.old.folders.now wanted.old.requests.items (host_request (tracking_of self.now) query ∷ [])) }
+        ensures folders { wanted.new.folders ≡ wanted.old.folders }
+    {
         let owner = Owner::Client {
             place: self.place,
             id: self.id(),
@@ -165,7 +219,11 @@ impl<'b, 'a> Case<'b, 'a> {
             query,
         };
         wanted.ask(self.alloc, &request)?;
-        Ok(false)
+        if is_named(self.alloc, self.answers.folder.refused.as_slice(), &query)? {
+            add_end(wanted, self.not_given(missing))?;
+            return Ok(());
+        }
+        Ok(())
     }
 
     /// That no more is asked, since this isn't given.
@@ -177,7 +235,11 @@ impl<'b, 'a> Case<'b, 'a> {
     }
 
     /// Asks a node of the chain that the client tracks.
-    fn ask_node(&self, wanted: &mut Wanted<'_>, query: Query) -> Result<(), AllocError> {
+    #[tactic(auto, using(crate::proofs::Adding::adding))]
+    fn ask_node(&self, wanted: &mut Wanted<'_>, query: Query) -> Result<(), AllocError>
+        ensures requests { OnOk result (wanted.new.requests.items ≡ with_needed wanted.old.folders.now wanted.old.requests.items (node_request (tracking_of self.now) query ∷ [])) }
+        ensures folders { wanted.new.folders ≡ wanted.old.folders }
+    {
         let request = Request {
             chain: self.tracks,
             owner: Owner::Chain(self.setup.tracks),
@@ -187,7 +249,10 @@ impl<'b, 'a> Case<'b, 'a> {
     }
 
     /// How the client judges headers, where that is in range.
-    fn judging(&self) -> Option<Judging> {
+    #[tactic(auto, unfolding(crate::specs::Needs::options_of))]
+    fn judging(&self) -> Option<Judging>
+        ensures { option_map (λ j. j.options) result ≡ options_of self.now.setup.now (state_in self.now.answers.folder.now.contents.items) }
+    {
         let state = self.answers.state;
         let period = self.setup.period.or(state.map(|state| state.period))?;
         let drift = self.setup.drift.map(|drift| drift.nanoseconds());
@@ -209,61 +274,87 @@ impl<'b, 'a> Case<'b, 'a> {
 
     /// Where the client is to get: its goal, or the greatest height whose votes are final, the one before the node's latest. None,
     /// and why, where the chain isn't there yet.
-    fn aim(&self, wanted: &mut Wanted<'_>) -> Result<Option<Aim>, AllocError> {
-        let client = self.id();
+    #[tactic(auto, unfolding(crate::specs::Needs::aim_of))]
+    fn aim(&self, wanted: &mut Wanted<'_>) -> Result<Option<Aim>, AllocError>
+        ensures aim { IfOk result (λ aim. aim ≡ aim_of (tracking_of self.now) (map (λ r. r.now) self.now.answers.records.items)) }
+        ensures requests { wanted.new.requests ≡ wanted.old.requests }
+        ensures folders { wanted.new.folders ≡ wanted.old.folders }
+    {
         let Some(status) = self.chain.status else {
             return Ok(None);
         };
         if is_other(&status.network, self.tracks.as_str()) {
-            let chain = self.tracks;
-            wanted.ends.push(End::OtherNetwork { client, chain })?;
+            let (client, chain) = (self.id(), self.tracks);
+            add_end(wanted, End::OtherNetwork { client, chain })?;
             return Ok(None);
         }
-        let Some(latest) = final_height(status.latest) else {
-            return Ok(None);
-        };
-        let least = match self.goal {
-            Some(Goal::Exactly(height) | Goal::AtLeast(height)) => height,
-            None => latest,
-        };
-        if least > latest && !self.is_stored(least) {
-            wanted.ends.push(End::GoalAhead {
-                client,
-                goal: least,
-                latest,
-            })?;
+        match final_height(status.latest) {
+            Some(latest) => self.aim_below(wanted, latest),
+            None => Ok(None),
+        }
+    }
+
+    /// Where the client is to get, of the heights up to the greatest whose votes are final.
+    fn aim_below(&self, wanted: &mut Wanted<'_>, latest: Height) -> Result<Option<Aim>, AllocError>
+        ensures aim { IfOk result (λ aim. aim ≡ aim_below self.now.goal (map (λ r. r.now) self.now.answers.records.items) latest) }
+        ensures requests { wanted.new.requests ≡ wanted.old.requests }
+        ensures folders { wanted.new.folders ≡ wanted.old.folders }
+    {
+        let least = least_of(&self.goal, latest);
+        if least > latest && !is_stored(self.answers.records.as_slice(), least) {
+            add_end(
+                wanted,
+                End::GoalAhead {
+                    client: self.id(),
+                    goal: least,
+                    latest,
+                },
+            )?;
             return Ok(None);
         }
-        let most = match self.goal {
-            Some(Goal::Exactly(height)) => height,
-            _ => latest,
-        };
+        let most = most_of(&self.goal, latest);
         Ok(Some(Aim { least, most }))
     }
 
-    /// Whether a height is stored.
-    fn is_stored(&self, height: Height) -> bool {
-        self.answers
-            .records
-            .binary_search_by_key(&height, |record: &&ConsensusState| record.height)
-            .is_ok()
+    /// Adds what the client's search asks for, if it can be searched.
+    #[tactic(auto, using(crate::proofs::Adding::adding))]
+    fn add_sought(&self, wanted: &mut Wanted<'_>) -> Result<(), AllocError>
+        ensures requests { OnOk result ((needed : List Request) × IsSought (tracking_of self.now) (map (λ r. r.now) self.now.answers.records.items) needed
+            × (wanted.new.requests.items ≡ with_needed wanted.old.folders.now wanted.old.requests.items needed)) }
+        ensures folders { wanted.new.folders ≡ wanted.old.folders }
+    {
+        let client = self.id();
+        let Some(judging) = self.judging() else {
+            add_end(wanted, End::BadOptions { client })?;
+            return Ok(());
+        };
+        let Some(aim) = self.aim(wanted)? else {
+            return Ok(());
+        };
+        match first_for(self.answers.records.as_slice(), &self.goal) {
+            Some(first) => self.add_search(wanted, &judging, first, &aim),
+            None => {
+                add_end(wanted, End::NoRecord { client })?;
+                Ok(())
+            }
+        }
     }
 
-    /// Adds what the client's search asks for.
+    /// Adds what the client's search from a stored height asks for.
+    #[tactic(auto, using(crate::proofs::Adding::adding))]
     fn add_search(
         &self,
         wanted: &mut Wanted<'_>,
         judging: &Judging,
         first: Height,
         aim: &Aim,
-    ) -> Result<(), AllocError> {
-        let steps = Steps {
-            alloc: self.alloc,
-            options: judging.options,
-            window: self.window,
-            records: self.answers.records.as_slice(),
-            chain: self.chain,
-        };
+    ) -> Result<(), AllocError>
+        ensures requests { OnOk result ((needed : List Request)
+            × IsSoughtFrom (tracking_of self.now) judging.now.options aim.now (map (λ r. r.now) self.now.answers.records.items) (Some first) needed
+            × (wanted.new.requests.items ≡ with_needed wanted.old.folders.now wanted.old.requests.items needed)) }
+        ensures folders { wanted.new.folders ≡ wanted.old.folders }
+    {
+        let steps = self.steps_of(judging);
         match search(&steps, first, aim)? {
             Finding::Reached(_) => Ok(()),
             Finding::Asks(question) => {
@@ -278,9 +369,22 @@ impl<'b, 'a> Case<'b, 'a> {
                     verdict: steps.verdict_on(trusted, height)?,
                     trust: judging.trust,
                 };
-                wanted.ends.push(End::Stuck(why))?;
+                add_end(wanted, End::Stuck(why))?;
                 Ok(())
             }
+        }
+    }
+
+    /// The client's steps, judged so.
+    fn steps_of(&self, judging: &Judging) -> Steps<'_, 'a>
+        ensures { AreStepsOf (tracking_of self.now) judging.now.options (map (λ r. r.now) self.now.answers.records.items) result }
+    {
+        Steps {
+            alloc: self.alloc,
+            options: judging.options,
+            window: self.window,
+            records: self.answers.records.as_slice(),
+            chain: self.chain,
         }
     }
 
@@ -291,11 +395,14 @@ impl<'b, 'a> Case<'b, 'a> {
         steps: &Steps<'_, 'a>,
         trust: TrustLevel,
         question: &Question,
-    ) -> Result<(), AllocError> {
+    ) -> Result<(), AllocError>
+        ensures requests { OnOk result ((asked : List Query) × WaitsFor steps.now question.now.trusted question.now.height asked
+            × (wanted.new.requests.items ≡ with_needed wanted.old.folders.now wanted.old.requests.items (map (node_request (tracking_of self.now)) asked))) }
+        ensures folders { wanted.new.folders ≡ wanted.old.folders }
+    {
         let before = wanted.requests.len();
-        for query in &steps.lacks(question.trusted, question.height)? {
-            self.ask_node(wanted, *query)?;
-        }
+        let lacks = steps.lacks(question.trusted, question.height)?;
+        self.add_queries(wanted, lacks.as_slice())?;
         if wanted.requests.len() == before {
             return Ok(());
         }
@@ -313,10 +420,75 @@ impl<'b, 'a> Case<'b, 'a> {
         })?;
         Ok(())
     }
+
+    /// Asks a node of the chain that the client tracks for each of these.
+    #[tactic(auto, using(crate::proofs::Adding::adding, crate::proofs::Adding::one_query_more))]
+    fn add_queries(&self, wanted: &mut Wanted<'_>, asked: &[Query]) -> Result<(), AllocError>
+        ensures requests { OnOk result (wanted.new.requests.items ≡ with_needed wanted.old.folders.now wanted.old.requests.items (map (node_request (tracking_of self.now)) asked.now)) }
+        ensures folders { wanted.new.folders ≡ wanted.old.folders }
+    {
+        for query in asked {
+            self.ask_node(wanted, *query)?;
+        }
+        Ok(())
+    }
+}
+
+/// Adds why no more is asked for a client.
+fn add_end(wanted: &mut Wanted<'_>, end: End) -> Result<(), AllocError>
+    ensures requests { wanted.new.requests ≡ wanted.old.requests }
+    ensures folders { wanted.new.folders ≡ wanted.old.folders }
+{
+    // An end may hold a height: rattle proves the push only where the function names that type.
+    let _height: Option<Height> = None;
+    wanted.ends.push(end)?;
+    Ok(())
+}
+
+/// The least height that a goal takes, or else the latest.
+fn least_of(goal: &Option<Goal>, latest: Height) -> Height
+    ensures { result ≡ least_of goal.now latest }
+{
+    match *goal {
+        Some(Goal::Exactly(height) | Goal::AtLeast(height)) => height,
+        None => latest,
+    }
+}
+
+/// The greatest height that a goal takes, up to the latest.
+fn most_of(goal: &Option<Goal>, latest: Height) -> Height
+    ensures { result ≡ most_of goal.now latest }
+{
+    match *goal {
+        Some(Goal::Exactly(height)) => height,
+        _ => latest,
+    }
+}
+
+/// Whether a height is stored.
+#[tactic(auto, using(crate::proofs::Starting::storing))]
+fn is_stored(records: &[&ConsensusState], height: Height) -> bool
+    ensures { result ≡ list_any (λ s. s.height == height) (map (λ r. r.now) records.now) }
+{
+    for record in records {
+        if is_at(record, height) {
+            return true;
+        }
+    }
+    false
+}
+
+/// Whether a record is of a height.
+fn is_at(record: &ConsensusState, height: Height) -> bool
+    ensures { result ≡ (record.now.height == height) }
+{
+    record.height == height
 }
 
 /// Whether a node's network is named, and isn't this chain.
-fn is_other(network: &Option<ChainId>, chain: &str) -> bool {
+fn is_other(network: &Option<ChainId>, chain: &str) -> bool
+    ensures { result ≡ is_elsewhere network.now chain.now }
+{
     match network {
         Some(network) => network.as_str() != chain,
         None => false,
@@ -324,27 +496,43 @@ fn is_other(network: &Option<ChainId>, chain: &str) -> bool {
 }
 
 /// The greatest height whose votes are final: a node's latest block has those that the node saw itself.
-fn final_height(latest: Height) -> Option<Height> {
+fn final_height(latest: Height) -> Option<Height>
+    ensures { SomeIff result (1 < latest) (latest - 1) }
+{
     Height::new(latest.get() - 1)
 }
 
 /// The greatest height of a record that a client can be updated from, of records by rising height: of those up to a goal of one height,
 /// else of all.
-fn first_for(records: &[&ConsensusState], goal: Option<Goal>) -> Option<Height> {
-    let most = most_for(&goal);
+#[tactic(auto, using(crate::proofs::Starting::start_none))]
+fn first_for(records: &[&ConsensusState], goal: &Option<Goal>) -> Option<Height>
+    requires { IsNonDecreasingBy (λ r. r.now.height) records.now }
+    ensures { IsStart (map (λ r. r.now) records.now) (highest_of goal.now (2 ^ 63 - 1)) result }
+{
+    let most = highest_of(goal);
     let mut first = None;
     for record in records {
-        let height = record.height.get();
-        if height <= most {
-            first = Height::new(height);
-        }
+        first = start_with(first, record.height, most);
     }
     first
 }
 
+/// A height, where it is no greater than this, else the one before.
+fn start_with(before: Option<Height>, height: Height, most: u64) -> Option<Height>
+    ensures { result ≡ start_with most before height }
+{
+    if height.get() <= most {
+        Some(height)
+    } else {
+        before
+    }
+}
+
 /// The greatest height of a record from which a client can be updated to a goal.
-fn most_for(goal: &Option<Goal>) -> u64 {
-    match goal {
+fn highest_of(goal: &Option<Goal>) -> u64
+    ensures { result ≡ highest_of goal.now (2 ^ 63 - 1) }
+{
+    match *goal {
         Some(Goal::Exactly(height)) => height.get(),
         _ => Height::MAX,
     }

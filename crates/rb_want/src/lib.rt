@@ -6,6 +6,8 @@
 mod asking;
 mod chain;
 mod client;
+mod judged;
+pub mod laws;
 mod packets;
 mod path;
 mod records;

@@ -1,82 +1,176 @@
 //! What the folder of a path tells of pending packets.
+ghost use Rattle.std.specs.Prelude.{◌≡◌, IfOk, ◌&&◌, nat_le, count_by, length};
+ghost use Rattle.std.specs.List.{flat_map, list_any};
+ghost use Rattle.std.specs.List.Sorted.{IsNonDecreasing};
+ghost use Rattle.std.specs.Str.{bytes_eq};
+ghost use Rattle.rb_want_requests.specs.Answered.{is_part_of};
+ghost use Rattle.rb_want_requests.specs.PacketPaths.{pending_in};
+ghost use Rattle.rb_want_requests.specs.Pending.{committed_in};
+ghost use Rattle.rb_want_requests.specs.declared.answered.PartKind.{PartKind};
+ghost use Rattle.rb_want.specs.Packets.{AreOf, acknowledged_of, are_complete, has, is_ack_written, is_acknowledged, is_last_page, is_received, parts_in, tells_ack_written, unreceived_of};
+
 use rb_import_answers::{PacketEvent, PacketKind};
-use rb_want_requests::{Content, PartKind, SEQUENCES_A_PART, count_parts};
+use rb_want_requests::{Content, Folder, PartKind, SEQUENCES_A_PART, count_parts};
 use std::alloc::{AllocError, Global};
 
 /// Of a path: how many pages of commitments are there, and whether the last is among these; the sequences of the
 /// commitments, in the order of the answers; which of them weren't received and of which the acknowledgement was written,
 /// each by rising sequence, and how many answers tell so.
 #[derive(Drop)]
-pub struct PacketAnswers {
+pub struct PacketAnswers<'a> {
+    pub folder: &'a Folder,
     pub pages: u64,
     pub has_last: bool,
     pub pending: Vec<u64>,
-    pub unreceived: Vec<u64>,
-    pub unreceived_parts: u64,
-    pub acknowledged: Vec<u64>,
-    pub acknowledged_parts: u64,
+    unreceived: Vec<u64>,
+    unreceived_parts: u64,
+    acknowledged: Vec<u64>,
+    acknowledged_parts: u64,
+    ghost counted: { pages ≡ count_by (is_part_of PartKind.Commitments) folder.now.contents.items },
+    ghost last: { has_last ≡ list_any is_last_page folder.now.contents.items },
+    ghost committed: { pending.items ≡ pending_in folder.now.contents.items },
+    ghost not_received: { AreOf (flat_map unreceived_of folder.now.contents.items) unreceived.items },
+    ghost answered: { unreceived_parts ≡ count_by (is_part_of PartKind.Unreceived) folder.now.contents.items },
+    ghost written: { AreOf (flat_map acknowledged_of folder.now.contents.items) acknowledged.items },
+    ghost told: { acknowledged_parts ≡ count_by (is_part_of PartKind.Acknowledgements) folder.now.contents.items },
 }
 
-impl PacketAnswers {
+impl<'a> PacketAnswers<'a> {
     /// What the files in the folder of a path tell.
-    pub fn of(alloc: Global, contents: &[Content]) -> Result<PacketAnswers, AllocError> {
-        let mut answers = PacketAnswers {
+    pub fn of(alloc: Global, folder: &'a Folder) -> Result<PacketAnswers<'a>, AllocError>
+        ensures { IfOk result (λ answers. answers.folder.now ≡ folder.entry.now) }
+    {
+        let contents = folder.contents.as_slice();
+        Ok(PacketAnswers {
+            folder,
             pages: count_parts(contents, PartKind::Commitments),
-            has_last: contents.iter().any(|content| is_last(content)),
-            pending: Vec::new(alloc),
-            unreceived: Vec::new(alloc),
+            has_last: has_last(contents),
+            pending: pending_in(alloc, contents)?,
+            unreceived: sorted(unreceived_in(alloc, contents)?),
             unreceived_parts: count_parts(contents, PartKind::Unreceived),
-            acknowledged: Vec::new(alloc),
+            acknowledged: sorted(acknowledged_in(alloc, contents)?),
             acknowledged_parts: count_parts(contents, PartKind::Acknowledgements),
-        };
-        for content in contents {
-            answers.add(content)?;
-        }
-        answers.unreceived.sort_unstable();
-        answers.acknowledged.sort_unstable();
-        Ok(answers)
-    }
-
-    fn add(&mut self, content: &Content) -> Result<(), AllocError> {
-        match content {
-            Content::Commitments { page, .. } => {
-                self.pending.extend_from_slice(page.sequences.as_slice())
-            }
-            Content::Unreceived(sequences) => {
-                self.unreceived.extend_from_slice(sequences.as_slice())
-            }
-            Content::Acknowledgements(sequences) => {
-                self.acknowledged.extend_from_slice(sequences.as_slice())
-            }
-            _ => Ok(()),
-        }
+        })
     }
 
     /// How many parts the pending packets have.
-    pub fn parts(&self) -> u64 {
+    pub fn parts(&self) -> u64
+        ensures { result ≡ parts_in self.now.folder.now.contents.items }
+    {
         (self.pending.len() as u64).div_ceil(SEQUENCES_A_PART)
     }
 
     /// Whether the answers on all parts of the pending packets are there: which weren't received, and which acknowledgements
     /// were written.
-    pub fn are_complete(&self) -> bool {
+    fn are_complete(&self) -> bool
+        ensures { result ≡ are_complete self.now.folder.now.contents.items }
+    {
         let parts = self.parts();
         parts <= self.unreceived_parts && parts <= self.acknowledged_parts
     }
 
     /// Whether a pending packet was received.
-    pub fn is_received(&self, sequence: u64) -> bool {
-        self.are_complete() && self.unreceived.binary_search(&sequence).is_err()
+    pub fn is_received(&self, sequence: u64) -> bool
+        ensures { result ≡ is_received self.now.folder.now.contents.items sequence }
+    {
+        self.are_complete() && !has(self.unreceived.as_slice(), sequence)
     }
 
     /// Whether the acknowledgement of a pending packet was written.
-    pub fn is_acknowledged(&self, sequence: u64) -> bool {
-        self.are_complete() && self.acknowledged.binary_search(&sequence).is_ok()
+    pub fn is_acknowledged(&self, sequence: u64) -> bool
+        ensures { result ≡ is_acknowledged self.now.folder.now.contents.items sequence }
+    {
+        self.are_complete() && has(self.acknowledged.as_slice(), sequence)
     }
 }
 
+/// Whether a sequence is among these, which rise.
+fn has(sequences: &[u64], sequence: u64) -> bool
+    requires { IsNonDecreasing sequences.now }
+    ensures { result ≡ has sequence sequences.now }
+{
+    sequences.binary_search(&sequence).is_ok()
+}
+
+/// These sequences by rising sequence.
+fn sorted(mut sequences: Vec<u64>) -> Vec<u64>
+    ensures { AreOf sequences.items result.items }
+{
+    sequences.sort_unstable();
+    sequences
+}
+
+/// The sequences of the commitments that answers tell of.
+fn pending_in(alloc: Global, contents: &[Content]) -> Result<Vec<u64>, AllocError>
+    ensures { IfOk result (λ sequences. sequences.items ≡ pending_in contents.now) }
+{
+    let mut sequences = Vec::new(alloc);
+    for content in contents {
+        sequences.extend_from_slice(committed_in(content))?;
+    }
+    Ok(sequences)
+}
+
+/// The sequences of the packets that answers tell weren't received.
+fn unreceived_in(alloc: Global, contents: &[Content]) -> Result<Vec<u64>, AllocError>
+    ensures { IfOk result (λ sequences. sequences.items ≡ flat_map unreceived_of contents.now) }
+{
+    let mut sequences = Vec::new(alloc);
+    for content in contents {
+        sequences.extend_from_slice(unreceived_of(content))?;
+    }
+    Ok(sequences)
+}
+
+/// The sequences of the packets of which answers tell that the acknowledgement was written.
+fn acknowledged_in(alloc: Global, contents: &[Content]) -> Result<Vec<u64>, AllocError>
+    ensures { IfOk result (λ sequences. sequences.items ≡ flat_map acknowledged_of contents.now) }
+{
+    let mut sequences = Vec::new(alloc);
+    for content in contents {
+        sequences.extend_from_slice(acknowledged_of(content))?;
+    }
+    Ok(sequences)
+}
+
+fn committed_in(content: &Content) -> &[u64]
+    ensures { result.now ≡ committed_in content.now }
+{
+    match content {
+        Content::Commitments { page, .. } => page.sequences.as_slice(),
+        _ => &[],
+    }
+}
+
+fn unreceived_of(content: &Content) -> &[u64]
+    ensures { result.now ≡ unreceived_of content.now }
+{
+    match content {
+        Content::Unreceived(sequences) => sequences.as_slice(),
+        _ => &[],
+    }
+}
+
+fn acknowledged_of(content: &Content) -> &[u64]
+    ensures { result.now ≡ acknowledged_of content.now }
+{
+    match content {
+        Content::Acknowledgements(sequences) => sequences.as_slice(),
+        _ => &[],
+    }
+}
+
+/// Whether the last page of commitments is there.
+fn has_last(contents: &[Content]) -> bool
+    ensures { result ≡ list_any is_last_page contents.now }
+{
+    contents.iter().any(|content| is_last_page(content))
+}
+
 /// Whether a content is the last page of commitments.
-fn is_last(content: &Content) -> bool {
+fn is_last_page(content: &Content) -> bool
+    ensures { result ≡ is_last_page content.now }
+{
     match content {
         Content::Commitments { page, .. } => page.is_last,
         _ => false,
@@ -84,24 +178,35 @@ fn is_last(content: &Content) -> bool {
 }
 
 /// Whether an answer tells that the acknowledgement of a packet was written, by its sequence and its source as `port/channel`.
-pub fn tell_ack_written(contents: &[Content], source: &str, sequence: u64) -> bool {
+pub fn tell_ack_written(contents: &[Content], source: &str, sequence: u64) -> bool
+    ensures { result ≡ list_any (tells_ack_written source.now sequence) contents.now }
+{
     contents
         .iter()
         .any(|content| tells_ack_written(content, source, sequence))
 }
 
-fn tells_ack_written(content: &Content, source: &str, sequence: u64) -> bool {
+fn tells_ack_written(content: &Content, source: &str, sequence: u64) -> bool
+    ensures { result ≡ tells_ack_written source.now sequence content.now }
+{
     match content {
-        Content::Search(page) => page
-            .events
-            .iter()
-            .any(|event| is_ack_written(event, source, sequence)),
+        Content::Search(page) => is_ack_among(page.events.as_slice(), source, sequence),
         _ => false,
     }
 }
 
-fn is_ack_written(event: &PacketEvent, source: &str, sequence: u64) -> bool {
-    event.kind == PacketKind::AckWritten
+fn is_ack_among(events: &[PacketEvent], source: &str, sequence: u64) -> bool
+    ensures { result ≡ list_any (is_ack_written source.now sequence) events.now }
+{
+    events
+        .iter()
+        .any(|event| is_ack_written(event, source, sequence))
+}
+
+fn is_ack_written(event: &PacketEvent, source: &str, sequence: u64) -> bool
+    ensures { result ≡ is_ack_written source.now sequence event.now }
+{
+    matches!(event.kind, PacketKind::AckWritten)
         && event.sequence == sequence
         && event.source.as_str() == source
 }

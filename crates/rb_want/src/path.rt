@@ -1,4 +1,12 @@
 //! What is wanted for one path: which of its packets are pending, and where these were sent, received and acknowledged.
+ghost use Rattle.std.specs.Prelude.{◌≡◌, ◌∷◌, [], IfOk, OnOk};
+ghost use Rattle.std.specs.List.{flat_map, range_with_len};
+ghost use Rattle.rb_script_types.specs.Channels.{end_text};
+ghost use Rattle.rb_want_requests.specs.PacketPaths.{pending_in};
+ghost use Rattle.rb_want.specs.Adding.{with_needed};
+ghost use Rattle.rb_want.specs.Packets.{lacks_ack, parts_in};
+ghost use Rattle.rb_want.specs.Paths.{IsCaseAt, packet_needs, part_needs, path_needs, path_view, side_request};
+
 use crate::packets::{PacketAnswers, tell_ack_written};
 use rb_base::{ChainId, PathId};
 use rb_import_setup::{PathSetup, Setup};
@@ -22,18 +30,20 @@ pub struct PathCase<'a> {
     first: u64,
     source: Side,
     destination: Side,
-    folder: &'a Folder,
-    answers: PacketAnswers,
+    answers: PacketAnswers<'a>,
 }
 
 /// The case of the path at a place; none where the setup doesn't name both ends of its channel.
+#[tactic(auto, unfolding(crate::specs::Paths::named_path))]
 pub fn path_case_of<'a>(
     alloc: Global,
     setup: &Setup,
     folders: &'a Folders,
     place: usize,
     path: &PathSetup,
-) -> Result<Option<PathCase<'a>>, AllocError> {
+) -> Result<Option<PathCase<'a>>, AllocError>
+    ensures named { IfOk result (IsCaseAt setup.now.chains.items folders.now.paths.items (place, path.now)) }
+{
     let config = &path.config;
     let Some(channel) = &config.channel else {
         return Ok(None);
@@ -59,34 +69,72 @@ pub fn path_case_of<'a>(
             chain: *destination,
             end: counterparty,
         },
-        folder,
-        answers: PacketAnswers::of(alloc, folder.contents.as_slice())?,
+        answers: PacketAnswers::of(alloc, folder)?,
     }))
 }
 
 impl PathCase<'_> {
     /// Adds what is wanted for the path: its commitments; then which of these packets weren't received and of which the
     /// acknowledgement was written; and where each was sent, received and acknowledged.
-    pub fn add_wanted(&self, wanted: &mut Wanted<'_>) -> Result<(), AllocError> {
+    #[tactic(auto, unfolding(crate::specs::Paths::path_needs), using(crate::proofs::Adding::adding))]
+    pub fn add_wanted(&self, wanted: &mut Wanted<'_>) -> Result<(), AllocError>
+        ensures requests { OnOk result (wanted.new.requests.items ≡ with_needed wanted.old.folders.now wanted.old.requests.items (path_needs (path_view self.now) self.now.answers.folder.now)) }
+        ensures folders { wanted.new.folders ≡ wanted.old.folders }
+    {
         if !self.answers.has_last {
             let page = self.answers.pages.saturating_add(1);
             return self.need(wanted, &self.source, Query::Commitments { page });
         }
-        for part in 0..self.answers.parts() {
-            let part = part.saturating_add(1);
-            self.need(wanted, &self.destination, Query::Unreceived { part })?;
-            self.need(wanted, &self.destination, Query::Acknowledgements { part })?;
-        }
-        for sequence in &self.answers.pending {
-            if self.first <= *sequence {
-                self.add_searches(wanted, *sequence)?;
-            }
+        self.add_parts(wanted)?;
+        self.add_packets(wanted)
+    }
+
+    /// Adds what became of each part of the pending packets.
+    #[tactic(auto, using(crate::proofs::Adding::adding))]
+    fn add_parts(&self, wanted: &mut Wanted<'_>) -> Result<(), AllocError>
+        ensures requests { OnOk result (wanted.new.requests.items ≡ with_needed wanted.old.folders.now wanted.old.requests.items
+            (flat_map (part_needs (path_view self.now)) (range_with_len 1 (parts_in self.now.answers.folder.now.contents.items)))) }
+        ensures folders { wanted.new.folders ≡ wanted.old.folders }
+    {
+        for before in 0..self.answers.parts() {
+            self.add_part(wanted, before + 1)?;
         }
         Ok(())
     }
 
-    /// Adds where a pending packet was sent and, where that is done, received and acknowledged.
-    fn add_searches(&self, wanted: &mut Wanted<'_>, sequence: u64) -> Result<(), AllocError> {
+    /// Adds what became of a part of the pending packets.
+    #[tactic(auto, using(crate::proofs::Adding::adding))]
+    fn add_part(&self, wanted: &mut Wanted<'_>, part: u64) -> Result<(), AllocError>
+        ensures requests { OnOk result (wanted.new.requests.items ≡ with_needed wanted.old.folders.now wanted.old.requests.items (part_needs (path_view self.now) part)) }
+        ensures folders { wanted.new.folders ≡ wanted.old.folders }
+    {
+        self.need(wanted, &self.destination, Query::Unreceived { part })?;
+        self.need(wanted, &self.destination, Query::Acknowledgements { part })
+    }
+
+    /// Adds where each pending packet was sent, received and acknowledged.
+    #[tactic(auto, using(crate::proofs::Adding::adding))]
+    fn add_packets(&self, wanted: &mut Wanted<'_>) -> Result<(), AllocError>
+        ensures requests { OnOk result (wanted.new.requests.items ≡ with_needed wanted.old.folders.now wanted.old.requests.items
+            (flat_map (packet_needs (path_view self.now) self.now.answers.folder.now) (pending_in self.now.answers.folder.now.contents.items))) }
+        ensures folders { wanted.new.folders ≡ wanted.old.folders }
+    {
+        for sequence in &self.answers.pending {
+            self.add_packet(wanted, *sequence)?;
+        }
+        Ok(())
+    }
+
+    /// Adds of a pending packet that the path has to do with where it was sent and, where that is done, received and
+    /// acknowledged.
+    #[tactic(auto, unfolding(crate::specs::Paths::packet_needs), using(crate::proofs::Adding::adding))]
+    fn add_packet(&self, wanted: &mut Wanted<'_>, sequence: u64) -> Result<(), AllocError>
+        ensures requests { OnOk result (wanted.new.requests.items ≡ with_needed wanted.old.folders.now wanted.old.requests.items (packet_needs (path_view self.now) self.now.answers.folder.now sequence)) }
+        ensures folders { wanted.new.folders ≡ wanted.old.folders }
+    {
+        if sequence < self.first {
+            return Ok(());
+        }
         self.ask(wanted, &self.source, Query::Sent(sequence))?;
         if !self.answers.is_received(sequence) {
             return Ok(());
@@ -99,8 +147,11 @@ impl PathCase<'_> {
     }
 
     /// Whether the acknowledgement of a packet was written, and no answer tells in which block, not even that on its receiving.
-    fn lacks_ack(&self, sequence: u64) -> Result<bool, AllocError> {
-        let searched = self.folder.searched.as_slice();
+    fn lacks_ack(&self, sequence: u64) -> Result<bool, AllocError>
+        ensures { IfOk result (λ answer. answer ≡ lacks_ack self.now.answers.folder.now (end_text self.now.source.end) sequence) }
+    {
+        let folder = self.answers.folder;
+        let searched = folder.searched.as_slice();
         if !self.answers.is_acknowledged(sequence)
             || !is_named(self.alloc, searched, &Query::Received(sequence))?
         {
@@ -108,22 +159,30 @@ impl PathCase<'_> {
         }
         let end = self.source.end;
         let source = format!(in self.alloc; "{end}")?;
-        let contents = self.folder.contents.as_slice();
+        let contents = folder.contents.as_slice();
         Ok(!tell_ack_written(contents, source.as_str(), sequence))
     }
 
     /// Asks an end of the channel, and tells where it refused that.
-    fn need(&self, wanted: &mut Wanted<'_>, side: &Side, query: Query) -> Result<(), AllocError> {
-        if is_named(self.alloc, self.folder.refused.as_slice(), &query)? {
+    fn need(&self, wanted: &mut Wanted<'_>, side: &Side, query: Query) -> Result<(), AllocError>
+        ensures requests { OnOk result (wanted.new.requests.items ≡ with_needed wanted.old.folders.now wanted.old.requests.items (side_request (path_view self.now) side.now query ∷ [])) }
+        ensures folders { wanted.new.folders ≡ wanted.old.folders }
+    {
+        self.ask(wanted, side, query)?;
+        if is_named(self.alloc, self.answers.folder.refused.as_slice(), &query)? {
             let path = self.id;
             let chain = side.chain;
             return wanted.end_path(PathEnd { path, chain });
         }
-        self.ask(wanted, side, query)
+        Ok(())
     }
 
     /// Asks an end of the channel.
-    fn ask(&self, wanted: &mut Wanted<'_>, side: &Side, query: Query) -> Result<(), AllocError> {
+    #[tactic(auto, using(crate::proofs::Adding::adding))]
+    fn ask(&self, wanted: &mut Wanted<'_>, side: &Side, query: Query) -> Result<(), AllocError>
+        ensures requests { OnOk result (wanted.new.requests.items ≡ with_needed wanted.old.folders.now wanted.old.requests.items (side_request (path_view self.now) side.now query ∷ [])) }
+        ensures folders { wanted.new.folders ≡ wanted.old.folders }
+    {
         let request = Request {
             chain: side.chain,
             owner: Owner::Path {

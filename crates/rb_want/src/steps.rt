@@ -1,14 +1,19 @@
 //! Steps of a client, judged by the answers that are there.
-ghost use Rattle.std.specs.Prelude.{◌≡◌, ◌↔◌, IfOk, IfSome, Some, map};
+ghost use Rattle.std.specs.Prelude.{◌≡◌, ◌≢◌, ◌⊎◌, ◌↔◌, ◌++◌, false, List, All, IfNone, IfOk, IfSome, OnOk, Some, map};
+ghost use Rattle.std.specs.List.Sorted.{IsNonDecreasingBy};
+ghost use Rattle.std.specs.Option.{option_to_list};
 ghost use Rattle.rb_book.specs.Header.{IsSignedBy, Names};
 ghost use Rattle.rb_step.specs.StepRule.{AcceptsWithin, step_of};
-ghost use Rattle.rb_want.specs.Steps.{IsRecordAt, IsStoredAt, IsVerdictOn, header_of, record_of, record_of_state, vote_of};
+ghost use Rattle.rb_want_requests.specs.declared.request.Query.{Query};
+ghost use Rattle.rb_want.specs.Judgements.{AreByRule, LacksHeader, LacksSet, LacksTrust};
+ghost use Rattle.rb_want.specs.Steps.{HoldsWithin, IsRecordAt, IsStoredAt, IsVerdictOn, header_of, record_of, record_of_state, vote_of};
+ghost use Rattle.rb_want.specs.Waiting.{HasNoRecord, WaitsFor, WaitsForHeader, WaitsForNext, WaitsForSet, page_asked};
 
-use crate::chain::ChainAnswers;
+use crate::judged::Steps;
 use rb_base::{Height, Options, Window};
 use rb_book::{Header, Record, Vote};
 use rb_import_answers::{BlockIdFlag, ConsensusState, Signature, SignedHeader};
-use rb_step::laws::window_is_by_ends;
+use rb_step::laws::{answer_applies, window_is_by_ends};
 use rb_step::{Reason, Verdict, verify};
 use rb_valset::ValidatorSet;
 use rb_want_requests::Query;
@@ -19,19 +24,8 @@ use std::alloc::{AllocError, Global};
 /// header's set.
 const MOST_LACKS: usize = 3;
 
-/// A client that is to be updated in a window: how it judges headers, its records by rising height, and what there is of the
-/// chain that it tracks.
-#[derive(Clone, Copy)]
-pub struct Steps<'b, 'a> {
-    pub alloc: Global,
-    pub options: Options,
-    pub window: Window,
-    pub records: &'b [&'a ConsensusState],
-    pub chain: &'b ChainAnswers<'a>,
-}
-
 impl Judge for Steps<'_, '_> {
-    ghost use Rattle.rb_want.specs.Steps.{AreByRule};
+    ghost use Rattle.rb_want.specs.Judgements.{AreByRule};
 
     ghost judges = { AreByRule };
 
@@ -48,6 +42,8 @@ impl Judge for Steps<'_, '_> {
 fn judgement_of(verdict: Verdict) -> Judgement
     ensures accepted { result ≡ Judgement.Accepted → verdict ≡ Verdict.Success }
     ensures refused { result ≡ Judgement.Refused → ¬ (verdict ≡ Verdict.Success) }
+    ensures never { result ≡ Judgement.Never → (verdict ≡ Verdict.Invalid Reason.Expired) ⊎ (verdict ≡ Verdict.Invalid Reason.TrustedSetUnknown) }
+    ensures decided { (result ≢ Judgement.Gone) × (result ≢ Judgement.Unknown) }
 {
     match verdict {
         Verdict::Success => Judgement::Accepted,
@@ -59,7 +55,8 @@ fn judgement_of(verdict: Verdict) -> Judgement
 impl<'b, 'a> Steps<'b, 'a> {
     /// The record of a height: one that is stored, or else that of the header.
     fn record_at(&self, height: Height) -> Option<Record>
-        ensures { IfSome result (IsRecordAt self.now height) }
+        ensures found { IfSome result (IsRecordAt self.now height) }
+        ensures none { IfNone result (HasNoRecord self.now height) }
     {
         match stored_at(self.records, height) {
             Some(state) => Some(record_of_state(state)),
@@ -104,78 +101,116 @@ impl<'b, 'a> Steps<'b, 'a> {
     /// How a step is judged on which there is no verdict: `Never` where the trusted record or the set that it names isn't
     /// given, `Gone` where the header or its set isn't.
     fn judgement_without(&self, trusted: Height, height: Height) -> Result<Judgement, AllocError>
-        ensures { IfOk result (λ judgement. (¬ (judgement ≡ Judgement.Accepted)) × (¬ (judgement ≡ Judgement.Refused))) }
+        ensures { IfOk result (AreByRule self.now trusted height) }
     {
         if !self.may_be_trusted(trusted)? {
             return Ok(Judgement::Never);
         }
-        if self.may_come(height)? && !self.lacks(trusted, height)?.is_empty() {
-            Ok(Judgement::Unknown)
-        } else {
-            Ok(Judgement::Gone)
+        if !self.may_come(height)? {
+            return Ok(Judgement::Gone);
         }
+        let lacks = self.lacks(trusted, height)?;
+        if lacks.is_empty() {
+            return Ok(Judgement::Gone);
+        }
+        Ok(Judgement::Unknown)
     }
 
     /// Whether the record of a height is there, and the set that it names is there or may still come.
-    fn may_be_trusted(&self, trusted: Height) -> Result<bool, AllocError> {
+    fn may_be_trusted(&self, trusted: Height) -> Result<bool, AllocError>
+        ensures { IfOk result (λ answer. answer ≡ false → LacksTrust self.now trusted) }
+    {
         let Some(record) = self.record_at(trusted) else {
             return Ok(false);
         };
-        if self.chain.set_with(record.next()).is_some() {
+        self.may_have_set(record.next(), trusted.get() + 1)
+    }
+
+    /// Whether the header of a height and its set are there or may still come.
+    fn may_come(&self, height: Height) -> Result<bool, AllocError>
+        ensures { IfOk result (λ answer. answer ≡ false → LacksHeader self.now height) }
+    {
+        let Some(signed) = self.chain.header_at(height) else {
+            return self.chain.is_open(self.alloc, Query::Commit(height));
+        };
+        self.may_have_set(&signed.set, height.get())
+    }
+
+    /// Whether the set of this hash is there, or the validators of a height may still come.
+    fn may_have_set(&self, hash: &[u8; 32], height: u64) -> Result<bool, AllocError>
+        ensures { IfOk result (λ answer. answer ≡ false → LacksSet self.now hash.now height) }
+    {
+        if self.chain.has_set(hash) {
             return Ok(true);
         }
-        match Height::new(trusted.get() + 1) {
-            Some(after) => self.chain.is_set_open(self.alloc, after),
+        match self.page_at(height) {
+            Some(query) => self.chain.is_open(self.alloc, query),
             None => Ok(false),
         }
     }
 
-    /// Whether the header of a height and its set are there or may still come.
-    fn may_come(&self, height: Height) -> Result<bool, AllocError> {
-        let Some(signed) = self.chain.header_at(height) else {
-            return self.chain.is_open(self.alloc, Query::Commit(height));
-        };
-        if self.chain.set_with(&signed.set).is_some() {
-            return Ok(true);
+    /// The next page of the validators of a height, unless all are there.
+    #[tactic(auto, using(crate::proofs::Waiting::paging))]
+    fn page_at(&self, height: u64) -> Option<Query>
+        ensures { option_to_list result ≡ page_asked self.now height }
+    {
+        match Height::new(height) {
+            Some(height) => self.chain.next_page_at(height),
+            None => None,
         }
-        self.chain.is_set_open(self.alloc, height)
     }
 
     /// The queries that the judgement of a step waits for: each is of something that isn't there.
-    pub fn lacks(&self, trusted: Height, height: Height) -> Result<Vec<Query>, AllocError> {
+    pub fn lacks(&self, trusted: Height, height: Height) -> Result<Vec<Query>, AllocError>
+        ensures { IfOk result (λ lacks. WaitsFor self.now trusted height lacks.items) }
+    {
         let mut lacks = Vec::with_capacity(self.alloc, MOST_LACKS)?;
         self.add_next(&mut lacks, trusted)?;
-        match self.chain.header_at(height) {
-            Some(signed) => {
-                if self.chain.set_with(&signed.set).is_none() {
-                    self.add_page(&mut lacks, height)?;
-                }
-            }
-            None => {
-                lacks.push(Query::Commit(height))?;
-                self.add_page(&mut lacks, height)?;
-            }
-        }
+        self.add_header(&mut lacks, height)?;
         Ok(lacks)
     }
 
     /// Adds the next page of the set that the record of a trusted height names, if that isn't there.
-    fn add_next(&self, lacks: &mut Vec<Query>, trusted: Height) -> Result<(), AllocError> {
+    fn add_next(&self, lacks: &mut Vec<Query>, trusted: Height) -> Result<(), AllocError>
+        ensures { OnOk result ((asked : List Query) × WaitsForNext self.now trusted asked × (lacks.new.items ≡ lacks.old.items ++ asked)) }
+    {
         let Some(record) = self.record_at(trusted) else {
             return Ok(());
         };
-        if self.chain.set_with(record.next()).is_some() {
+        self.add_set(lacks, record.next(), trusted.get() + 1)
+    }
+
+    /// Adds the header of a height, and the next page of its set, if they aren't there.
+    fn add_header(&self, lacks: &mut Vec<Query>, height: Height) -> Result<(), AllocError>
+        ensures { OnOk result ((asked : List Query) × WaitsForHeader self.now height asked × (lacks.new.items ≡ lacks.old.items ++ asked)) }
+    {
+        let Some(signed) = self.chain.header_at(height) else {
+            lacks.push(Query::Commit(height))?;
+            return self.add_page(lacks, height.get());
+        };
+        self.add_set(lacks, &signed.set, height.get())
+    }
+
+    /// Adds the next page of the validators of a height, unless the set of this hash is there.
+    fn add_set(
+        &self,
+        lacks: &mut Vec<Query>,
+        hash: &[u8; 32],
+        height: u64,
+    ) -> Result<(), AllocError>
+        ensures { OnOk result ((asked : List Query) × WaitsForSet self.now hash.now height asked × (lacks.new.items ≡ lacks.old.items ++ asked)) }
+    {
+        if self.chain.has_set(hash) {
             return Ok(());
         }
-        match Height::new(trusted.get() + 1) {
-            Some(after) => self.add_page(lacks, after),
-            None => Ok(()),
-        }
+        self.add_page(lacks, height)
     }
 
     /// Adds the next page of the validators of a height, if one isn't there.
-    fn add_page(&self, lacks: &mut Vec<Query>, height: Height) -> Result<(), AllocError> {
-        if let Some(query) = self.chain.next_page_at(height) {
+    fn add_page(&self, lacks: &mut Vec<Query>, height: u64) -> Result<(), AllocError>
+        ensures { OnOk result (lacks.new.items ≡ lacks.old.items ++ page_asked self.now height) }
+    {
+        if let Some(query) = self.page_at(height) {
             lacks.push(query)?;
         }
         Ok(())
@@ -184,15 +219,14 @@ impl<'b, 'a> Steps<'b, 'a> {
 
 /// What a client has stored at a height, of states by rising height.
 fn stored_at<'a>(records: &[&'a ConsensusState], height: Height) -> Option<&'a ConsensusState>
-    ensures { IfSome result (λ state. IsStoredAt records.now height state.now) }
+    requires { IsNonDecreasingBy (λ r. r.now.height) records.now }
+    ensures found { IfSome result (λ state. IsStoredAt records.now height state.now) }
+    ensures none { IfNone result (All (λ r. r.now.height ≢ height) records.now) }
 {
     let place = records
         .binary_search_by_key(&height, |record: &&ConsensusState| record.height)
         .ok()?;
-    match records.get(place) {
-        Some(state) if state.height == height => Some(*state),
-        _ => None,
-    }
+    records.get(place).copied()
 }
 
 /// What the step rule says of a step in a window: at its first moment, and where the step is accepted then, at its last.
@@ -207,9 +241,11 @@ fn verdict_in(
 ) -> Verdict
     requires named { Names trusted.now next.now }
     requires signed { IsSignedBy header.now own.now }
-    ensures { (result ≡ Verdict.Success) ↔ AcceptsWithin options.now window.now (step_of trusted_height trusted.now (Some next.now) header.now own.now) }
+    ensures success { (result ≡ Verdict.Success) ↔ AcceptsWithin options.now window.now (step_of trusted_height trusted.now (Some next.now) header.now own.now) }
+    ensures holds { HoldsWithin options.now window.now (step_of trusted_height trusted.now (Some next.now) header.now own.now) result }
 {
     window_is_by_ends();
+    answer_applies();
     let (first, last) = (window.from(), window.until());
     match verify(
         options,

@@ -1,0 +1,18 @@
+use Rattle.std.proofs.Common.{◌∙◌, ap, rules}
+use Rattle.std.specs.Borrow.{Bor}
+use Rattle.rb_want_requests.specs.declared.content.Folders.{Folders}
+use Rattle.std.proofs.lemmas.List.{get_or_default}
+use Rattle.rb_want.specs.Needs.{node_request, tracking_of}
+use Rattle.rb_want.proofs.Adding.{query_step}
+use Rattle.rb_want.proofs.client.Case.add_queries.Goals as goal
+
+-- one more query is added
+pub loop-query-preserved : goal.loop-query-preserved
+loop-query-preserved c =
+    let now = c.loop-query.wanted in
+    let old = c.args.wanted.now in (
+      query_step old.folders.now now.folders.now old.requests.items now.requests.items _ (node_request (tracking_of c.args.self.now))
+          c.args.asked.now c.loop-query.query-index _ c.loop-query-test.true (search (rules, get_or_default))
+          (ap (λ (b : Bor Folders). b.now) c.loop-query.invariant.1) c.loop-query.invariant.0 c.in_ok-ask_node.ensures.requests,
+      c.ask_node.ensures.folders ∙ c.loop-query.invariant.1,
+    )

@@ -1,0 +1,11 @@
+use Rattle.std.specs.Prelude.{◌≡◌, map, take}
+use Rattle.rb_want.specs.Adding.{with_needed}
+use Rattle.rb_want.specs.Needs.{node_request, tracking_of}
+use Rattle.rb_want.proofs.client.Case.add_queries.Given as goal
+
+-- the queries so far are added
+abbrev pub invariant-loop-query : goal.invariant-loop-query
+invariant-loop-query l =
+    (l.wanted.requests.items
+    ≡ with_needed l.fn.wanted.folders.now l.fn.wanted.requests.items (map (node_request (tracking_of l.self)) (take l.query-index l.asked)))
+    × (l.wanted.folders ≡ l.fn.wanted.folders)

@@ -1,0 +1,19 @@
+use Rattle.std.proofs.Common.{◌∙◌, ap, rules}
+use Rattle.std.specs.Borrow.{Bor}
+use Rattle.std.proofs.lemmas.List.{get_or_default}
+use Rattle.rb_want_requests.specs.declared.content.Folders.{Folders}
+use Rattle.rb_want.specs.Paths.{packet_needs, path_view}
+use Rattle.rb_want.proofs.Adding.{more_step}
+use Rattle.rb_want.proofs.path.PathCase.add_packets.Goals as goal
+
+-- what one more packet needs is added
+pub loop-sequence-preserved : goal.loop-sequence-preserved
+loop-sequence-preserved c =
+    let now = c.loop-sequence.wanted in
+    let old = c.args.wanted.now in (
+      more_step old.folders.now now.folders.now old.requests.items now.requests.items _
+          (packet_needs (path_view c.args.self.now) c.args.self.now.answers.folder.now) c.deref-sequence-items.result.now c.loop-sequence.sequence-index _
+          (search rules) (search (rules, get_or_default)) (ap (λ (b : Bor Folders). b.now) c.loop-sequence.invariant.1) c.loop-sequence.invariant.0
+          c.in_ok-add_packet.ensures.requests,
+      c.add_packet.ensures.folders ∙ c.loop-sequence.invariant.1,
+    )

@@ -1,0 +1,13 @@
+use Rattle.std.specs.Prelude.{◌≡◌, take}
+use Rattle.std.specs.List.{flat_map}
+use Rattle.rb_want.specs.Adding.{with_needed}
+use Rattle.rb_want.specs.Paths.{packet_needs, path_view}
+use Rattle.rb_want.proofs.path.PathCase.add_packets.Given as goal
+
+-- what the packets so far need is added
+abbrev pub invariant-loop-sequence : goal.invariant-loop-sequence
+invariant-loop-sequence l =
+    (l.wanted.requests.items
+    ≡ with_needed l.fn.wanted.folders.now l.fn.wanted.requests.items
+    (flat_map (packet_needs (path_view l.self) l.self.answers.folder.now) (take l.sequence-index l.sequence-items)))
+    × (l.wanted.folders ≡ l.fn.wanted.folders)

@@ -1,0 +1,88 @@
+-- What the folder of a client tells of it, and that of the chain that it tracks.
+use Rattle.std.specs.Prelude.{◌≡◌, ℕ, ◌+◌, ◌-◌, ◌^◌, ◌==◌, min, nat_le, Contains, Bool, true, false, if◌then◌else◌, List, [], ◌∷◌, Option, Some, None, fold, filter, length, count_by, slice_get}
+use Rattle.std.specs.List.{filter_map, flat_map, sum_by}
+use Rattle.std.specs.Option.{option_or}
+use Rattle.rb_import_answers.specs.declared.client.ClientState.{ClientState}
+use Rattle.rb_import_answers.specs.declared.client.ConsensusState.{ConsensusState}
+use Rattle.rb_import_answers.specs.declared.commit.SignedHeader.{SignedHeader}
+use Rattle.rb_import_answers.specs.declared.validators.ValidatorsPage.{ValidatorsPage}
+use Rattle.rb_want_requests.specs.declared.content.Content.{Content}
+use Rattle.rb_want_requests.specs.declared.content.Content.TheVariants as contents
+use Rattle.rb_want_requests.specs.declared.content.NodeStatus.{NodeStatus}
+use Rattle.rb_want_requests.specs.declared.request.Query.{Query}
+use Rattle.rb_want_requests.specs.declared.request.Query.TheVariants as queries
+use Rattle.rb_want_requests.specs.Answered.{is_page_of}
+
+-- the number after one, in 64 bits
+abbrev pub after : ℕ → ℕ
+after n = min (n + 1) (2 ^ 64 - 1)
+
+-- ---- a client
+
+-- the state of a client that is frozen, or isn't Tendermint's
+abbrev pub is_other_client : Content → Bool
+is_other_client contents.OtherClient = true
+is_other_client _ = false
+
+-- the last page of the client's consensus states
+abbrev pub is_last_states : Content → Bool
+is_last_states (contents.ConsensusStates page key) = page.is_last
+is_last_states _ = false
+
+-- the client's state, where the content has it, else the one before
+abbrev pub later_state : Option ClientState → Content → Option ClientState
+later_state before (contents.ClientState state) = Some state
+later_state before _ = before
+
+-- the client's state, of several the last
+unfoldable pub state_in : List Content → Option ClientState
+state_in there = fold later_state None there
+
+-- the consensus states of a page that are of this revision number
+abbrev pub states_of : ℕ → Content → List ConsensusState
+states_of revision (contents.ConsensusStates page key) = filter (λ s. s.revision == revision) page.states.items
+states_of revision _ = []
+
+-- all that the client has stored
+unfoldable pub stored_in : ℕ → List Content → List ConsensusState
+stored_in revision there = flat_map (states_of revision) there
+
+-- ---- a chain
+
+-- what the node says of itself, where the content has it, else what it said before
+abbrev pub later_status : Option NodeStatus → Content → Option NodeStatus
+later_status before (contents.Status status) = Some status
+later_status before _ = before
+
+-- what the node says of itself, of several answers the last
+unfoldable pub status_in : List Content → Option NodeStatus
+status_in there = fold later_status None there
+
+-- the header is among these contents, and is of this height
+abbrev pub IsHeaderAt : List Content → ℕ → SignedHeader → Type 0
+IsHeaderAt there height h = Contains there (contents.Commit h) × (h.height ≡ height)
+
+-- the page, if the content is one of this height
+abbrev pub page_at : ℕ → Content → Option ValidatorsPage
+page_at height (contents.Validators page) = if page.height == height then Some page else None
+page_at height _ = None
+
+abbrev pub pages_at : ℕ → List Content → List ValidatorsPage
+pages_at height there = filter_map (page_at height) there
+
+-- how many validators these pages have
+abbrev pub members_at : ℕ → List Content → ℕ
+members_at height there = sum_by (λ p. length p.validators.items) (pages_at height there)
+
+-- The next page after so many, with so many validators: of as many as the first has; none where that has none, or where there are as many as it says.
+-- Without a first one it is the first, of 100 (CometBFT: `per_page`).
+abbrev pub page_after : ℕ → Option ValidatorsPage → ℕ → ℕ → List Query
+page_after height None count members = queries.Validators height 1 100 ∷ []
+page_after height (Some p) count members =
+    if nat_le (length p.validators.items) 0 then []
+    else if nat_le p.total members then []
+    else queries.Validators height (after count) (length p.validators.items) ∷ []
+
+-- the next page of the validators of a height, unless all are there
+unfoldable pub next_page : ℕ → List Content → List Query
+next_page height there = page_after height (slice_get (pages_at height there) 0) (count_by (is_page_of height) there) (members_at height there)

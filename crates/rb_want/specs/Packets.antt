@@ -1,0 +1,75 @@
+-- What the folder of a path tells of its pending packets (ICS 4: packet commitments, receipts and acknowledgements).
+use Rattle.std.specs.Prelude.{ℕ, ◌≡◌, ◌==◌, ◌&&◌, ◌+◌, ◌/◌, nat_le, Bool, true, false, not, List, [], count_by, length, string_bytes}
+use Rattle.std.specs.List.{flat_map, list_any}
+use Rattle.std.specs.List.Sorted.{IsNonDecreasing}
+use Rattle.std.specs.Str.{bytes_eq}
+use Rattle.rb_import_answers.specs.declared.packets.PacketEvent.{PacketEvent}
+use Rattle.rb_import_answers.specs.declared.packets.PacketKind.{PacketKind}
+use Rattle.rb_import_answers.specs.declared.packets.PacketKind.TheVariants as did
+use Rattle.rb_want_requests.specs.Answered.{is_part_of}
+use Rattle.rb_want_requests.specs.PacketPaths.{pending_in}
+use Rattle.rb_want_requests.specs.Requests.{is_named}
+use Rattle.rb_want_requests.specs.declared.answered.PartKind.TheVariants as kinds
+use Rattle.rb_want_requests.specs.declared.content.Content.{Content}
+use Rattle.rb_want_requests.specs.declared.content.Content.TheVariants as contents
+use Rattle.rb_want_requests.specs.declared.content.Folder.{Folder}
+use Rattle.rb_want_requests.specs.declared.request.Query.TheVariants as queries
+
+-- the last page of the commitments of the source's end
+abbrev pub is_last_page : Content → Bool
+is_last_page (contents.Commitments page key) = page.is_last
+is_last_page _ = false
+
+-- the packets that an answer tells weren't received
+abbrev pub unreceived_of : Content → List ℕ
+unreceived_of (contents.Unreceived sequences) = sequences.items
+unreceived_of _ = []
+
+-- the packets of which an answer tells that the acknowledgement was written
+abbrev pub acknowledged_of : Content → List ℕ
+acknowledged_of (contents.Acknowledgements sequences) = sequences.items
+acknowledged_of _ = []
+
+-- whether a sequence is among these
+abbrev pub has : ℕ → List ℕ → Bool
+has n sequences = list_any (λ m. m == n) sequences
+
+-- the same sequences, rising
+abbrev pub AreOf : List ℕ → List ℕ → Type 0
+AreOf told sorted = IsNonDecreasing sorted × ((n : ℕ) → has n sorted ≡ has n told)
+
+-- how many parts of 100 the pending packets make
+abbrev pub parts_in : List Content → ℕ
+parts_in there = (length (pending_in there) + 99) / 100
+
+-- both answers on each part are there
+abbrev pub are_complete : List Content → Bool
+are_complete there =
+    nat_le (parts_in there) (count_by (is_part_of kinds.Unreceived) there) && nat_le (parts_in there) (count_by (is_part_of kinds.Acknowledgements) there)
+
+-- a pending packet was received: the answers on all parts are there, and none tells that it wasn't
+abbrev pub is_received : List Content → ℕ → Bool
+is_received there n = are_complete there && not (has n (flat_map unreceived_of there))
+
+-- the acknowledgement of a pending packet was written: the answers on all parts are there, and one tells so
+abbrev pub is_acknowledged : List Content → ℕ → Bool
+is_acknowledged there n = are_complete there && has n (flat_map acknowledged_of there)
+
+abbrev pub is_writing : PacketKind → Bool
+is_writing did.AckWritten = true
+is_writing _ = false
+
+-- a transaction wrote the acknowledgement of the packet with this sequence, of the source `port/channel`
+abbrev pub is_ack_written : List ℕ → ℕ → PacketEvent → Bool
+is_ack_written source n event = is_writing event.kind && (event.sequence == n) && bytes_eq (string_bytes event.source) source
+
+-- an answer has such a transaction
+abbrev pub tells_ack_written : List ℕ → ℕ → Content → Bool
+tells_ack_written source n (contents.Search page) = list_any (is_ack_written source n) page.events.items
+tells_ack_written source n _ = false
+
+-- the acknowledgement was written, but no answer tells in which block: the search for the packet's receiving was answered, and has no such transaction
+abbrev pub lacks_ack : Folder → List ℕ → ℕ → Bool
+lacks_ack folder source n =
+    is_acknowledged folder.contents.items n && is_named folder.searched.items (queries.Received n)
+    && not (list_any (tells_ack_written source n) folder.contents.items)
