@@ -5,3 +5,6 @@ pub mod Sent
 pub mod Telling
 pub mod Windows
 pub mod Unwritten
+pub mod Writing
+pub mod Counts
+pub mod NextSets

@@ -33,7 +33,11 @@ decides_written (Some c) (Some k) hash =
 decides_written (Some c) None hash = ((λ e. absurd (true≢false (sym e))), λ w. absurd w)
 decides_written None kept hash = ((λ e. absurd (true≢false (sym e))), λ w. absurd w)
 
+pub is_written-is : (r : Bool) (seen : Seen) (place : ℕ) (hash : List ℕ) → Decides r (IsWrittenOf seen.chains.items seen.sets.items place hash)
+    → r ≡ is_written (slice_get seen.chains.items place) (slice_get seen.sets.items place) hash
+is_written-is r seen place hash decides =
+    same_from_decides r (is_written (slice_get seen.chains.items place) (slice_get seen.sets.items place) hash) decides (decides_written (slice_get seen.chains.items place) (slice_get seen.sets.items place) hash)
+
 pub is_unwritten : (r : Bool) (seen : Seen) (place : ℕ) (hash : List ℕ) → Decides r (IsWrittenOf seen.chains.items seen.sets.items place hash)
     → not r ≡ not (is_written (slice_get seen.chains.items place) (slice_get seen.sets.items place) hash)
-is_unwritten r seen place hash decides =
-    ap not (same_from_decides r (is_written (slice_get seen.chains.items place) (slice_get seen.sets.items place) hash) decides (decides_written (slice_get seen.chains.items place) (slice_get seen.sets.items place) hash))
+is_unwritten r seen place hash decides = ap not (is_written-is r seen place hash decides)

@@ -9,4 +9,5 @@ pub mod Unusable
 pub mod Verified
 pub mod Passed
 pub mod Whole
+pub mod Lines
 pub mod NoticeTexts

@@ -1,13 +1,29 @@
 -- What notices say.
-use Rattle.std.specs.Prelude.{ℕ, List, ◌++◌, codes}
+use Rattle.std.specs.Prelude.{ℕ, ◌+◌, nat_lt, Bool, true, false, ◌==◌, if◌then◌else◌, List, [], ◌∷◌, ◌++◌, codes, length, take, drop, map, filter, flat_map, count_by}
 use Rattle.std.specs.Fmt.{decimal}
+use Rattle.std.specs.Str.{bytes_eq, chars}
+use Rattle.rb_script_toml.specs.KeyPaths.{shown}
+use Rattle.rb_import_answers.specs.declared.query.Query.{Query}
+use Rattle.rb_import_answers.specs.Queries.{query_path}
+use Rattle.rb_import_check.specs.declared.saved.Saved.{Saved}
+use Rattle.rb_import_merge.specs.declared.packets.Searches.{Searches}
+use Rattle.rb_import_notices.specs.Lines.{lines_of}
+use Rattle.rb_import_notices.specs.Passed.{is_to}
+use Rattle.rb_import_notices.specs.declared.channels.OtherChannel.{OtherChannel}
+use Rattle.rb_import_notices.specs.declared.counterparties.SeveralCounterparties.{SeveralCounterparties}
 use Rattle.rb_import_notices.specs.declared.excess.TooManyHeaders.{TooManyHeaders}
 use Rattle.rb_import_notices.specs.declared.excess.TooManyPackets.{TooManyPackets}
 use Rattle.rb_import_notices.specs.declared.excess.TooManyRecords.{TooManyRecords}
 use Rattle.rb_import_notices.specs.declared.excess.TooManySets.{TooManySets}
 use Rattle.rb_import_notices.specs.declared.missing.MissingHeaders.{MissingHeaders}
+use Rattle.rb_import_notices.specs.declared.missing.MissingNextSet.{MissingNextSet}
+use Rattle.rb_import_notices.specs.declared.notice.Notices.{Notices}
+use Rattle.rb_import_notices.specs.declared.passed.PassedOver.{PassedOver}
 use Rattle.rb_import_notices.specs.declared.stale.NothingFresh.{NothingFresh}
+use Rattle.rb_import_notices.specs.declared.unsearched.MissingSearches.{MissingSearches}
 use Rattle.rb_import_notices.specs.declared.unusable.FutureHeaders.{FutureHeaders}
+use Rattle.rb_import_notices.specs.declared.unusable.NothingTrusted.{NothingTrusted}
+use Rattle.rb_import_notices.specs.declared.unusable.UnseenGoal.{UnseenGoal}
 use Rattle.rb_import_notices.specs.declared.verified.NotVerified.{NotVerified}
 
 abbrev pub too_many_headers_text : TooManyHeaders → List ℕ
@@ -86,3 +102,228 @@ not_verified_text n =
     ++ codes ": verdicts.json has no verdict on the commits of "
     ++ decimal n.unverified
     ++ codes " headers, so that their signatures were not verified; run tools/verify_commits again"
+
+unfoldable pub expired_text : ℕ → List ℕ
+expired_text n =
+    if n == 0 then codes ": it has stored no record"
+    else if n == 1 then codes ": its stored record has expired at the window's end"
+    else codes ": all " ++ decimal n ++ codes " stored records have expired at the window's end"
+
+abbrev pub untrusted_advice : List ℕ
+untrusted_advice =
+    codes ", so that no update starts from any; see whether the window is right, or fetch the client's consensus states again into files "
+    ++ codes "*.json of the folder "
+
+abbrev pub nothing_trusted_text : NothingTrusted → List ℕ
+nothing_trusted_text n = codes "notice NothingTrusted at " ++ n.client.now ++ expired_text n.expired ++ untrusted_advice ++ n.client.now
+
+unfoldable pub which_height : Bool → List ℕ
+which_height is_exact = if is_exact then codes "at the goal's" else codes "at or above the goal's"
+
+abbrev pub unseen_goal_by : List ℕ → UnseenGoal → List ℕ
+unseen_goal_by which n =
+    codes "notice UnseenGoal at "
+    ++ n.client.now
+    ++ codes " "
+    ++ decimal n.height
+    ++ codes ": "
+    ++ n.chain.now
+    ++ codes " has no header "
+    ++ which
+    ++ codes " height, so that no update reaches it; fetch /commit?height="
+    ++ decimal n.height
+    ++ codes " and all pages of /validators?height="
+    ++ decimal n.height
+    ++ codes "&per_page=100 into files *.json of the folder "
+    ++ n.chain.now
+
+abbrev pub unseen_goal_text : UnseenGoal → List ℕ
+unseen_goal_text n = unseen_goal_by (which_height n.is_exact) n
+
+-- ---- texts of nodes
+
+-- a text of a node as a notice shows it: characters that would do something to a terminal as `\u{..}`; of more than 200 bytes their number
+unfoldable pub shown_text : List ℕ → List ℕ
+shown_text text = if nat_lt 200 (length text) then codes "<" ++ decimal (length text) ++ codes " bytes>" else flat_map shown (chars text)
+
+abbrev pub several_counterparties_text : SeveralCounterparties → List ℕ
+several_counterparties_text n =
+    codes "notice SeveralCounterparties at "
+    ++ n.path.now
+    ++ codes ": packets were sent from its source to several destinations: those to "
+    ++ shown_text n.counterparties.taken.now
+    ++ codes " are taken, those to others, as "
+    ++ shown_text n.counterparties.other.now
+    ++ (codes ", are passed over; write counterparty_port and counterparty_channel, beside port and channel, into the setup's path, so "
+    ++ codes "that they decide")
+
+abbrev pub other_channel_text : OtherChannel → List ℕ
+other_channel_text n =
+    codes "notice OtherChannel at "
+    ++ n.path.now
+    ++ codes ": the answers tell of packets of "
+    ++ shown_text n.sources.told.now
+    ++ codes ", none of "
+    ++ shown_text n.sources.named.now
+    ++ codes "; see the path's port and channel"
+
+-- ---- searches
+
+abbrev pub names_by : Bool → Bool → Bool → List ℕ
+names_by true true true = codes " send_packet, recv_packet, acknowledge_packet or timeout_packet"
+names_by true true false = codes " send_packet or recv_packet"
+names_by true false true = codes " send_packet, acknowledge_packet or timeout_packet"
+names_by true false false = codes " send_packet"
+names_by false true true = codes " recv_packet, acknowledge_packet or timeout_packet"
+names_by false true false = codes " recv_packet"
+names_by false false true = codes " acknowledge_packet or timeout_packet"
+names_by false false false = []
+
+-- the names of the events of which no answer tells (ibc-go: `send_packet`, `recv_packet`, `acknowledge_packet`, `timeout_packet`), behind a space
+unfoldable pub lacking_names : Searches → List ℕ
+lacking_names s = names_by s.lacks_sent s.lacks_received s.lacks_cleared
+
+abbrev pub searches_advice : List ℕ
+searches_advice =
+    codes ", nor is there an empty answer to each such search; nothing is planned for packets that aren't seen as sent, and those that aren't "
+    ++ codes "seen as received or cleared are planned again; fetch all pages of /tx_search into files *.json of the folder "
+
+abbrev pub missing_searches_text : MissingSearches → List ℕ
+missing_searches_text n =
+    codes "notice MissingSearches at "
+    ++ n.path.now
+    ++ codes ": no answer of /tx_search tells of"
+    ++ lacking_names n.searches
+    ++ searches_advice
+    ++ n.path.now
+
+-- ---- next sets
+
+abbrev pub left_out_reason : List ℕ → List ℕ
+left_out_reason chain =
+    codes "the next validators are of a set of " ++ chain ++ codes " that is left out, so that no update starts from this record"
+
+abbrev pub unseen_reason : ℕ → List ℕ → List ℕ
+unseen_reason height chain =
+    codes "no answer has the next validators, so that no update starts from this record; fetch all pages of /validators?height="
+    ++ decimal (height + 1)
+    ++ codes "&per_page=100 into files *.json of the folder "
+    ++ chain
+
+unfoldable pub next_set_reason : MissingNextSet → List ℕ
+next_set_reason n = if n.was_seen then left_out_reason n.chain.now else unseen_reason n.stored.state.now.height n.chain.now
+
+abbrev pub missing_next_set_text : MissingNextSet → List ℕ
+missing_next_set_text n =
+    codes "notice MissingNextSet at "
+    ++ n.client.now
+    ++ codes " "
+    ++ decimal n.stored.state.now.height
+    ++ codes ": "
+    ++ n.stored.file.now
+    ++ codes ": "
+    ++ next_set_reason n
+
+-- the line that counts a client's other notices
+abbrev pub rest_line : List ℕ → ℕ → List ℕ
+rest_line client rest =
+    codes "notice MissingNextSet at " ++ client ++ codes ": so it is of " ++ decimal rest ++ (codes " more of its stored records" ++ 10 ∷ [])
+
+abbrev pub rest_lines : List MissingNextSet → List ℕ
+rest_lines [] = []
+rest_lines (n ∷ others) = rest_line n.client.now (length (n ∷ others))
+
+-- the lines of one client's notices: at most 20, and one that counts the others
+unfoldable pub client_lines : List MissingNextSet → List ℕ
+client_lines notices = lines_of missing_next_set_text (take 20 notices) ++ rest_lines (drop 20 notices)
+
+-- whether two notices are of one client
+abbrev pub is_of_client : MissingNextSet → MissingNextSet → Bool
+is_of_client one other = bytes_eq one.client.now other.client.now
+
+abbrev pub before_parts : MissingNextSet → List (List MissingNextSet) → List (List MissingNextSet)
+before_parts n [] = (n ∷ []) ∷ []
+before_parts n ([] ∷ parts) = (n ∷ []) ∷ parts
+before_parts n ((m ∷ ms) ∷ parts) = if is_of_client n m then (n ∷ m ∷ ms) ∷ parts else (n ∷ []) ∷ (m ∷ ms) ∷ parts
+
+-- notices that stand client by client, in parts of one client each
+abbrev pub by_client : List MissingNextSet → List (List MissingNextSet)
+by_client [] = []
+by_client (n ∷ ns) = before_parts n (by_client ns)
+
+unfoldable pub next_sets_text : List MissingNextSet → List ℕ
+next_sets_text notices = flat_map client_lines (by_client notices)
+
+-- ---- answers that aren't needed
+
+-- all queries whose answers aren't needed
+abbrev pub queries : List Query
+queries =
+    Query.Status
+    ∷ Query.BlockResults
+    ∷ Query.Blockchain
+    ∷ Query.Block
+    ∷ Query.Header
+    ∷ Query.Transaction
+    ∷ Query.ConsensusStateHeights
+    ∷ Query.ConsensusState
+    ∷ Query.ClientStatus
+    ∷ []
+
+-- how many answers are to a query
+unfoldable pub count_to : List Saved → Query → ℕ
+count_to answers q = count_by (λ s. is_to (query_path q) s.answer) answers
+
+abbrev pub has_answers : List Saved → Query → Bool
+has_answers answers q = nat_lt 0 (count_to answers q)
+
+abbrev pub count_text : List Saved → Query → List ℕ
+count_text answers q = decimal (count_to answers q) ++ codes " of " ++ query_path q
+
+-- texts behind a space, with a comma and a space between each two
+abbrev pub listed : List (List ℕ) → List ℕ
+listed [] = []
+listed (t ∷ others) = codes " " ++ t ++ flat_map (λ u. codes ", " ++ u) others
+
+-- how many answers are to each of these queries that some are to
+unfoldable pub counts_of : List Saved → List Query → List (List ℕ)
+counts_of answers asked = map (count_text answers) (filter (has_answers answers) asked)
+
+abbrev pub passed_over_text : PassedOver → List ℕ
+passed_over_text n =
+    codes "notice PassedOver at " ++ n.object.now ++ codes ": answers that aren't needed:" ++ listed (counts_of n.answers.now queries)
+
+-- ---- all notices
+
+abbrev pub excess_lines : Notices → List ℕ
+excess_lines n =
+    lines_of too_many_headers_text n.too_many_headers.items
+    ++ lines_of too_many_sets_text n.too_many_sets.items
+    ++ lines_of too_many_records_text n.too_many.items
+    ++ lines_of too_many_packets_text n.too_many_packets.items
+
+abbrev pub unusable_lines : Notices → List ℕ
+unusable_lines n =
+    lines_of nothing_trusted_text n.untrusted.items
+    ++ lines_of future_headers_text n.future.items
+    ++ lines_of unseen_goal_text n.goals.items
+    ++ lines_of nothing_fresh_text n.stale.items
+
+abbrev pub unsure_lines : Notices → List ℕ
+unsure_lines n =
+    next_sets_text n.next_sets.items
+    ++ lines_of missing_searches_text n.searches.items
+    ++ lines_of several_counterparties_text n.counterparties.items
+    ++ lines_of other_channel_text n.channels.items
+    ++ lines_of not_verified_text n.not_verified.items
+
+abbrev pub passed_over_lines : Notices → List ℕ
+passed_over_lines n =
+    lines_of passed_over_text n.others_of_chains.items
+    ++ lines_of passed_over_text n.others_of_clients.items
+    ++ lines_of passed_over_text n.others_of_paths.items
+
+-- what isn't there or isn't written, what can't be used, what isn't sure, what isn't needed
+abbrev pub notices_text : Notices → List ℕ
+notices_text n =
+    lines_of missing_headers_text n.headers.items ++ excess_lines n ++ unusable_lines n ++ unsure_lines n ++ passed_over_lines n

@@ -17,6 +17,11 @@ pub struct OtherChannel<'a> {
 }
 
 impl fmt::Display for OtherChannel<'_> {
+    ghost use Rattle.std.specs.Prelude.{Some};
+    ghost use Rattle.rb_import_notices.specs.NoticeTexts.{other_channel_text};
+
+    ghost output = { λ n. Some (other_channel_text n) };
+
     fn fmt<W: fmt::Write>(&self, f: &mut fmt::Formatter<W>) -> fmt::Result {
         let path = self.path;
         let named = Shown {

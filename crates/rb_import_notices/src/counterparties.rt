@@ -18,6 +18,11 @@ pub struct SeveralCounterparties<'a> {
 }
 
 impl fmt::Display for SeveralCounterparties<'_> {
+    ghost use Rattle.std.specs.Prelude.{Some};
+    ghost use Rattle.rb_import_notices.specs.NoticeTexts.{several_counterparties_text};
+
+    ghost output = { λ n. Some (several_counterparties_text n) };
+
     fn fmt<W: fmt::Write>(&self, f: &mut fmt::Formatter<W>) -> fmt::Result {
         let path = self.path;
         let taken = Shown {

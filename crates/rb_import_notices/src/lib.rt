@@ -5,6 +5,7 @@
 mod channels;
 mod counterparties;
 mod excess;
+mod lines;
 mod missing;
 mod notice;
 mod passed;

@@ -1,8 +1,11 @@
 //! Notices of what isn't among the answers: a chain's headers, and the set that a record names as its next.
-ghost use Rattle.std.specs.Prelude.{◌≡◌, ◌↔◌, IsTrue, IsNone, IfSome, IfOk, MatchOption};
+ghost use Rattle.std.specs.Prelude.{◌≡◌, ◌↔◌, ◌<◌, ◌≤◌, ◌∷◌, length, take, drop, IsTrue, IsNone, IfSome, IfOk, MatchOption};
+ghost use Rattle.std.specs.Fmt.{WritesOnOk};
 ghost use Rattle.rb_import_merge.specs.Seen.{IsWrittenOf, WasSeenOf};
 ghost use Rattle.rb_import_notices.specs.Missing.{IsTracked, MissesHeaders, TellHeaders, TellNextSets, TellsRecord};
+ghost use Rattle.rb_import_notices.specs.NoticeTexts.{by_client, client_lines, is_of_client, next_sets_text, rest_line, rest_lines};
 
+use crate::lines::write_lines;
 use rb_import_check::Stored;
 use rb_import_merge::Seen;
 use rb_import_setup::{ClientSetup, Setup};
@@ -42,23 +45,41 @@ pub struct MissingNextSet<'a> {
 }
 
 impl fmt::Display for MissingNextSet<'_> {
+    ghost use Rattle.std.specs.Prelude.{Some};
+    ghost use Rattle.rb_import_notices.specs.NoticeTexts.{missing_next_set_text};
+
+    ghost output = { λ n. Some (missing_next_set_text n) };
+
     fn fmt<W: fmt::Write>(&self, f: &mut fmt::Formatter<W>) -> fmt::Result {
         let client = self.client;
         let height = self.stored.state.height;
         let file = self.stored.file;
-        let chain = self.chain;
-        let next = height.get().saturating_add(1);
         write!(f, "notice MissingNextSet at {client} {height}: {file}: ")?;
+        self.write_reason(f)
+    }
+}
+
+impl MissingNextSet<'_> {
+    ghost use Rattle.std.specs.Fmt.{WritesOnOk};
+    ghost use Rattle.rb_import_notices.specs.NoticeTexts.{next_set_reason};
+
+    /// Writes why no update starts from the record.
+    fn write_reason<W: fmt::Write>(&self, f: &mut fmt::Formatter<W>) -> fmt::Result
+        ensures { WritesOnOk W.write_str_gives f.old result (next_set_reason self.now) f.new }
+    {
+        let chain = self.chain;
         if self.was_seen {
-            return write!(
+            write!(
                 f,
                 "the next validators are of a set of {chain} that is left out, so that no update starts from this record"
-            );
+            )
+        } else {
+            let next = self.stored.state.height.get().saturating_add(1);
+            write!(
+                f,
+                "no answer has the next validators, so that no update starts from this record; fetch all pages of /validators?height={next}&per_page=100 into files *.json of the folder {chain}"
+            )
         }
-        write!(
-            f,
-            "no answer has the next validators, so that no update starts from this record; fetch all pages of /validators?height={next}&per_page=100 into files *.json of the folder {chain}"
-        )
     }
 }
 
@@ -69,29 +90,71 @@ const MAX_LINES: usize = 20;
 pub fn write_next_sets<W: fmt::Write>(
     f: &mut fmt::Formatter<W>,
     notices: &[MissingNextSet<'_>],
-) -> fmt::Result {
-    let mut client = "";
-    let mut count: usize = 0;
-    for notice in notices {
-        if notice.client != client {
-            write_rest(f, client, count)?;
-            client = notice.client;
-            count = 0;
-        }
-        if count < MAX_LINES {
-            writeln!(f, "{notice}")?;
-        }
-        count = count.saturating_add(1);
-    }
-    write_rest(f, client, count)
-}
-
-/// Writes how many of a client's records without their next set have no line of their own, if there are such.
-fn write_rest<W: fmt::Write>(f: &mut fmt::Formatter<W>, client: &str, count: usize) -> fmt::Result {
-    let rest = count.saturating_sub(MAX_LINES);
-    if rest == 0 {
+) -> fmt::Result
+    ensures { WritesOnOk W.write_str_gives f.old result (next_sets_text notices.now) f.new }
+{
+    if notices.is_empty() {
         return Ok(());
     }
+    let (part, others) = notices.split_at(client_front(notices));
+    write_of_client(f, part)?;
+    write_next_sets(f, others)
+}
+
+/// How many of these stand in front that are of the first one's client.
+fn client_front(notices: &[MissingNextSet<'_>]) -> usize
+    ensures within { result ≤ length notices.now }
+    ensures some { 0 < length notices.now → 0 < result }
+    ensures front { 0 < length notices.now → by_client notices.now ≡ take result notices.now ∷ by_client (drop result notices.now) }
+{
+    for place in 1..notices.len() {
+        if !is_of_client(&notices[place - 1], &notices[place]) {
+            return place;
+        }
+    }
+    notices.len()
+}
+
+/// Whether two are of the same client.
+fn is_of_client(one: &MissingNextSet<'_>, other: &MissingNextSet<'_>) -> bool
+    ensures { result ≡ is_of_client one.now other.now }
+{
+    one.client == other.client
+}
+
+/// Writes the lines of one client.
+fn write_of_client<W: fmt::Write>(
+    f: &mut fmt::Formatter<W>,
+    notices: &[MissingNextSet<'_>],
+) -> fmt::Result
+    ensures { WritesOnOk W.write_str_gives f.old result (client_lines notices.now) f.new }
+{
+    match notices.split_at_checked(MAX_LINES) {
+        Some((shown, others)) => {
+            write_lines(f, shown)?;
+            write_others(f, others)
+        }
+        None => write_lines(f, notices),
+    }
+}
+
+/// Writes how many others of a client's records are without their next set, if there are such.
+fn write_others<W: fmt::Write>(
+    f: &mut fmt::Formatter<W>,
+    others: &[MissingNextSet<'_>],
+) -> fmt::Result
+    ensures { WritesOnOk W.write_str_gives f.old result (rest_lines others.now) f.new }
+{
+    match others.first() {
+        Some(first) => write_rest(f, first.client, others.len()),
+        None => Ok(()),
+    }
+}
+
+/// Writes that so many more of a client's records are without their next set.
+fn write_rest<W: fmt::Write>(f: &mut fmt::Formatter<W>, client: &str, rest: usize) -> fmt::Result
+    ensures { WritesOnOk W.write_str_gives f.old result (rest_line client.now rest) f.new }
+{
     writeln!(
         f,
         "notice MissingNextSet at {client}: so it is of {rest} more of its stored records"

@@ -9,6 +9,7 @@ use crate::excess::{
     TooManyHeaders, TooManyPackets, TooManyRecords, TooManySets, too_many_headers,
     too_many_packets, too_many_records, too_many_sets,
 };
+use crate::lines::write_lines;
 use crate::missing::{
     MissingHeaders, MissingNextSet, missing_headers, missing_next_sets, write_next_sets,
 };
@@ -50,36 +51,63 @@ pub struct Notices<'a> {
 }
 
 impl fmt::Display for Notices<'_> {
+    ghost use Rattle.std.specs.Prelude.{Some};
+    ghost use Rattle.rb_import_notices.specs.NoticeTexts.{notices_text};
+
+    ghost output = { λ n. Some (notices_text n) };
+
     fn fmt<W: fmt::Write>(&self, f: &mut fmt::Formatter<W>) -> fmt::Result {
         write_lines(f, self.headers.as_slice())?;
+        self.write_excess(f)?;
+        self.write_unusable(f)?;
+        self.write_unsure(f)?;
+        self.write_passed_over(f)
+    }
+}
+
+impl Notices<'_> {
+    ghost use Rattle.std.specs.Fmt.{WritesOnOk};
+    ghost use Rattle.rb_import_notices.specs.NoticeTexts.{excess_lines, passed_over_lines, unsure_lines, unusable_lines};
+
+    /// Writes a line for each notice of what there is no room for.
+    fn write_excess<W: fmt::Write>(&self, f: &mut fmt::Formatter<W>) -> fmt::Result
+        ensures { WritesOnOk W.write_str_gives f.old result (excess_lines self.now) f.new }
+    {
         write_lines(f, self.too_many_headers.as_slice())?;
         write_lines(f, self.too_many_sets.as_slice())?;
         write_lines(f, self.too_many.as_slice())?;
-        write_lines(f, self.too_many_packets.as_slice())?;
+        write_lines(f, self.too_many_packets.as_slice())
+    }
+
+    /// Writes a line for each notice of what can't be used.
+    fn write_unusable<W: fmt::Write>(&self, f: &mut fmt::Formatter<W>) -> fmt::Result
+        ensures { WritesOnOk W.write_str_gives f.old result (unusable_lines self.now) f.new }
+    {
         write_lines(f, self.untrusted.as_slice())?;
         write_lines(f, self.future.as_slice())?;
         write_lines(f, self.goals.as_slice())?;
-        write_lines(f, self.stale.as_slice())?;
+        write_lines(f, self.stale.as_slice())
+    }
+
+    /// Writes the lines of what lacks an answer or isn't sure.
+    fn write_unsure<W: fmt::Write>(&self, f: &mut fmt::Formatter<W>) -> fmt::Result
+        ensures { WritesOnOk W.write_str_gives f.old result (unsure_lines self.now) f.new }
+    {
         write_next_sets(f, self.next_sets.as_slice())?;
         write_lines(f, self.searches.as_slice())?;
         write_lines(f, self.counterparties.as_slice())?;
         write_lines(f, self.channels.as_slice())?;
-        write_lines(f, self.not_verified.as_slice())?;
+        write_lines(f, self.not_verified.as_slice())
+    }
+
+    /// Writes a line for each chain, client and path with answers that aren't needed.
+    fn write_passed_over<W: fmt::Write>(&self, f: &mut fmt::Formatter<W>) -> fmt::Result
+        ensures { WritesOnOk W.write_str_gives f.old result (passed_over_lines self.now) f.new }
+    {
         write_lines(f, self.others_of_chains.as_slice())?;
         write_lines(f, self.others_of_clients.as_slice())?;
         write_lines(f, self.others_of_paths.as_slice())
     }
-}
-
-/// Writes a line for each of these.
-fn write_lines<T: fmt::Display, W: fmt::Write>(
-    f: &mut fmt::Formatter<W>,
-    notices: &[T],
-) -> fmt::Result {
-    for notice in notices {
-        writeln!(f, "{notice}")?;
-    }
-    Ok(())
 }
 
 /// What isn't among the answers of which this was seen, what isn't written of it, and what can't be used or isn't sure.

@@ -18,14 +18,37 @@ pub struct PassedOver<'a> {
 }
 
 impl fmt::Display for PassedOver<'_> {
+    ghost use Rattle.std.specs.Prelude.{Some};
+    ghost use Rattle.rb_import_notices.specs.NoticeTexts.{passed_over_text};
+
+    ghost output = { λ n. Some (passed_over_text n) };
+
     fn fmt<W: fmt::Write>(&self, f: &mut fmt::Formatter<W>) -> fmt::Result {
         let object = self.object;
         write!(
             f,
             "notice PassedOver at {object}: answers that aren't needed:"
         )?;
+        self.write_counts(f, &Query::ALL)
+    }
+}
+
+impl PassedOver<'_> {
+    ghost use Rattle.std.specs.Prelude.{◌≡◌, count_by};
+    ghost use Rattle.std.specs.Fmt.{WritesOnOk};
+    ghost use Rattle.rb_import_notices.specs.NoticeTexts.{counts_of, listed};
+    ghost use Rattle.rb_import_notices.specs.Passed.{is_to};
+
+    /// Writes how many answers are to each of these queries that some are to.
+    fn write_counts<W: fmt::Write>(
+        &self,
+        f: &mut fmt::Formatter<W>,
+        queries: &[Query],
+    ) -> fmt::Result
+        ensures { WritesOnOk W.write_str_gives f.old result (listed (counts_of self.now.answers.now queries.now)) f.new }
+    {
         let mut separator = " ";
-        for query in Query::ALL {
+        for query in queries {
             let path = query.path();
             let count = self.count_of(path);
             if count > 0 {
@@ -35,11 +58,6 @@ impl fmt::Display for PassedOver<'_> {
         }
         Ok(())
     }
-}
-
-impl PassedOver<'_> {
-    ghost use Rattle.std.specs.Prelude.{◌≡◌, count_by};
-    ghost use Rattle.rb_import_notices.specs.Passed.{is_to};
 
     /// How many answers are to the query of this path.
     fn count_of(&self, path: &str) -> usize

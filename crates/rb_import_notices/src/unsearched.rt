@@ -1,5 +1,6 @@
 //! Notices of searches for a path's packets that aren't there.
-ghost use Rattle.std.specs.Prelude.{IfOk, MatchOption};
+ghost use Rattle.std.specs.Prelude.{◌≡◌, IfOk, MatchOption};
+ghost use Rattle.rb_import_notices.specs.NoticeTexts.{lacking_names};
 ghost use Rattle.rb_import_notices.specs.Unsearched.{LacksSearches, SaysSearches, TellSearches};
 
 use rb_import_check::Saved;
@@ -16,36 +17,18 @@ pub struct MissingSearches<'a> {
 }
 
 impl fmt::Display for MissingSearches<'_> {
+    ghost use Rattle.std.specs.Prelude.{Some};
+    ghost use Rattle.rb_import_notices.specs.NoticeTexts.{missing_searches_text};
+
+    ghost output = { λ n. Some (missing_searches_text n) };
+
     fn fmt<W: fmt::Write>(&self, f: &mut fmt::Formatter<W>) -> fmt::Result {
         let path = self.path;
         write!(
             f,
             "notice MissingSearches at {path}: no answer of /tx_search tells of"
         )?;
-        let Searches {
-            lacks_sent,
-            lacks_received,
-            lacks_cleared,
-            ..
-        } = self.searches;
-        let before_received = match (lacks_sent, lacks_cleared) {
-            (true, true) => ", ",
-            (true, false) => " or ",
-            _ => " ",
-        };
-        let before_cleared = if lacks_sent || lacks_received {
-            ", "
-        } else {
-            " "
-        };
-        write_names(f, lacks_sent, " ", "send_packet")?;
-        write_names(f, lacks_received, before_received, "recv_packet")?;
-        write_names(
-            f,
-            lacks_cleared,
-            before_cleared,
-            "acknowledge_packet or timeout_packet",
-        )?;
+        f.write_str(lacking_names(self.searches))?;
         write!(
             f,
             ", nor is there an empty answer to each such search; nothing is planned for packets that aren't seen as sent, and those that aren't seen as received or cleared are planned again; fetch all pages of /tx_search into files *.json of the folder {path}"
@@ -53,18 +36,27 @@ impl fmt::Display for MissingSearches<'_> {
     }
 }
 
-/// Writes the names of events of a kind that is lacking, behind what goes before them.
-fn write_names<W: fmt::Write>(
-    f: &mut fmt::Formatter<W>,
-    is_lacking: bool,
-    before: &str,
-    names: &str,
-) -> fmt::Result {
-    if !is_lacking {
-        return Ok(());
+/// The names of the events that are lacking, behind a space.
+#[tactic(auto, unfolding(crate::specs::NoticeTexts::lacking_names))]
+fn lacking_names(searches: Searches) -> &'static str
+    ensures { result.now ≡ lacking_names searches }
+{
+    let Searches {
+        lacks_sent,
+        lacks_received,
+        lacks_cleared,
+        ..
+    } = searches;
+    match (lacks_sent, lacks_received, lacks_cleared) {
+        (true, true, true) => " send_packet, recv_packet, acknowledge_packet or timeout_packet",
+        (true, true, false) => " send_packet or recv_packet",
+        (true, false, true) => " send_packet, acknowledge_packet or timeout_packet",
+        (true, false, false) => " send_packet",
+        (false, true, true) => " recv_packet, acknowledge_packet or timeout_packet",
+        (false, true, false) => " recv_packet",
+        (false, false, true) => " acknowledge_packet or timeout_packet",
+        (false, false, false) => "",
     }
-    f.write_str(before)?;
-    f.write_str(names)
 }
 
 /// The paths of which searches aren't there, by the answers of each.

@@ -1,6 +1,8 @@
 //! Notices of what can't be used in the last turn's window: expired records, headers from the future, and goals for
 //! which there is no header.
 ghost use Rattle.std.specs.Prelude.{◌≡◌, ◌↔◌, ◌+◌, ◌<◌, ◌≤◌, length, nat_le, count_by, All, Any, IsTrue, IfNone, IfOk, IfSome, MatchOption};
+ghost use Rattle.std.specs.Fmt.{WritesOnOk};
+ghost use Rattle.rb_import_notices.specs.NoticeTexts.{expired_text, which_height};
 ghost use Rattle.rb_import_notices.specs.Unusable.{HasFuture, HaveExpired, IsExpired, IsFromFuture, IsGoal, IsUnseen, MissesGoal, SaysFuture, SaysGoal, SaysUntrusted, TellFuture, TellGoals, TellThese, TellUntrusted};
 
 use rb_base::{Period, Window};
@@ -19,27 +21,34 @@ pub struct NothingTrusted<'a> {
 }
 
 impl fmt::Display for NothingTrusted<'_> {
+    ghost use Rattle.std.specs.Prelude.{Some};
+    ghost use Rattle.rb_import_notices.specs.NoticeTexts.{nothing_trusted_text};
+
+    ghost output = { λ n. Some (nothing_trusted_text n) };
+
     fn fmt<W: fmt::Write>(&self, f: &mut fmt::Formatter<W>) -> fmt::Result {
         let client = self.client;
-        let expired = self.expired;
-        match expired {
-            0 => write!(
-                f,
-                "notice NothingTrusted at {client}: it has stored no record"
-            )?,
-            1 => write!(
-                f,
-                "notice NothingTrusted at {client}: its stored record has expired at the window's end"
-            )?,
-            _ => write!(
-                f,
-                "notice NothingTrusted at {client}: all {expired} stored records have expired at the window's end"
-            )?,
-        }
+        write!(f, "notice NothingTrusted at {client}")?;
+        write_expired(f, self.expired)?;
         write!(
             f,
             ", so that no update starts from any; see whether the window is right, or fetch the client's consensus states again into files *.json of the folder {client}"
         )
+    }
+}
+
+/// Writes that so many records have expired, which are all.
+#[tactic(auto, unfolding(crate::specs::NoticeTexts::expired_text))]
+fn write_expired<W: fmt::Write>(f: &mut fmt::Formatter<W>, expired: usize) -> fmt::Result
+    ensures { WritesOnOk W.write_str_gives f.old result (expired_text expired) f.new }
+{
+    match expired {
+        0 => f.write_str(": it has stored no record"),
+        1 => f.write_str(": its stored record has expired at the window's end"),
+        _ => write!(
+            f,
+            ": all {expired} stored records have expired at the window's end"
+        ),
     }
 }
 
@@ -82,19 +91,32 @@ pub struct UnseenGoal<'a> {
 }
 
 impl fmt::Display for UnseenGoal<'_> {
+    ghost use Rattle.std.specs.Prelude.{Some};
+    ghost use Rattle.rb_import_notices.specs.NoticeTexts.{unseen_goal_text};
+
+    ghost output = { λ n. Some (unseen_goal_text n) };
+
     fn fmt<W: fmt::Write>(&self, f: &mut fmt::Formatter<W>) -> fmt::Result {
         let client = self.client;
         let chain = self.chain;
         let height = self.height;
-        let which = if self.is_exact {
-            "at the goal's"
-        } else {
-            "at or above the goal's"
-        };
+        let which = which_height(self.is_exact);
         write!(
             f,
             "notice UnseenGoal at {client} {height}: {chain} has no header {which} height, so that no update reaches it; fetch /commit?height={height} and all pages of /validators?height={height}&per_page=100 into files *.json of the folder {chain}"
         )
+    }
+}
+
+/// Which height a goal wants, as a notice says it.
+#[tactic(auto, unfolding(crate::specs::NoticeTexts::which_height))]
+fn which_height(is_exact: bool) -> &'static str
+    ensures { result.now ≡ which_height is_exact }
+{
+    if is_exact {
+        "at the goal's"
+    } else {
+        "at or above the goal's"
     }
 }
 
