@@ -1,5 +1,3 @@
-pub mod Closings
-pub mod Letters
 pub mod Starting
 pub mod Parting
 pub mod Serving
@@ -8,3 +6,4 @@ pub mod Using
 pub mod Orders
 pub mod Tallying
 pub mod Firsts
+pub mod Fitting

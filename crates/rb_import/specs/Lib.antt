@@ -5,3 +5,4 @@ pub mod Starts
 pub mod Parts
 pub mod Finding
 pub mod Tallies
+pub mod Scripts

@@ -5,15 +5,16 @@ ghost use Rattle.rb_import_merge.specs.Errors.{IsToldIn};
 ghost use Rattle.rb_import_merge.specs.Seen.{HoldsOfSeen};
 ghost use Rattle.rb_import_notices.specs.Whole.{AreNoticesOf};
 ghost use Rattle.rb_import.specs.Openings.{Opens, hold_verdicts};
+ghost use Rattle.rb_import.specs.Scripts.{IsFitting, IsText};
 ghost use Rattle.rb_import.specs.Texts.{heading};
 
 use crate::needed::needed_sets;
 use crate::opening::opening_of;
-use crate::text::push_tables;
 use rb_import_check::{CheckErrorName, ImportError, SavedAnswers};
 use rb_import_merge::{Seen, seen_in};
 use rb_import_notices::{Notices, notices_of};
 use rb_import_setup::Setup;
+use rb_import_text::push_tables;
 use rb_script_toml::MAX_BYTES;
 use std::alloc::{AllocError, Global};
 
@@ -37,6 +38,8 @@ pub fn compose<'a>(
     ensures size { IfOk result (λ script. length (string_bytes script.text) ≤ max_bytes) }
     ensures opening { IfOk result (λ script. Opens (hold_verdicts answers.entry.now) (string_bytes script.text)) }
     ensures notices { IfOk result (λ script. HoldsOfSeen setup.entry.now answers.entry.now (λ seen. AreNoticesOf setup.entry.now answers.entry.now seen script.notices)) }
+    ensures script { IfOk result (λ script. HoldsOfSeen setup.entry.now answers.entry.now (λ seen.
+        AreNoticesOf setup.entry.now answers.entry.now seen script.notices × IsFitting setup.entry.now answers.entry.now seen (string_bytes script.text))) }
     ensures told { IfErr result (IsToldIn setup.entry.now) }
 {
     let seen = seen_in(alloc, setup, answers)?;
@@ -55,14 +58,15 @@ fn fitting_text(
     answers: &SavedAnswers,
     seen: Seen<'_>,
 ) -> Result<String, AllocError>
-    ensures { IfOk result (λ text. Opens (hold_verdicts answers.now) (string_bytes text)) }
+    ensures { IfOk result (λ text. IsFitting setup.now answers.now seen.entry (string_bytes text)) }
 {
     let whole = text_of(alloc, setup, answers, &seen)?;
     if whole.len() <= MAX_BYTES {
         return Ok(whole);
     }
     let sets = needed_sets(alloc, setup, &seen)?;
-    text_of(alloc, setup, answers, &Seen { sets, ..seen })
+    let part = text_of(alloc, setup, answers, &Seen { sets, ..seen })?;
+    Ok(part)
 }
 
 /// A script's text: the line that it begins with, who wrote it and its version, and its tables.
@@ -72,7 +76,7 @@ fn text_of(
     answers: &SavedAnswers,
     seen: &Seen<'_>,
 ) -> Result<String, AllocError>
-    ensures { IfOk result (λ text. Opens (hold_verdicts answers.now) (string_bytes text)) }
+    ensures { IfOk result (λ text. IsText setup.now answers.now seen.now (string_bytes text)) }
 {
     let mut tables = String::new(alloc);
     push_tables(&mut tables, setup, answers, seen)?;

@@ -3,12 +3,10 @@
 #![tactic(auto)]
 
 mod composing;
-mod event_text;
 mod needed;
 mod opening;
 mod order;
 mod starts;
 mod steps;
-mod text;
 
 pub use composing::{Composed, compose};

@@ -1,0 +1,4 @@
+pub mod Texts
+pub mod EventTexts
+pub mod HappenedTexts
+pub mod TableTexts
