@@ -13,3 +13,9 @@ seven_in_a_row a b c d e f g =
 
 pub eight_in_a_row : (a b c d e f g h : List ℕ) → a ++ (b ++ (c ++ (d ++ (e ++ (f ++ (g ++ h)))))) ≡ a ++ b ++ c ++ d ++ e ++ f ++ g ++ h
 eight_in_a_row a b c d e f g h = seven_in_a_row a b c d e f (g ++ h) ∙ sym (append_assoc (a ++ b ++ c ++ d ++ e ++ f) g h)
+
+pub five_in_a_row : (a b c d e : List ℕ) → a ++ (b ++ (c ++ (d ++ e))) ≡ a ++ b ++ c ++ d ++ e
+five_in_a_row a b c d e = sym (append_assoc (a ++ b ++ c) d e ∙ append_assoc (a ++ b) c (d ++ e) ∙ append_assoc a b (c ++ (d ++ e)))
+
+pub six_in_a_row : (a b c d e f : List ℕ) → a ++ (b ++ (c ++ (d ++ (e ++ f)))) ≡ a ++ b ++ c ++ d ++ e ++ f
+six_in_a_row a b c d e f = five_in_a_row a b c d (e ++ f) ∙ sym (append_assoc (a ++ b ++ c ++ d) e f)

@@ -41,13 +41,13 @@ id_in None = []
 unfoldable pub client_name : Setup → ℕ → List ℕ
 client_name setup place = id_in (slice_get setup.clients.items place)
 
-abbrev pub name_line : List ℕ → List ℕ → List ℕ
+unfoldable pub name_line : List ℕ → List ℕ → List ℕ
 name_line key name = key ++ codes " = \"" ++ name ++ codes "\"\n"
 
-abbrev pub number_line : List ℕ → ℕ → List ℕ
+unfoldable pub number_line : List ℕ → ℕ → List ℕ
 number_line key number = key ++ codes " = " ++ decimal number ++ codes "\n"
 
-abbrev pub three_line : List ℕ → ℕ → ℕ → ℕ → List ℕ
+unfoldable pub three_line : List ℕ → ℕ → ℕ → ℕ → List ℕ
 three_line key a b c = key ++ codes " = [" ++ decimal a ++ codes ", " ++ decimal b ++ codes ", " ++ decimal c ++ codes "]\n"
 
 -- what an update costs, in fees or in gas: its base, and what a vote and what a validator adds

@@ -2,7 +2,7 @@
 ghost use Rattle.std.specs.Prelude.{◌≡◌, ◌++◌, ◌∷◌, [], OnOk, option_map, string_bytes};
 ghost use Rattle.rb_valset.specs.Validator.{key_bytes};
 ghost use Rattle.rb_import_check.specs.Verdicts.{vote_letter};
-ghost use Rattle.rb_import_text.specs.EventTexts.{block_part, expiry_part, header_event, header_head, header_sets, hex, hex_digits, kind_word, member_text, members_text, next_part, packet_event, packet_rest, packet_start, root_part, sent_rest, set_event, set_head, set_name, set_reference, stored_event, stored_head, time_part, timeout_time, votes_part};
+ghost use Rattle.rb_import_text.specs.EventTexts.{block_part, expiry_part, header_event, header_head, header_sets, header_start, hex, hex_digits, kind_word, member_text, members_text, next_part, packet_event, packet_rest, packet_start, root_part, sent_rest, set_event, set_head, set_name, set_reference, stored_event, stored_head, stored_start, time_part, timeout_time, votes_part};
 ghost use Rattle.rb_import_text.specs.Texts.{bad_in, closed, closing, is_closed, letters_from, letters_of};
 
 use rb_base::{Height, Moment};
@@ -119,13 +119,18 @@ pub fn push_header(
 fn push_header_head(text: &mut String, chain: &str, header: &SignedHeader) -> Result<(), AllocError>
     ensures { OnOk result (string_bytes text.new ≡ string_bytes text.old ++ header_head chain.now header.now) }
 {
-    let height = header.height;
+    push_header_start(text, chain, header.height)?;
+    push_moment(text, header.time)?;
+    push_root(text, &header.root)
+}
+
+fn push_header_start(text: &mut String, chain: &str, height: Height) -> Result<(), AllocError>
+    ensures { OnOk result (string_bytes text.new ≡ string_bytes text.old ++ header_start chain.now height) }
+{
     write!(
         text,
         "  {{ kind = \"header\", chain = \"{chain}\", height = {height}, time = \""
-    )?;
-    push_moment(text, header.time)?;
-    push_root(text, &header.root)
+    )
 }
 
 #[tactic(auto, using(crate::proofs::Added::added))]
@@ -235,13 +240,18 @@ fn push_stored_head(
 ) -> Result<(), AllocError>
     ensures { OnOk result (string_bytes text.new ≡ string_bytes text.old ++ stored_head client.now state.now) }
 {
-    let height = state.height;
+    push_stored_start(text, client, state.height)?;
+    push_moment(text, state.time)?;
+    push_root(text, &state.root)
+}
+
+fn push_stored_start(text: &mut String, client: &str, height: Height) -> Result<(), AllocError>
+    ensures { OnOk result (string_bytes text.new ≡ string_bytes text.old ++ stored_start client.now height) }
+{
     write!(
         text,
         "  {{ kind = \"stored\", client = \"{client}\", height = {height}, time = \""
-    )?;
-    push_moment(text, state.time)?;
-    push_root(text, &state.root)
+    )
 }
 
 /// Adds the event of a packet.

@@ -127,19 +127,25 @@ fn push_turns(text: &mut String, setup: &Setup, seen: &Seen<'_>) -> Result<(), A
 }
 
 /// The identifier of the chain at a place.
+#[tactic(auto, unfolding(crate::specs::TableTexts::chain_name))]
 fn chain_at(setup: &Setup, place: usize) -> &str
-    requires { place < length setup.now.chains.items }
     ensures { result.now ≡ chain_name setup.now place }
 {
-    setup.chains[place].as_str()
+    match setup.chains.get(place) {
+        Some(id) => id.as_str(),
+        None => "",
+    }
 }
 
 /// The identifier of the client at a place.
+#[tactic(auto, unfolding(crate::specs::TableTexts::client_name))]
 fn client_at(setup: &Setup, place: usize) -> &str
-    requires { place < length setup.now.clients.items }
     ensures { result.now ≡ client_name setup.now place }
 {
-    setup.clients[place].id.as_str()
+    match setup.clients.get(place) {
+        Some(client) => client.id.as_str(),
+        None => "",
+    }
 }
 
 fn push_numbers(
@@ -154,6 +160,7 @@ fn push_numbers(
     writeln!(text, "{key} = [{first}, {second}, {third}]")
 }
 
+#[tactic(auto, unfolding(crate::specs::TableTexts::number_line))]
 fn push_number(text: &mut String, key: &str, number: u64) -> Result<(), AllocError>
     ensures { OnOk result (string_bytes text.new ≡ string_bytes text.old ++ number_line key.now number) }
 {
@@ -161,6 +168,7 @@ fn push_number(text: &mut String, key: &str, number: u64) -> Result<(), AllocErr
 }
 
 /// Adds an identifier.
+#[tactic(auto, unfolding(crate::specs::TableTexts::name_line))]
 fn push_name(text: &mut String, key: &str, name: &str) -> Result<(), AllocError>
     ensures { OnOk result (string_bytes text.new ≡ string_bytes text.old ++ name_line key.now name.now) }
 {
@@ -531,7 +539,6 @@ fn push_settlements(
     }
 }
 
-#[tactic(auto, using(crate::proofs::Added::added), unfolding(crate::specs::TableTexts::settled_text))]
 fn push_settled(
     text: &mut String,
     setup: &Setup,
@@ -542,7 +549,8 @@ fn push_settled(
 {
     text.push_str("settle = [\n")?;
     push_settlement_lines(text, setup, settlements)?;
-    text.push_str("]\n")
+    text.push_str("]\n")?;
+    Ok(())
 }
 
 #[tactic(auto, using(crate::proofs::Added::added))]

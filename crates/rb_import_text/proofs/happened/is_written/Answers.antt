@@ -1,4 +1,5 @@
 use Rattle.rb_import_notices.proofs.Unwritten.{is_written-is}
+use Rattle.rb_import_text.specs.HappenedTexts.{is_written}
 use Rattle.rb_import_text.proofs.happened.is_written.Goals as goal
 
 pub returns : goal.returns
