@@ -3,9 +3,10 @@ ghost use Rattle.rb_script_types.specs.Script.{script_view, IsReadScript};
 
 use ibcplan_errors::{Input, ProgramError};
 use rb_base::Gate;
-use rb_health::{healths_of, metrics_of, run_to_end, text_of};
+use rb_health::{healths_of, metrics_of, text_of};
 use rb_script_read::read_script;
 use rb_script_types::Script;
+use rb_super::run_to_end;
 use std::alloc::{AllocError, Global};
 use std::thread::Threads;
 

@@ -6,11 +6,11 @@ use ibcplan_errors::{Input, ProgramError};
 use ibcplan_folders::{files_of, lines_of, read_answers, write_files};
 use rb_base::Gate;
 use rb_core::Core;
-use rb_health::run_to_end;
 use rb_messages::PlannedUpdate;
 use rb_script_read::read_script;
 use rb_script_types::Script;
 use rb_sending::{planned_updates, shell_of};
+use rb_super::run_to_end;
 use std::alloc::{AllocError, Global};
 use std::thread::Threads;
 

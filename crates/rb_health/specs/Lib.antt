@@ -1,3 +1,2 @@
 pub mod Health
-pub mod Run
 pub mod Metrics

@@ -7,12 +7,10 @@ mod health;
 mod json;
 mod length;
 mod metrics;
-mod run;
 mod text;
 
 pub use expiry::Expiry;
 pub use health::{ClientHealth, healths_of};
 pub use json::with_health;
 pub use metrics::metrics_of;
-pub use run::run_to_end;
 pub use text::text_of;

@@ -23,6 +23,10 @@ abbrev pub Leads : Standing → List Turn → Standing → Type 0
 Leads s [] u = s ≡ u
 Leads s (t ∷ ts) u = (r : TurnReport) × IsTurnReport s t r × Leads (after_turn s t r) ts u
 
+-- how things stand after the last turn of a script
+abbrev pub IsEndOf : Script → Standing → Type 0
+IsEndOf script s = Leads (opening_standing script.config) script.turns s
+
 -- how things stand where the clients of a script's turn are planned; turns are counted from 0
 pub record IsPlanPhase (script : Script) (turn : ℕ) (s : Standing) : Type 0 where
   pub begun : Standing

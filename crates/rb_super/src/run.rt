@@ -2,8 +2,9 @@
 ghost use Rattle.std.specs.Prelude.{◌≡◌, ◌≤◌, ◌++◌, ◌∷◌, [], Ok, map, sum_by, All, IfOk, OnOk};
 ghost use denote.Param.Send.{Frees};
 ghost use Rattle.rb_script_types.specs.declared.config.PathConfig.{PathConfig};
+ghost use Rattle.rb_script_types.specs.Config.{config_view};
 ghost use Rattle.rb_script_types.specs.Script.{script_view, IsReadScript};
-ghost use Rattle.rb_super.specs.Judging.{Leads};
+ghost use Rattle.rb_super.specs.Judging.{Leads, IsEndOf};
 ghost use Rattle.rb_super_turn.specs.Turns.{AreTurnReports, IsReportOf};
 ghost use Rattle.rb_super_turn.specs.Phases.{standing_in, HasLogRoom, IsLater};
 ghost use Rattle.rb_super_turn.specs.Views.{turn_report_view, report_view};
@@ -13,6 +14,7 @@ use crate::parallel::ParallelSupervisor;
 use crate::supervisor::Supervisor;
 use rb_base::{Gate, PathId};
 use rb_board::Desk;
+use rb_core::Core;
 use rb_script_types::{PathConfig, Script, Turn};
 use rb_super_turn::{Crew, Report, TurnReport};
 use rb_super_worker::Team;
@@ -58,6 +60,39 @@ pub(crate) fn run_turns<R: Threads + Sync, G: Gate + Sync, A: Allocator + Copy +
     Ok((reports, supervisor))
 }
 
+/// Runs a script, turn by turn, and answers its report and the relayer after the last turn. So many threads, at most 64, make
+/// the rows of step tables, the calling thread alone with 0 or 1; it does all else, and the report doesn't go by it. The gate is
+/// called as each scan and plan begins and ends, and when a client's plan was taken. An error comes only where a growth is refused.
+pub fn run_to_end<R: Threads + Sync, G: Gate + Sync, A: Allocator + Copy + Send + Sync>(
+    rt: &R,
+    alloc: A,
+    script: Script<A>,
+    threads: usize,
+    gate: &G,
+) -> Result<(Report<A>, Core<A>), AllocError>
+    requires script { IsReadScript (script_view script) }
+    requires threads { threads ≤ 64 }
+    requires alloc { Frees A.Allocator A.dealloc_token }
+    ensures version { IfOk result (λ r. r.0.version ≡ script.config.version) }
+    ensures paths { IfOk result (λ r. r.0.paths.items ≡ map (λ (p : PathConfig). p.id) script.config.paths.items) }
+    ensures turns { IfOk result (λ r. IsReportOf (as_events (script_view script)) (report_view r.0)) }
+    ensures config { IfOk result (λ r. r.1.config ≡ config_view script.config) }
+    ensures end { IfOk result (λ r. IsEndOf (as_events (script_view script)) (standing_in r.1)) }
+{
+    let crew = Crew::new(rt, threads, gate);
+    let Script { config, turns } = script;
+    let version = config.version;
+    let paths = path_ids(alloc, config.paths.as_slice())?;
+    let supervisor = Supervisor::new(alloc, config)?;
+    let (turns, ended) = run_turns(&crew, alloc, supervisor, turns)?;
+    let report = Report {
+        version,
+        paths,
+        turns,
+    };
+    Ok((report, ended.stop()))
+}
+
 /// Runs a script, turn by turn, by the calling thread alone: its report. The gate is called as each
 /// scan and plan begins and ends, and when a client's plan was taken.
 pub fn run_script<R: Threads + Sync, G: Gate + Sync, A: Allocator + Copy + Send + Sync>(
@@ -72,17 +107,8 @@ pub fn run_script<R: Threads + Sync, G: Gate + Sync, A: Allocator + Copy + Send 
     ensures paths { IfOk result (λ report. report.paths.items ≡ map (λ (p : PathConfig). p.id) script.config.paths.items) }
     ensures turns { IfOk result (λ report. IsReportOf (as_events (script_view script)) (report_view report)) }
 {
-    let crew = Crew::new(rt, 0, gate);
-    let Script { config, turns } = script;
-    let version = config.version;
-    let paths = path_ids(alloc, config.paths.as_slice())?;
-    let supervisor = Supervisor::new(alloc, config)?;
-    let (turns, _) = run_turns(&crew, alloc, supervisor, turns)?;
-    Ok(Report {
-        version,
-        paths,
-        turns,
-    })
+    let (report, _) = run_to_end(rt, alloc, script, 0, gate)?;
+    Ok(report)
 }
 
 /// Puts a report to the end of a list.

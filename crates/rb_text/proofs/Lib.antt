@@ -2,5 +2,3 @@ pub mod Beginnings
 pub mod Labels
 pub mod Numbered
 pub mod Cases
-pub mod Gregorian
-pub mod Clocks

@@ -6,7 +6,6 @@
 mod case;
 mod certificate;
 mod certifying;
-mod moment;
 mod refusal;
 mod report;
 mod running;
@@ -16,7 +15,6 @@ mod write;
 
 pub use certificate::{Certificate, read_certificate};
 pub use certifying::certify_texts;
-pub use moment::moments_are_read;
 pub use refusal::{CertifyError, Source};
 pub use report::push_turn;
 pub use running::{report_of, report_over, run_over};

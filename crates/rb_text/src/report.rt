@@ -7,9 +7,9 @@ ghost use Rattle.rb_step.specs.Sent.{sent_view};
 ghost use Rattle.rb_super_turn.specs.Report.{planned as outcome_planned};
 ghost use Rattle.rb_text.specs.Report.{refused_line, goal_line, label_line, update_line, votes_text, total_line, kind_name, message_line, batch_line, transaction_line, numbered_lines, sending_text, next_text, plan_text, outcome_text, client_text, settled_line, refusal_text, refused_settle_line, settlement_text, head_text, turn_text};
 
-use crate::moment::push_moment;
 use rb_base::{Height, Moment, PathId};
 use rb_batch::Transaction;
+use rb_moments::push_moment;
 use rb_plan::{Cost, Label};
 use rb_plan_client::Message;
 use rb_scan::Kind;

@@ -14,11 +14,10 @@ ghost use Rattle.rb_text.specs.Headline.{WritesReport, WritesThisReport, BeginsR
 use crate::threads::are_plans_for_workers;
 use crate::write::write_report;
 use rb_base::{Gate, Sink};
-use rb_health::run_to_end;
 use rb_script_read::read_script_by;
 use rb_script_toml::RunError;
 use rb_script_types::Script;
-use rb_super::{read_scripts_are_scripts, run_by_workers, run_script};
+use rb_super::{read_scripts_are_scripts, run_by_workers, run_script, run_to_end};
 use rb_super_turn::Report;
 use std::alloc::{AllocError, Global};
 use std::sync::{Arc, Wait};
