@@ -1,5 +1,5 @@
 -- The tests of what an answer tells decide the facts that they are named after.
-use Rattle.std.proofs.Common.{◌≡◌, ℕ, ◌<◌, ◌≤◌, ◌^◌, List, Bool, true, false, cond, ◌&&◌, Result, Ok, Err, Option, Some, None, SomeIff, MatchResult, option_map, Bor, refl, ap}
+use Rattle.std.proofs.Common.{◌≡◌, ℕ, List, Bool, true, false, Result, Ok, Err, Option, Some, None, SomeIff, MatchResult, option_map, Bor, refl, ap}
 use Rattle.std.specs.Result.{OkIff, result_ok}
 use Rattle.std.specs.Str.{IsUtf8, is_utf8}
 use Rattle.std.proofs.lemmas.Bool.{false_from_ne_true, and_parts, and_from, le-leb, leb-true, lt-ltb, ltb-true}
