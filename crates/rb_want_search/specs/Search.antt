@@ -1,7 +1,7 @@
 -- What a search for accepted steps comes to, by how steps are judged.
-use Rattle.std.specs.Prelude.{◌≡◌, ◌≢◌, ◌⊎◌, ◌+◌, ◌-◌, ◌/◌, ◌<◌, ◌≤◌, ℕ, List, [], ◌∷◌, Option, Some, None, IfSome, unwrap_or}
+use Rattle.std.specs.Prelude.{◌≡◌, ◌≢◌, ◌⊎◌, ◌+◌, ◌-◌, ◌/◌, ◌^◌, ◌<◌, ◌≤◌, ℕ, zero, suc, List, [], ◌∷◌, Option, Some, None, IfSome, unwrap_or}
 use Rattle.rb_want_search.specs.declared.judge.Judgement.{Judgement}
-use Rattle.rb_want_search.specs.declared.judge.Judgement.TheVariants.{Accepted, Gone, Never, Unknown}
+use Rattle.rb_want_search.specs.declared.judge.Judgement.TheVariants.{Accepted, Gone, Never, Refused, Unknown}
 use Rattle.rb_want_search.specs.declared.searching.Aim.{Aim}
 use Rattle.rb_want_search.specs.declared.searching.Question.{Question}
 use Rattle.rb_want_search.specs.declared.searching.Finding.{Finding}
@@ -50,17 +50,37 @@ IsReached judges aim first height = (hops : List ℕ) × Lead judges aim first h
 abbrev pub Suffices : Aim → ℕ → Type 0
 Suffices aim height = (aim.least ≤ height) ⊎ (aim.most ≤ height)
 
--- the height halves the gap between one from which a search goes up, which is the greatest that is accepted or else the trusted one, or a greater
--- one that isn't given, and a greater one to which no step is accepted
-abbrev pub HalvesGap : Judgements → ℕ → ℕ → Option ℕ → ℕ → Type 0
-HalvesGap judges trusted height accepted ceiling =
+-- the middle of a gap
+abbrev pub middle_of : ℕ → ℕ → ℕ
+middle_of floor ceiling = floor + (ceiling - floor) / 2
+
+-- of a gap with a middle the upper half is left where the step to the middle is accepted, or the middle isn't given, and the lower one where that step is
+-- refused
+abbrev pub IsHalved : Judgements → ℕ → ℕ → ℕ → ℕ → ℕ → Type 0
+IsHalved judges trusted floor ceiling lower upper =
+    (floor + 1 < ceiling)
+    × (((lower ≡ middle_of floor ceiling) × (upper ≡ ceiling) × (judges trusted lower Accepted ⊎ judges trusted lower Gone))
+    ⊎ ((lower ≡ floor) × (upper ≡ middle_of floor ceiling) × judges trusted upper Refused))
+
+-- so many halvings leave this gap of that between the trusted height and the greatest that the aim takes
+abbrev pub IsGapAfter : Judgements → Aim → ℕ → ℕ → ℕ → ℕ → Type 0
+IsGapAfter judges aim trusted zero floor ceiling = (floor ≡ trusted) × (ceiling ≡ aim.most)
+IsGapAfter judges aim trusted (suc k) floor ceiling =
+    (f : ℕ) × (c : ℕ) × IsGapAfter judges aim trusted k f c × IsHalved judges trusted f c floor ceiling
+
+-- The height is the middle of the gap that halvings leave, each by a step that was judged. The gap lies between a height from which a search goes up, which
+-- is the greatest that is accepted or else the trusted one, or a greater one that isn't given, and a greater one to which no step is accepted. So few
+-- halvings were made that 2 to their number is less than the heights between the trusted one and the greatest that the aim takes.
+abbrev pub HalvesGap : Judgements → Aim → ℕ → ℕ → Option ℕ → ℕ → Type 0
+HalvesGap judges aim trusted height accepted ceiling =
     IsNotAccepted judges trusted ceiling
-    × ((floor : ℕ) × IsFloor judges trusted (unwrap_or accepted trusted) floor × (height ≡ floor + (ceiling - floor) / 2))
+    × ((halvings : ℕ) × (floor : ℕ) × IsGapAfter judges aim trusted halvings floor ceiling × (2 ^ halvings < aim.most - trusted)
+    × IsFloor judges trusted (unwrap_or accepted trusted) floor × (floor + 1 < ceiling) × (height ≡ middle_of floor ceiling))
 
 -- the height is the greatest that the aim takes where no other was judged yet, and else halves the gap below the least that was refused
 abbrev pub IsNext : Judgements → Aim → ℕ → ℕ → Option ℕ → Option ℕ → Type 0
 IsNext judges aim trusted height accepted None = (height ≡ aim.most) × (accepted ≡ None)
-IsNext judges aim trusted height accepted (Some ceiling) = HalvesGap judges trusted height accepted ceiling
+IsNext judges aim trusted height accepted (Some ceiling) = HalvesGap judges aim trusted height accepted ceiling
 
 -- a question is about the next step, which can't be judged yet; the height that it names as accepted is
 abbrev pub IsQuestion : Judgements → Aim → Question → Type 0

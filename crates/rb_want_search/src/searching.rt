@@ -83,6 +83,7 @@ fn hop_from<J: Judge>(judge: &J, trusted: Height, aim: &Aim) -> Result<Hop, Allo
 }
 
 /// The hop to the greatest accepted height below the greatest that the aim takes.
+#[tactic(auto, using(crate::proofs::Halving::whole, crate::proofs::Halving::upper, crate::proofs::Halving::lower, crate::proofs::Halving::halves))]
 fn halve<J: Judge>(judge: &J, trusted: Height, aim: &Aim) -> Result<Hop, AllocError>
     requires { IsRefusedStep (J.judges judge.now) aim.now trusted aim.now.most }
     ensures { IfOk result (IsHop (J.judges judge.now) aim.now trusted) }

@@ -3,16 +3,18 @@ use Rattle.std.specs.Prelude.{IfSome, unwrap_or}
 use Rattle.rb_want_search.specs.declared.judge.Judgement.TheVariants.{Accepted}
 use Rattle.rb_want_search.specs.Search.{IsFloor, IsWithin}
 use Rattle.rb_want_search.specs.Hop.{IsRefusedStep}
+use Rattle.rb_want_search.proofs.Halving.{IsGap}
 use Rattle.rb_want_search.proofs.searching.halve.Given as goal
 
 -- the gap lies above the trusted height; the step to its ceiling isn't accepted, and that to the greatest accepted height so far is, from which, or else
--- from the trusted one, or from a greater one that isn't given, the gap goes up
+-- from the trusted one, or from a greater one that isn't given, the gap goes up; halvings leave it
 abbrev pub invariant-halvings : goal.invariant-halvings
 invariant-halvings g l = record {
   above : l.trusted ≤ l.gap.floor;
   below : l.gap.floor < l.gap.ceiling;
   ceiling : IsRefusedStep (g.J.Judge.judges l.judge) l.aim l.trusted l.gap.ceiling;
   lower : IsFloor (g.J.Judge.judges l.judge) l.trusted (unwrap_or l.accepted l.trusted) l.gap.floor;
+  gap : IsGap (g.J.Judge.judges l.judge) l.aim l.trusted l.gap.floor l.gap.ceiling;
   accepted : IfSome l.accepted (λ h. IsWithin l.aim l.trusted h × g.J.Judge.judges l.judge l.trusted h Accepted);
 }
 
