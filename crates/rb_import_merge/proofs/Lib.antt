@@ -11,3 +11,4 @@ pub mod Told
 pub mod Totalling
 pub mod Watched
 pub mod Counts
+pub mod Writing

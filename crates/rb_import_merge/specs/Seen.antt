@@ -1,7 +1,10 @@
 -- What was seen in the answers that a script is made of.
-use Rattle.std.specs.Prelude.{◌≡◌, ◌<◌, ◌-◌, ℕ, List, [], Vec, Option, Some, None, IfSome, IsSomeAnd, All, Any, length, map, slice_get}
+use Rattle.std.specs.Prelude.{◌≡◌, ◌<◌, ◌-◌, ℕ, Bool, false, List, [], Vec, Option, Some, None, IfSome, IsSomeAnd, All, Any, length, map, slice_get}
 use Rattle.std.specs.Global.{Global}
+use Rattle.std.specs.List.{list_any}
 use Rattle.std.specs.List.Sorted.{IsStrictlyIncreasing}
+use Rattle.std.specs.Str.{bytes_eq}
+use Rattle.rb_valset.specs.ValidatorSet.{set_hash}
 use Rattle.rb_import_setup.specs.declared.setup.ClientSetup.{ClientSetup}
 use Rattle.rb_import_setup.specs.declared.setup.PathSetup.{PathSetup}
 use Rattle.rb_import_setup.specs.declared.setup.Setup.{Setup}
@@ -11,6 +14,7 @@ use Rattle.rb_import_check.specs.declared.client.SeenClient.{SeenClient}
 use Rattle.rb_import_check.specs.declared.client.Stored.{Stored}
 use Rattle.rb_import_check.specs.declared.saved.Saved.{Saved}
 use Rattle.rb_import_check.specs.declared.saved.SavedAnswers.{SavedAnswers}
+use Rattle.rb_import_check.specs.declared.sets.SeenSet.{SeenSet}
 use Rattle.rb_import_check.specs.Accord.{AgreesWith}
 use Rattle.rb_import_check.specs.Chains.{AreOfFiles, HaveHeaders, HaveSets, IsJudged, filed_of, headers_of}
 use Rattle.rb_import_check.specs.Clients.{AtRevision, HaveStates, JudgesAs, client_states_of, current_of}
@@ -105,6 +109,16 @@ IsKeptSet chain hash kept = Any (IsPlaceOf chain.sets.sets.items hash) kept.plac
 abbrev pub IsWrittenOf : List SeenChain → List KeptSets → ℕ → List ℕ → Type 0
 IsWrittenOf chains sets place hash =
     IsSomeAnd (slice_get chains place) (λ (c : SeenChain). IsSomeAnd (slice_get sets place) (IsKeptSet c hash))
+
+-- whether a chain's set at a place has this hash
+abbrev pub is_of_hash : List ℕ → Option SeenSet → Bool
+is_of_hash hash (Some s) = bytes_eq (set_hash s.set) hash
+is_of_hash hash None = false
+
+-- the same as a test: whether the set of this hash is written of a chain
+abbrev pub is_written : Option SeenChain → Option KeptSets → List ℕ → Bool
+is_written (Some chain) (Some kept) hash = list_any (λ i. is_of_hash hash (slice_get chain.sets.sets.items i)) kept.places.items
+is_written chain kept hash = false
 
 abbrev left_of_sets : Option KeptSets → ℕ
 left_of_sets (Some kept) = kept.left_out

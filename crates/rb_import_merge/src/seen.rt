@@ -3,7 +3,7 @@ ghost use Rattle.std.specs.Prelude.{◌≡◌, ◌<◌, ◌≤◌, ◌↔◌, So
 ghost use Rattle.rb_import_check.specs.Errors.{IsToldOf};
 ghost use Rattle.rb_import_merge.specs.Errors.{IsToldIn};
 ghost use Rattle.rb_import_merge.specs.Room.{AtEachPlace};
-ghost use Rattle.rb_import_merge.specs.Seen.{AgreesWithChain, AreSeenClients, AreSeenPaths, IsKeptSet, IsSeenChain, IsSeenIn, answers_at, surplus_of};
+ghost use Rattle.rb_import_merge.specs.Seen.{AgreesWithChain, AreSeenClients, AreSeenPaths, IsKeptSet, IsSeenChain, IsSeenIn, IsWrittenOf, answers_at, surplus_of};
 
 use crate::kept::KeptSets;
 use crate::packets::{SeenPacket, seen_packets};
@@ -32,7 +32,7 @@ pub struct Seen<'a> {
 
 impl Seen<'_> {
     ghost use Rattle.std.specs.Prelude.{◌↔◌, IsTrue, get_or};
-    ghost use Rattle.rb_import_merge.specs.Seen.{IsWrittenOf, LacksHeaders, WasSeenOf, left_out, sets_left_out};
+    ghost use Rattle.rb_import_merge.specs.Seen.{IsWrittenOf, LacksHeaders, WasSeenOf, is_written, left_out, sets_left_out};
 
     /// Whether no header was seen of the chain at a place.
     pub fn lacks_headers(&self, place: usize) -> bool
@@ -56,12 +56,10 @@ impl Seen<'_> {
 
     /// Whether the set of this hash is written of the chain at a place.
     pub fn is_written(&self, place: usize, hash: &[u8; 32]) -> bool
-        ensures { IsTrue result ↔ IsWrittenOf self.now.chains.items self.now.sets.items place hash.now }
+        ensures value { result ≡ is_written (slice_get self.now.chains.items place) (slice_get self.now.sets.items place) hash.now }
+        ensures written { IsTrue result ↔ IsWrittenOf self.now.chains.items self.now.sets.items place hash.now }
     {
-        match (self.chains.get(place), self.sets.get(place)) {
-            (Some(chain), Some(kept)) => has_kept(chain, kept, hash),
-            _ => false,
-        }
+        has_written(self, place, hash)
     }
 
     /// How many headers of the chain at a place its book has no room for.
@@ -89,6 +87,16 @@ impl Seen<'_> {
             (Some(client), Some(records)) => client.stored.len().saturating_sub(records.len()),
             _ => 0,
         }
+    }
+}
+
+/// Whether the set of this hash is one of the kept sets of the chain at a place.
+fn has_written(seen: &Seen<'_>, place: usize, hash: &[u8; 32]) -> bool
+    ensures { IsTrue result ↔ IsWrittenOf seen.now.chains.items seen.now.sets.items place hash.now }
+{
+    match (seen.chains.get(place), seen.sets.get(place)) {
+        (Some(chain), Some(kept)) => has_kept(chain, kept, hash),
+        _ => false,
     }
 }
 

@@ -4,7 +4,6 @@ pub mod Rows
 pub mod Sent
 pub mod Telling
 pub mod Windows
-pub mod Unwritten
 pub mod Writing
 pub mod Counts
 pub mod NextSets

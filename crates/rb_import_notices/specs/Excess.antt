@@ -1,20 +1,15 @@
 -- What there is no room for: headers and sets of a chain, records of a client, packets of a path.
 use Rattle.std.specs.Prelude.{◌≡◌, ◌<◌, ◌-◌, ℕ, Bool, true, false, not, List, [], Vec, Option, Some, None, IsSomeAnd, count_by, filter, get_or, slice_get}
 use Rattle.std.specs.Global.{Global}
-use Rattle.std.specs.List.{list_any}
-use Rattle.std.specs.Str.{bytes_eq}
-use Rattle.rb_valset.specs.ValidatorSet.{set_hash}
 use Rattle.rb_import_answers.specs.declared.packets.PacketKind.{PacketKind}
 use Rattle.rb_import_setup.specs.declared.setup.ClientSetup.{ClientSetup}
 use Rattle.rb_import_setup.specs.declared.setup.PathSetup.{PathSetup}
 use Rattle.rb_import_setup.specs.declared.setup.Setup.{Setup}
 use Rattle.rb_import_check.specs.declared.chain.Commit.{Commit}
 use Rattle.rb_import_check.specs.declared.chain.SeenChain.{SeenChain}
-use Rattle.rb_import_check.specs.declared.sets.SeenSet.{SeenSet}
-use Rattle.rb_import_merge.specs.declared.kept.KeptSets.{KeptSets}
 use Rattle.rb_import_merge.specs.declared.packets.SeenPacket.{SeenPacket}
 use Rattle.rb_import_merge.specs.declared.seen.Seen.{Seen}
-use Rattle.rb_import_merge.specs.Seen.{left_out, sets_left_out}
+use Rattle.rb_import_merge.specs.Seen.{is_written, left_out, sets_left_out}
 use Rattle.rb_import_notices.specs.declared.excess.TooManyHeaders.{TooManyHeaders}
 use Rattle.rb_import_notices.specs.declared.excess.TooManyPackets.{TooManyPackets}
 use Rattle.rb_import_notices.specs.declared.excess.TooManyRecords.{TooManyRecords}
@@ -40,16 +35,6 @@ TellExcessHeaders setup seen notices = AreNotices (λ place id. LeavesHeaders se
 -- sets of the chain at a place are left out
 abbrev pub LeavesSets : Seen → ℕ → Type 0
 LeavesSets seen place = 0 < sets_left_out seen.sets.items place
-
--- whether a chain's set at a place has this hash
-abbrev pub is_of_hash : List ℕ → Option SeenSet → Bool
-is_of_hash hash (Some s) = bytes_eq (set_hash s.set) hash
-is_of_hash hash None = false
-
--- whether the set of this hash is written of a chain
-abbrev pub is_written : Option SeenChain → Option KeptSets → List ℕ → Bool
-is_written (Some chain) (Some kept) hash = list_any (λ i. is_of_hash hash (slice_get chain.sets.sets.items i)) kept.places.items
-is_written chain kept hash = false
 
 -- whether the set of a commit's header isn't written of the chain at a place
 abbrev pub lacks_set : Seen → ℕ → Commit → Bool

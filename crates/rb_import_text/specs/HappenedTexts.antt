@@ -12,13 +12,13 @@ use Rattle.rb_import_check.specs.declared.sets.SeenSet.{SeenSet}
 use Rattle.rb_import_merge.specs.declared.kept.KeptSets.{KeptSets}
 use Rattle.rb_import_merge.specs.declared.packets.SeenPacket.{SeenPacket}
 use Rattle.rb_import_merge.specs.declared.seen.Seen.{Seen}
-use Rattle.rb_import_notices.specs.Excess as excess
+use Rattle.rb_import_merge.specs.Seen as merge
 use Rattle.rb_import_text.specs.EventTexts.{header_event, packet_event, set_event, stored_event}
 use Rattle.rb_import_text.specs.Texts.{closing}
 
 -- whether the set of this hash is written of the chain at a place
 unfoldable pub is_written : Seen → ℕ → List ℕ → Bool
-is_written seen place hash = excess.is_written (slice_get seen.chains.items place) (slice_get seen.sets.items place) hash
+is_written seen place hash = merge.is_written (slice_get seen.chains.items place) (slice_get seen.sets.items place) hash
 
 -- ---- chains
 

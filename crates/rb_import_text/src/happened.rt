@@ -148,6 +148,7 @@ fn push_header_at(
 }
 
 /// Whether the set of this hash is written of the chain at a place.
+#[tactic(auto, unfolding(crate::specs::HappenedTexts::is_written))]
 fn is_written(seen: &Seen<'_>, place: usize, hash: &[u8; 32]) -> bool
     ensures { result ≡ is_written seen.now place hash.now }
 {
