@@ -1,4 +1,5 @@
-use Rattle.std.proofs.Common.{List, map, refl, sym, subst}
+use Rattle.std.proofs.Common.{List, map, refl, sym, ap, ◌∙◌, subst}
+use Rattle.rb_core.specs.Core.{Core}
 use Rattle.rb_core_model.specs.Standing.{Standing, opening_standing}
 use Rattle.rb_script_types.specs.Config.{config_view}
 use Rattle.rb_script_types.specs.Script.{script_view, turn_view}
@@ -25,6 +26,9 @@ returns-clause-turns g c =
     let reports = map turn_report_view c.in_ok-turns.turns.items in
     let opened = opened_standing c.in_ok-supervisor.supervisor (config_view c.args.script.config) c.in_ok-supervisor.ensures.config c.in_ok-supervisor.ensures.log in
     subst (λ (p : Standing × List Turn). AreTurnReports p.0 p.1 reports) (λ i. (opened i, sym (turns_as_events turns) i)) c.in_ok-turns.ensures.reports
+
+pub returns-clause-config : goal.returns-clause-config
+returns-clause-config g c = ap (λ (k : Core). k.config) c.stop.ensures ∙ c.in_ok-turns.ensures.later.config ∙ c.in_ok-supervisor.ensures.config
 
 pub returns-clause-end : goal.returns-clause-end
 returns-clause-end g c =
