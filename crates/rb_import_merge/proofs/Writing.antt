@@ -30,7 +30,7 @@ decides_written : (chain : Option SeenChain) (kept : Option KeptSets) (hash : Li
     → Decides (is_written chain kept hash) (IsSomeAnd chain (λ (c : SeenChain). IsSomeAnd kept (IsKeptSet c hash)))
 decides_written (Some c) (Some k) hash =
     decides_any (λ i. is_of_hash hash (slice_get c.sets.sets.items i)) (IsPlaceOf c.sets.sets.items hash)
-        (λ i. decides_hash hash (slice_get c.sets.sets.items i)) k.places.items
+    (λ i. decides_hash hash (slice_get c.sets.sets.items i)) k.places.items
 decides_written (Some c) None hash = ((λ e. absurd (true≢false (sym e))), λ w. absurd w)
 decides_written None kept hash = ((λ e. absurd (true≢false (sym e))), λ w. absurd w)
 
@@ -38,4 +38,4 @@ pub is_written-is : (r : Bool) (seen : Seen) (place : ℕ) (hash : List ℕ) →
     → r ≡ is_written (slice_get seen.chains.items place) (slice_get seen.sets.items place) hash
 is_written-is r seen place hash decides =
     same_from_decides r (is_written (slice_get seen.chains.items place) (slice_get seen.sets.items place) hash) decides
-        (decides_written (slice_get seen.chains.items place) (slice_get seen.sets.items place) hash)
+    (decides_written (slice_get seen.chains.items place) (slice_get seen.sets.items place) hash)
