@@ -18,4 +18,5 @@ pub use certifying::certify_texts;
 pub use refusal::{CertifyError, Source};
 pub use report::push_turn;
 pub use running::{report_of, report_over, run_over};
+pub use threads::{Shares, shares_of};
 pub use write::{first_line, write_report};

@@ -11,7 +11,7 @@ ghost use Rattle.rb_super_turn.specs.Turns.{IsReportOf};
 ghost use Rattle.rb_super_turn.specs.Views.{report_view};
 ghost use Rattle.rb_text.specs.Headline.{WritesReport, WritesThisReport, BeginsReport};
 
-use crate::threads::are_plans_for_workers;
+use crate::threads::shares_of;
 use crate::write::write_report;
 use rb_base::{Gate, Sink};
 use rb_script_read::read_script_by;
@@ -51,8 +51,8 @@ pub fn report_of<
     }
 }
 
-/// Runs a script by at most so many threads, at most 64: they make its step tables, and workers its plans, too, where these save time; with 0 the
-/// calling thread does all. What is said of `report_of` holds here, too.
+/// Runs a script by at most so many threads, at most 64: they make its step tables, and workers its plans, too, each where this saves time; with 0
+/// the calling thread does all. What is said of `report_of` holds here, too.
 fn report_by<
     R: Threads + Wait + Copy + Send + Sync + 'static,
     G: Gate + Send + Sync + Drop + 'static,
@@ -71,10 +71,14 @@ fn report_by<
     ensures turns { IfOk result (λ report. IsReportOf (as_events (script_view script)) (report_view report)) }
 {
     read_scripts_are_scripts(&script);
-    if threads == 0 || are_plans_for_workers(alloc, &script)? {
+    if threads == 0 {
+        return report_of(rt, alloc, script, 0, gate);
+    }
+    let shares = shares_of(alloc, &script)?;
+    if shares.plans {
         return report_of(rt, alloc, script, threads, gate);
     }
-    let (report, _) = run_to_end(rt, alloc, script, threads, &**gate)?;
+    let (report, _) = run_to_end(rt, alloc, script, shares.table_threads(threads), &**gate)?;
     Ok(report)
 }
 
