@@ -10,7 +10,7 @@ use rb_script_read::{read_script, read_script_by};
 use rb_script_toml::RunError;
 use rb_script_types::Script;
 use rb_super::run_to_end;
-use rb_text::report_of;
+use rb_text::{report_of, shares_of};
 use rb_text_export::{Setting, commands_of, json_of};
 use std::alloc::{AllocError, Global};
 use std::sync::{Arc, Wait};
@@ -23,8 +23,8 @@ pub struct JsonText {
     pub status: u8,
 }
 
-/// The report of the script that a file holds, as JSON, with when its clients expire; its step tables are made by so many workers,
-/// its plans by the calling thread, through a gate.
+/// The report of the script that a file holds, as JSON, with when its clients expire; its step tables are made by so many workers
+/// where that saves time, its plans by the calling thread, through a gate.
 pub fn json_of_script<'a, R: Threads + Sync, G: Gate + Sync + Drop>(
     rt: &R,
     alloc: Global,
@@ -48,7 +48,8 @@ fn json_of_bytes<R: Threads + Sync, G: Gate + Sync>(
     gate: &G,
 ) -> Result<JsonText, RunError> {
     let script = read_script_by(rt, alloc, bytes, workers.count())?;
-    let (report, relayer) = run_to_end(rt, alloc, script, workers.count(), gate)?;
+    let threads = shares_of(alloc, &script)?.table_threads(workers.count());
+    let (report, relayer) = run_to_end(rt, alloc, script, threads, gate)?;
     let clients = healths_of(alloc, &relayer)?;
     let json = json_of(alloc, &report)?;
     Ok(JsonText {
