@@ -1,7 +1,10 @@
 -- What the text of a script begins with, and that it fits.
-use Rattle.std.proofs.Common.{◌<◌, ◌≤◌, ℕ, List, length, inl, inr, ⊎_elim}
+use Rattle.std.proofs.Common.{◌<◌, ◌≤◌, ℕ, List, Bool, true, false, cond, All, length, inl, inr, refl, ⊎_elim}
 use Rattle.std.specs.Prelude.{Vec}
 use Rattle.std.specs.Global.{Global}
+use Rattle.std.specs.Str.{chars}
+use Rattle.rb_import_answers.specs.Said.{IsPlain}
+use Rattle.rb_import_answers.proofs.PlainTexts.{are_plain}
 use Rattle.rb_import_setup.specs.Documents.{max_bytes}
 use Rattle.rb_import_setup.specs.declared.setup.Setup.{Setup}
 use Rattle.rb_import_check.specs.declared.saved.SavedAnswers.{SavedAnswers}
@@ -9,17 +12,30 @@ use Rattle.rb_import_merge.specs.Room.{AtEachPlace}
 use Rattle.rb_import_merge.specs.declared.kept.KeptSets.{KeptSets}
 use Rattle.rb_import_merge.specs.declared.seen.Seen.{Seen}
 use Rattle.rb_import_text.specs.TableTexts.{tables_text}
-use Rattle.rb_import.specs.Openings.{Opens, hold_verdicts}
+use Rattle.rb_import.specs.Openings.{IsOpening, Opens, credit, hold_verdicts, opening_of, seen_commits, verifier_of, warning, words_of, words_on}
 use Rattle.rb_import.specs.Parts.{IsNeededOf}
 use Rattle.rb_import.specs.Scripts.{IsFitting, IsText, with_sets}
+
+line_by : (b : Bool) (words : List ℕ) → All IsPlain words → IsOpening b (cond b (credit words) warning)
+line_by true words plain = inl (refl, (words, plain, refl))
+line_by false words plain = inr (refl, refl)
+
+words_are_plain : (answers : SavedAnswers) (seen : Seen) → All IsPlain (words_of answers seen)
+unfolding words_of
+words_are_plain answers seen = are_plain _ (chars (words_on (seen_commits seen) (verifier_of answers))) refl
+
+is_opening : (answers : SavedAnswers) (seen : Seen) → IsOpening (hold_verdicts answers) (opening_of answers seen)
+unfolding opening_of
+is_opening answers seen = line_by (hold_verdicts answers) (words_of answers seen) (words_are_plain answers seen)
+
+opens : (setup : Setup) (answers : SavedAnswers) (seen : Seen) (text : List ℕ) → IsText setup answers seen text → Opens (hold_verdicts answers) text
+opens setup answers seen text is = (opening_of answers seen, tables_text setup answers seen, is_opening answers seen, is)
 
 -- the text begins with the opening line and the heading
 pub opens_fitting : (setup : Setup) (answers : SavedAnswers) (seen : Seen) (text : List ℕ) → IsFitting setup answers seen text → Opens (hold_verdicts answers) text
 unfolding IsFitting
 opens_fitting setup answers seen text fitting =
-    ⊎_elim (λ whole. let t = whole.0 in (t.0, tables_text setup answers seen, t.1, t.2))
-    (λ part. let t = part.5 in (t.0, tables_text setup answers (with_sets seen part.3), t.1, t.2))
-    fitting
+    ⊎_elim (λ whole. opens setup answers seen text whole.0) (λ part. opens setup answers (with_sets seen part.3) text part.5) fitting
 
 pub fits_whole : (setup : Setup) (answers : SavedAnswers) (seen : Seen) (text : List ℕ) → IsText setup answers seen text → length text ≤ max_bytes
     → IsFitting setup answers seen text

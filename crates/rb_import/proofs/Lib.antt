@@ -7,3 +7,4 @@ pub mod Orders
 pub mod Tallying
 pub mod Firsts
 pub mod Fitting
+pub mod Crediting

@@ -8,14 +8,13 @@ use Rattle.rb_import_merge.specs.Room.{AtEachPlace}
 use Rattle.rb_import_merge.specs.declared.kept.KeptSets.{KeptSets}
 use Rattle.rb_import_merge.specs.declared.seen.Seen.{Seen}
 use Rattle.rb_import_text.specs.TableTexts.{tables_text}
-use Rattle.rb_import.specs.Openings.{IsOpening, hold_verdicts}
+use Rattle.rb_import.specs.Openings.{opening_of}
 use Rattle.rb_import.specs.Parts.{IsNeededOf}
 use Rattle.rb_import.specs.Texts.{heading}
 
 -- the text has the opening line, the heading, and the tables of what was seen
 abbrev pub IsText : Setup → SavedAnswers → Seen → List ℕ → Type 0
-IsText setup answers seen text =
-    (line : List ℕ) × IsOpening (hold_verdicts answers) line × (text ≡ line ++ heading ++ tables_text setup answers seen)
+IsText setup answers seen text = text ≡ opening_of answers seen ++ heading ++ tables_text setup answers seen
 
 -- what was seen, with these sets of it
 abbrev pub with_sets : Seen → Vec KeptSets Global → Seen

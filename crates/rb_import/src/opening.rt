@@ -1,9 +1,8 @@
 //! The line that a script of answers begins with: who verified signatures.
-ghost use Rattle.std.specs.Prelude.{◌≡◌, ◌++◌, ◌∷◌, [], List, IfOk, All, option_map, slice_get, string_bytes};
-ghost use Rattle.rb_import_answers.specs.Said.{IsPlain};
+ghost use Rattle.std.specs.Prelude.{◌≡◌, ◌++◌, ◌∷◌, [], List, IfOk, option_map, slice_get, string_bytes};
 ghost use Rattle.rb_import_check.specs.declared.chain.Commit.{Commit};
 ghost use Rattle.rb_import_check.specs.Verdicts.{verdicts_of};
-ghost use Rattle.rb_import.specs.Openings.{IsCredit, IsOpening, credit, hold_verdicts, seen_commits, verifier_of};
+ghost use Rattle.rb_import.specs.Openings.{credit, hold_verdicts, opening_of, seen_commits, verifier_of, words_of, words_with};
 ghost use Rattle.rb_import.specs.Tallies.{IsTally};
 
 use rb_import_answers::{NodeAnswer, Verdicts, plain_text};
@@ -16,12 +15,13 @@ const WARNING: &str =
     "# Signatures were not verified: headers and votes stand as the nodes gave them.\n";
 
 /// The line that the script of these answers begins with.
+#[tactic(auto, unfolding(crate::specs::Openings::opening_of))]
 pub fn opening_of(
     alloc: Global,
     answers: &SavedAnswers,
     seen: &Seen<'_>,
 ) -> Result<String, AllocError>
-    ensures { IfOk result (λ line. IsOpening (hold_verdicts answers.now) (string_bytes line)) }
+    ensures { IfOk result (λ line. string_bytes line ≡ opening_of answers.now seen.now) }
 {
     if hold_verdicts(answers) {
         let line = credited(alloc, answers, seen)?;
@@ -34,7 +34,7 @@ pub fn opening_of(
 
 /// The line that says who verified signatures.
 fn credited(alloc: Global, answers: &SavedAnswers, seen: &Seen<'_>) -> Result<String, AllocError>
-    ensures { IfOk result (λ line. IsCredit (string_bytes line)) }
+    ensures { IfOk result (λ line. string_bytes line ≡ credit (words_of answers.now seen.now)) }
 {
     let words = words_of(alloc, answers, seen)?;
     let line = credit(alloc, &words)?;
@@ -61,11 +61,22 @@ fn credit(alloc: Global, words: &String) -> Result<String, AllocError>
     Ok(line)
 }
 
-/// How many commits were verified, how many of their votes are good, bad and not checkable, and who verified them.
+/// How many commits were verified, how many of their votes are good, bad and not checkable, and who verified them: as much of that
+/// as the line shows.
 fn words_of(alloc: Global, answers: &SavedAnswers, seen: &Seen<'_>) -> Result<String, AllocError>
-    ensures { IfOk result (λ words. All IsPlain (string_bytes words)) }
+    ensures { IfOk result (λ words. string_bytes words ≡ words_of answers.now seen.now) }
 {
     let tally = tally_of(seen);
+    let verifier = verifier_of(answers);
+    let words = words_with(alloc, tally, verifier)?;
+    let plain = plain_text(alloc, words.as_str())?;
+    Ok(plain)
+}
+
+/// A tally and who verified it, in words.
+fn words_with(alloc: Global, tally: Tally, verifier: &str) -> Result<String, AllocError>
+    ensures { IfOk result (λ words. string_bytes words ≡ words_with tally.commits tally.verified tally.good tally.bad tally.unchecked verifier.now) }
+{
     let Tally {
         commits,
         verified,
@@ -73,11 +84,10 @@ fn words_of(alloc: Global, answers: &SavedAnswers, seen: &Seen<'_>) -> Result<St
         bad,
         unchecked,
     } = tally;
-    let verifier = verifier_of(answers);
     let words = format!(in alloc;
         "{verified} of {commits} commits verified: {good} good, {bad} bad, {unchecked} not checkable; by {verifier}"
     )?;
-    plain_text(alloc, words.as_str())
+    Ok(words)
 }
 
 /// How many commits a script has headers of, how many of these were verified, and how many of their votes are good, bad

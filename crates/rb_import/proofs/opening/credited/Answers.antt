@@ -1,4 +1,6 @@
+use Rattle.std.proofs.Common.{ap, ◌∙◌}
+use Rattle.rb_import.specs.Openings.{credit}
 use Rattle.rb_import.proofs.opening.credited.Goals as goal
 
 pub returns : goal.returns
-returns c = (_, c.in_ok-words.ensures, c.in_ok-line.ensures)
+returns c = c.in_ok-line.ensures ∙ ap credit c.in_ok-words.ensures
