@@ -236,8 +236,8 @@ def make_busy(folder, stored, headers, every):
 
 
 @contextlib.contextmanager
-def serve(chance):
-    """A node of a made-up hub-4 and a gateway of the chain that hosts a client of it: their addresses, while they answer."""
+def serve(chance, shape=lambda answer: answer):
+    """A node of a made-up hub-4 and a gateway of the chain that hosts a client of it: their addresses, while they answer so."""
     hub, stored = Chain(chance, "hub-4", 80), [1, 30, 52]
 
     def answer(path, asked):
@@ -265,7 +265,7 @@ def serve(chance):
             address = urllib.parse.urlsplit(self.path)
             self.send_response(200)
             self.end_headers()
-            self.wfile.write(json.dumps(answer(address.path, urllib.parse.parse_qs(address.query))).encode())
+            self.wfile.write(json.dumps(shape(answer(address.path, urllib.parse.parse_qs(address.query)))).encode())
 
         def log_message(self, *_):
             pass

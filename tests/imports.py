@@ -338,6 +338,12 @@ def earlier(value):
     value["consensus_states"].insert(0, first)
 
 
+def upgraded(value):
+    """The edit that adds a record of an earlier revision, which an upgrade wrote."""
+    earlier(value)
+    value["consensus_states"][0]["consensus_state"]["root"]["hash"] = answers.base64.b64encode(b"sentinel_root").decode()
+
+
 def many(value):
     """The edit that adds thirty records whose next sets no answer has."""
     for height in range(2, 32):
@@ -582,6 +588,7 @@ NOTICES = [
     # a packet between clients, and a record from before an upgrade, which has another set's hash
     (1, str, saved(answers.transaction(40, answers.client_packet_event(1), answers.packet_event("send_packet", 20, 0))), []),
     (0, str, edited(STORED_FILE, earlier), []),
+    (0, str, edited(STORED_FILE, upgraded), []),
     (1, str, removed(RECEIVED_FILE), [UNSEARCHED % "recv_packet"]),
     (1, str, removed(SENT_FILE, RECEIVED_FILE, CLEARED_FILE), [UNSEARCHED % "send_packet, recv_packet, acknowledge_packet or timeout_packet"]),
     (1, str, in_turn(removed(SENT_FILE, CLEARED_FILE), NOTHING_FOUND), [UNSEARCHED % "send_packet, recv_packet, acknowledge_packet or timeout_packet"]),
@@ -646,7 +653,7 @@ def files_of(file, line):
     if name in ("OtherSet", "OtherSigner", "SignatureCount"):
         return [COMMIT_FILE, PAGE_FILE]
     if name == "OtherRecord":
-        return [f"{file} and ", f"hub-4/commit-{line.split()[-1]}.json: "]
+        return [f"{file} and ", f"hub-4/commit-{line.split()[-1]}.json: ", "if it stays, the client may have been given a forged header: ", "and submit its misbehaviour\n"]
     return [] if name == "MissingConsensusStates" else [file]
 
 
@@ -695,10 +702,14 @@ def spoiled_cases(top):
         yield Case(fault.decode(), ["import", "-", str(whole)], script.encode(), b"", fault, 1)
 
 
+def without_envelope(answer):
+    return answer.get("result", answer)
+
+
 def bare(folder):
     """Answers of a chain without JSON-RPC's envelope."""
     for file in (folder / "hub-4").glob("*.json"):
-        file.write_text(json.dumps(json.loads(file.read_text())["result"]))
+        file.write_text(json.dumps(without_envelope(json.loads(file.read_text()))))
 
 
 def in_camel_case(folder):
@@ -770,20 +781,23 @@ so that no update starts from this record; fetch all pages of /validators?height
 
 
 def chain_cases(top, program):
-    """`import` and `plan` in a row by a shell; at last over what `examples/collect` got of made-up nodes."""
+    """`import` and `plan` in a row by a shell; at last over what `examples/collect` got of made-up nodes, also of one without JSON-RPC's envelope."""
     words = " ".join(map(shlex.quote, program))
     folders = [(top / f"seed-{seed}", top / f"setup-{seed}-0.toml", "") for seed in range(1, 21)]
     # `collect` asks for what a plan needs, and no update has to start from the older of both states.
     older = NEXT % (top / "collected", 2)
     folders += [(top / "collected", top / "setup-4-0.toml", older), (top / "busy-1500", top / "busy-1500.toml", SETS % (482, 0))]
-    with answers.serve(random.Random(7)) as (rpc, rest):
-        subprocess.run([TOP / "examples" / "collect", top / "collected", "hub-on-zone", "hub-4", rpc, rest], env={**os.environ, "IBCPLAN": program[0]}, check=True)
+    folders.append((top / "collected-bare", top / "setup-4-0.toml", NEXT % (top / "collected-bare", 2)))
+    for name, shape in ("collected-bare", without_envelope), ("collected", lambda answer: answer):
+        with answers.serve(random.Random(7), shape) as (rpc, rest):
+            subprocess.run([TOP / "examples" / "collect", top / name, "hub-on-zone", "hub-4", rpc, rest], env={**os.environ, "IBCPLAN": program[0]}, check=True)
     for client, chain, there in (("hub-on-zone", "none-1", "hub-on-zone/client_state"), ("none", "hub-4", "hub-4/commit-80")):  # no node is left to answer
         told = f"collect: {top}/collected/{there}.json is there already; name a new folder, or take the answers out of this one\n"
         asked = [str(TOP / "examples" / "collect"), str(top / "collected"), client, chain, rpc, rest]
         yield Case(f"collecting {client} of {chain} again", asked, b"", b"", told.encode(), 1)
     for folder, setup, told in folders:
-        toml = answers.in_toml(answers.script_of(setup.read_text(), folder))
+        enveloped = top / "collected" if folder.name == "collected-bare" else folder
+        toml = answers.in_toml(answers.script_of(setup.read_text(), enveloped))
         report = reference.report(reference.read_script(toml)).encode()
         line = f'{words} import "$0" "$1" | {words} plan -'
         yield Case(f"import and plan of {folder.name}", ["sh", "-c", line, str(setup), str(folder)], b"", report, told.encode(), 0)
