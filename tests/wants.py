@@ -3,6 +3,7 @@ and whether what it saves plans as well as all heights would."""
 import contextlib
 import os
 import pathlib
+import re
 import shutil
 import subprocess
 import sys
@@ -260,8 +261,8 @@ def packet_flaws(program, folder):
     return flaws + ([] if sent == wanted else [f"other commands: {sent}"])
 
 
-# a name, a chain, the heights that the client has stored, a goal, the heights that have to be reached (none: no plan), the most requests, and the most
-# that the plan may cost, as a share of the least over all heights (0: the number of updates is told, by the next number)
+# a name, a chain, the heights that the client has stored, a goal, the height that has to be reached, the most requests, and how many updates the plan has
+# (0: as many as it takes, at most 3 % above the least over all heights)
 COLLECTS = [
     ("quiet", LongChain("hub-4", "quiet", 100_000, 180), [20_000, 20_500], "", 99_999, 12, 1),
     ("all change at once", LongChain("hub-4", "switch", 100_000, 180, 57_122), [19_000, 20_000], "", 99_999, 60, 2),
@@ -270,6 +271,9 @@ COLLECTS = [
     ("steady change", LongChain("hub-4", "churn", 2_000, 30, 22), [1], "", 1_999, 120, 0),
     ("pages of records", LongChain("hub-4", "quiet", 1_000, 30), list(range(1, 900, 2)), "", 999, 40, 1),
 ]
+
+
+PAGE, ROUNDS = 40, re.compile(rb"collect: \d+ requests in (\d+) rounds")
 
 
 def collected(folder, chain, stored, goal, program, page=1000):
@@ -298,14 +302,22 @@ def run_collects(program, top, is_told=False):
     wrong = 0
     for name, chain, stored, goal, height, most, updates in COLLECTS:
         folder = top / f"collect {name}"
-        asked, done = collected(folder, chain, stored, goal, program, page=40)
+        asked, done = collected(folder, chain, stored, goal, program, page=PAGE)
         flaws = [] if done.returncode == 0 else [f"status {done.returncode}: {done.stderr.decode()}"]
         flaws += [f"{len(asked)} requests, and not at most {most}"] if len(asked) > most else []
+        # a round for each page of consensus states; from each trusted height one for each page of the set of a height that halves the gap, and of the first
+        questions = 1 + (height - max(stored) - 1).bit_length()
+        rounds, bound = int((ROUNDS.search(done.stderr) or (b"", b"0"))[1]), 1 + -(-len(stored) // PAGE) + updates * questions * -(-chain.size // 100)
+        flaws += [f"{rounds} rounds, and not at most {bound}"] if updates and rounds > bound else []
         flaws += [f"twice asked: {path}" for path in {path for path in asked if asked.count(path) > 1}]
         heights = sorted(int(path.stem.partition("-")[2]) for path in (folder / "answers" / "hub-4").glob("commit-*.json"))
         last = max(heights) if goal else height
         plan = least_fee(chain, max(stored), last, heights, FEE) if chain.kind != "quiet" else (0, [last])
         flaws += ["no plan"] if not plan else [f"{len(plan[1])} updates, and not {updates}"] if updates and len(plan[1]) != updates else []
+        flaws += [f"{last} isn't saved"] if last not in heights else []
+        if plan and chain.kind == "switch":  # only heights at the change can be in a least plan, beside the last one
+            least = least_fee(chain, max(stored), last, [*range(chain.change - 3, chain.change + 4), *range(max(stored) + 1, last, 997)], FEE)
+            flaws += [f"{plan[0]} for {plan[1]}, and {least[0]} for {least[1]} at the change"] if plan[0] > least[0] else []
         if plan and not updates:
             least = least_fee(chain, max(stored), last, range(1, chain.blocks), FEE)
             flaws += [f"{plan[0]} for {plan[1]}, and {least[0]} for {least[1]} over all heights"] if plan[0] > 1.03 * least[0] else []
