@@ -1,6 +1,6 @@
-//! What no contract of the layers that stand on `rb_base` at most says, by their public calls: identifiers,
-//! columns, messages that are owed, transactions and lanes between threads, as tables of cases with values
-//! from outside.
+//! What no contract of small layers says, by their public calls: identifiers, columns, messages that are owed, transactions
+//! and lanes between threads; how many steps the search for what to fetch asks for, what saved files contain, and the lines
+//! of requests. They are tables of cases with values from outside.
 #![tactic(auto)]
 
 #[cfg(test)]
@@ -13,5 +13,9 @@ mod lanes;
 mod same;
 #[cfg(test)]
 mod scan;
+#[cfg(test)]
+mod want_content;
+#[cfg(test)]
+mod want_search;
 #[cfg(test)]
 mod wire;

@@ -1,5 +1,5 @@
 use Rattle.std.proofs.Crossing.{frees}
-use Rattle.test_graph.proofs.gang.build_behind.Goals as goal
+use Rattle.test_plan.proofs.gang.build_behind.Goals as goal
 
 -- the heap frees what any thread took of it
 pub build-requires-clause-alloc : goal.build-requires-clause-alloc

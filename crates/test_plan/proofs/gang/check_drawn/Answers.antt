@@ -1,5 +1,5 @@
 use Rattle.std.proofs.Crossing.{frees}
-use Rattle.test_graph.proofs.gang.check_drawn.Goals as goal
+use Rattle.test_plan.proofs.gang.check_drawn.Goals as goal
 
 -- the heap frees what any thread took of it
 pub make_rows-requires-clause-alloc : goal.make_rows-requires-clause-alloc
