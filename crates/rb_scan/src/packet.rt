@@ -259,21 +259,21 @@ impl Packet {
     }
 
     /// Whether it was sent, its receive isn't finished, and it isn't cleared.
-    pub(crate) fn is_in_flight(&self) -> bool
+    pub fn is_in_flight(&self) -> bool
         ensures { result ≡ is_in_flight self.now }
     {
         !self.is_finished() && !self.is_cleared()
     }
 
     /// The least height that proves that it was sent.
-    pub(crate) fn sent_floor(&self) -> Height
+    pub fn sent_floor(&self) -> Height
         ensures { result ≡ self.now.sent + 1 }
     {
         next(self.sent)
     }
 
     /// The least height that proves its acknowledgement.
-    pub(crate) fn written_floor(&self) -> Option<Height>
+    pub fn written_floor(&self) -> Option<Height>
         ensures { result ≡ option_map (λ (block : ℕ). block + 1) self.now.written }
     {
         match self.written {
