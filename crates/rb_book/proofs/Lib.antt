@@ -11,3 +11,4 @@ pub mod Additions
 pub mod Positions
 pub mod Puts
 pub mod Conditions
+pub mod Resting

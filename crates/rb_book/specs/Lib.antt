@@ -6,6 +6,7 @@ pub mod Header
 pub mod Book
 pub mod Invariant
 pub mod Intake
+pub mod Rest
 pub mod Same
 pub mod Search
 pub mod Laws

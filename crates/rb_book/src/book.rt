@@ -7,12 +7,16 @@ ghost use Rattle.rb_book.specs.Header.{same_header};
 ghost use Rattle.rb_book.specs.Book.{Book, set_of, record_at, header_at, heights_of, heights_and_times_of, top_of, is_below, header_is_at, has_hash, address_count, same_known, same_book};
 ghost use Rattle.rb_book.specs.Invariant.{IsBook, IsBacked};
 ghost use Rattle.rb_book.specs.Intake.{record_refusal, header_refusal, set_refusal, after_set, after_record, after_header, IsRefusal};
+ghost use Rattle.rb_book.specs.Rest.{rest_of_book};
 
 use crate::addresses::Addresses;
 use crate::error::BookError;
+use crate::forgetting::{header_is_from, is_from, is_left};
 use crate::header::Header;
 use crate::intake::{breaker, first_bad_vote};
-use crate::known_addresses::{copy_addresses, count_new, keep_addresses, reserve_addresses};
+use crate::known_addresses::{
+    copy_addresses, count_addresses, count_new, drop_unknown, keep_addresses, reserve_addresses,
+};
 use crate::record::{Record, RecordAt};
 use crate::search::{header_place, record_place, set_place};
 use rb_base::{Height, Moment};
@@ -413,6 +417,21 @@ impl<A: Allocator> ChainBook<A> {
         self.judge_header(&header)?;
         self.put_header(header);
         Ok(())
+    }
+
+    /// Forgets the records and the headers below a height, and the sets that only these name. A set
+    /// that nothing names yet stays. No memory is taken.
+    pub fn forget(&mut self, below: Height)
+        ensures { self.new ≡ rest_of_book below self.old }
+    {
+        let records = self.records.as_slice();
+        let headers = self.headers.as_slice();
+        self.sets
+            .retain(|set| is_left(below, records, headers, set));
+        self.records.retain(|known| is_from(below, known));
+        self.headers.retain(|header| header_is_from(below, header));
+        drop_unknown(&mut self.addresses, self.sets.as_slice());
+        self.distinct = count_addresses(&self.addresses, self.sets.as_slice());
     }
 }
 
