@@ -1,13 +1,20 @@
 -- What a saved answer tells.
-use Rattle.std.specs.Prelude.{◌≡◌, ◌≤◌, ⊤, ℕ, List, String, Err, All, length, string_bytes}
+use Rattle.std.specs.Prelude.{◌≡◌, ◌≤◌, ⊤, ℕ, List, [], String, Err, All, length, string_bytes}
 use Rattle.std.specs.Global.{Global}
 use Rattle.rb_import_answers.specs.Answers.{told}
-use Rattle.rb_import_answers.specs.Said.{IsPlain}
+use Rattle.rb_import_answers.specs.Said.{IsPlain, plain_text, said}
+use Rattle.rb_import_json.specs.declared.error.FieldErrorName.{FieldErrorName}
 use Rattle.rb_import_check.specs.declared.saved.SavedError.{SavedError}
 use Rattle.rb_import_check.specs.declared.saved.SavedError.TheVariants as errors
 
--- the file's content has this flaw, which is the first one in it; and what its node said is short and may stand in quotes
+-- what the node said, where the flaw is an error that it answered; else nothing
+abbrev pub said_with : FieldErrorName → List ℕ → List ℕ
+said_with FieldErrorName.NodeError bytes = plain_text (said bytes)
+said_with name bytes = []
+
+-- the file's content has this flaw, which is the first one in it; and this is what its node said, which is short and may stand in quotes
 abbrev pub IsFlawOf : String Global → List ℕ → SavedError → Type 0
-IsFlawOf file bytes (errors.Invalid name flaw said) =
-    (name ≡ file) × (told bytes ≡ Err flaw) × All IsPlain (string_bytes said) × (length (string_bytes said) ≤ 200)
+IsFlawOf file bytes (errors.Invalid name flaw text) =
+    (name ≡ file) × (told bytes ≡ Err flaw) × (string_bytes text ≡ said_with flaw.name bytes) × All IsPlain (string_bytes text)
+    × (length (string_bytes text) ≤ 200)
 IsFlawOf file bytes errors.NoMemory = ⊤

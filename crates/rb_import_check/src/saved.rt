@@ -3,7 +3,7 @@ ghost use Rattle.std.specs.Prelude.{◌≡◌, ◌≤◌, Ok, Err, length, All, 
 ghost use Rattle.sha2.specs.Sha256.{sha256};
 ghost use Rattle.rb_import_answers.specs.Answers.{answer_view, told};
 ghost use Rattle.rb_import_answers.specs.Said.{IsPlain};
-ghost use Rattle.rb_import_check.specs.Saved.{IsFlawOf};
+ghost use Rattle.rb_import_check.specs.Saved.{IsFlawOf, said_with};
 
 use rb_import_answers::{NodeAnswer, read_answer, said_in};
 use rb_import_json::{AnswerError, FieldError, FieldErrorName};
@@ -70,6 +70,7 @@ fn flawed(alloc: Global, file: String, bytes: &[u8], flaw: FieldError) -> SavedE
 
 /// What a node said, where the flaw is an error that it answered; else nothing.
 fn said_of(alloc: Global, bytes: &[u8], flaw: FieldError) -> Result<String, AllocError>
+    ensures text { IfOk result (λ said. string_bytes said ≡ said_with flaw.name bytes.now) }
     ensures plain { IfOk result (λ said. All IsPlain (string_bytes said)) }
     ensures short { IfOk result (λ said. length (string_bytes said) ≤ 200) }
 {
