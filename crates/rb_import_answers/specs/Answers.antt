@@ -56,14 +56,14 @@ abbrev pub if_query : Option Query → Result Told FieldError
 if_query (Some query) = Ok (other query)
 if_query None = Err (whole UnknownShape)
 
--- an answer, known by one of its members
-unfoldable pub known : Object → Result Told FieldError
-known o =
+-- an answer, known by one of its members; of a client's records those of this revision and of later ones
+unfoldable pub known : ℕ → Object → Result Told FieldError
+known since o =
     if has_member Key.SignedHeader o then (signed o >>= λ s. Ok (commit s))
     else if has_member Key.Validators o then (page o >>= λ p. Ok (validators p))
     else if has_member Key.Txs o then (found o >>= λ s. Ok (transactions s))
     else if has_member Key.ClientState o then (client_state o >>= λ s. Ok (judging s))
-    else if has_member Key.ConsensusStates o then (states o >>= λ s. Ok (stored s))
+    else if has_member Key.ConsensusStates o then (states since o >>= λ s. Ok (stored s))
     else if has_member Key.Verdicts o then (verdicts o >>= λ v. Ok (verified v))
     else if is_pending o then (pending o >>= λ p. Ok (packets p))
     else if_query (query_of o)
@@ -77,12 +77,12 @@ unfoldable pub is_error : Data → Bool
 is_error d = tells_error (get (codes "error") d) (has (codes "message") d)
 
 -- CometBFT's answers stand in a member `result` (JSON-RPC 2.0), or bare
-abbrev pub of_shape : Option Data → Data → Result Told FieldError
-of_shape (Some r) d = known (record { value = r; part = Segment.Result; index = None })
-of_shape None d = known (record { value = d; part = Segment.Answer; index = None })
+abbrev pub of_shape : ℕ → Option Data → Data → Result Told FieldError
+of_shape since (Some r) d = known since (record { value = r; part = Segment.Result; index = None })
+of_shape since None d = known since (record { value = d; part = Segment.Answer; index = None })
 
-unfoldable pub answer : Data → Result Told FieldError
-answer d = if is_error d then Err (whole NodeError) else of_shape (get (codes "result") d) d
+unfoldable pub answer : ℕ → Data → Result Told FieldError
+answer since d = if is_error d then Err (whole NodeError) else of_shape since (get (codes "result") d) d
 
 -- JSON in UTF-8
 unfoldable pub json : List ℕ → Option Data
@@ -92,8 +92,8 @@ json bytes = if is_utf8 bytes then read_text bytes else None
 abbrev pub max_bytes : ℕ
 max_bytes = 16777216
 
--- what an answer's bytes tell
-unfoldable pub told : List ℕ → Result Told FieldError
-told bytes =
+-- what an answer's bytes tell; of a client's records those of this revision and of later ones
+unfoldable pub told : ℕ → List ℕ → Result Told FieldError
+told since bytes =
     if nat_lt max_bytes (length bytes) then Err (whole TooBig)
-    else (or_flaw (whole (unread bytes)) (json bytes) >>= λ d. answer d)
+    else (or_flaw (whole (unread bytes)) (json bytes) >>= λ d. answer since d)

@@ -1,7 +1,7 @@
 -- The answers of ibc-go's gateway on a client: `client_states/ID` and `consensus_states/ID` (ICS 2, ICS 7).
-use Rattle.std.specs.Prelude.{ℕ, ◌*◌, ◌^◌, List, [], length, Bool, true, false, Option, Some, None, is_some, option_and_then, Result, Ok, Err, codes, ⊤, ◌==◌, ◌&&◌, ◌||◌, nat_le, nat_lt, if◌then◌else◌}
+use Rattle.std.specs.Prelude.{ℕ, suc, ◌*◌, ◌^◌, List, [], length, Bool, true, false, Option, Some, None, is_some, option_and_then, Result, Ok, Err, codes, ⊤, ◌==◌, ◌&&◌, ◌||◌, ◌++◌, option_to_list, nat_le, nat_lt, if◌then◌else◌}
 use Rattle.std.specs.Str.{bytes_eq}
-use Rattle.serde_json.specs.Data.{Data}
+use Rattle.serde_json.specs.Data.{Data, Items, no_items, item}
 use Rattle.serde_json.specs.Find.{as_null, as_str}
 use Rattle.rb_import_answers.specs.declared.client.ClientState.{ClientState}
 use Rattle.rb_import_answers.specs.declared.client.ConsensusPage.{ConsensusPage}
@@ -12,7 +12,7 @@ use Rattle.rb_import_json.specs.declared.error.FieldErrorName.TheVariants.{Forei
 use Rattle.rb_import_json.specs.declared.field_path.Key.{Key}
 use Rattle.rb_import_json.specs.declared.field_path.Segment.{Segment}
 use Rattle.rb_import_json.specs.FieldErrors.{◌>>=◌, or_flaw, must}
-use Rattle.rb_import_json.specs.Fields.{Object, flaw_at, has, field, inner, object, items, text, number_or_zero, height, chain, time, record_hash, base64_bytes, each}
+use Rattle.rb_import_json.specs.Fields.{Object, flaw_at, has, field, inner, object, items, text, number_or_zero, height, chain, time, record_hash, base64_bytes}
 use Rattle.rb_import_answers.specs.Durations.{nanoseconds_of}
 use Rattle.rb_import_answers.specs.Numbers.{script_number}
 use Rattle.rb_import_answers.specs.Roots.{root_of}
@@ -39,6 +39,12 @@ unfoldable pub revision : Object → Result ℕ FieldError
 revision state = do
   latest ← object Key.LatestHeight Segment.LatestHeight state
   number_or_zero Key.RevisionNumber latest
+
+-- the height of the latest record that a client has stored, within that revision
+unfoldable pub latest : Object → Result ℕ FieldError
+latest state = do
+  at ← object Key.LatestHeight Segment.LatestHeight state
+  number_or_zero Key.RevisionHeight at
 
 -- a trust level is from a third to one, in numbers that a script takes
 unfoldable pub trust : Object → Result TrustLevel FieldError
@@ -72,10 +78,11 @@ client_state answer = do
   _ ← live state
   id ← chain Key.ChainId state
   n ← revision state
+  newest ← latest state
   level ← trust state
   long ← period state
   skew ← drift state
-  Ok (record { chain = id; revision = n; trust = level; period = long; drift = skew })
+  Ok (record { chain = id; revision = n; latest = newest; trust = level; period = long; drift = skew })
 
 -- the root of a record, of 1 to 64 bytes, as a script has it
 unfoldable pub root : Object → Result (List ℕ) FieldError
@@ -84,17 +91,29 @@ root state = do
   b ← base64_bytes Key.Hash r
   if length b == 0 then Err (flaw_at r Key.Hash BadBase64) else Ok (root_of b)
 
--- an entry of `consensus_states`: the revision number and the height that it is stored at, and what it holds
-unfoldable pub consensus_state : Object → Result ConsensusState FieldError
-consensus_state o = do
-  at ← inner Key.Height o
+-- an entry of `consensus_states`: the height that it is stored at, of this revision number, and what it holds
+unfoldable pub consensus_state : ℕ → Object → Object → Result ConsensusState FieldError
+consensus_state n at o = do
   state ← inner Key.ConsensusState o
-  n ← number_or_zero Key.RevisionNumber at
   h ← height Key.RevisionHeight at
   moment ← time Key.Timestamp state
   bytes ← root state
   next ← record_hash Key.NextValidatorsHash state
   Ok (record { revision = n; height = h; time = moment; root = bytes; next = next })
+
+-- a record, if it isn't of a revision before this one: the rest of such an entry isn't read, since ibc-go takes no update from it
+unfoldable pub state_since : ℕ → Object → Result (Option ConsensusState) FieldError
+state_since since o = do
+  at ← inner Key.Height o
+  n ← number_or_zero Key.RevisionNumber at
+  if nat_lt n since then Ok None else (consensus_state n at o >>= λ s. Ok (Some s))
+
+-- the records of a revision and of later ones among entries, the first of which stands at this index, after those before them
+abbrev pub states_since : ℕ → ℕ → List ConsensusState → Items → Result (List ConsensusState) FieldError
+states_since since index before no_items = Ok before
+states_since since index before (item d ds) =
+    state_since since (record { value = d; part = Segment.ConsensusStates; index = Some index }) >>= λ s.
+    states_since since (suc index) (before ++ option_to_list s) ds
 
 -- the states of a page, and whether no page follows
 pub record States : Type 0 where
@@ -118,9 +137,9 @@ ends pagination = if has Key.NextKey pagination then (field Key.NextKey paginati
 unfoldable pub is_last : Object → Result Bool FieldError
 is_last answer = if has Key.Pagination answer then (object Key.Pagination Segment.Pagination answer >>= ends) else Ok true
 
-unfoldable pub states : Object → Result States FieldError
-states answer = do
+unfoldable pub states : ℕ → Object → Result States FieldError
+states since answer = do
   last ← is_last answer
   entries ← items Key.ConsensusStates answer
-  read ← each consensus_state Segment.ConsensusStates [] entries
+  read ← states_since since 0 [] entries
   Ok (record { states = read; is_last = last })

@@ -1,5 +1,6 @@
 -- The answer of CometBFT's `/commit`: the signed header in its result.
-use Rattle.std.specs.Prelude.{ℕ, List, [], Option, Some, None, Result, Ok, ⊤, ◌==◌}
+use Rattle.std.specs.Prelude.{ℕ, List, [], Bool, true, Option, Some, None, option_and_then, Result, Ok, ⊤, codes, ◌==◌}
+use Rattle.serde_json.specs.Find.{get, as_bool}
 use Rattle.rb_import_answers.specs.declared.commit.BlockIdFlag.TheVariants.{Absent, Commit, Nil}
 use Rattle.rb_import_answers.specs.declared.commit.BlockIdFlag.{BlockIdFlag}
 use Rattle.rb_import_answers.specs.declared.commit.Signature.{Signature}
@@ -104,14 +105,23 @@ signature o = do
   address ← signer vote o
   Ok (record { flag = vote; address = address })
 
--- a header, the hash of the block that its commit is for, and the commit's signatures, in order
+abbrev pub or_true : Option Bool → Bool
+or_true (Some b) = b
+or_true None = true
+
+-- whether a commit is canonical, the one that the next block has: it is, unless the node says that it isn't (CometBFT, `ResultCommit`)
+unfoldable pub canonical : Object → Bool
+canonical result = or_true (option_and_then as_bool (get (codes "canonical") result.value))
+
+-- a header, the hash of the block that its commit is for, the commit's signatures, in order, and whether the commit is canonical
 pub record Signed : Type 0 where
   pub header : Header
   pub block : List ℕ
   pub signatures : List Signature
+  pub is_canonical : Bool
 
 abbrev pub signed_view : SignedHeader → Signed
-signed_view h = record { header = header_view h; block = h.block; signatures = h.signatures.items }
+signed_view h = record { header = header_view h; block = h.block; signatures = h.signatures.items; is_canonical = h.is_canonical }
 
 -- the commit has to be of the header's height
 unfoldable pub of_height : ℕ → Object → Result ⊤ FieldError
@@ -129,4 +139,4 @@ signed result = do
   voted ← block commit
   told ← header head
   _ ← of_height told.height commit
-  Ok (record { header = told; block = voted; signatures = signatures })
+  Ok (record { header = told; block = voted; signatures = signatures; is_canonical = canonical result })

@@ -43,10 +43,11 @@ pub enum NodeAnswer {
 }
 
 /// Reads an answer: JSON of at most 16,777,216 bytes, with CometBFT's envelope or without, which is known by its members. What is read is what
-/// the JSON says; `FieldError` is the first thing that is wrong, `NoMemory` comes where a growth is refused.
+/// the JSON says, but for a client's records of a revision before this one, which are passed over; `FieldError` is the first thing that is wrong,
+/// `NoMemory` comes where a growth is refused.
 #[tactic(auto, using(rb_import_json::proofs::Steps::steps), unfolding(crate::specs::Answers::told, crate::specs::Answers::answer))]
-pub fn read_answer(alloc: Global, bytes: &[u8]) -> Result<NodeAnswer, AnswerError>
-    ensures { Gives (λ a. answer_view a) result (told bytes.now) }
+pub fn read_answer(alloc: Global, bytes: &[u8], since: u64) -> Result<NodeAnswer, AnswerError>
+    ensures { Gives (λ a. answer_view a) result (told since bytes.now) }
 {
     if bytes.len() > MAX_ANSWER_BYTES {
         return Err(whole(FieldErrorName::TooBig));
@@ -56,8 +57,8 @@ pub fn read_answer(alloc: Global, bytes: &[u8]) -> Result<NodeAnswer, AnswerErro
         return Err(whole(FieldErrorName::NodeError));
     }
     match value.get("result") {
-        Some(result) => read_known(alloc, &Object::new(result, Segment::Result)),
-        None => read_known(alloc, &Object::new(&value, Segment::Answer)),
+        Some(result) => read_known(alloc, &Object::new(result, Segment::Result), since),
+        None => read_known(alloc, &Object::new(&value, Segment::Answer), since),
     }
 }
 
@@ -86,8 +87,8 @@ fn is_error(value: &Value) -> bool
 
 /// Reads what an answer holds, which is known by its members.
 #[tactic(auto, using(rb_import_json::proofs::Steps::steps), unfolding(crate::specs::Answers::known))]
-fn read_known(alloc: Global, answer: &Object<'_>) -> Result<NodeAnswer, AnswerError>
-    ensures { Gives (λ a. answer_view a) result (known (object_view answer.now)) }
+fn read_known(alloc: Global, answer: &Object<'_>, since: u64) -> Result<NodeAnswer, AnswerError>
+    ensures { Gives (λ a. answer_view a) result (known since (object_view answer.now)) }
 {
     if answer.has(Key::SignedHeader) {
         Ok(NodeAnswer::Commit(read_commit(alloc, answer)?))
@@ -98,7 +99,7 @@ fn read_known(alloc: Global, answer: &Object<'_>) -> Result<NodeAnswer, AnswerEr
     } else if answer.has(Key::ClientState) {
         Ok(NodeAnswer::ClientState(read_client_state(answer)?))
     } else if answer.has(Key::ConsensusStates) {
-        Ok(NodeAnswer::ConsensusStates(read_consensus_states(alloc, answer)?))
+        Ok(NodeAnswer::ConsensusStates(read_consensus_states(alloc, answer, since)?))
     } else if answer.has(Key::Verdicts) {
         Ok(NodeAnswer::Verdicts(read_verdicts(alloc, answer)?))
     } else if is_pending(answer) {

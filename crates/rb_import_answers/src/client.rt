@@ -3,8 +3,8 @@
 ghost use Rattle.std.specs.Prelude.{◌≡◌, []};
 ghost use Rattle.serde_json.specs.View.{items_view, view};
 ghost use Rattle.rb_import_json.specs.FieldErrors.{Reads, Gives};
-ghost use Rattle.rb_import_json.specs.Fields.{object_view, each};
-ghost use Rattle.rb_import_answers.specs.Clients.{tendermint, live, revision, trust, period_of, period, drift_of, drift, client_state, root, consensus_state, is_last, ends, is_empty_text, states, states_view};
+ghost use Rattle.rb_import_json.specs.Fields.{object_view};
+ghost use Rattle.rb_import_answers.specs.Clients.{tendermint, live, revision, latest, trust, period_of, period, drift_of, drift, client_state, root, consensus_state, state_since, states_since, is_last, ends, is_empty_text, states, states_view};
 
 use crate::duration::nanoseconds_of;
 use crate::number::{MAX_NUMBER, script_number};
@@ -22,11 +22,13 @@ pub struct TrustLevel {
 }
 
 /// How a Tendermint client judges headers (ICS 7): the chain that it tracks, that chain's revision
-/// number, its trust level, its trusting period, and the clock drift in nanoseconds.
+/// number, the height of the latest record that it has stored, its trust level, its trusting period, and the clock drift in
+/// nanoseconds.
 #[derive(Clone, Copy)]
 pub struct ClientState {
     pub chain: ChainId,
     pub revision: u64,
+    pub latest: u64,
     pub trust: TrustLevel,
     pub period: Period,
     pub drift: u64,
@@ -59,12 +61,14 @@ pub(crate) fn read_client_state(answer: &Object<'_>) -> Result<ClientState, Fiel
     judge_frozen(&state)?;
     let chain = state.chain(Key::ChainId)?;
     let revision = read_revision(&state)?;
+    let latest = read_latest(&state)?;
     let trust = read_trust(&state)?;
     let period = read_period(&state)?;
     let drift = read_drift(&state)?;
     Ok(ClientState {
         chain,
         revision,
+        latest,
         trust,
         period,
         drift,
@@ -107,6 +111,15 @@ fn read_revision(state: &Object<'_>) -> Result<u64, FieldError>
 {
     let latest = state.object(Key::LatestHeight, Segment::LatestHeight)?;
     latest.number_or_zero(Key::RevisionNumber)
+}
+
+/// The height of the latest record that it has stored.
+#[tactic(auto, using(rb_import_json::proofs::Steps::steps), unfolding(crate::specs::Clients::latest))]
+fn read_latest(state: &Object<'_>) -> Result<u64, FieldError>
+    ensures { Reads (λ n. n) result (latest (object_view state.now)) }
+{
+    let latest = state.object(Key::LatestHeight, Segment::LatestHeight)?;
+    latest.number_or_zero(Key::RevisionHeight)
 }
 
 #[tactic(auto, using(rb_import_json::proofs::Steps::steps), unfolding(crate::specs::Clients::trust))]
@@ -165,29 +178,53 @@ fn drift_of(nanoseconds: u64) -> Option<u64>
     }
 }
 
-/// Reads an answer of `consensus_states/ID`.
+/// Reads an answer of `consensus_states/ID`, without the records of a revision before this one.
 #[tactic(auto, using(rb_import_json::proofs::Steps::steps), unfolding(crate::specs::Clients::states))]
 pub(crate) fn read_consensus_states(
     alloc: Global,
     answer: &Object<'_>,
+    since: u64,
 ) -> Result<ConsensusPage, AnswerError>
-    ensures { Gives (λ p. states_view p) result (states (object_view answer.now)) }
+    ensures { Gives (λ p. states_view p) result (states since (object_view answer.now)) }
 {
     let is_last = read_is_last(answer)?;
-    let states = read_states(alloc, answer.items(Key::ConsensusStates)?)?;
+    let states = read_states(alloc, answer.items(Key::ConsensusStates)?, since)?;
     Ok(ConsensusPage { states, is_last })
 }
 
 #[tactic(auto, using(rb_import_json::proofs::Steps::steps))]
-fn read_states(alloc: Global, items: &[Value]) -> Result<Vec<ConsensusState>, AnswerError>
-    ensures { Gives (λ v. v.items) result (each consensus_state Segment.ConsensusStates [] (items_view items.now)) }
+fn read_states(
+    alloc: Global,
+    items: &[Value],
+    since: u64,
+) -> Result<Vec<ConsensusState>, AnswerError>
+    ensures { Gives (λ v. v.items) result (states_since since 0 [] (items_view items.now)) }
 {
     let mut states = Vec::with_capacity(alloc, items.len())?;
-    for value in items {
-        let entry = Object::element(value, Segment::ConsensusStates, states.len());
-        states.push(read_consensus_state(alloc, &entry)?)?;
+    for (index, value) in items.iter().enumerate() {
+        let entry = Object::element(value, Segment::ConsensusStates, index);
+        if let Some(state) = read_since(alloc, &entry, since)? {
+            states.push(state)?;
+        }
     }
     Ok(states)
+}
+
+/// Reads a record, if it isn't of a revision before this one.
+#[tactic(auto, using(rb_import_json::proofs::Steps::steps), unfolding(crate::specs::Clients::state_since))]
+fn read_since(
+    alloc: Global,
+    entry: &Object<'_>,
+    since: u64,
+) -> Result<Option<ConsensusState>, AnswerError>
+    ensures { Gives (λ o. o) result (state_since since (object_view entry.now)) }
+{
+    let at = entry.inner(Key::Height)?;
+    let revision = at.number_or_zero(Key::RevisionNumber)?;
+    if revision < since {
+        return Ok(None);
+    }
+    Ok(Some(read_consensus_state(alloc, entry, &at, revision)?))
 }
 
 /// Whether no page follows, as the key of the next one says, which is null or empty then, or isn't there.
@@ -223,12 +260,15 @@ fn is_empty_text(value: &Value) -> bool
 }
 
 #[tactic(auto, using(rb_import_json::proofs::Steps::steps), unfolding(crate::specs::Clients::consensus_state))]
-fn read_consensus_state(alloc: Global, entry: &Object<'_>) -> Result<ConsensusState, AnswerError>
-    ensures { Gives (λ s. s) result (consensus_state (object_view entry.now)) }
+fn read_consensus_state(
+    alloc: Global,
+    entry: &Object<'_>,
+    at: &Object<'_>,
+    revision: u64,
+) -> Result<ConsensusState, AnswerError>
+    ensures { Gives (λ s. s) result (consensus_state revision (object_view at.now) (object_view entry.now)) }
 {
-    let at = entry.inner(Key::Height)?;
     let state = entry.inner(Key::ConsensusState)?;
-    let revision = at.number_or_zero(Key::RevisionNumber)?;
     let height = at.height(Key::RevisionHeight)?;
     let time = state.time(Key::Timestamp)?;
     let root = read_root(alloc, &state)?;

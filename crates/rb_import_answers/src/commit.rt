@@ -4,7 +4,7 @@ ghost use Rattle.serde_json.specs.View.{items_view};
 ghost use Rattle.rb_import_json.specs.FieldErrors.{Reads, Gives};
 ghost use Rattle.rb_import_json.specs.Fields.{object_view, each};
 ghost use Rattle.rb_import_answers.specs.Votes.{flag};
-ghost use Rattle.rb_import_answers.specs.Headers.{block, header, header_view, signature, of_height, signed, signed_view};
+ghost use Rattle.rb_import_answers.specs.Headers.{block, canonical, header, header_view, signature, of_height, signed, signed_view};
 
 use crate::header::read_fields;
 use crate::root::root_of;
@@ -59,8 +59,8 @@ pub struct Signature {
     pub address: Option<[u8; 20]>,
 }
 
-/// A header, with the hashes of its own set and of the next, its hash, that of the block that its commit is for, and the
-/// signatures in set order.
+/// A header, with the hashes of its own set and of the next, its hash, that of the block that its commit is for, the
+/// signatures in set order, and whether the commit is canonical: the one that the next block has.
 #[derive(Drop)]
 pub struct SignedHeader {
     pub chain: ChainId,
@@ -72,6 +72,7 @@ pub struct SignedHeader {
     pub hash: [u8; 32],
     pub block: [u8; 32],
     pub signatures: Vec<Signature>,
+    pub is_canonical: bool,
 }
 
 /// Reads the `result` of an answer of `/commit`.
@@ -84,9 +85,20 @@ pub(crate) fn read_commit(alloc: Global, answer: &Object<'_>) -> Result<SignedHe
     let commit = both.object(Key::Commit, Segment::Commit)?;
     let signatures = read_signatures(alloc, commit.items(Key::Signatures)?)?;
     let block = read_block(&commit)?;
-    let told = read_header(alloc, &head, block, signatures)?;
+    let told = read_header(alloc, &head, block, signatures, is_canonical(answer))?;
     judge_height(&commit, told.height)?;
     Ok(told)
+}
+
+/// Whether a commit is canonical: it is, unless the node says that it isn't, as at its latest height.
+#[tactic(auto, unfolding(crate::specs::Headers::canonical))]
+fn is_canonical(answer: &Object<'_>) -> bool
+    ensures { result ≡ canonical (object_view answer.now) }
+{
+    match answer.value.get("canonical") {
+        Some(said) => said.as_bool().unwrap_or(true),
+        None => true,
+    }
 }
 
 /// The hash of the block that a commit is for.
@@ -105,10 +117,12 @@ fn read_header(
     head: &Object<'_>,
     block: [u8; 32],
     signatures: Vec<Signature>,
+    is_canonical: bool,
 ) -> Result<SignedHeader, AnswerError>
     ensures header { Gives (λ h. header_view h) result (header (object_view head.now)) }
     ensures block { IfOk result (λ read. read.block ≡ block) }
     ensures signatures { IfOk result (λ read. read.signatures ≡ signatures) }
+    ensures canonical { IfOk result (λ read. read.is_canonical ≡ is_canonical) }
 {
     let fields = read_fields(alloc, head)?;
     let hash = rb_header::hash(alloc, &fields)?;
@@ -122,6 +136,7 @@ fn read_header(
         hash,
         block,
         signatures,
+        is_canonical,
     })
 }
 
