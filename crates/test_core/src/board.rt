@@ -1,5 +1,6 @@
 //! A board whose pen writes while desks look: what a desk shows never gets shorter, and is a beginning of what was written. A desk that
-//! was told of more than is published shows nothing, and each mark of a packet is on its own path.
+//! was told of more than is published shows nothing, and each mark of a packet is on its own path. What a pen says that it published
+//! is what a desk shows.
 use crate::run::{Deed, event_of, start};
 use rb_board::{Desk, DeskError, Note, Pen, open};
 use rb_scan::Packet;
@@ -207,5 +208,51 @@ fn desks_show_what_they_were_told_of(rt: HostRuntime) -> Result<(), Fail> {
     );
     pen.close(&rt);
     assert!(rt; shown == (true, true, true, true), "{shown:?}");
+    Ok(())
+}
+
+/// How many events a desk shows.
+fn shown_by(desk: &mut Desk) -> Option<usize> {
+    desk.front().ok()
+}
+
+/// Sends a packet and publishes it; tells whether a desk then shows all that was appended, or where nothing was published what
+/// it showed before.
+fn is_shown<R: Wait>(rt: &R, alloc: Global, pen: Pen, desk: &mut Desk, number: u64) -> (Pen, bool) {
+    let mut pen = pen;
+    let before = shown_by(desk);
+    is_sent(alloc, &mut pen, number);
+    let appended = pen.head().front();
+    let (pen, published) = pen.publish(rt);
+    let wanted = if published.is_ok() {
+        Some(appended)
+    } else {
+        before
+    };
+    let is_right = shown_by(desk) == wanted;
+    (pen, is_right)
+}
+
+/// The same of packet after packet; tells whether it was so each time.
+fn are_shown<R: Wait>(rt: &R, alloc: Global, pen: Pen, desk: &mut Desk) -> (Pen, bool) {
+    let mut pen = pen;
+    let mut are_right = true;
+    for number in 1..=40 {
+        let (next, is_right) = is_shown(rt, alloc, pen, desk, number);
+        are_right = are_right && is_right;
+        pen = next;
+    }
+    (pen, are_right)
+}
+
+/// `tests/fail_alloc` also lets each allocation of this test fail in turn: a pen that says it published what it didn't is
+/// found by that.
+#[test]
+fn a_desk_shows_what_was_published(rt: HostRuntime) -> Result<(), Fail> {
+    let alloc = rt.alloc();
+    let (pen, mut desk, _other) = open_two(&rt, alloc).ok_or("no memory")?;
+    let (pen, are_right) = are_shown(&rt, alloc, pen, &mut desk);
+    pen.close(&rt);
+    assert!(rt; are_right, "what a desk shows isn't what was published");
     Ok(())
 }
