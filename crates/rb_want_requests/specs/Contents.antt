@@ -121,6 +121,6 @@ abbrev pub content_by : List ℕ → Result Told FieldError → FileContent
 content_by bytes (Ok t) = told_content bytes t
 content_by bytes (Err flaw) = flawed_content flaw.name
 
--- what a file of these bytes holds
-abbrev pub content_in : List ℕ → FileContent
-content_in bytes = content_by bytes (told bytes)
+-- what a file of these bytes holds, of a client's records those of this revision and of later ones
+abbrev pub content_in : ℕ → List ℕ → FileContent
+content_in since bytes = content_by bytes (told since bytes)

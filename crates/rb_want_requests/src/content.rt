@@ -74,11 +74,12 @@ pub struct Folders {
     pub paths: Vec<Folder>,
 }
 
-/// What the bytes of a file hold. `AllocError` comes where a growth is refused.
-pub fn content_of(alloc: Global, bytes: &[u8]) -> Result<Content, AllocError>
-    ensures content { IfOk result (λ content. content_view content ≡ content_in bytes.now) }
+/// What the bytes of a file hold, of a client's records those of this revision and of later ones. `AllocError` comes where a
+/// growth is refused.
+pub fn content_of(alloc: Global, bytes: &[u8], since: u64) -> Result<Content, AllocError>
+    ensures content { IfOk result (λ content. content_view content ≡ content_in since bytes.now) }
 {
-    match read_answer(alloc, bytes) {
+    match read_answer(alloc, bytes, since) {
         Ok(NodeAnswer::Commit(header)) => Ok(Content::Commit(header)),
         Ok(NodeAnswer::Validators(page)) => Ok(Content::Validators(page)),
         Ok(NodeAnswer::ClientState(state)) => Ok(Content::ClientState(state)),

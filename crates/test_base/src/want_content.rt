@@ -108,7 +108,7 @@ fn word_of(alloc: Global, content: &Content) -> Result<String, Fail> {
 #[test]
 fn knows_files_by_what_they_hold(rt: HostRuntime) -> Result<(), Fail> {
     for (text, wanted) in FILES {
-        let content = content_of(rt.alloc(), text.as_bytes())?;
+        let content = content_of(rt.alloc(), text.as_bytes(), 0)?;
         let word = word_of(rt.alloc(), &content)?;
         assert_eq!(rt; word.as_str(), *wanted, "{text}");
     }
@@ -130,7 +130,7 @@ fn writes_requests(rt: HostRuntime) -> Result<(), Fail> {
         r#"{"consensus_states": [], "pagination": {"next_key": "MS0+/w=="}}"#,
         r#"{"consensus_states": [], "pagination": {"next_key": "MS0y"}}"#,
     ] {
-        contents.push(content_of(rt.alloc(), page.as_bytes())?)?;
+        contents.push(content_of(rt.alloc(), page.as_bytes(), 0)?)?;
     }
     folders.clients.push(Folder {
         contents,
@@ -140,7 +140,7 @@ fn writes_requests(rt: HostRuntime) -> Result<(), Fail> {
     let mut contents = Vec::new(rt.alloc());
     let page =
         r#"{"commitments": [{"sequence": "5"}, {"sequence": "8"}], "pagination": {"next_key": "OA=="}}"#;
-    contents.push(content_of(rt.alloc(), page.as_bytes())?)?;
+    contents.push(content_of(rt.alloc(), page.as_bytes(), 0)?)?;
     folders.paths.push(Folder {
         contents,
         refused: Vec::new(rt.alloc()),
