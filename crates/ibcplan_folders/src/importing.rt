@@ -1,15 +1,18 @@
 //! Importing: the files of a folder are read, and the script that they make is written, without the clients and the
 //! paths whose answers are refused.
-ghost use Rattle.std.specs.Prelude.{◌≡◌, IfOk, is_some, string_bytes, true};
+ghost use Rattle.std.specs.Prelude.{◌≡◌, IfOk, MatchOption, is_some, slice_get, string_bytes, true};
+ghost use Rattle.rb_import_answers.specs.Revisions.{IsRevision};
 ghost use Rattle.rb_import.specs.Openings.{Opens, hold_verdicts};
 ghost use Rattle.ibcplan_folders.specs.LeftOut.{import_status};
 
 use crate::file_system::FileSystem;
 use crate::left_out::{Failure, Fleet, LeftOut, is_tracked};
 use ibcplan_errors::{Input, ProgramError, bytes_of, shown_text};
+use rb_base::ChainId;
 use rb_import::{Composed, compose};
+use rb_import_answers::revision_of;
 use rb_import_check::{CheckErrorName, ImportError, Saved, SavedAnswers, SavedError, read_saved};
-use rb_import_setup::{Setup, read_setup};
+use rb_import_setup::{ClientSetup, Setup, read_setup};
 use std::alloc::{AllocError, Global};
 use std::fs::File;
 use std::{fs, io};
@@ -172,7 +175,7 @@ fn chain_answers<'a, R: FileSystem>(
     let mut answers = Vec::new(rt.alloc());
     for (place, chain) in setup.chains.iter().enumerate() {
         let saved = if is_tracked(setup, place) {
-            answers_of(rt, source, chain.as_str(), failures)?
+            answers_of(rt, source, chain.as_str(), 0, failures)?
         } else {
             Vec::new(rt.alloc())
         };
@@ -189,7 +192,8 @@ fn client_answers<'a, R: FileSystem>(
 ) -> Result<Vec<Vec<Saved>>, ProgramError<'a>> {
     let mut answers = Vec::new(rt.alloc());
     for client in &setup.clients {
-        let saved = answers_of(rt, source, client.id.as_str(), failures)?;
+        let since = tracked_revision(setup.chains.as_slice(), client);
+        let saved = answers_of(rt, source, client.id.as_str(), since, failures)?;
         add(&mut answers, saved)?;
     }
     Ok(answers)
@@ -203,20 +207,32 @@ fn path_answers<'a, R: FileSystem>(
 ) -> Result<Vec<Vec<Saved>>, ProgramError<'a>> {
     let mut answers = Vec::new(rt.alloc());
     for path in &setup.paths {
-        let saved = answers_of(rt, source, path.config.id.as_str(), failures)?;
+        let saved = answers_of(rt, source, path.config.id.as_str(), 0, failures)?;
         add(&mut answers, saved)?;
     }
     Ok(answers)
 }
 
-/// The answers of a chain, a client or a path; none where they are refused, which is then a failure of it.
+/// The revision number of the chain, one of these, that a client tracks.
+pub fn tracked_revision(chains: &[ChainId], client: &ClientSetup) -> u64
+    ensures revision { MatchOption (slice_get chains.now client.now.tracks) (result ≡ 0) (λ chain. IsRevision chain result) }
+{
+    match chains.get(client.tracks) {
+        Some(chain) => revision_of(chain.as_str()),
+        None => 0,
+    }
+}
+
+/// The answers of a chain, a client or a path, of a client's records those of this revision and of later ones; none where
+/// they are refused, which is then a failure of it.
 fn answers_of<'a, R: FileSystem>(
     rt: &R,
     source: Answers<'_>,
     id: &str,
+    since: u64,
     failures: &mut Vec<Failure<'a>>,
 ) -> Result<Vec<Saved>, ProgramError<'a>> {
-    match read_folder(rt, source.folder, id) {
+    match read_folder(rt, source.folder, id, since) {
         Ok(saved) => Ok(saved),
         Err(error) if source.is_all_or_nothing || !is_of_answers(&error) => Err(error),
         Err(error) => {
@@ -247,13 +263,14 @@ fn read_folder<'a, R: FileSystem>(
     rt: &R,
     folder: &str,
     id: &str,
+    since: u64,
 ) -> Result<Vec<Saved>, ProgramError<'a>> {
     let path = path_in(rt.alloc(), folder, id)?;
     let names = match names_in(rt, path.as_str()) {
         Ok(names) => names,
         Err(error) => return Err(ProgramError::of_file(rt.alloc(), path.as_str(), error)),
     };
-    read_files(rt, path.as_str(), names.as_slice())
+    read_files(rt, path.as_str(), names.as_slice(), since)
 }
 
 /// The path of what a folder has under a name.
@@ -282,10 +299,11 @@ fn read_files<'a, R: FileSystem>(
     rt: &R,
     folder: &str,
     names: &[String],
+    since: u64,
 ) -> Result<Vec<Saved>, ProgramError<'a>> {
     let mut answers = Vec::new(rt.alloc());
     for name in names {
-        let saved = read_file(rt, folder, name.as_str())?;
+        let saved = read_file(rt, folder, name.as_str(), since)?;
         add(&mut answers, saved)?;
     }
     Ok(answers)
@@ -296,20 +314,26 @@ fn read_file<'a, R: FileSystem>(
     rt: &R,
     folder: &str,
     name: &str,
+    since: u64,
 ) -> Result<Saved, ProgramError<'a>> {
     let file = path_in(rt.alloc(), folder, name)?;
     match read_bytes(rt, file.as_str()) {
-        Ok(bytes) => saved_of(rt.alloc(), file.as_str(), bytes.as_slice()),
+        Ok(bytes) => saved_of(rt.alloc(), file.as_str(), bytes.as_slice(), since),
         Err(error) => Err(ProgramError::of_file(rt.alloc(), file.as_str(), error)),
     }
 }
 
-/// The answer that the bytes of a file hold.
-pub fn saved_of<'a>(alloc: Global, file: &str, bytes: &[u8]) -> Result<Saved, ProgramError<'a>> {
+/// The answer that the bytes of a file hold, of a client's records those of this revision and of later ones.
+pub fn saved_of<'a>(
+    alloc: Global,
+    file: &str,
+    bytes: &[u8],
+    since: u64,
+) -> Result<Saved, ProgramError<'a>> {
     let Ok(name) = shown_text(alloc, file) else {
         return Err(ProgramError::NoMemory);
     };
-    match read_saved(alloc, name, bytes) {
+    match read_saved(alloc, name, bytes, since) {
         Ok(saved) => Ok(saved),
         Err(error) => Err(refused_file(alloc, &error)),
     }

@@ -1,6 +1,6 @@
 //! What is to be fetched next: the files of a folder are read, as far as they are there.
 use crate::file_system::FileSystem;
-use crate::importing::{add, path_in, read_bytes};
+use crate::importing::{add, path_in, read_bytes, tracked_revision};
 use crate::left_out::is_tracked;
 use ibcplan_errors::{Input, ProgramError};
 use rb_import_setup::{Setup, read_setup};
@@ -62,7 +62,7 @@ fn read_folders<'a, R: FileSystem>(
     let mut chains = Vec::new(rt.alloc());
     for (place, chain) in setup.chains.iter().enumerate() {
         let read = if is_tracked(setup, place) {
-            read_folder(rt, folder, chain.as_str())?
+            read_folder(rt, folder, chain.as_str(), 0)?
         } else {
             empty(rt.alloc())
         };
@@ -70,13 +70,14 @@ fn read_folders<'a, R: FileSystem>(
     }
     let mut clients = Vec::new(rt.alloc());
     for client in &setup.clients {
-        let read = read_folder(rt, folder, client.id.as_str())?;
+        let since = tracked_revision(setup.chains.as_slice(), client);
+        let read = read_folder(rt, folder, client.id.as_str(), since)?;
         add(&mut clients, read)?;
     }
     let mut paths = Vec::new(rt.alloc());
     for path in &setup.paths {
         let read = if path.counterparty.is_some() {
-            read_folder(rt, folder, path.config.id.as_str())?
+            read_folder(rt, folder, path.config.id.as_str(), 0)?
         } else {
             empty(rt.alloc())
         };
@@ -98,11 +99,13 @@ fn empty(alloc: Global) -> Folder {
     }
 }
 
-/// Reads what the folder of an identifier holds; nothing where it isn't there.
+/// Reads what the folder of an identifier holds, of a client's records those of this revision and of later ones; nothing
+/// where it isn't there.
 fn read_folder<'a, R: FileSystem>(
     rt: &R,
     folder: &str,
     id: &str,
+    since: u64,
 ) -> Result<Folder, ProgramError<'a>> {
     let mut read = empty(rt.alloc());
     let path = path_in(rt.alloc(), folder, id)?;
@@ -112,7 +115,7 @@ fn read_folder<'a, R: FileSystem>(
         Err(error) => return Err(ProgramError::of_file(rt.alloc(), path.as_str(), error)),
     };
     for name in &names {
-        read_named(rt, path.as_str(), name.as_str(), &mut read)?;
+        read_named(rt, path.as_str(), name.as_str(), since, &mut read)?;
     }
     Ok(read)
 }
@@ -133,6 +136,7 @@ fn read_named<'a, R: FileSystem>(
     rt: &R,
     path: &str,
     name: &str,
+    since: u64,
     read: &mut Folder,
 ) -> Result<(), ProgramError<'a>> {
     if let Some(request) = name.strip_suffix(".refused") {
@@ -146,7 +150,7 @@ fn read_named<'a, R: FileSystem>(
         Ok(bytes) => bytes,
         Err(error) => return Err(ProgramError::of_file(rt.alloc(), file.as_str(), error)),
     };
-    match content_of(rt.alloc(), bytes.as_slice()) {
+    match content_of(rt.alloc(), bytes.as_slice(), since) {
         Ok(content) => {
             if let Content::Search(_) = &content {
                 let request = name.strip_suffix(".json").unwrap_or(name);
