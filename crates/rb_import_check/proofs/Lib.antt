@@ -1,3 +1,4 @@
+mod OtherVotes
 pub mod Sorting
 pub mod SetsLemmas
 pub mod ReasonsLemmas

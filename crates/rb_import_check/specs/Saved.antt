@@ -12,9 +12,9 @@ abbrev pub said_with : FieldErrorName → List ℕ → List ℕ
 said_with FieldErrorName.NodeError bytes = plain_text (said bytes)
 said_with name bytes = []
 
--- the file's content has this flaw, which is the first one in it; and this is what its node said, which is short and may stand in quotes
-abbrev pub IsFlawOf : String Global → List ℕ → SavedError → Type 0
-IsFlawOf file bytes (errors.Invalid name flaw text) =
-    (name ≡ file) × (told bytes ≡ Err flaw) × (string_bytes text ≡ said_with flaw.name bytes) × All IsPlain (string_bytes text)
+-- the file's content, of a client's records those of this revision and of later ones, has this flaw, which is the first one in it; and this is what its node said, which is short and may stand in quotes
+abbrev pub IsFlawOf : ℕ → String Global → List ℕ → SavedError → Type 0
+IsFlawOf since file bytes (errors.Invalid name flaw text) =
+    (name ≡ file) × (told since bytes ≡ Err flaw) × (string_bytes text ≡ said_with flaw.name bytes) × All IsPlain (string_bytes text)
     × (length (string_bytes text) ≤ 200)
-IsFlawOf file bytes errors.NoMemory = ⊤
+IsFlawOf since file bytes errors.NoMemory = ⊤

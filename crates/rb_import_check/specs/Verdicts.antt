@@ -1,5 +1,5 @@
 -- Verdicts on the signatures of a chain's commits.
-use Rattle.std.specs.Prelude.{◌≡◌, ◌≢◌, ⊤, ℕ, List, [], ◌∷◌, Bool, true, false, Option, Some, None, All, Contains, if◌then◌else◌, ◌==◌}
+use Rattle.std.specs.Prelude.{◌≡◌, ◌≢◌, ⊤, ℕ, List, [], ◌∷◌, Bool, true, false, Option, Some, None, All, Any, Contains, if◌then◌else◌, ◌==◌}
 use Rattle.std.specs.List.{flat_map, list_any}
 use Rattle.rb_import_answers.specs.declared.answer.NodeAnswer.{NodeAnswer}
 use Rattle.rb_import_answers.specs.declared.answer.NodeAnswer.TheVariants as answers
@@ -42,6 +42,10 @@ IsVerdictOn verdicts digest None = All (IsOnOther digest) verdicts
 abbrev pub HasVotes : ℕ → Option Verdict → Type 0
 HasVotes count (Some v) = v.votes ≡ count
 HasVotes count None = ⊤
+
+-- one of these verdicts is on the file of this SHA-256, and tells of another number of votes
+abbrev pub TellsOtherVotes : List Verdict → List ℕ → ℕ → Type 0
+TellsOtherVotes verdicts digest count = Any (λ v. (v.digest ≡ digest) × (v.votes ≢ count)) verdicts
 
 abbrev pub is_verdicts : NodeAnswer → Bool
 is_verdicts (answers.Commit header) = false

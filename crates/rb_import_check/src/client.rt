@@ -19,13 +19,14 @@ pub struct Stored<'a> {
     pub state: &'a ConsensusState,
 }
 
-/// What was seen of a client: its trusting period, its clock drift, its trust level, and its stored
-/// records by rising height.
+/// What was seen of a client: its trusting period, its clock drift, its trust level, its latest height, where an answer tells
+/// its state, and its stored records by rising height.
 #[derive(Drop)]
 pub struct SeenClient<'a> {
     pub period: Period,
     pub drift: u64,
     pub trust: TrustLevel,
+    pub latest: Option<u64>,
     pub stored: Vec<Stored<'a>>,
 }
 
@@ -39,6 +40,7 @@ pub fn seen_client<'a>(
     ensures rising { IfOk result (λ client. IsStrictlyIncreasing (map (λ s. s.state.now.height) client.stored.items)) }
     ensures revision { IfOk result (λ client. All (IsOfRevision tracked.now) client.stored.items) }
     ensures judging { IfOk result (JudgesAs setup.entry.now (client_states_of answers.entry.now)) }
+    ensures latest { IfOk result (λ client. option_to_list client.latest ≡ map (λ s. s.latest) (client_states_of answers.entry.now)) }
     ensures states { IfOk result (λ client. AtRevision tracked.now (λ revision. HaveStates (current_of revision answers.entry.now) client.stored.items)) }
     ensures last { OnOk result (has_last answers.entry.now ≡ true) }
     ensures reason { IfErr result (HasReason setup.entry.now tracked.now answers.entry.now) }
@@ -51,11 +53,13 @@ pub fn seen_client<'a>(
     let drift = drift.or(state.map(|state| state.drift));
     let trust = setup.trust.map(level_of);
     let trust = trust.or(state.map(|state| state.trust));
+    let latest = state.map(|state| state.latest);
     match (period, drift, trust) {
         (Some(period), Some(drift), Some(trust)) => Ok(SeenClient {
             period,
             drift,
             trust,
+            latest,
             stored,
         }),
         _ => Err(ImportError::of(CheckErrorName::MissingClientState, setup.id.as_str())),

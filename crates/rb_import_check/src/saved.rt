@@ -39,28 +39,34 @@ pub enum SavedError {
     NoMemory,
 }
 
-/// Reads the answer that a file holds; its flaw is the first one that its content has.
-pub fn read_saved(alloc: Global, file: String, bytes: &[u8]) -> Result<Saved, SavedError>
+/// Reads the answer that a file holds, without a client's records of a revision before this one; its flaw is the first one
+/// that its content has.
+pub fn read_saved(
+    alloc: Global,
+    file: String,
+    bytes: &[u8],
+    since: u64,
+) -> Result<Saved, SavedError>
     ensures file { IfOk result (λ saved. saved.file ≡ file) }
     ensures digest { IfOk result (λ saved. saved.digest ≡ sha256 bytes.now) }
-    ensures answer { IfOk result (λ saved. told bytes.now ≡ Ok (answer_view saved.answer)) }
-    ensures flaw { IfErr result (IsFlawOf file bytes.now) }
+    ensures answer { IfOk result (λ saved. told since bytes.now ≡ Ok (answer_view saved.answer)) }
+    ensures flaw { IfErr result (IsFlawOf since file bytes.now) }
 {
-    match read_answer(alloc, bytes) {
+    match read_answer(alloc, bytes, since) {
         Ok(answer) => Ok(Saved {
             file,
             digest: Sha256::digest(bytes),
             answer,
         }),
-        Err(AnswerError::Invalid(flaw)) => Err(flawed(alloc, file, bytes, flaw)),
+        Err(AnswerError::Invalid(flaw)) => Err(flawed(alloc, file, bytes, since, flaw)),
         Err(AnswerError::NoMemory) => Err(SavedError::NoMemory),
     }
 }
 
-/// The flaw that a file's content has.
-fn flawed(alloc: Global, file: String, bytes: &[u8], flaw: FieldError) -> SavedError
-    requires { told bytes.now ≡ Err flaw }
-    ensures { IsFlawOf file bytes.now result }
+/// The flaw that a file's content has, without a client's records of a revision before this one.
+fn flawed(alloc: Global, file: String, bytes: &[u8], since: u64, flaw: FieldError) -> SavedError
+    requires { told since bytes.now ≡ Err flaw }
+    ensures { IsFlawOf since file bytes.now result }
 {
     match said_of(alloc, bytes, flaw) {
         Ok(said) => SavedError::Invalid { file, flaw, said },

@@ -1,8 +1,8 @@
 //! The verdicts on the signatures of a chain's commits.
-ghost use Rattle.std.specs.Prelude.{◌≡◌, ◌<◌, IsTrue, false, length, IfOk, IfErr, option_map, option_to_list};
+ghost use Rattle.std.specs.Prelude.{◌≡◌, ◌↔◌, ◌<◌, IsTrue, false, length, IfOk, IfErr, option_map, option_to_list};
 ghost use Rattle.rb_import_answers.specs.Votes.{letter_of};
-ghost use Rattle.rb_import_check.specs.Errors.{IsToldOf};
-ghost use Rattle.rb_import_check.specs.Verdicts.{IsOnOther, IsVerdictOn, HasVotes, has_verdicts, is_among, is_verdicts, verdict_list, verdicts_of, vote_letter};
+ghost use Rattle.rb_import_check.specs.Errors.{IsTold, IsToldOf};
+ghost use Rattle.rb_import_check.specs.Verdicts.{IsOnOther, IsVerdictOn, HasVotes, TellsOtherVotes, has_verdicts, is_among, is_verdicts, verdict_list, verdicts_of, vote_letter};
 
 use crate::error::{CheckErrorName, ImportError};
 use crate::saved::Saved;
@@ -57,6 +57,7 @@ pub fn verdict_on<'a>(
 ) -> Result<Option<&'a Verdict>, ImportError<'a>>
     ensures verdict { IfOk result (λ verdict. IsVerdictOn (verdict_list (option_to_list (option_map (λ v. v.now) verdicts.entry))) saved.entry.now.digest (option_map (λ v. v.now) verdict)) }
     ensures votes { IfOk result (λ verdict. HasVotes (length header.now.signatures.items) (option_map (λ v. v.now) verdict)) }
+    ensures other { IfErr result (IsTold CheckErrorName.OtherVerdict (TellsOtherVotes (verdict_list (option_to_list (option_map (λ v. v.now) verdicts.entry))) saved.entry.now.digest (length header.now.signatures.items))) }
     ensures told { IfErr result (IsToldOf id.entry.now) }
 {
     let verdict = with_digest(commits_of(verdicts), &saved.digest);
@@ -81,7 +82,7 @@ fn commits_of<'a>(verdicts: Option<&'a Verdicts>) -> &'a [Verdict]
 
 /// Whether a verdict, if there is one, tells of so many votes.
 fn has_votes(verdict: Option<&Verdict>, votes: u64) -> bool
-    ensures { IsTrue result → HasVotes votes (option_map (λ v. v.now) verdict.entry) }
+    ensures { IsTrue result ↔ HasVotes votes (option_map (λ v. v.now) verdict.entry) }
 {
     match verdict {
         Some(verdict) => verdict.votes == votes,
