@@ -297,6 +297,48 @@ def refusal_flaws(program, folder):
     return flaws + ([] if "height 53 is not available" in told else [f"not told that a height isn't available, but {told}"])
 
 
+def shared_flaws(program, folder):
+    """What is wrong with a run of `examples/collect` for two clients of one chain, which ask for the same heights at its change: none is asked for twice."""
+    folder.mkdir()
+    chain, other = LongChain("hub-4", "switch", 100_000, 60, 57_122), "07-tendermint-4"
+    text = setup_of(chain, "")
+    second = text[text.index("[[client]]"):text.index("[[turn]]")].replace(CLIENT, other)
+    (folder / "setup.toml").write_text(text.replace("[[turn]]", second + "[[turn]]"))
+    asked, host = [], Host(chain, {CLIENT: [20_000], other: [20_000]})
+    with serve(chain.answer, asked) as rpc, serve(host.answer, asked) as rest:
+        (folder / "nodes").write_text(f"hub-4 {rpc} -\nzone-1 - {rest}\n")
+        words = [TOP / "examples" / "collect", "--setup", folder / "setup.toml", folder / "answers", folder / "nodes"]
+        done = subprocess.run(words, env={**os.environ, "IBCPLAN": program}, capture_output=True, timeout=600)
+    flaws = [] if done.returncode == 0 else [f"status {done.returncode}: {done.stderr.decode()}"]
+    flaws += [f"twice asked: {path}" for path in {path for path in asked if asked.count(path) > 1}]
+    own = [path for path in asked if CLIENT in path or other in path]
+    flaws += [] if len(own) == 4 else [f"asked of the clients: {own}"]
+    return flaws + ([f"{len(asked)} requests, and not at most 60"] if len(asked) > 60 else [])
+
+
+def busy_flaws(program, folder):
+    """What is wrong with a run of `examples/collect` whose node is busy at times, and has pruned heights: what may pass is tried again, what can't is asked once."""
+    folder.mkdir()
+    chain = LongChain("hub-4", "switch", 100, 6, 70, lowest=60)
+    (folder / "setup.toml").write_text(setup_of(chain, ""))
+    asked, host, busy = [], Host(chain, {CLIENT: [52]}), {"/status"}
+
+    def answer(path, words):
+        if path in busy:
+            busy.remove(path)
+            return 503, {"error": "busy"}
+        return chain.answer(path, words)
+
+    with serve(answer, asked) as rpc, serve(host.answer, asked) as rest:
+        (folder / "nodes").write_text(f"hub-4 {rpc} -\nzone-1 - {rest}\n")
+        words = [TOP / "examples" / "collect", "--setup", folder / "setup.toml", folder / "answers", folder / "nodes"]
+        done = subprocess.run(words, env={**os.environ, "IBCPLAN": program}, capture_output=True, timeout=600)
+    flaws = [] if done.returncode == 0 else [f"status {done.returncode}: {done.stderr.decode()}"]
+    twice = sorted({path for path in asked if asked.count(path) > 1})
+    flaws += [] if twice == ["/status"] and asked.count("/status") == 2 else [f"twice asked: {twice}"]
+    return flaws + ([] if (folder / "answers" / "hub-4" / "commit-99.json").exists() else ["height 99 isn't saved"])
+
+
 def run_collects(program, top, is_told=False):
     """Runs of `examples/collect` with this program: how many there were, and how many didn't go as they have to."""
     wrong = 0
@@ -326,14 +368,12 @@ def run_collects(program, top, is_told=False):
             print(f"== collect, {name}: {len(asked)} requests, {len(plan[1]) if plan else 'no'} updates", *flaws, sep="\n-- ")
         wrong += bool(flaws)
         shutil.rmtree(folder)
-    flaws = refusal_flaws(program, top / "collect, refused")
-    if flaws:
-        print("== collect, a height refused", *flaws, sep="\n-- ")
-    wrong += bool(flaws)
-    flaws = packet_flaws(program, top / "collect, packets")
-    if flaws:
-        print("== collect, packets", *flaws, sep="\n-- ")
-    return len(COLLECTS) + 2, wrong + bool(flaws)
+    for name, flaws_of in ("a height refused", refusal_flaws), ("two clients of one chain", shared_flaws), ("a busy node", busy_flaws), ("packets", packet_flaws):
+        flaws = flaws_of(program, top / f"collect, {name}")
+        if is_told or flaws:
+            print(f"== collect, {name}", *flaws, sep="\n-- ")
+        wrong += bool(flaws)
+    return len(COLLECTS) + 4, wrong
 
 
 if __name__ == "__main__":  # tests/wants.py PROGRAM
