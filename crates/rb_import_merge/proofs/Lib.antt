@@ -12,3 +12,4 @@ pub mod Totalling
 pub mod Watched
 pub mod Counts
 pub mod Writing
+mod Keeping

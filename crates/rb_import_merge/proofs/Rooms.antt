@@ -1,5 +1,5 @@
 -- What a book has room for.
-use Rattle.std.proofs.Common.{◌≡◌, ◌≢◌, ℕ, zero, suc, ◌<◌, ◌≤◌, ◌+◌, ◌⊎◌, List, [], ◌∷◌, ◌++◌, length, get_or, take, map, Some, None, inl, inr, refl, sym, subst, ap, ◌∙◌, arith, All, Contains}
+use Rattle.std.proofs.Common.{◌≡◌, ◌≢◌, ℕ, zero, suc, ◌<◌, ◌≤◌, ◌+◌, ◌⊎◌, Bool, true, false, cond, List, [], ◌∷◌, ◌++◌, length, get_or, take, filter, map, Some, None, inl, inr, refl, sym, subst, ap, ◌∙◌, arith, All, Contains}
 use Rattle.std.specs.Prelude.{Any, Vec, slice_get}
 use Rattle.std.specs.Global.{Global}
 use Rattle.std.specs.List.Sorted.{IsStrictlyIncreasing}
@@ -14,7 +14,8 @@ use Rattle.rb_import_check.specs.declared.chain.Commit.{Commit}
 use Rattle.rb_import_check.specs.declared.chain.SeenChain.{SeenChain}
 use Rattle.rb_import_check.specs.declared.client.SeenClient.{SeenClient}
 use Rattle.rb_import_check.specs.declared.client.Stored.{Stored}
-use Rattle.rb_import_merge.specs.Room.{AreKeptOf, AreThose, AtEachPlace, HasHeader, HasNoRoom, IsBookOf, IsKept, IsStored, room_of}
+use Rattle.rb_import_check.proofs.Sorting.{wanted_more}
+use Rattle.rb_import_merge.specs.Room.{AreKeptOf, AreThose, AtEachPlace, HasHeader, HasNoRoom, IsBookOf, IsKept, IsStored, is_kept, room_of}
 
 -- ---- headers
 
@@ -63,6 +64,19 @@ pub those_same : {X : Type 0} (P Q : X → Type 0) (all those : List X) (i : ℕ
 those_same P Q all those i x small is was other =
     let longer : take (i + 1) all ≡ take i all ++ x ∷ [] = take_more all i x small ∙ ap (λ y. take i all ++ y ∷ []) (sym is) in
     subst (λ l. AreThose P Q l those) (sym longer) (none_more P Q (take i all) those x was other)
+
+append_nil : {X : Type 0} (xs : List X) → xs ++ [] ≡ xs
+append_nil [] = refl
+append_nil (x ∷ xs) = ap (λ l. x ∷ l) (append_nil xs)
+
+-- the same of those that pass a test, in their order
+pub kept_more : {X : Type 0} (p : X → Bool) (those after all : List X) (i : ℕ) (x : X) → i < length all → x ≡ get_or all i x → p x ≡ true → those ≡ filter p (take i all) → after ≡ those ++ x ∷ []
+    → after ≡ filter p (take (i + 1) all)
+kept_more p those after all i x small is passes was now = wanted_more p [] those after all i x small is was (now ∙ ap (λ b. those ++ cond b (x ∷ []) []) (sym passes))
+
+pub kept_same : {X : Type 0} (p : X → Bool) (those all : List X) (i : ℕ) (x : X) → i < length all → x ≡ get_or all i x → p x ≡ false → those ≡ filter p (take i all)
+    → those ≡ filter p (take (i + 1) all)
+kept_same p those all i x small is fails was = wanted_more p [] those those all i x small is was (sym (append_nil those) ∙ ap (λ b. those ++ cond b (x ∷ []) []) (sym fails))
 
 -- ---- the heights that clients have stored
 
@@ -199,18 +213,24 @@ at_all Holds xs n ys whole (long, all) = (long ∙ whole, all)
 
 -- ---- records
 
+-- these are those of the records that a book has room for, in their order
+abbrev AreTheKept : SeenClient → SeenChain → List ℕ → List Stored → Type 0
+AreTheKept seen chain book kept =
+    AreThose (λ (s : Stored). IsKept chain book s.state.now.height) (λ (s : Stored). ¬ IsKept chain book s.state.now.height) seen.stored.items kept
+    × (kept ≡ filter (λ (s : Stored). is_kept chain book s.state.now.height) seen.stored.items)
+
 pub kept_are : (chains : List SeenChain) (clients : List SeenClient) (books : List (Vec ℕ Global)) (number : ℕ) (c : ClientSetup) (seen : SeenClient) (chain : SeenChain) (book : Vec ℕ Global) (kept : List Stored)
     → slice_get clients number ≡ Some seen → slice_get chains c.tracks ≡ Some chain → slice_get books c.tracks ≡ Some book
-    → AreThose (λ (s : Stored). IsKept chain book.items s.state.now.height) (λ (s : Stored). ¬ IsKept chain book.items s.state.now.height) seen.stored.items kept
+    → AreTheKept seen chain book.items kept
     → AreKeptOf chains clients books number c kept
 unfolding AreKeptOf
 kept_are chains clients books number c seen chain book kept client_at chain_at book_at those other others_chain others_book at follows has =
     let same : other ≡ seen = same_Some other seen (sym at ∙ client_at) in
     let same_chain : others_chain ≡ chain = same_Some others_chain chain (sym follows ∙ chain_at) in
     let same_book : others_book ≡ book = same_Some others_book book (sym has ∙ book_at) in
-    subst (λ (x : SeenClient). AreThose (λ (s : Stored). IsKept others_chain others_book.items s.state.now.height) (λ (s : Stored). ¬ IsKept others_chain others_book.items s.state.now.height) x.stored.items kept) (sym same)
-    (subst (λ (x : SeenChain). AreThose (λ (s : Stored). IsKept x others_book.items s.state.now.height) (λ (s : Stored). ¬ IsKept x others_book.items s.state.now.height) seen.stored.items kept) (sym same_chain)
-    (subst (λ (x : Vec ℕ Global). AreThose (λ (s : Stored). IsKept chain x.items s.state.now.height) (λ (s : Stored). ¬ IsKept chain x.items s.state.now.height) seen.stored.items kept) (sym same_book) those))
+    subst (λ (x : SeenClient). AreTheKept x others_chain others_book.items kept) (sym same)
+    (subst (λ (x : SeenChain). AreTheKept seen x others_book.items kept) (sym same_chain)
+    (subst (λ (x : Vec ℕ Global). AreTheKept seen chain x.items kept) (sym same_book) those))
 
 pub none_kept : (chains : List SeenChain) (clients : List SeenClient) (books : List (Vec ℕ Global)) (number : ℕ) (c : ClientSetup) (kept : List Stored)
     → (slice_get clients number ≡ None) ⊎ ((slice_get chains c.tracks ≡ None) ⊎ (slice_get books c.tracks ≡ None)) → AreKeptOf chains clients books number c kept

@@ -15,7 +15,7 @@ use Rattle.rb_import_merge.specs.declared.kept.KeptSets.{KeptSets}
 use Rattle.rb_import_merge.specs.declared.seen.Seen.{Seen}
 use Rattle.rb_import_merge.specs.Seen.{IsKeptSet, IsWrittenOf, is_of_hash, is_written}
 
-decides_any : {X : Type 0} (p : X → Bool) (P : X → Type 0) → ((x : X) → Decides (p x) (P x)) → (xs : List X)
+pub decides_any : {X : Type 0} (p : X → Bool) (P : X → Type 0) → ((x : X) → Decides (p x) (P x)) → (xs : List X)
     → Decides (list_any p xs) (Any P xs)
 decides_any p P each xs = (
   (λ e. let found = Any-from_list_any p xs e in (found.0, found.1, found.2, found.3, (each found.1).0 found.4)),

@@ -17,6 +17,10 @@ packet_cmp p q = ordering_then (nat_cmp (place_of p.event.now.kind) (place_of q.
 abbrev pub block_cmp : SeenPacket → SeenPacket → Ordering
 block_cmp p q = ordering_then (packet_cmp p q) (nat_cmp p.event.now.block q.event.now.block)
 
+-- by kind, then by block
+abbrev pub kind_cmp : SeenPacket → SeenPacket → Ordering
+kind_cmp p q = ordering_then (nat_cmp (place_of p.event.now.kind) (place_of q.event.now.kind)) (nat_cmp p.event.now.block q.event.now.block)
+
 -- where two events tell of one sending, they are equal
 abbrev pub AreEqualSendings : SeenPacket → SeenPacket → Type 0
 AreEqualSendings p q = p.event.now.kind ≡ PacketKind.Sent → q.event.now.kind ≡ PacketKind.Sent → p.event.now.sequence ≡ q.event.now.sequence → IsSameSending q.event.now p.event.now

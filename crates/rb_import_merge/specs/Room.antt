@@ -1,6 +1,7 @@
 -- Which stored records a chain's book has room for.
-use Rattle.std.specs.Prelude.{◌≡◌, ◌≤◌, ◌<◌, ◌-◌, ◌⊎◌, ℕ, List, Vec, All, Any, Contains, drop, length, Some, slice_get}
+use Rattle.std.specs.Prelude.{◌≡◌, ◌≤◌, ◌<◌, ◌-◌, ◌⊎◌, ◌==◌, ◌||◌, ℕ, Bool, List, Vec, All, Any, Contains, drop, filter, length, Some, slice_get}
 use Rattle.std.specs.Global.{Global}
+use Rattle.std.specs.List.{list_any}
 use Rattle.std.specs.List.Sorted.{IsStrictlyIncreasing}
 use Rattle.rb_import_setup.specs.declared.setup.ClientSetup.{ClientSetup}
 use Rattle.rb_import_setup.specs.declared.setup.Setup.{Setup}
@@ -24,6 +25,10 @@ HasNoRoom room heights height = (length heights ≡ room) × All (λ h. height <
 -- a book has room for a record of this height: there is a header of it, or it is one of the book's
 unfoldable pub IsKept : SeenChain → List ℕ → ℕ → Type 0
 IsKept chain book height = Contains book height ⊎ HasHeader chain height
+
+-- the same as a test
+unfoldable pub is_kept : SeenChain → List ℕ → ℕ → Bool
+is_kept chain book height = list_any (λ h. h == height) book || list_any (λ (c : Commit). c.header.now.height == height) chain.commits.items
 
 -- a client that tracks the chain at a place has stored a record of this height
 unfoldable pub IsStored : Setup → List SeenClient → ℕ → ℕ → Type 0
@@ -53,11 +58,12 @@ AtEachPlace {X = X} {Y = Y} Holds xs ys =
 abbrev pub AreBooks : Setup → List SeenChain → List SeenClient → List (Vec ℕ Global) → Type 0
 AreBooks setup chains clients books = AtEachPlace (λ place chain book. IsBookOf setup clients place chain book.items) chains books
 
--- of the records of the client at a place these are those that the tracked chain's book has room for
+-- of the records of the client at a place these are those that the tracked chain's book has room for, in the records' order
 unfoldable pub AreKeptOf : List SeenChain → List SeenClient → List (Vec ℕ Global) → ℕ → ClientSetup → List Stored → Type 0
 AreKeptOf chains clients books number c kept =
     (seen : SeenClient) → (chain : SeenChain) → (book : Vec ℕ Global) → slice_get clients number ≡ Some seen → slice_get chains c.tracks ≡ Some chain → slice_get books c.tracks ≡ Some book
     → AreThose (λ (s : Stored). IsKept chain book.items s.state.now.height) (λ (s : Stored). ¬ IsKept chain book.items s.state.now.height) seen.stored.items kept
+    × (kept ≡ filter (λ (s : Stored). is_kept chain book.items s.state.now.height) seen.stored.items)
 
 -- each client has those of its records
 abbrev pub AreKept : Setup → List SeenChain → List SeenClient → List (Vec ℕ Global) → List (Vec Stored Global) → Type 0

@@ -2,7 +2,7 @@
 use Rattle.std.specs.Prelude.{◌≡◌, ◌<◌, ◌-◌, ℕ, Bool, false, List, [], Vec, Option, Some, None, IfSome, IsSomeAnd, All, Any, length, map, slice_get}
 use Rattle.std.specs.Global.{Global}
 use Rattle.std.specs.List.{list_any}
-use Rattle.std.specs.List.Sorted.{IsStrictlyIncreasing}
+use Rattle.std.specs.List.Sorted.{IsSorted, IsStrictlyIncreasing}
 use Rattle.std.specs.Str.{bytes_eq}
 use Rattle.rb_valset.specs.ValidatorSet.{set_hash}
 use Rattle.rb_import_setup.specs.declared.setup.ClientSetup.{ClientSetup}
@@ -23,6 +23,7 @@ use Rattle.rb_import_merge.specs.declared.kept.KeptSets.{KeptSets}
 use Rattle.rb_import_merge.specs.declared.packets.SeenPacket.{SeenPacket}
 use Rattle.rb_import_merge.specs.declared.seen.Seen.{Seen}
 use Rattle.rb_import_merge.specs.Committed.{HaveCommitted}
+use Rattle.rb_import_merge.specs.Lowest.{kind_cmp}
 use Rattle.rb_import_merge.specs.Ways.{HasBefore}
 use Rattle.rb_import_merge.specs.Packets.{Expires, HaveEvents}
 use Rattle.rb_import_merge.specs.Room.{AtEachPlace, FitBooks, FitsHeaders}
@@ -70,11 +71,11 @@ abbrev pub surplus_of : List Saved → ℕ
 surplus_of saved = length (headers_of saved) - 4096
 
 -- these are the path's packets that its answers tell of, each with the height of its destination, a chain of the setup, from which on it isn't
--- received, and with the event before it; and each packet with a commitment has its events
+-- received, and with the event before it; each packet with a commitment has its events; and they stand by kind and block
 abbrev pub IsSeenPath : List (List ℕ) → PathSetup → List Saved → List SeenPacket → Type 0
 IsSeenPath chains path saved packets =
     HaveEvents path saved packets × IsSomeAnd (slice_get chains path.config.destination) (λ dest. All (Expires dest) packets)
-    × All (HasBefore packets) packets × HaveCommitted path saved packets
+    × All (HasBefore packets) packets × HaveCommitted path saved packets × IsSorted kind_cmp packets
 
 -- each of these is what was seen of the path at its place
 abbrev pub AreSeenPaths : Setup → List (Vec Saved Global) → List (Vec SeenPacket Global) → Type 0

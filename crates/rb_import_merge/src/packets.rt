@@ -4,7 +4,7 @@ ghost use Rattle.std.specs.List.{flat_map, list_any};
 ghost use Rattle.std.specs.List.Sorted.{IsPermutation, IsSorted};
 ghost use Rattle.rb_import_check.specs.Errors.{IsToldOf};
 ghost use Rattle.rb_import_merge.specs.Committed.{HaveCommitted, was};
-ghost use Rattle.rb_import_merge.specs.Lowest.{packet_cmp};
+ghost use Rattle.rb_import_merge.specs.Lowest.{kind_cmp, packet_cmp};
 ghost use Rattle.rb_import_merge.specs.Packets.{AreFromOne, IsOfPath, IsOfOtherFolder, HaveEvents, Expires, ExpiresAt, expiry_at, within_heights, is_on_packets, is_source, is_dest, is_wanted, counts_as, is_silent, lacks, one_if, some_timed_out, tells_of, events_of, seen_events};
 ghost use Rattle.rb_import_merge.specs.Pending.{tells_done};
 ghost use Rattle.rb_import_merge.specs.Totals.{IsCutShort, count_in, count_with, is_whole, pages_of};
@@ -86,6 +86,7 @@ pub fn seen_packets<'a>(
     ensures source { IfOk result (λ packets. setup.entry.now.source_channel ≡ None → AreFromOne packets.items) }
     ensures before { IfOk result (λ packets. All (HasBefore packets.items) packets.items) }
     ensures pending { IfOk result (λ packets. HaveCommitted setup.entry.now answers.entry.now packets.items) }
+    ensures order { IfOk result (λ packets. IsSorted kind_cmp packets.items) }
     ensures answers { OnOk result (All (λ s. is_on_packets s.answer ≡ true) answers.entry.now) }
     ensures whole { OnOk result (All (λ p. is_whole p.total (pages_of answers.entry.now) ≡ true) (pages_of answers.entry.now)) }
     ensures told { IfErr result (IsToldOf setup.entry.now.config.id) }
@@ -105,10 +106,11 @@ pub fn seen_packets<'a>(
 
 /// These packets by kind and block.
 fn by_block<'a>(packets: Vec<SeenPacket<'a>>) -> Result<Vec<SeenPacket<'a>>, AllocError>
-    ensures { IfOk result (λ sorted. IsPermutation packets.entry.items sorted.items) }
+    ensures same { IfOk result (λ sorted. IsPermutation packets.entry.items sorted.items) }
+    ensures order { IfOk result (λ sorted. IsSorted kind_cmp sorted.items) }
 {
     let mut sorted = packets;
-    sorted.sort_by_key(|seen: &SeenPacket| (seen.event.kind, seen.event.block))?;
+    sorted.sort_by_key(|seen: &SeenPacket| (place_of(seen.event.kind), seen.event.block.get()))?;
     Ok(sorted)
 }
 

@@ -1,7 +1,7 @@
 //! Which headers and stored records a chain's book has room for: where there are more, the lowest are left out.
-ghost use Rattle.std.specs.Prelude.{◌≡◌, ◌≤◌, ◌-◌, ◌⊎◌, ◌↔◌, ◌++◌, ℕ, length, map, All, Contains, IfOk, OnOk, IsTrue};
+ghost use Rattle.std.specs.Prelude.{◌≡◌, ◌≤◌, ◌-◌, ◌⊎◌, ◌↔◌, ◌++◌, ℕ, filter, length, map, All, Contains, IfOk, OnOk, IsTrue};
 ghost use Rattle.std.specs.List.Sorted.{IsStrictlyIncreasing};
-ghost use Rattle.rb_import_merge.specs.Room.{AreBooks, AreKept, AreKeptOf, AreThose, FitBooks, FitsHeaders, HasHeader, HasNoRoom, IsBookOf, IsKept, IsStored};
+ghost use Rattle.rb_import_merge.specs.Room.{is_kept, AreBooks, AreKept, AreKeptOf, AreThose, FitBooks, FitsHeaders, HasHeader, HasNoRoom, IsBookOf, IsKept, IsStored};
 
 use rb_book::MAX_RECORDS;
 use rb_import_check::{SeenChain, SeenClient, Stored};
@@ -194,13 +194,15 @@ fn kept_at<'a>(
 }
 
 /// The records that a book has room for.
+#[tactic(auto, using(rb_import_check::proofs::Sorting::filtering))]
 fn kept_of<'a>(
     alloc: Global,
     chain: &SeenChain<'a>,
     book: &[u64],
     stored: &[Stored<'a>],
 ) -> Result<Vec<Stored<'a>>, AllocError>
-    ensures { IfOk result (λ kept. AreThose (λ s. IsKept chain.now book.now s.state.now.height) (λ s. ¬ IsKept chain.now book.now s.state.now.height) stored.now kept.items) }
+    ensures those { IfOk result (λ kept. AreThose (λ s. IsKept chain.now book.now s.state.now.height) (λ s. ¬ IsKept chain.now book.now s.state.now.height) stored.now kept.items) }
+    ensures order { IfOk result (λ kept. kept.items ≡ filter (λ s. is_kept chain.now book.now s.state.now.height) stored.now) }
 {
     let mut kept = Vec::new(alloc);
     for record in stored {
@@ -211,9 +213,17 @@ fn kept_of<'a>(
     Ok(kept)
 }
 
-/// Whether a book has room for a record of this height: there is a header of it, or it is one of the book's.
-#[tactic(auto, unfolding(crate::specs::Room::IsKept))]
+/// Whether a book has room for a record of this height.
 fn is_kept(chain: &SeenChain<'_>, book: &[u64], height: u64) -> bool
+    ensures kept { IsTrue result ↔ IsKept chain.now book.now height }
+    ensures value { result ≡ is_kept chain.now book.now height }
+{
+    has_room(chain, book, height)
+}
+
+/// Whether there is a header of this height, or it is one of a book's.
+#[tactic(auto, unfolding(crate::specs::Room::IsKept))]
+fn has_room(chain: &SeenChain<'_>, book: &[u64], height: u64) -> bool
     ensures { IsTrue result ↔ IsKept chain.now book.now height }
 {
     is_held(book, height) || has_header(chain, height)

@@ -22,7 +22,7 @@ returns-clause-path c =
     let are : c.in_ok-wanted.wanted.items ≡ filter (λ (s : SeenPacket). is_wanted c.args.setup.now (counterparty c.args.setup.now (events_of c.args.answers.now)) c.args.answers.now s.event.now) all =
     c.in_ok-wanted.ensures.wanted ∙ ap (filter (λ (s : SeenPacket). is_wanted c.args.setup.now (option_map (λ e. e.now) c.counterparty-end.result) c.args.answers.now s.event.now)) c.as_slice-3.ensures.value
     ∙ ap (λ e. filter (λ (s : SeenPacket). is_wanted c.args.setup.now e c.args.answers.now s.event.now) all) c.counterparty-end.ensures in
-    are_of_path c.args.setup.now c.args.answers.now all c.in_ok-wanted.wanted.items c.in_ok-lowest.lowest.items c.in_ok-by_block.field-0.items are c.in_ok-lowest.ensures.among c.in_ok-by_block.ensures
+    are_of_path c.args.setup.now c.args.answers.now all c.in_ok-wanted.wanted.items c.in_ok-lowest.lowest.items c.in_ok-by_block.field-0.items are c.in_ok-lowest.ensures.among c.in_ok-by_block.ensures.same
 
 pub returns-clause-events : goal.returns-clause-events
 returns-clause-events c =
@@ -32,7 +32,7 @@ returns-clause-events c =
     c.in_ok-wanted.ensures.wanted ∙ ap (filter (λ (s : SeenPacket). is_wanted c.args.setup.now (option_map (λ e. e.now) c.counterparty-end.result) c.args.answers.now s.event.now)) c.as_slice-3.ensures.value
     ∙ ap (λ e. filter (λ (s : SeenPacket). is_wanted c.args.setup.now e c.args.answers.now s.event.now) all) c.counterparty-end.ensures in
     have_events c.args.setup.now c.args.answers.now all c.in_ok-wanted.wanted.items c.in_ok-lowest.lowest.items c.in_ok-by_block.field-0.items these are c.in_ok-lowest.ensures.among
-    c.in_ok-lowest.ensures.standing c.in_ok-lowest.ensures.once c.in_ok-by_block.ensures
+    c.in_ok-lowest.ensures.standing c.in_ok-lowest.ensures.once c.in_ok-by_block.ensures.same
 
 pub returns-clause-expiry : goal.returns-clause-expiry
 returns-clause-expiry c =
@@ -40,27 +40,27 @@ returns-clause-expiry c =
     let are : c.in_ok-wanted.wanted.items ≡ filter (λ (s : SeenPacket). is_wanted c.args.setup.now (option_map (λ e. e.now) c.counterparty-end.result) c.args.answers.now s.event.now) c.in_ok-all.all.items =
     c.in_ok-wanted.ensures.wanted ∙ ap (filter (λ (s : SeenPacket). is_wanted c.args.setup.now (option_map (λ e. e.now) c.counterparty-end.result) c.args.answers.now s.event.now)) c.as_slice-3.ensures.value in
     expire c.args.dest.now c.revision_of.result (λ (s : SeenPacket). is_wanted c.args.setup.now (option_map (λ e. e.now) c.counterparty-end.result) c.args.answers.now s.event.now) c.in_ok-all.all.items
-    c.in_ok-wanted.wanted.items c.in_ok-lowest.lowest.items c.in_ok-by_block.field-0.items is c.in_ok-all.ensures.expiry are c.in_ok-lowest.ensures.among c.in_ok-by_block.ensures
+    c.in_ok-wanted.wanted.items c.in_ok-lowest.lowest.items c.in_ok-by_block.field-0.items is c.in_ok-all.ensures.expiry are c.in_ok-lowest.ensures.among c.in_ok-by_block.ensures.same
 
 pub returns-clause-pending : goal.returns-clause-pending
 returns-clause-pending c =
     let order : IsSorted packet_cmp c.as_slice-5.result.now = subst (IsSorted packet_cmp) (sym c.as_slice-5.ensures.value) c.in_ok-lowest.ensures.order in
     let have : HaveCommitted c.args.setup.now c.args.answers.now c.in_ok-lowest.lowest.items =
     subst (HaveCommitted c.args.setup.now c.args.answers.now) c.as_slice-5.ensures.value (c.in_ok-judge_pending.ensures.accepted order) in
-    committed_too c.args.setup.now c.args.answers.now c.in_ok-lowest.lowest.items c.in_ok-by_block.field-0.items c.in_ok-by_block.ensures have
+    committed_too c.args.setup.now c.args.answers.now c.in_ok-lowest.lowest.items c.in_ok-by_block.field-0.items c.in_ok-by_block.ensures.same have
 
 pub returns-clause-source : goal.returns-clause-source
 returns-clause-source c = λ none.
     let (source, all) = c.in_ok-wanted.ensures.source none in
     let From : SeenPacket → Type 0 = λ p. string_bytes p.event.now.source ≡ source in
-    (source, carried From c.in_ok-wanted.wanted.items c.in_ok-lowest.lowest.items c.in_ok-by_block.field-0.items all c.in_ok-lowest.ensures.among c.in_ok-by_block.ensures)
+    (source, carried From c.in_ok-wanted.wanted.items c.in_ok-lowest.lowest.items c.in_ok-by_block.field-0.items all c.in_ok-lowest.ensures.among c.in_ok-by_block.ensures.same)
 
 pub returns-clause-before : goal.returns-clause-before
 returns-clause-before c =
     let order : IsSorted packet_cmp c.as_slice-4.result.now = subst (IsSorted packet_cmp) (sym c.as_slice-4.ensures.value) c.in_ok-lowest.ensures.order in
     let all : All (HasBefore c.in_ok-lowest.lowest.items) c.in_ok-lowest.lowest.items =
     subst (λ (l : List SeenPacket). All (HasBefore l) l) c.as_slice-4.ensures.value (c.in_ok-judge_packets.ensures.accepted order) in
-    before_too c.in_ok-lowest.lowest.items c.in_ok-by_block.field-0.items c.in_ok-by_block.ensures all
+    before_too c.in_ok-lowest.lowest.items c.in_ok-by_block.field-0.items c.in_ok-by_block.ensures.same all
 
 pub returns-clause-whole : goal.returns-clause-whole
 returns-clause-whole c =
