@@ -1,9 +1,8 @@
 pub mod Ahead
-pub mod Nexts
-pub mod Rows
 pub mod Sent
 pub mod Telling
 pub mod Windows
 pub mod Writing
 pub mod Counts
-pub mod NextSets
+pub mod Uncanonical
+pub mod Nexts

@@ -1,91 +1,33 @@
--- Records whose next sets aren't written.
-use Rattle.std.proofs.Common.{◌≡◌, ℕ, ◌<◌, ◌≤◌, List, Vec, Option, Some, None, get_or, length, sym, subst, ap, ◌∙◌, refl, arith}
-use Rattle.std.specs.Prelude.{◌↔◌, IsSomeAnd, IsTrue, slice_get}
-use Rattle.std.specs.Global.{Global}
-use Rattle.std.proofs.lemmas.Option.{slice_get_read, slice_get_within}
-use Rattle.rb_import_setup.specs.declared.setup.ClientSetup.{ClientSetup}
-use Rattle.rb_import_setup.specs.declared.setup.Setup.{Setup}
-use Rattle.rb_import_check.specs.declared.client.Stored.{Stored}
+-- Whether a set was seen, as a test.
+use Rattle.std.proofs.Common.{◌≡◌, ℕ, List, Bool, Option, Some, None, sym}
+use Rattle.std.specs.Prelude.{Any, IsSomeAnd, slice_get}
+use Rattle.std.specs.Bool.{Decides}
+use Rattle.std.specs.List.{list_any}
+use Rattle.std.specs.Str.{bytes_eq}
+use Rattle.std.proofs.lemmas.Bool.{true≢false}
+use Rattle.std.proofs.lemmas.Bool.Decides.{same_from_decides}
+use Rattle.std.proofs.lemmas.List.Folds.{Any-from_list_any, list_any-from_Any}
+use Rattle.std.proofs.lemmas.Slice.Eq.{bytes_eq-Decides}
+use Rattle.rb_valset.specs.ValidatorSet.{set_hash}
+use Rattle.rb_import_check.specs.declared.chain.SeenChain.{SeenChain}
+use Rattle.rb_import_check.specs.declared.sets.SeenSet.{SeenSet}
+use Rattle.rb_import_check.specs.Sets.{WasSeen}
 use Rattle.rb_import_merge.specs.declared.seen.Seen.{Seen}
-use Rattle.rb_import_merge.specs.Seen.{IsWrittenOf, WasSeenOf}
-use Rattle.rb_import_notices.specs.declared.missing.MissingNextSet.{MissingNextSet}
-use Rattle.rb_import_notices.specs.Missing.{MissesNext, SaysNext, TellsRecord}
-use Rattle.rb_import_notices.proofs.Windows.{here}
+use Rattle.rb_import_merge.specs.Seen.{WasSeenOf}
+use Rattle.rb_import_notices.specs.Missing.{was_seen}
 
-pub item_at : {X : Type 0} (xs : List X) (n : ℕ) (x : X) → n < length xs → x ≡ get_or xs n x → slice_get xs n ≡ Some x
-item_at xs n x small is = slice_get_read xs (length xs) n x refl small is
-
-there : {A : Type 0} (o : Option A) (x : A) (P : A → Type 0) → o ≡ Some x → IsSomeAnd o P → P x
-there o x P is p = subst (λ y. IsSomeAnd y P) is p
-
-some_of : {A : Type 0} (o : Option A) (P : A → Type 0) → IsSomeAnd o P → (x : A) × (o ≡ Some x) × P x
-some_of None P p = absurd p
-some_of (Some x) P p = (x, refl, p)
-
--- the set isn't written that this client's record at a place names as its next
-LacksNext : Seen → ℕ → ClientSetup → Vec Stored Global → Type 0
-LacksNext seen i c records = IsSomeAnd (slice_get records.items i) (λ (s : Stored). ¬ IsWrittenOf seen.chains.items seen.sets.items c.tracks s.state.now.next)
-
--- of the client at a place, which this is, this holds
-misses : (setup : Setup) (seen : Seen) (place i : ℕ) (c : ClientSetup) → slice_get setup.clients.items place ≡ Some c → MissesNext setup seen place i
-    → (c.tracks < length setup.chains.items) × IsSomeAnd (slice_get seen.records.items place) (LacksNext seen i c)
-unfolding LacksNext
-misses setup seen place i c client it =
-    there (slice_get setup.clients.items place) c (λ (x : ClientSetup). (x.tracks < length setup.chains.items) × IsSomeAnd (slice_get seen.records.items place) (λ (r : Vec Stored Global). IsSomeAnd (slice_get r.items i) (λ (s : Stored). ¬ IsWrittenOf seen.chains.items seen.sets.items x.tracks s.state.now.next))) client it
-
-pub untracked : (setup : Setup) (seen : Seen) (place i : ℕ) (c : ClientSetup) → slice_get setup.clients.items place ≡ Some c → length setup.chains.items ≤ c.tracks → MissesNext setup seen place i → ⊥
-untracked setup seen place i c client far it =
-    let small = (misses setup seen place i c client it).0 in
-    omega (arith, far, small)
-
-pub unstored : (setup : Setup) (seen : Seen) (place i : ℕ) (c : ClientSetup) → slice_get setup.clients.items place ≡ Some c → length seen.records.items ≤ place → MissesNext setup seen place i → ⊥
-unstored setup seen place i c client far it =
-    let one = some_of (slice_get seen.records.items place) (LacksNext seen i c) (misses setup seen place i c client it).1 in
-    let small = slice_get_within seen.records.items place one.0 one.1 in
-    omega (arith, far, small)
-
-pub behind : (setup : Setup) (seen : Seen) (place i : ℕ) (c : ClientSetup) (records : Vec Stored Global) → slice_get setup.clients.items place ≡ Some c → slice_get seen.records.items place ≡ Some records
-    → length records.items ≤ i → MissesNext setup seen place i → ⊥
-unfolding LacksNext
-behind setup seen place i c records client stored long it =
-    let lacks : LacksNext seen i c records = there (slice_get seen.records.items place) records (LacksNext seen i c) stored (misses setup seen place i c client it).1 in
-    let one = some_of (slice_get records.items i) (λ (s : Stored). ¬ IsWrittenOf seen.chains.items seen.sets.items c.tracks s.state.now.next) lacks in
-    let small = slice_get_within records.items i one.0 one.1 in
-    omega (arith, long, small)
-
-pub written : (setup : Setup) (seen : Seen) (place i : ℕ) (c : ClientSetup) (records : Vec Stored Global) (s : Stored)
-    → slice_get setup.clients.items place ≡ Some c → slice_get seen.records.items place ≡ Some records → slice_get records.items i ≡ Some s
-    → IsWrittenOf seen.chains.items seen.sets.items c.tracks s.state.now.next → MissesNext setup seen place i → ⊥
-unfolding LacksNext
-written setup seen place i c records s client stored at is it =
-    let lacks : LacksNext seen i c records = there (slice_get seen.records.items place) records (LacksNext seen i c) stored (misses setup seen place i c client it).1 in
-    there (slice_get records.items i) s (λ (x : Stored). ¬ IsWrittenOf seen.chains.items seen.sets.items c.tracks x.state.now.next) at lacks is
-
-pub of_clients : (setup : Setup) (seen : Seen) (place i : ℕ) → MissesNext setup seen place i → place < length setup.clients.items
-of_clients setup seen place i it =
-    let one = some_of (slice_get setup.clients.items place) (λ (x : ClientSetup). (x.tracks < length setup.chains.items) × IsSomeAnd (slice_get seen.records.items place) (λ (r : Vec Stored Global). IsSomeAnd (slice_get r.items i) (λ (s : Stored). ¬ IsWrittenOf seen.chains.items seen.sets.items x.tracks s.state.now.next))) it in
-    slice_get_within setup.clients.items place one.0 one.1
-
-pub unwritten : (setup : Setup) (seen : Seen) (place i : ℕ) (c : ClientSetup) (chain : List ℕ) (records : Vec Stored Global) (s : Stored) (notice : MissingNextSet)
-    → slice_get setup.clients.items place ≡ Some c → slice_get setup.chains.items c.tracks ≡ Some chain → slice_get seen.records.items place ≡ Some records → slice_get records.items i ≡ Some s
-    → ¬ IsWrittenOf seen.chains.items seen.sets.items c.tracks s.state.now.next → TellsRecord c.id chain s notice
-    → (IsTrue notice.was_seen ↔ WasSeenOf seen.chains.items c.tracks s.state.now.next) → MissesNext setup seen place i × SaysNext setup seen place i notice
-unwritten setup seen place i c chain records s notice client tracked stored at lacks (its, record_is, on) known = (
-  here (slice_get setup.clients.items place) c
-      (λ (x : ClientSetup). (x.tracks < length setup.chains.items) × IsSomeAnd (slice_get seen.records.items place) (λ (r : Vec Stored Global). IsSomeAnd (slice_get r.items i) (λ (y : Stored). ¬ IsWrittenOf seen.chains.items seen.sets.items x.tracks y.state.now.next)))
-      client (
-        slice_get_within setup.chains.items c.tracks chain tracked,
-        here (slice_get seen.records.items place) records (λ (r : Vec Stored Global). IsSomeAnd (slice_get r.items i) (λ (y : Stored). ¬ IsWrittenOf seen.chains.items seen.sets.items c.tracks y.state.now.next)) stored
-            (here (slice_get records.items i) s (λ (y : Stored). ¬ IsWrittenOf seen.chains.items seen.sets.items c.tracks y.state.now.next) at lacks),
-      ),
-  here (slice_get setup.clients.items place) c
-      (λ (x : ClientSetup). (notice.client.now ≡ x.id) × (slice_get setup.chains.items x.tracks ≡ Some notice.chain.now)
-      × (IsTrue notice.was_seen ↔ WasSeenOf seen.chains.items x.tracks notice.stored.state.now.next)
-      × IsSomeAnd (slice_get seen.records.items place) (λ (r : Vec Stored Global). slice_get r.items i ≡ Some notice.stored))
-      client (
-        its,
-        tracked ∙ ap (λ x. Some x) (sym on),
-        subst (λ (y : Stored). IsTrue notice.was_seen ↔ WasSeenOf seen.chains.items c.tracks y.state.now.next) (sym record_is) known,
-        here (slice_get seen.records.items place) records (λ (r : Vec Stored Global). slice_get r.items i ≡ Some notice.stored) stored (at ∙ ap (λ x. Some x) (sym record_is)),
-      ),
+decides_any : {X : Type 0} (p : X → Bool) (P : X → Type 0) → ((x : X) → Decides (p x) (P x)) → (xs : List X)
+    → Decides (list_any p xs) (Any P xs)
+decides_any p P each xs = (
+  (λ e. let found = Any-from_list_any p xs e in (found.0, found.1, found.2, found.3, (each found.1).0 found.4)),
+  (λ found. list_any-from_Any p xs (found.0, found.1, found.2, found.3, (each found.1).1 found.4)),
 )
+
+decides_seen : (chain : Option SeenChain) (hash : List ℕ) → Decides (was_seen chain hash) (IsSomeAnd chain (λ (c : SeenChain). WasSeen c.sets.sets.items hash))
+decides_seen (Some c) hash =
+    decides_any (λ (s : SeenSet). bytes_eq (set_hash s.set) hash) (λ (s : SeenSet). set_hash s.set ≡ hash) (λ s. bytes_eq-Decides (set_hash s.set) hash) c.sets.sets.items
+decides_seen None hash = ((λ e. absurd (true≢false (sym e))), λ w. absurd w)
+
+pub was_seen-is : (r : Bool) (seen : Seen) (place : ℕ) (hash : List ℕ) → Decides r (WasSeenOf seen.chains.items place hash) → r ≡ was_seen (slice_get seen.chains.items place) hash
+was_seen-is r seen place hash decides =
+    same_from_decides r (was_seen (slice_get seen.chains.items place) hash) decides (decides_seen (slice_get seen.chains.items place) hash)

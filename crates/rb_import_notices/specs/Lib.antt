@@ -1,6 +1,8 @@
+pub mod Canonical
 pub mod Channels
 pub mod Counterparties
 pub mod Excess
+pub mod Latest
 pub mod Missing
 pub mod Notices
 pub mod Stale

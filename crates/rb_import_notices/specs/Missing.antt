@@ -1,14 +1,19 @@
--- What isn't among the answers that a script is made of: a chain's headers, and the set that a record names as its next.
-use Rattle.std.specs.Prelude.{◌≡◌, ◌<◌, ◌↔◌, ℕ, List, Vec, Some, Any, IsSomeAnd, IsTrue, length, slice_get}
+-- What isn't among the answers that a script is made of: a chain's headers, and the sets that records name as their next.
+use Rattle.std.specs.Prelude.{◌≡◌, ◌<◌, ◌+◌, ◌&&◌, ℕ, Bool, false, not, List, [], Vec, Option, Some, None, Any, count_by, filter, length, map, max, slice_get}
 use Rattle.std.specs.Global.{Global}
+use Rattle.std.specs.List.{list_any, reduce}
+use Rattle.std.specs.Str.{bytes_eq}
+use Rattle.rb_valset.specs.ValidatorSet.{set_hash}
 use Rattle.rb_import_setup.specs.declared.setup.ClientSetup.{ClientSetup}
 use Rattle.rb_import_setup.specs.declared.setup.Setup.{Setup}
+use Rattle.rb_import_check.specs.declared.chain.SeenChain.{SeenChain}
 use Rattle.rb_import_check.specs.declared.client.Stored.{Stored}
+use Rattle.rb_import_check.specs.declared.sets.SeenSet.{SeenSet}
 use Rattle.rb_import_merge.specs.declared.seen.Seen.{Seen}
-use Rattle.rb_import_merge.specs.Seen.{IsWrittenOf, LacksHeaders, WasSeenOf}
+use Rattle.rb_import_merge.specs.Seen.{LacksHeaders, is_written}
 use Rattle.rb_import_notices.specs.declared.missing.MissingHeaders.{MissingHeaders}
 use Rattle.rb_import_notices.specs.declared.missing.MissingNextSet.{MissingNextSet}
-use Rattle.rb_import_notices.specs.Notices.{AreNotices, AreNoticesOfRows}
+use Rattle.rb_import_notices.specs.Notices.{AreNotices}
 
 -- ---- headers
 
@@ -26,28 +31,60 @@ TellHeaders setup seen notices = AreNotices (λ place id. MissesHeaders setup se
 
 -- ---- the next sets of records
 
--- it is told of this client's record, and of the chain that the client tracks
-abbrev pub TellsRecord : List ℕ → List ℕ → Stored → MissingNextSet → Type 0
-TellsRecord client chain stored missing =
-    (missing.client.now ≡ client) × (missing.stored ≡ stored) × (missing.chain.now ≡ chain)
+-- whether a set of this hash was seen of a chain
+abbrev pub was_seen : Option SeenChain → List ℕ → Bool
+was_seen (Some chain) hash = list_any (λ (s : SeenSet). bytes_eq (set_hash s.set) hash) chain.sets.sets.items
+was_seen None hash = false
 
--- the client at a place tracks a chain of the setup, of which the set isn't written that the client's written record at the second place names as its next
-abbrev pub MissesNext : Setup → Seen → ℕ → ℕ → Type 0
-MissesNext setup seen place i =
-    IsSomeAnd (slice_get setup.clients.items place) (λ (c : ClientSetup).
-    (c.tracks < length setup.chains.items)
-    × IsSomeAnd (slice_get seen.records.items place) (λ (records : Vec Stored Global).
-    IsSomeAnd (slice_get records.items i) (λ (s : Stored). ¬ IsWrittenOf seen.chains.items seen.sets.items c.tracks s.state.now.next)))
+-- whether no answer on the chain at a place has the set that a record names as its next
+abbrev pub is_unseen : Seen → ℕ → Stored → Bool
+is_unseen seen chain s = not (was_seen (slice_get seen.chains.items chain) s.state.now.next)
 
--- it is told of this client's record, of the chain that the client tracks, and whether the set was seen
-abbrev pub SaysNext : Setup → Seen → ℕ → ℕ → MissingNextSet → Type 0
-SaysNext setup seen place i notice =
-    IsSomeAnd (slice_get setup.clients.items place) (λ (c : ClientSetup).
+-- whether that set was seen, and isn't written
+abbrev pub is_left_out : Seen → ℕ → Stored → Bool
+is_left_out seen chain s =
+    was_seen (slice_get seen.chains.items chain) s.state.now.next
+    && not (is_written (slice_get seen.chains.items chain) (slice_get seen.sets.items chain) s.state.now.next)
+
+abbrev items_of : Option (Vec Stored Global) → List Stored
+items_of (Some records) = records.items
+items_of None = []
+
+-- the written records of the client at a place
+abbrev pub written_at : Seen → ℕ → List Stored
+written_at seen place = items_of (slice_get seen.records.items place)
+
+-- the height of the set that a record names as its next
+abbrev pub next_height : Stored → ℕ
+next_height s = s.state.now.height + 1
+
+-- of how many of these no answer on the chain at another place has the next set; the height of that set of the highest of them; and of how many the
+-- next set was seen, and isn't written
+abbrev pub unseen_at : Seen → ℕ → ℕ → ℕ
+unseen_at seen place chain = count_by (is_unseen seen chain) (written_at seen place)
+
+abbrev pub next_in : Seen → ℕ → List Stored → Option ℕ
+next_in seen chain records = reduce max (map next_height (filter (is_unseen seen chain) records))
+
+abbrev pub next_unseen : Seen → ℕ → ℕ → Option ℕ
+next_unseen seen place chain = next_in seen chain (written_at seen place)
+
+abbrev pub left_out_at : Seen → ℕ → ℕ → ℕ
+left_out_at seen place chain = count_by (is_left_out seen chain) (written_at seen place)
+
+-- the client at a place tracks a chain of the setup, and the next sets of some of its written records aren't written
+abbrev pub LacksNext : Setup → Seen → ℕ → ClientSetup → Type 0
+LacksNext setup seen place c = (c.tracks < length setup.chains.items) × (0 < unseen_at seen place c.tracks + left_out_at seen place c.tracks)
+
+-- it is told of this client, of the chain that it tracks, of how many of its records each is so, and what to fetch for the highest
+abbrev pub SaysNext : Setup → Seen → ℕ → ClientSetup → MissingNextSet → Type 0
+SaysNext setup seen place c notice =
     (notice.client.now ≡ c.id)
     × (slice_get setup.chains.items c.tracks ≡ Some notice.chain.now)
-    × (IsTrue notice.was_seen ↔ WasSeenOf seen.chains.items c.tracks notice.stored.state.now.next)
-    × IsSomeAnd (slice_get seen.records.items place) (λ (records : Vec Stored Global). slice_get records.items i ≡ Some notice.stored))
+    × (notice.unseen ≡ unseen_at seen place c.tracks)
+    × (notice.next ≡ next_unseen seen place c.tracks)
+    × (notice.left_out ≡ left_out_at seen place c.tracks)
 
--- a notice for each written record of a client whose next set isn't written
+-- a notice for each client of the setup of whose written records some next sets aren't written
 unfoldable pub TellNextSets : Setup → Seen → List MissingNextSet → Type 0
-TellNextSets setup seen notices = AreNoticesOfRows (MissesNext setup seen) (SaysNext setup seen) notices
+TellNextSets setup seen notices = AreNotices (LacksNext setup seen) (SaysNext setup seen) setup.clients.items notices

@@ -1,7 +1,7 @@
 -- What notices say.
-use Rattle.std.specs.Prelude.{ℕ, ◌+◌, nat_lt, Bool, true, false, ◌==◌, if◌then◌else◌, List, [], ◌∷◌, ◌++◌, codes, length, take, drop, map, filter, flat_map, count_by}
+use Rattle.std.specs.Prelude.{ℕ, ◌+◌, nat_lt, Bool, true, false, ◌==◌, if◌then◌else◌, List, [], ◌∷◌, ◌++◌, Option, Some, None, codes, length, map, filter, flat_map, count_by}
 use Rattle.std.specs.Fmt.{decimal}
-use Rattle.std.specs.Str.{bytes_eq, chars}
+use Rattle.std.specs.Str.{chars}
 use Rattle.rb_script_toml.specs.KeyPaths.{shown}
 use Rattle.rb_import_answers.specs.declared.query.Query.{Query}
 use Rattle.rb_import_answers.specs.Queries.{query_path}
@@ -9,12 +9,14 @@ use Rattle.rb_import_check.specs.declared.saved.Saved.{Saved}
 use Rattle.rb_import_merge.specs.declared.packets.Searches.{Searches}
 use Rattle.rb_import_notices.specs.Lines.{lines_of}
 use Rattle.rb_import_notices.specs.Passed.{is_to}
+use Rattle.rb_import_notices.specs.declared.canonical.NotCanonical.{NotCanonical}
 use Rattle.rb_import_notices.specs.declared.channels.OtherChannel.{OtherChannel}
 use Rattle.rb_import_notices.specs.declared.counterparties.SeveralCounterparties.{SeveralCounterparties}
 use Rattle.rb_import_notices.specs.declared.excess.TooManyHeaders.{TooManyHeaders}
 use Rattle.rb_import_notices.specs.declared.excess.TooManyPackets.{TooManyPackets}
 use Rattle.rb_import_notices.specs.declared.excess.TooManyRecords.{TooManyRecords}
 use Rattle.rb_import_notices.specs.declared.excess.TooManySets.{TooManySets}
+use Rattle.rb_import_notices.specs.declared.latest.MissingLatest.{MissingLatest}
 use Rattle.rb_import_notices.specs.declared.missing.MissingHeaders.{MissingHeaders}
 use Rattle.rb_import_notices.specs.declared.missing.MissingNextSet.{MissingNextSet}
 use Rattle.rb_import_notices.specs.declared.notice.Notices.{Notices}
@@ -94,6 +96,30 @@ nothing_fresh_text n =
     ++ (codes " is young enough for it, so that none is planned; fetch /commit and /validators of later heights into files *.json of "
     ++ codes "the folder ")
     ++ n.chain.now
+
+abbrev pub not_canonical_text : NotCanonical → List ℕ
+not_canonical_text n =
+    codes "notice NotCanonical at "
+    ++ n.chain.now
+    ++ codes " "
+    ++ decimal n.highest
+    ++ codes ": "
+    ++ decimal n.count
+    ++ (codes " commits, this the highest, are not canonical yet, since the node had no next block; the chain may store more votes of "
+    ++ codes "them, so that an update costs more; fetch /commit?height=")
+    ++ decimal n.highest
+    ++ codes " again, in place of that answer"
+
+abbrev pub missing_latest_text : MissingLatest → List ℕ
+missing_latest_text n =
+    codes "notice MissingLatest at "
+    ++ n.client.now
+    ++ codes " "
+    ++ decimal n.height
+    ++ (codes ": the client's latest height is not among its stored records, so that its answers are of two moments or of two nodes, or "
+    ++ codes "pages of records are missing; fetch client_states and all pages of consensus_states of the client again, from one node, into "
+    ++ codes "files *.json of the folder ")
+    ++ n.client.now
 
 abbrev pub not_verified_text : NotVerified → List ℕ
 not_verified_text n =
@@ -199,60 +225,34 @@ missing_searches_text n =
 
 -- ---- next sets
 
-abbrev pub left_out_reason : List ℕ → List ℕ
-left_out_reason chain =
-    codes "the next validators are of a set of " ++ chain ++ codes " that is left out, so that no update starts from this record"
-
-abbrev pub unseen_reason : ℕ → List ℕ → List ℕ
-unseen_reason height chain =
-    codes "no answer has the next validators, so that no update starts from this record; fetch all pages of /validators?height="
-    ++ decimal (height + 1)
-    ++ codes "&per_page=100 into files *.json of the folder "
+-- no answer has the next sets of so many records of a chain; that of the highest is of this height
+abbrev pub unseen_of : ℕ → List ℕ → ℕ → List ℕ
+unseen_of count chain next =
+    codes "; no answer has those of "
+    ++ decimal count
+    ++ codes " records: fetch all pages of /validators?height="
+    ++ decimal next
+    ++ codes "&per_page=100, for the highest of them, into files *.json of the folder "
     ++ chain
 
-unfoldable pub next_set_reason : MissingNextSet → List ℕ
-next_set_reason n = if n.was_seen then left_out_reason n.chain.now else unseen_reason n.stored.state.now.height n.chain.now
+unfoldable pub unseen_part : ℕ → List ℕ → Option ℕ → List ℕ
+unseen_part count chain (Some next) = unseen_of count chain next
+unseen_part count chain None = []
+
+-- the next sets of so many records are left out of a chain
+abbrev pub left_out_of : ℕ → List ℕ → List ℕ
+left_out_of count chain = codes "; those of " ++ decimal count ++ codes " records are of sets of " ++ chain ++ codes " that are left out"
+
+unfoldable pub left_out_part : ℕ → List ℕ → List ℕ
+left_out_part count chain = if count == 0 then [] else left_out_of count chain
 
 abbrev pub missing_next_set_text : MissingNextSet → List ℕ
 missing_next_set_text n =
     codes "notice MissingNextSet at "
     ++ n.client.now
-    ++ codes " "
-    ++ decimal n.stored.state.now.height
-    ++ codes ": "
-    ++ n.stored.file.now
-    ++ codes ": "
-    ++ next_set_reason n
-
--- the line that counts a client's other notices
-abbrev pub rest_line : List ℕ → ℕ → List ℕ
-rest_line client rest =
-    codes "notice MissingNextSet at " ++ client ++ codes ": so it is of " ++ decimal rest ++ (codes " more of its stored records" ++ 10 ∷ [])
-
-abbrev pub rest_lines : List MissingNextSet → List ℕ
-rest_lines [] = []
-rest_lines (n ∷ others) = rest_line n.client.now (length (n ∷ others))
-
--- the lines of one client's notices: at most 20, and one that counts the others
-unfoldable pub client_lines : List MissingNextSet → List ℕ
-client_lines notices = lines_of missing_next_set_text (take 20 notices) ++ rest_lines (drop 20 notices)
-
--- whether two notices are of one client
-abbrev pub is_of_client : MissingNextSet → MissingNextSet → Bool
-is_of_client one other = bytes_eq one.client.now other.client.now
-
-abbrev pub before_parts : MissingNextSet → List (List MissingNextSet) → List (List MissingNextSet)
-before_parts n [] = (n ∷ []) ∷ []
-before_parts n ([] ∷ parts) = (n ∷ []) ∷ parts
-before_parts n ((m ∷ ms) ∷ parts) = if is_of_client n m then (n ∷ m ∷ ms) ∷ parts else (n ∷ []) ∷ (m ∷ ms) ∷ parts
-
--- notices that stand client by client, in parts of one client each
-abbrev pub by_client : List MissingNextSet → List (List MissingNextSet)
-by_client [] = []
-by_client (n ∷ ns) = before_parts n (by_client ns)
-
-unfoldable pub next_sets_text : List MissingNextSet → List ℕ
-next_sets_text notices = flat_map client_lines (by_client notices)
+    ++ codes ": no update starts from stored records without their next validators"
+    ++ unseen_part n.unseen n.chain.now n.next
+    ++ left_out_part n.left_out n.chain.now
 
 -- ---- answers that aren't needed
 
@@ -309,13 +309,17 @@ unusable_lines n =
     ++ lines_of unseen_goal_text n.goals.items
     ++ lines_of nothing_fresh_text n.stale.items
 
+abbrev pub commit_lines : Notices → List ℕ
+commit_lines n = lines_of not_canonical_text n.not_canonical.items ++ lines_of not_verified_text n.not_verified.items
+
 abbrev pub unsure_lines : Notices → List ℕ
 unsure_lines n =
-    next_sets_text n.next_sets.items
+    lines_of missing_next_set_text n.next_sets.items
+    ++ lines_of missing_latest_text n.latest.items
     ++ lines_of missing_searches_text n.searches.items
     ++ lines_of several_counterparties_text n.counterparties.items
     ++ lines_of other_channel_text n.channels.items
-    ++ lines_of not_verified_text n.not_verified.items
+    ++ commit_lines n
 
 abbrev pub passed_over_lines : Notices → List ℕ
 passed_over_lines n =

@@ -6,8 +6,3 @@ abbrev pub AreNotices : {X N : Type 0} → (ℕ → X → Type 0) → (ℕ → X
 AreNotices {X = X} {N = N} IsDue Says xs notices =
     All (λ (n : N). (i : ℕ) × (x : X) × (slice_get xs i ≡ Some x) × IsDue i x × Says i x n) notices
     × ((i : ℕ) → (x : X) → slice_get xs i ≡ Some x → IsDue i x → Any (Says i x) notices)
-
--- notices of the entries of rows, each by the row's place and its own
-abbrev pub AreNoticesOfRows : {N : Type 0} → (ℕ → ℕ → Type 0) → (ℕ → ℕ → N → Type 0) → List N → Type 0
-AreNoticesOfRows {N = N} IsDue Says notices =
-    All (λ (n : N). (row : ℕ) × (i : ℕ) × IsDue row i × Says row i n) notices × ((row i : ℕ) → IsDue row i → Any (Says row i) notices)

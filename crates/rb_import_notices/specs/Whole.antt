@@ -3,9 +3,11 @@ use Rattle.rb_import_setup.specs.declared.setup.Setup.{Setup}
 use Rattle.rb_import_check.specs.declared.saved.SavedAnswers.{SavedAnswers}
 use Rattle.rb_import_merge.specs.declared.seen.Seen.{Seen}
 use Rattle.rb_import_notices.specs.declared.notice.Notices.{Notices}
+use Rattle.rb_import_notices.specs.Canonical.{TellUncanonical}
 use Rattle.rb_import_notices.specs.Channels.{TellChannels}
 use Rattle.rb_import_notices.specs.Counterparties.{TellCounterparties}
 use Rattle.rb_import_notices.specs.Excess.{TellExcessHeaders, TellExcessPackets, TellExcessRecords, TellExcessSets}
+use Rattle.rb_import_notices.specs.Latest.{TellLatest}
 use Rattle.rb_import_notices.specs.Missing.{TellHeaders, TellNextSets}
 use Rattle.rb_import_notices.specs.Passed.{TellOthersOfChains, TellOthersOfClients, TellOthersOfPaths}
 use Rattle.rb_import_notices.specs.Stale.{TellFresh}
@@ -13,10 +15,11 @@ use Rattle.rb_import_notices.specs.Unsearched.{TellSearches}
 use Rattle.rb_import_notices.specs.Unusable.{TellFuture, TellGoals, TellUntrusted}
 use Rattle.rb_import_notices.specs.Verified.{TellUnverified}
 
--- they tell what isn't among the answers: headers, next sets, searches
+-- they tell what isn't among the answers: headers, next sets, records of latest heights, searches
 abbrev pub TellMissing : Setup → SavedAnswers → Seen → Notices → Type 0
 TellMissing setup answers seen n =
-    TellHeaders setup seen n.headers.items × TellNextSets setup seen n.next_sets.items × TellSearches setup answers.paths.items n.searches.items
+    TellHeaders setup seen n.headers.items × TellNextSets setup seen n.next_sets.items × TellLatest setup seen n.latest.items
+    × TellSearches setup answers.paths.items n.searches.items
 
 -- they tell what there is no room for: headers, sets, records, packets
 abbrev pub TellExcess : Setup → Seen → Notices → Type 0
@@ -44,8 +47,12 @@ TellPassed setup answers n =
 abbrev pub TellNotVerified : Setup → SavedAnswers → Seen → Notices → Type 0
 TellNotVerified setup answers seen n = TellUnverified setup answers.chains.items seen n.not_verified.items
 
+-- they tell of commits that aren't canonical yet
+abbrev pub TellNotCanonical : Setup → Seen → Notices → Type 0
+TellNotCanonical setup seen n = TellUncanonical setup seen n.not_canonical.items
+
 -- these are all notices of a setup, its answers and what was seen in them
 abbrev pub AreNoticesOf : Setup → SavedAnswers → Seen → Notices → Type 0
 AreNoticesOf setup answers seen n =
     TellMissing setup answers seen n × TellExcess setup seen n × TellUnusable setup seen n × TellUnsure setup answers n
-    × TellPassed setup answers n × TellNotVerified setup answers seen n
+    × TellPassed setup answers n × TellNotVerified setup answers seen n × TellNotCanonical setup seen n

@@ -2,9 +2,11 @@
 //! sure.
 #![tactic(auto)]
 
+mod canonical;
 mod channels;
 mod counterparties;
 mod excess;
+mod latest;
 mod lines;
 mod missing;
 mod notice;
@@ -15,9 +17,11 @@ mod unsearched;
 mod unusable;
 mod verified;
 
+pub use canonical::NotCanonical;
 pub use channels::OtherChannel;
 pub use counterparties::SeveralCounterparties;
 pub use excess::{TooManyHeaders, TooManyPackets, TooManyRecords, TooManySets};
+pub use latest::MissingLatest;
 pub use missing::{MissingHeaders, MissingNextSet};
 pub use notice::{Notices, notices_of};
 pub use passed::PassedOver;

@@ -1,11 +1,9 @@
-//! Notices of what isn't among the answers: a chain's headers, and the set that a record names as its next.
-ghost use Rattle.std.specs.Prelude.{◌≡◌, ◌↔◌, ◌<◌, ◌≤◌, ◌∷◌, length, take, drop, IsTrue, IsNone, IfSome, IfOk, MatchOption};
+//! Notices of what isn't among the answers: a chain's headers, and the sets that records name as their next.
+ghost use Rattle.std.specs.Prelude.{◌≡◌, ◌↔◌, slice_get, IsTrue, IfOk, MatchOption};
 ghost use Rattle.std.specs.Fmt.{WritesOnOk};
-ghost use Rattle.rb_import_merge.specs.Seen.{IsWrittenOf, WasSeenOf};
-ghost use Rattle.rb_import_notices.specs.Missing.{IsTracked, MissesHeaders, TellHeaders, TellNextSets, TellsRecord};
-ghost use Rattle.rb_import_notices.specs.NoticeTexts.{by_client, client_lines, is_of_client, next_sets_text, rest_line, rest_lines};
+ghost use Rattle.rb_import_notices.specs.Missing.{IsTracked, LacksNext, MissesHeaders, SaysNext, TellHeaders, TellNextSets, is_left_out, is_unseen, left_out_at, next_height, next_in, next_unseen, unseen_at, was_seen};
+ghost use Rattle.rb_import_notices.specs.NoticeTexts.{left_out_of, unseen_of};
 
-use crate::lines::write_lines;
 use rb_import_check::Stored;
 use rb_import_merge::Seen;
 use rb_import_setup::{ClientSetup, Setup};
@@ -33,15 +31,16 @@ impl fmt::Display for MissingHeaders<'_> {
     }
 }
 
-/// A record that a client has stored, and the chain that the client tracks: the set of the next validators that the
-/// record names isn't written, so that no update starts from it. Either it was seen, and the chain's book has no room
-/// for it, or no answer on the chain has it.
-#[derive(Clone, Copy)]
+/// A client, of whose written records some name a next set that isn't written, so that no update starts from them, and
+/// the chain that it tracks. No answer on that chain has the sets of `unseen` of them, that of the highest of which is of
+/// height `next`; those of `left_out` of them were seen, and the chain's book has no room for them.
+#[derive(Clone, Copy, Debug)]
 pub struct MissingNextSet<'a> {
     pub client: &'a str,
-    pub stored: Stored<'a>,
     pub chain: &'a str,
-    pub was_seen: bool,
+    pub unseen: usize,
+    pub next: Option<u64>,
+    pub left_out: usize,
 }
 
 impl fmt::Display for MissingNextSet<'_> {
@@ -52,112 +51,68 @@ impl fmt::Display for MissingNextSet<'_> {
 
     fn fmt<W: fmt::Write>(&self, f: &mut fmt::Formatter<W>) -> fmt::Result {
         let client = self.client;
-        let height = self.stored.state.height;
-        let file = self.stored.file;
-        write!(f, "notice MissingNextSet at {client} {height}: {file}: ")?;
-        self.write_reason(f)
+        write!(
+            f,
+            "notice MissingNextSet at {client}: no update starts from stored records without their next validators"
+        )?;
+        self.write_unseen(f)?;
+        self.write_left_out(f)
     }
 }
 
 impl MissingNextSet<'_> {
     ghost use Rattle.std.specs.Fmt.{WritesOnOk};
-    ghost use Rattle.rb_import_notices.specs.NoticeTexts.{next_set_reason};
+    ghost use Rattle.rb_import_notices.specs.NoticeTexts.{left_out_part, unseen_part};
 
-    /// Writes why no update starts from the record.
-    fn write_reason<W: fmt::Write>(&self, f: &mut fmt::Formatter<W>) -> fmt::Result
-        ensures { WritesOnOk W.write_str_gives f.old result (next_set_reason self.now) f.new }
+    /// Writes of how many records no answer has the next sets, and what to fetch for the highest.
+    #[tactic(auto, unfolding(crate::specs::NoticeTexts::unseen_part))]
+    fn write_unseen<W: fmt::Write>(&self, f: &mut fmt::Formatter<W>) -> fmt::Result
+        ensures { WritesOnOk W.write_str_gives f.old result (unseen_part self.now.unseen self.now.chain.now self.now.next) f.new }
     {
-        let chain = self.chain;
-        if self.was_seen {
-            write!(
-                f,
-                "the next validators are of a set of {chain} that is left out, so that no update starts from this record"
-            )
-        } else {
-            let next = self.stored.state.height.get().saturating_add(1);
-            write!(
-                f,
-                "no answer has the next validators, so that no update starts from this record; fetch all pages of /validators?height={next}&per_page=100 into files *.json of the folder {chain}"
-            )
+        match self.next {
+            Some(next) => write_unseen_of(f, self.unseen, self.chain, next),
+            None => Ok(()),
+        }
+    }
+
+    /// Writes of how many records the next sets are left out.
+    #[tactic(auto, unfolding(crate::specs::NoticeTexts::left_out_part))]
+    fn write_left_out<W: fmt::Write>(&self, f: &mut fmt::Formatter<W>) -> fmt::Result
+        ensures { WritesOnOk W.write_str_gives f.old result (left_out_part self.now.left_out self.now.chain.now) f.new }
+    {
+        match self.left_out {
+            0 => Ok(()),
+            left_out => write_left_out_of(f, left_out, self.chain),
         }
     }
 }
 
-/// The most lines of one client on records without their next set.
-const MAX_LINES: usize = 20;
-
-/// Writes a line for each of these, which stand client by client: at most 20 of a client, and one that counts its others.
-pub fn write_next_sets<W: fmt::Write>(
+/// Writes that no answer has the next sets of so many records of a chain, the highest of which is of this height.
+fn write_unseen_of<W: fmt::Write>(
     f: &mut fmt::Formatter<W>,
-    notices: &[MissingNextSet<'_>],
+    unseen: usize,
+    chain: &str,
+    next: u64,
 ) -> fmt::Result
-    ensures { WritesOnOk W.write_str_gives f.old result (next_sets_text notices.now) f.new }
+    ensures { WritesOnOk W.write_str_gives f.old result (unseen_of unseen chain.now next) f.new }
 {
-    if notices.is_empty() {
-        return Ok(());
-    }
-    let (part, others) = notices.split_at(client_front(notices));
-    write_of_client(f, part)?;
-    write_next_sets(f, others)
-}
-
-/// How many of these stand in front that are of the first one's client.
-fn client_front(notices: &[MissingNextSet<'_>]) -> usize
-    ensures within { result ≤ length notices.now }
-    ensures some { 0 < length notices.now → 0 < result }
-    ensures front { 0 < length notices.now → by_client notices.now ≡ take result notices.now ∷ by_client (drop result notices.now) }
-{
-    for place in 1..notices.len() {
-        if !is_of_client(&notices[place - 1], &notices[place]) {
-            return place;
-        }
-    }
-    notices.len()
-}
-
-/// Whether two are of the same client.
-fn is_of_client(one: &MissingNextSet<'_>, other: &MissingNextSet<'_>) -> bool
-    ensures { result ≡ is_of_client one.now other.now }
-{
-    one.client == other.client
-}
-
-/// Writes the lines of one client.
-fn write_of_client<W: fmt::Write>(
-    f: &mut fmt::Formatter<W>,
-    notices: &[MissingNextSet<'_>],
-) -> fmt::Result
-    ensures { WritesOnOk W.write_str_gives f.old result (client_lines notices.now) f.new }
-{
-    match notices.split_at_checked(MAX_LINES) {
-        Some((shown, others)) => {
-            write_lines(f, shown)?;
-            write_others(f, others)
-        }
-        None => write_lines(f, notices),
-    }
-}
-
-/// Writes how many others of a client's records are without their next set, if there are such.
-fn write_others<W: fmt::Write>(
-    f: &mut fmt::Formatter<W>,
-    others: &[MissingNextSet<'_>],
-) -> fmt::Result
-    ensures { WritesOnOk W.write_str_gives f.old result (rest_lines others.now) f.new }
-{
-    match others.first() {
-        Some(first) => write_rest(f, first.client, others.len()),
-        None => Ok(()),
-    }
-}
-
-/// Writes that so many more of a client's records are without their next set.
-fn write_rest<W: fmt::Write>(f: &mut fmt::Formatter<W>, client: &str, rest: usize) -> fmt::Result
-    ensures { WritesOnOk W.write_str_gives f.old result (rest_line client.now rest) f.new }
-{
-    writeln!(
+    write!(
         f,
-        "notice MissingNextSet at {client}: so it is of {rest} more of its stored records"
+        "; no answer has those of {unseen} records: fetch all pages of /validators?height={next}&per_page=100, for the highest of them, into files *.json of the folder {chain}"
+    )
+}
+
+/// Writes that the next sets of so many records are left out of a chain.
+fn write_left_out_of<W: fmt::Write>(
+    f: &mut fmt::Formatter<W>,
+    left_out: usize,
+    chain: &str,
+) -> fmt::Result
+    ensures { WritesOnOk W.write_str_gives f.old result (left_out_of left_out chain.now) f.new }
+{
+    write!(
+        f,
+        "; those of {left_out} records are of sets of {chain} that are left out"
     )
 }
 
@@ -200,7 +155,7 @@ fn is_tracked(setup: &Setup, place: usize) -> bool
     setup.clients.iter().any(|client| client.tracks == place)
 }
 
-/// The written records whose next sets aren't written, by client, of each by rising height.
+/// The clients with written records whose next sets aren't written.
 pub fn missing_next_sets<'a>(
     alloc: Global,
     setup: &'a Setup,
@@ -210,39 +165,108 @@ pub fn missing_next_sets<'a>(
 {
     let mut found = Vec::new(alloc);
     for (place, client) in setup.clients.iter().enumerate() {
-        let Some(chain) = setup.chains.get(client.tracks) else {
-            continue;
-        };
-        let Some(records) = seen.records.get(place) else {
-            continue;
-        };
-        for stored in records {
-            if let Some(missing) = missing_next_set(seen, client, chain.as_str(), stored) {
-                found.push(missing)?;
-            }
+        if let Some(missing) = next_sets_missing_at(setup, seen, place, client) {
+            found.push(missing)?;
         }
     }
     Ok(found)
 }
 
-/// A client's record, where its next set isn't written of the chain that the client tracks.
-fn missing_next_set<'a>(
-    seen: &Seen<'a>,
+/// The client at a place, where the next sets of some of its written records aren't written.
+fn next_sets_missing_at<'a>(
+    setup: &'a Setup,
+    seen: &Seen<'_>,
+    place: usize,
     client: &'a ClientSetup,
-    chain: &'a str,
-    stored: &Stored<'a>,
 ) -> Option<MissingNextSet<'a>>
-    ensures when { IsNone result ↔ IsWrittenOf seen.now.chains.items seen.now.sets.items client.entry.now.tracks stored.now.state.now.next }
-    ensures record { IfSome result (TellsRecord client.entry.now.id chain.entry.now stored.now) }
-    ensures seen { IfSome result (λ missing. IsTrue missing.was_seen ↔ WasSeenOf seen.now.chains.items client.entry.now.tracks stored.now.state.now.next) }
+    ensures { MatchOption result (¬ LacksNext setup.entry.now seen.now place client.entry.now) (λ n. LacksNext setup.entry.now seen.now place client.entry.now × SaysNext setup.entry.now seen.now place client.entry.now n) }
 {
-    if seen.is_written(client.tracks, &stored.state.next) {
+    let chain = setup.chains.get(client.tracks)?;
+    let unseen = unseen_at(seen, place, client.tracks);
+    let left_out = left_out_at(seen, place, client.tracks);
+    if unseen == 0 && left_out == 0 {
         return None;
     }
     Some(MissingNextSet {
         client: client.id.as_str(),
-        stored: *stored,
-        chain,
-        was_seen: seen.has_set(client.tracks, &stored.state.next),
+        chain: chain.as_str(),
+        unseen,
+        next: next_unseen(seen, place, client.tracks),
+        left_out,
     })
+}
+
+/// Of how many written records of the client at a place no answer on the chain at another has the next set.
+fn unseen_at(seen: &Seen<'_>, place: usize, chain: usize) -> usize
+    ensures { result ≡ unseen_at seen.now place chain }
+{
+    match seen.records.get(place) {
+        Some(records) => records
+            .iter()
+            .filter(|record| is_unseen(seen, chain, record))
+            .count(),
+        None => 0,
+    }
+}
+
+/// The height of the next set of the highest of these records.
+fn next_unseen(seen: &Seen<'_>, place: usize, chain: usize) -> Option<u64>
+    ensures { result ≡ next_unseen seen.now place chain }
+{
+    match seen.records.get(place) {
+        Some(records) => next_in(seen, chain, records.as_slice()),
+        None => None,
+    }
+}
+
+/// The height of the next set of the highest of those of these records whose next set no answer on the chain at a place has.
+fn next_in(seen: &Seen<'_>, chain: usize, records: &[Stored<'_>]) -> Option<u64>
+    ensures { result ≡ next_in seen.now chain records.now }
+{
+    records
+        .iter()
+        .filter(|record| is_unseen(seen, chain, record))
+        .map(|record| next_height(record))
+        .max()
+}
+
+/// The height of a record's next set.
+fn next_height(stored: &Stored<'_>) -> u64
+    ensures { result ≡ next_height stored.now }
+{
+    stored.state.height.get().saturating_add(1)
+}
+
+/// Of how many written records of the client at a place the next set was seen of the chain at another, and isn't written.
+fn left_out_at(seen: &Seen<'_>, place: usize, chain: usize) -> usize
+    ensures { result ≡ left_out_at seen.now place chain }
+{
+    match seen.records.get(place) {
+        Some(records) => records
+            .iter()
+            .filter(|record| is_left_out(seen, chain, record))
+            .count(),
+        None => 0,
+    }
+}
+
+/// Whether no answer on the chain at a place has a record's next set.
+fn is_unseen(seen: &Seen<'_>, chain: usize, stored: &Stored<'_>) -> bool
+    ensures { result ≡ is_unseen seen.now chain stored.now }
+{
+    !was_seen(seen, chain, &stored.state.next)
+}
+
+/// Whether a record's next set was seen of the chain at a place, and isn't written.
+fn is_left_out(seen: &Seen<'_>, chain: usize, stored: &Stored<'_>) -> bool
+    ensures { result ≡ is_left_out seen.now chain stored.now }
+{
+    was_seen(seen, chain, &stored.state.next) && !seen.is_written(chain, &stored.state.next)
+}
+
+/// Whether the set of this hash was seen of the chain at a place.
+fn was_seen(seen: &Seen<'_>, chain: usize, hash: &[u8; 32]) -> bool
+    ensures { result ≡ was_seen (slice_get seen.now.chains.items chain) hash.now }
+{
+    seen.has_set(chain, hash)
 }

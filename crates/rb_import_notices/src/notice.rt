@@ -1,18 +1,18 @@
 //! What isn't among answers that make a script, what isn't written of them, and what can't be used or isn't sure: the
 //! script is written all the same, but updates may be missed.
 ghost use Rattle.std.specs.Prelude.{IfOk};
-ghost use Rattle.rb_import_notices.specs.Whole.{TellExcess, TellMissing, TellNotVerified, TellPassed, TellUnsure, TellUnusable};
+ghost use Rattle.rb_import_notices.specs.Whole.{TellExcess, TellMissing, TellNotCanonical, TellNotVerified, TellPassed, TellUnsure, TellUnusable};
 
+use crate::canonical::{NotCanonical, not_canonical};
 use crate::channels::{OtherChannel, of_other_channels};
 use crate::counterparties::{SeveralCounterparties, sent_to_several};
 use crate::excess::{
     TooManyHeaders, TooManyPackets, TooManyRecords, TooManySets, too_many_headers,
     too_many_packets, too_many_records, too_many_sets,
 };
+use crate::latest::{MissingLatest, missing_latest};
 use crate::lines::write_lines;
-use crate::missing::{
-    MissingHeaders, MissingNextSet, missing_headers, missing_next_sets, write_next_sets,
-};
+use crate::missing::{MissingHeaders, MissingNextSet, missing_headers, missing_next_sets};
 use crate::passed::{PassedOver, others_of_chains, others_of_clients, others_of_paths};
 use crate::stale::{NothingFresh, nothing_fresh};
 use crate::unsearched::{MissingSearches, missing_searches};
@@ -26,9 +26,8 @@ use rb_import_setup::Setup;
 use std::alloc::{AllocError, Global};
 use std::fmt;
 
-/// What isn't among the answers, isn't written, can't be used or isn't sure, each kind in the setup's order, of one client's
-/// written records by rising height. Shown as a line each, but of a client's records without their next set at most 20
-/// lines and one that counts the others.
+/// What isn't among the answers, isn't written, can't be used or isn't sure, each kind in the setup's order. Shown as a line
+/// each.
 #[derive(Drop)]
 pub struct Notices<'a> {
     pub headers: Vec<MissingHeaders<'a>>,
@@ -41,9 +40,11 @@ pub struct Notices<'a> {
     pub goals: Vec<UnseenGoal<'a>>,
     pub stale: Vec<NothingFresh<'a>>,
     pub next_sets: Vec<MissingNextSet<'a>>,
+    pub latest: Vec<MissingLatest<'a>>,
     pub searches: Vec<MissingSearches<'a>>,
     pub counterparties: Vec<SeveralCounterparties<'a>>,
     pub channels: Vec<OtherChannel<'a>>,
+    pub not_canonical: Vec<NotCanonical<'a>>,
     pub not_verified: Vec<NotVerified<'a>>,
     pub others_of_chains: Vec<PassedOver<'a>>,
     pub others_of_clients: Vec<PassedOver<'a>>,
@@ -67,7 +68,7 @@ impl fmt::Display for Notices<'_> {
 
 impl Notices<'_> {
     ghost use Rattle.std.specs.Fmt.{WritesOnOk};
-    ghost use Rattle.rb_import_notices.specs.NoticeTexts.{excess_lines, passed_over_lines, unsure_lines, unusable_lines};
+    ghost use Rattle.rb_import_notices.specs.NoticeTexts.{commit_lines, excess_lines, passed_over_lines, unsure_lines, unusable_lines};
 
     /// Writes a line for each notice of what there is no room for.
     fn write_excess<W: fmt::Write>(&self, f: &mut fmt::Formatter<W>) -> fmt::Result
@@ -93,10 +94,19 @@ impl Notices<'_> {
     fn write_unsure<W: fmt::Write>(&self, f: &mut fmt::Formatter<W>) -> fmt::Result
         ensures { WritesOnOk W.write_str_gives f.old result (unsure_lines self.now) f.new }
     {
-        write_next_sets(f, self.next_sets.as_slice())?;
+        write_lines(f, self.next_sets.as_slice())?;
+        write_lines(f, self.latest.as_slice())?;
         write_lines(f, self.searches.as_slice())?;
         write_lines(f, self.counterparties.as_slice())?;
         write_lines(f, self.channels.as_slice())?;
+        self.write_commits(f)
+    }
+
+    /// Writes a line for each chain with commits that may change, or whose signatures were not verified.
+    fn write_commits<W: fmt::Write>(&self, f: &mut fmt::Formatter<W>) -> fmt::Result
+        ensures { WritesOnOk W.write_str_gives f.old result (commit_lines self.now) f.new }
+    {
+        write_lines(f, self.not_canonical.as_slice())?;
         write_lines(f, self.not_verified.as_slice())
     }
 
@@ -124,6 +134,7 @@ pub fn notices_of<'a>(
     ensures unsure { IfOk result (TellUnsure setup.entry.now answers.entry.now) }
     ensures passed { IfOk result (TellPassed setup.entry.now answers.entry.now) }
     ensures unverified { IfOk result (TellNotVerified setup.entry.now answers.entry.now seen.now) }
+    ensures canonical { IfOk result (TellNotCanonical setup.entry.now seen.now) }
 {
     let headers = missing_headers(alloc, setup, seen)?;
     let too_many_headers = too_many_headers(alloc, setup, seen)?;
@@ -135,9 +146,11 @@ pub fn notices_of<'a>(
     let goals = unseen_goals(alloc, setup, seen)?;
     let stale = nothing_fresh(alloc, setup, seen)?;
     let next_sets = missing_next_sets(alloc, setup, seen)?;
+    let latest = missing_latest(alloc, setup, seen)?;
     let searches = missing_searches(alloc, setup, answers.paths.as_slice())?;
     let counterparties = sent_to_several(alloc, setup, answers)?;
     let channels = of_other_channels(alloc, setup, answers)?;
+    let not_canonical = not_canonical(alloc, setup, seen)?;
     let not_verified = not_verified(alloc, setup, answers, seen)?;
     let others_of_chains = others_of_chains(alloc, setup, answers)?;
     let others_of_clients = others_of_clients(alloc, setup, answers)?;
@@ -153,9 +166,11 @@ pub fn notices_of<'a>(
         goals,
         stale,
         next_sets,
+        latest,
         searches,
         counterparties,
         channels,
+        not_canonical,
         not_verified,
         others_of_chains,
         others_of_clients,
