@@ -3,7 +3,7 @@ use Rattle.std.proofs.Common.{◌≡◌, ℕ, zero, suc, ◌<◌, ◌≤◌, ◌
 use Rattle.std.specs.Prelude.{IfSome, IsSomeAnd, Option, Vec, filter, slice_get}
 use Rattle.std.specs.Global.{Global}
 use Rattle.std.proofs.lemmas.Bool.{cases_lt, eq-eqb, true≢false}
-use Rattle.std.proofs.lemmas.List.Elements.{All-contains, All-contains_itself, All-filter, All-weaker}
+use Rattle.std.proofs.lemmas.List.Elements.{All-contains, All-contains_itself, All-filter, All-head, All-tail, All-weaker}
 use Rattle.std.proofs.lemmas.List.Folds.{list_any-from_Any}
 use Rattle.std.proofs.lemmas.Option.{same_Some, slice_get_read, slice_get_within}
 use Rattle.rb_valset.specs.Validator.{Member}
@@ -22,7 +22,7 @@ use Rattle.rb_import_merge.specs.Seen.{IsKeptSet}
 use Rattle.rb_import_notices.specs.Unusable.{last_turn}
 use Rattle.rb_import.specs.declared.steps.Judging.{Judging}
 use Rattle.rb_import.specs.declared.steps.Target.{Target}
-use Rattle.rb_import.specs.Parts.{AreJudged, AreNeeded, IsNeededOf, IsOrderly, IsPartOf, KeepsHeaders, ServesClients}
+use Rattle.rb_import.specs.Parts.{AreAllUnlessOrderly, AreJudged, AreNeeded, IsNeededOf, IsOrderly, IsPartOf, KeepsHeaders, ServesClients}
 use Rattle.rb_import.specs.Starts.{Serves, is_charged}
 use Rattle.rb_import.specs.Finding.{AreTargets, HaveOwn, IsAmong, IsCase, IsPartAt, Need, NeedOnly, Stay, is_one_of}
 use Rattle.rb_import.specs.Steps.{IsWrittenAt, judging_of}
@@ -174,15 +174,48 @@ serves_part setup seen place chain places whole part its serves number c client 
     serves_on (judging_of client turn.window) (is_charged c) chain whole records.items places part.places.items (λ p kept w. in_part places whole part its p kept w)
     (serves number c client records turn at tracks there written last)
 
+-- where all sets are needed, the part has all
+
+pub all_whole : (setup : Setup) (seen : Seen) (place : ℕ) (whole : KeptSets) (places : List ℕ) (o : Option SeenChain) → places ≡ whole.places.items
+    → IfSome o (λ chain. AreAllUnlessOrderly setup seen place chain whole places)
+unfolding AreAllUnlessOrderly
+all_whole setup seen place whole places None is = tt
+all_whole setup seen place whole places (Some chain) is = λ not. is
+
+all_orderly : (setup : Setup) (seen : Seen) (place : ℕ) (chain : SeenChain) (whole : KeptSets) (places : List ℕ) → IsOrderly setup seen place chain → AreAllUnlessOrderly setup seen place chain whole places
+unfolding AreAllUnlessOrderly
+all_orderly setup seen place chain whole places orderly = λ not. absurd (not orderly)
+
+pub all_found : (setup : Setup) (seen : Seen) (place : ℕ) (chain : SeenChain) (whole : KeptSets) (places : List ℕ) → slice_get seen.chains.items place ≡ Some chain → IsOrderly setup seen place chain
+    → IfSome (slice_get seen.chains.items place) (λ x. AreAllUnlessOrderly setup seen place x whole places)
+all_found setup seen place chain whole places at orderly =
+    seen_as (slice_get seen.chains.items place) chain (λ (x : SeenChain). AreAllUnlessOrderly setup seen place x whole places) at (all_orderly setup seen place chain whole places orderly)
+
+filter_all : (p : ℕ → Bool) (xs : List ℕ) → All (λ x. p x ≡ true) xs → filter p xs ≡ xs
+filter_all p [] all = refl
+filter_all p (x ∷ xs) all =
+    ap (λ b. cond b (x ∷ filter p xs) (filter p xs)) (All-head (λ y. p y ≡ true) x xs all) ∙ ap (λ l. x ∷ l) (filter_all p xs (All-tail (λ y. p y ≡ true) x xs all))
+
+part_all : (setup : Setup) (seen : Seen) (place : ℕ) (chain : SeenChain) (places : List ℕ) (whole part : KeptSets) → IsPartAt places whole part → AreAllUnlessOrderly setup seen place chain whole places
+    → AreAllUnlessOrderly setup seen place chain whole part.places.items
+unfolding AreAllUnlessOrderly
+part_all setup seen place chain places whole part (same, left) all = λ not.
+    let ws = whole.places.items in
+    let each : All (λ x. is_one_of ws x ≡ true) ws = All-weaker (Contains ws) (λ x. is_one_of ws x ≡ true) (λ x (k, small, at). list_any-from_Any (λ (q : ℕ). q == x) ws (k, x, small, at, eq-eqb x x refl)) ws (All-contains_itself ws) in
+    same ∙ ap (λ l. filter (is_one_of l) ws) (all not) ∙ filter_all (is_one_of ws) ws each
+
 pub needed : (setup : Setup) (seen : Seen) (place : ℕ) (places : List ℕ) (whole part : KeptSets) → IfSome (slice_get seen.chains.items place) (λ chain. NeedOnly setup seen place whole chain places)
-    → IsPartAt places whole part → IsNeededOf setup seen place whole part
-needed setup seen place places whole part need its = (is_part places whole part its, each (slice_get seen.chains.items place) need)
+    → IfSome (slice_get seen.chains.items place) (λ chain. AreAllUnlessOrderly setup seen place chain whole places) → IsPartAt places whole part → IsNeededOf setup seen place whole part
+needed setup seen place places whole part need all its = (is_part places whole part its, each (slice_get seen.chains.items place) need all)
   where
-    each : (o : Option SeenChain) → IfSome o (λ chain. NeedOnly setup seen place whole chain places)
-        → IfSome o (λ chain. KeepsHeaders chain whole part × ServesClients setup seen place chain whole part.places.items × AreNeeded setup seen place chain whole part.places.items)
-    each None w = w
-    each (Some chain) ((own, serves), only) = (
+    each : (o : Option SeenChain) → IfSome o (λ chain. NeedOnly setup seen place whole chain places) → IfSome o (λ chain. AreAllUnlessOrderly setup seen place chain whole places)
+        → IfSome o (λ chain.
+        KeepsHeaders chain whole part × ServesClients setup seen place chain whole part.places.items × AreNeeded setup seen place chain whole part.places.items
+        × AreAllUnlessOrderly setup seen place chain whole part.places.items)
+    each None w v = tt
+    each (Some chain) ((own, serves), only) unless = (
       keeps_headers chain places whole part its own,
       serves_part setup seen place chain places whole part its serves,
       part_needed setup seen place chain whole part places its only,
+      part_all setup seen place chain places whole part its unless,
     )

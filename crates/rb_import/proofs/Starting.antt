@@ -1,10 +1,6 @@
 -- The starts of a client, and that those which it needs serve it.
 use Rattle.std.proofs.Common.{◌≡◌, ◌≢◌, ℕ, zero, suc, ◌<◌, ◌≤◌, ◌+◌, ◌⊎◌, List, [], ◌∷◌, ◌++◌, length, get_or, take, Bool, true, false, Some, None, inl, inr, refl, sym, subst, ap, ◌∙◌, arith, All, Contains}
-use Rattle.std.specs.Prelude.{IfSome, IsSomeAnd, MatchResult, Option, is_ok, option_to_list, slice_get}
-use Rattle.std.specs.List.{HoldsAt}
-use Rattle.std.specs.List.Sorted.{IsSearchInRange}
-use Rattle.std.specs.declared.result.Result.{Result}
-use Rattle.std.specs.declared.result.Result.TheVariants.{Ok, Err}
+use Rattle.std.specs.Prelude.{IfSome, IsSomeAnd, Option, option_to_list, slice_get}
 use Rattle.std.specs.Cmp.{IsTotalOrder}
 use Rattle.std.specs.List.Sorted.{IsPermutation, IsSorted}
 use Rattle.std.specs.Ordering.{is_eq, is_lt, nat_cmp, ordering_then}
@@ -17,7 +13,6 @@ use Rattle.std.proofs.lemmas.List.Elements.{All-append, All-contains, All-more, 
 use Rattle.std.proofs.lemmas.List.MinMax.{ranks_by}
 use Rattle.std.proofs.lemmas.List.Sorted.{Contains-permutation, sorted_far}
 use Rattle.std.proofs.lemmas.Map.Keys.{ge_from_not_lt}
-use Rattle.std.proofs.lemmas.Map.Lookups.{exact_unsigned}
 use Rattle.std.proofs.lemmas.Option.{get_or_from_slice_get, none-some, same_Some, slice_get_within}
 use Rattle.rb_valset.specs.Validator.{Member}
 use Rattle.rb_valset.specs.ValidatorSet.{set_hash}
@@ -255,10 +250,3 @@ target_there sets kept commit before after target p own now only header place st
 
 pub is_other : (records : List Stored) (target : Target) (start s : Start) → target.start ≡ Some start → IsOther records s target → start ≡ s
 is_other records target start s its (is, unstored) = same_Some start s (sym its ∙ is)
-
--- what a search by height finds is stored
-pub stored_where : (records : List Stored) (height : ℕ) (r : Result ℕ ℕ) (Q : ℕ → Type 0) → IsSearchInRange r (length records)
-    → MatchResult r (HoldsAt (λ (s : Stored). nat_cmp s.state.now.height height ≡ Equal) records) Q → is_ok r ≡ true → All (λ (s : Stored). s.state.now.height ≢ height) records → ⊥
-stored_where [] height (Ok i) Q within at is none = absurd (omega (arith, within))
-stored_where (x ∷ xs) height (Ok i) Q within at is none = none i x within (exact_unsigned _ _ (at x))
-stored_where records height (Err i) Q within at is none = absurd (true≢false (sym is))

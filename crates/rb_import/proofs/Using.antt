@@ -1,5 +1,5 @@
 -- The sets at which updates of a client start, and that no others are needed.
-use Rattle.std.proofs.Common.{◌≡◌, ℕ, ◌<◌, ◌≤◌, ◌-◌, ◌==◌, ◌⊎◌, List, [], ◌∷◌, ◌++◌, length, get_or, Bool, true, Option, Some, None, inl, inr, arith, refl, sym, subst, ◌∙◌, All, Contains}
+use Rattle.std.proofs.Common.{◌≡◌, ◌≢◌, ℕ, ◌<◌, ◌≤◌, ◌-◌, ◌==◌, ◌⊎◌, List, [], ◌∷◌, ◌++◌, length, get_or, Bool, true, Option, Some, None, inl, inr, arith, refl, sym, subst, ◌∙◌, All, Contains}
 use Rattle.std.specs.Prelude.{Any, IfSome, IsSomeAnd, filter, option_to_list, slice_get}
 use Rattle.std.specs.List.Sorted.{IsSorted}
 use Rattle.std.proofs.lemmas.List.{append-nil}
@@ -24,7 +24,7 @@ use Rattle.rb_import.specs.declared.steps.Start.{Start}
 use Rattle.rb_import.specs.declared.steps.Target.{Target}
 use Rattle.rb_import.specs.Parts.{AreJudged, AreNeeded, CanJudge, IsJudged, IsNeeded, IsOrderly}
 use Rattle.rb_import.specs.Starts.{IsBest, IsStartIn, IsUsed, IsUsedFor, Outdoes, is_charged}
-use Rattle.rb_import.specs.Finding.{AddsOnly, AreAll, AreTargetsIn, IsCase, IsFirst, IsFirstOrNone, IsMadeBy, IsPartAt, IsTargetIn, StartsAt, is_one_of, start_cmp}
+use Rattle.rb_import.specs.Finding.{AddsOnly, AreAll, AreTargetsIn, IsCase, IsFirst, IsFirstOrNone, IsMadeBy, IsOther, IsPartAt, IsTargetIn, StartsAt, is_one_of, start_cmp}
 use Rattle.rb_import.specs.Steps.{Accepts, IsStartOf, IsStartOfHeader, IsWrittenAt, header_of, judging_of}
 use Rattle.rb_import.proofs.Adding.{adds_as, all_added, none_there}
 use Rattle.rb_import.proofs.Starting.{first_is_best, written_is}
@@ -45,14 +45,14 @@ unfolding AreTargetsIn
 no_targets chain kept targets none = subst (All (IsTargetIn chain kept)) (sym none) (All-nil (IsTargetIn chain kept))
 
 -- a start more that a target makes
-pub made_more : (targets : List Target) (i : ℕ) (t : Target) (r : Option Start) (before after : List Start) → i < length targets → t ≡ get_or targets i t → after ≡ before ++ option_to_list r
-    → IfSome r (λ s. t.start ≡ Some s) → All (IsMadeBy targets) before → All (IsMadeBy targets) after
-made_more targets i t r before after small is now its all =
+pub made_more : (records : List Stored) (targets : List Target) (i : ℕ) (t : Target) (r : Option Start) (before after : List Start) → i < length targets → t ≡ get_or targets i t → after ≡ before ++ option_to_list r
+    → IfSome r (λ s. IsOther records s t) → All (IsMadeBy records targets) before → All (IsMadeBy records targets) after
+made_more records targets i t r before after small is now its all =
     of r now its
   where
-    of : (o : Option Start) → after ≡ before ++ option_to_list o → IfSome o (λ s. t.start ≡ Some s) → All (IsMadeBy targets) after
-    of None is_now w = subst (All (IsMadeBy targets)) (sym (is_now ∙ append-nil before)) all
-    of (Some s) is_now w = subst (All (IsMadeBy targets)) (sym is_now) (All-push (IsMadeBy targets) before s all (t, (i, small, sym is), w))
+    of : (o : Option Start) → after ≡ before ++ option_to_list o → IfSome o (λ s. IsOther records s t) → All (IsMadeBy records targets) after
+    of None is_now w = subst (All (IsMadeBy records targets)) (sym (is_now ∙ append-nil before)) all
+    of (Some s) is_now w = subst (All (IsMadeBy records targets)) (sym is_now) (All-push (IsMadeBy records targets) before s all (t, (i, small, sym is), w))
 
 -- ---- where updates start
 
@@ -84,7 +84,7 @@ is_best judging charged sets kept records starts target (Some f) all only sorted
 -- a start that is taken for a target is one of the client's cheapest updates
 used_at : (judging : Judging) (charged : Bool) (chain : SeenChain) (kept : KeptSets) (records : List Stored) (targets : List Target) (from others : List Start) (target : Target) (p : ℕ)
     → AreTargetsIn chain kept targets → AreAll chain.sets.sets.items kept records from → All (IsStartIn chain.sets.sets.items kept records) from → IsSorted (start_cmp charged) from
-    → All (IsMadeBy targets) others → IsTargetIn chain kept target → StartsAt judging chain.sets.sets.items from others target p → IsUsed judging charged chain kept records p
+    → All (IsMadeBy records targets) others → IsTargetIn chain kept target → StartsAt judging chain.sets.sets.items from others target p → IsUsed judging charged chain kept records p
 unfolding IsUsed StartsAt AreTargetsIn
 used_at judging charged chain kept records targets from others target p are all only sorted made (commit, among, own, written, header_is, start_is) (first, is, s, (place_is, way)) = (
   commit,
@@ -105,17 +105,17 @@ used_at judging charged chain kept records targets from others target p are all 
     makes t (c, (k, small, c_is), its_own, its_written, its_header, its_start) its =
         (k, c, small, c_is, subst (λ (o : Option Start). IfSome o (λ x. IsStartOfHeader chain.sets.sets.items kept x c)) its its_start)
 
-    of_one : IsMadeBy targets s → Any (IsStartOfHeader chain.sets.sets.items kept s) chain.commits.items
-    of_one (t, there, its) = makes t (All-contains (IsTargetIn chain kept) targets t are there) its
+    of_one : IsMadeBy records targets s → Any (IsStartOfHeader chain.sets.sets.items kept s) chain.commits.items × All (λ (r : Stored). r.state.now.height ≢ s.height) records
+    of_one (t, there, (its, is_new)) = (makes t (All-contains (IsTargetIn chain kept) targets t are there) its, is_new)
 
     by : (first ≡ Some s) ⊎ (Contains others s × Accepts judging chain.sets.sets.items target.header target.place s × ¬ IsSomeAnd first (λ (f : Start). Outdoes f s))
-        → (first ≡ Some s) ⊎ (Any (IsStartOfHeader chain.sets.sets.items kept s) chain.commits.items × Accepts judging chain.sets.sets.items target.header target.place s × ¬ IsSomeAnd first (λ (b : Start). Outdoes b s))
+        → (first ≡ Some s) ⊎ (Any (IsStartOfHeader chain.sets.sets.items kept s) chain.commits.items × All (λ (r : Stored). r.state.now.height ≢ s.height) records × Accepts judging chain.sets.sets.items target.header target.place s × ¬ IsSomeAnd first (λ (b : Start). Outdoes b s))
     by (inl same) = inl same
-    by (inr (there, accepted, not)) = inr (of_one (All-contains (IsMadeBy targets) others s made there), accepted, not)
+    by (inr (there, accepted, not)) = let one = of_one (All-contains (IsMadeBy records targets) others s made there) in inr (one.0, one.1, accepted, not)
 
 pub used_only : (judging : Judging) (charged : Bool) (chain : SeenChain) (kept : KeptSets) (records : List Stored) (targets : List Target) (from others : List Start) (xs ys : List ℕ)
     → AreTargetsIn chain kept targets → AreAll chain.sets.sets.items kept records from → All (IsStartIn chain.sets.sets.items kept records) from → IsSorted (start_cmp charged) from
-    → All (IsMadeBy targets) others → AddsOnly (λ p. Any (λ (t : Target). StartsAt judging chain.sets.sets.items from others t p) targets) xs ys → AddsOnly (IsUsed judging charged chain kept records) xs ys
+    → All (IsMadeBy records targets) others → AddsOnly (λ p. Any (λ (t : Target). StartsAt judging chain.sets.sets.items from others t p) targets) xs ys → AddsOnly (IsUsed judging charged chain kept records) xs ys
 unfolding AreTargetsIn
 used_only judging charged chain kept records targets from others xs ys are all only sorted made adds =
     adds_as (λ p. Any (λ (t : Target). StartsAt judging chain.sets.sets.items from others t p) targets) (IsUsed judging charged chain kept records) xs ys (λ p w. of p w) adds

@@ -21,7 +21,7 @@ use Rattle.rb_import.specs.declared.steps.Start.{Start}
 use Rattle.rb_import.specs.declared.steps.Target.{Target}
 use Rattle.rb_import.specs.Steps.{Accepts, IsStartOf, IsStartOfHeader, IsWrittenAt, header_of, judging_of}
 use Rattle.rb_import.specs.Starts.{is_charged, weight_of, Outdoes}
-use Rattle.rb_import.specs.Parts.{Agree, AreNeeded, ServesClients}
+use Rattle.rb_import.specs.Parts.{Agree, AreNeeded, IsRecordOf, IsStoredIn, ServesClients}
 
 -- ---- starts
 
@@ -90,9 +90,9 @@ IsTargetIn chain kept t =
 unfoldable pub AreTargetsIn : SeenChain → KeptSets → List Target → Type 0
 AreTargetsIn chain kept targets = All (IsTargetIn chain kept) targets
 
--- one of the targets makes the start
-abbrev pub IsMadeBy : List Target → Start → Type 0
-IsMadeBy targets s = (t : Target) × Contains targets t × (t.start ≡ Some s)
+-- one of the targets makes the start, at a height that the client hasn't stored
+abbrev pub IsMadeBy : List Stored → List Target → Start → Type 0
+IsMadeBy records targets s = (t : Target) × Contains targets t × IsOther records s t
 
 -- the start has its set at place p; it is the first, or the client accepts the header from it, and the first doesn't outdo it
 abbrev pub IsTaken : Judging → List SeenSet → Target → Option Start → List Start → ℕ → Start → Type 0
@@ -117,6 +117,14 @@ Stay {X} before after = (x : X) → Contains before x → Contains after x
 -- the second record is the same as the first, or is of a greater height and a later time
 abbrev pub Follows : RecordAt → RecordAt → Type 0
 Follows a b = (a ≡ b) ⊎ ((a.height < b.height) × (a.record_of.time < b.record_of.time))
+
+-- each record of the chain's headers, and each that a client which tracks the chain has stored, is one of these
+unfoldable pub HasRecords : Setup → Seen → ℕ → SeenChain → List RecordAt → Type 0
+HasRecords setup seen place chain records = (r : RecordAt) → IsRecordOf setup seen place chain r → Contains records r
+
+-- each of the records before, and each that a client has stored, is there after
+unfoldable pub HasStored : List Stored → List RecordAt → List RecordAt → Type 0
+HasStored stored before after = (r : RecordAt) → Contains before r ⊎ IsStoredIn stored r → Contains after r
 
 -- each two of these agree
 unfoldable pub AllAgree : List RecordAt → Type 0

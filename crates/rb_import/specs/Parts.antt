@@ -80,8 +80,17 @@ AreJudged setup seen place = (number : ℕ) → (c : ClientSetup) → slice_get 
 unfoldable pub AreNeeded : Setup → Seen → ℕ → SeenChain → KeptSets → List ℕ → Type 0
 AreNeeded setup seen place chain whole places = IsOrderly setup seen place chain → AreJudged setup seen place → All (IsNeeded setup seen place chain whole) places
 
--- these are the sets of the chain at a place that are needed: no header is lost, and no client's cheapest update; and no others
+-- unless a light store takes all of the chain's records, these are the places of all sets that are written
+unfoldable pub AreAllUnlessOrderly : Setup → Seen → ℕ → SeenChain → KeptSets → List ℕ → Type 0
+AreAllUnlessOrderly setup seen place chain whole places = ¬ IsOrderly setup seen place chain → places ≡ whole.places.items
+
+-- these are the sets of the chain at a place that are needed: no header is lost, and no client's cheapest update; and no others, but all where a
+-- light store refuses some of the chain's records
 abbrev pub IsNeededOf : Setup → Seen → ℕ → KeptSets → KeptSets → Type 0
 IsNeededOf setup seen place whole part =
     IsPartOf whole part
-    × IfSome (slice_get seen.chains.items place) (λ chain. KeepsHeaders chain whole part × ServesClients setup seen place chain whole part.places.items × AreNeeded setup seen place chain whole part.places.items)
+    × IfSome (slice_get seen.chains.items place) (λ chain.
+    KeepsHeaders chain whole part
+    × ServesClients setup seen place chain whole part.places.items
+    × AreNeeded setup seen place chain whole part.places.items
+    × AreAllUnlessOrderly setup seen place chain whole part.places.items)

@@ -71,11 +71,13 @@ IsBest judging is_charged sets kept records header place (Some s) =
     × ((t : Start) → IsStartIn sets kept records t → Accepts judging sets header place t → IsNoWorse is_charged s t)
 IsBest judging is_charged sets kept records header place None = (t : Start) → IsStartIn sets kept records t → ¬ Accepts judging sets header place t
 
--- an update to the header starts here: a cheapest one from the client's records, or one from another header that this doesn't outdo
+-- an update to the header starts here: a cheapest one from the client's records, or one from another header, at a height that the client hasn't
+-- stored, that this doesn't outdo
 abbrev pub IsUsedFor : Judging → Bool → List SeenSet → KeptSets → List Stored → List Commit → Header → ℕ → Start → Type 0
 IsUsedFor judging is_charged sets kept records commits header place s =
     (best : Option Start) × IsBest judging is_charged sets kept records header place best
-    × ((best ≡ Some s) ⊎ (Any (IsStartOfHeader sets kept s) commits × Accepts judging sets header place s × ¬ IsSomeAnd best (λ b. Outdoes b s)))
+    × ((best ≡ Some s)
+    ⊎ (Any (IsStartOfHeader sets kept s) commits × All (λ (r : Stored). r.state.now.height ≢ s.height) records × Accepts judging sets header place s × ¬ IsSomeAnd best (λ b. Outdoes b s)))
 
 -- so an update to a header of the chain, whose own set is written, starts at the set at place p
 unfoldable pub IsUsed : Judging → Bool → SeenChain → KeptSets → List Stored → ℕ → Type 0

@@ -1,7 +1,7 @@
 //! Which of a chain's sets are needed.
 ghost use Rattle.std.specs.Prelude.{◌≡◌, All, IfOk, IfSome, IsSome, OnOk, slice_get};
 ghost use Rattle.rb_import_merge.specs.Room.{AtEachPlace};
-ghost use Rattle.rb_import.specs.Parts.{AreJudged, IsJudged, IsNeeded, IsNeededOf, IsOrderly};
+ghost use Rattle.rb_import.specs.Parts.{AreAllUnlessOrderly, AreJudged, IsJudged, IsNeeded, IsNeededOf, IsOrderly};
 ghost use Rattle.rb_import.specs.Starts.{IsUsed, Serves, is_charged};
 ghost use Rattle.rb_import.specs.Finding.{AddsOnly, AreTargets, AreTargetsIn, IsCase, IsPartAt, Need, NeedOnly, Stay};
 
@@ -64,7 +64,8 @@ fn places_of(
     place: usize,
     kept: &KeptSets,
 ) -> Result<Vec<usize>, AllocError>
-    ensures { IfOk result (λ places. IfSome (slice_get seen.now.chains.items place) (λ chain. NeedOnly setup.now seen.now place kept.now chain places.items)) }
+    ensures need { IfOk result (λ places. IfSome (slice_get seen.now.chains.items place) (λ chain. NeedOnly setup.now seen.now place kept.now chain places.items)) }
+    ensures all { IfOk result (λ places. IfSome (slice_get seen.now.chains.items place) (λ chain. AreAllUnlessOrderly setup.now seen.now place chain kept.now places.items)) }
 {
     let Some(chain) = seen.chains.get(place) else {
         return Vec::from_slice(alloc, kept.places.as_slice());
@@ -88,6 +89,7 @@ fn places_in(
     ensures need { IfOk result (λ found. IfSome found (λ places. Need setup.now seen.now place kept.now chain.now places.items)) }
     ensures only { IfOk result (λ found. IfSome found (λ places. All (IsNeeded setup.now seen.now place chain.now kept.now) places.items)) }
     ensures judged { IfOk result (λ found. IsOrderly setup.now seen.now place chain.now → AreJudged setup.now seen.now place → IsSome found) }
+    ensures orderly { IfOk result (λ found. IsSome found → IsOrderly setup.now seen.now place chain.now) }
 {
     if !is_orderly(alloc, setup, seen, place, chain)? {
         return Ok(None);

@@ -1,8 +1,8 @@
 //! Whether a light store takes all of a chain's records: their times rise with their heights.
-ghost use Rattle.std.specs.Prelude.{◌↔◌, ◌⊎◌, ◌≤◌, ◌<◌, All, Contains, length, IfOk, IsTrue, OnOk};
+ghost use Rattle.std.specs.Prelude.{◌↔◌, ◌⊎◌, All, Contains, IfOk, IsTrue, OnOk};
 ghost use Rattle.std.specs.List.Sorted.{IsNonDecreasingBy};
 ghost use Rattle.rb_import.specs.Parts.{IsOrderly, IsRecordOf, IsStoredIn};
-ghost use Rattle.rb_import.specs.Finding.{AllAgree, Follows};
+ghost use Rattle.rb_import.specs.Finding.{AllAgree, Follows, HasRecords, HasStored};
 
 use crate::steps::{record_of, record_of_state};
 use rb_book::RecordAt;
@@ -20,7 +20,7 @@ pub fn is_orderly(
     place: usize,
     chain: &SeenChain<'_>,
 ) -> Result<bool, AllocError>
-    ensures { IfOk result (λ is. IsOrderly setup.now seen.now place chain.now → IsTrue is) }
+    ensures { IfOk result (λ is. IsTrue is ↔ IsOrderly setup.now seen.now place chain.now) }
 {
     let mut records = records_of(alloc, setup, seen, place, chain)?;
     records.sort_by_key(|record: &RecordAt| record.height())?;
@@ -35,7 +35,8 @@ fn records_of(
     place: usize,
     chain: &SeenChain<'_>,
 ) -> Result<Vec<RecordAt>, AllocError>
-    ensures { IfOk result (λ records. All (IsRecordOf setup.now seen.now place chain.now) records.items) }
+    ensures only { IfOk result (λ records. All (IsRecordOf setup.now seen.now place chain.now) records.items) }
+    ensures all { IfOk result (λ records. HasRecords setup.now seen.now place chain.now records.items) }
 {
     let mut records = Vec::new(alloc);
     for commit in &chain.commits {
@@ -54,7 +55,8 @@ fn records_of(
 
 /// Adds records that a client has stored.
 fn add_stored(stored: &[Stored<'_>], records: &mut Vec<RecordAt>) -> Result<(), AllocError>
-    ensures { OnOk result (All (λ r. Contains records.old.items r ⊎ IsStoredIn stored.now r) records.new.items) }
+    ensures only { OnOk result (All (λ r. Contains records.old.items r ⊎ IsStoredIn stored.now r) records.new.items) }
+    ensures all { OnOk result (HasStored stored.now records.old.items records.new.items) }
 {
     for one in stored {
         let record = record_of_state(one.state);
@@ -65,23 +67,14 @@ fn add_stored(stored: &[Stored<'_>], records: &mut Vec<RecordAt>) -> Result<(), 
 
 /// Whether each record follows the one before it.
 fn rise(records: &[RecordAt]) -> bool
-    ensures { AllAgree records.now → IsNonDecreasingBy (λ r. r.height) records.now → IsTrue result }
+    ensures { IsNonDecreasingBy (λ r. r.height) records.now → (IsTrue result ↔ AllAgree records.now) }
 {
     for place in 1..records.len() {
-        if !follows_at(records, place) {
+        if !follows(&records[place - 1], &records[place]) {
             return false;
         }
     }
     true
-}
-
-/// Whether the record at a place follows the one before it.
-fn follows_at(records: &[RecordAt], place: usize) -> bool
-    requires above { 1 ≤ place }
-    requires within { place < length records.now }
-    ensures { AllAgree records.now → IsNonDecreasingBy (λ r. r.height) records.now → IsTrue result }
-{
-    follows(&records[place - 1], &records[place])
 }
 
 /// Whether a record is the same as another, or is of a greater height and a later time.

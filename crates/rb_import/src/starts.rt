@@ -171,7 +171,7 @@ pub fn other_starts(
     stored: &[Stored<'_>],
 ) -> Result<Vec<Start>, AllocError>
     ensures all { IfOk result (λ starts. AreOthers stored.now targets.now starts.items) }
-    ensures only { IfOk result (λ starts. All (IsMadeBy targets.now) starts.items) }
+    ensures only { IfOk result (λ starts. All (IsMadeBy stored.now targets.now) starts.items) }
 {
     let mut starts = Vec::new(alloc);
     for target in targets {
@@ -182,23 +182,23 @@ pub fn other_starts(
 
 /// The start that a header makes, where the client hasn't stored its height.
 fn other_start(target: &Target, stored: &[Stored<'_>]) -> Option<Start>
-    ensures made { IfSome result (λ s. target.now.start ≡ Some s) }
+    ensures made { IfSome result (λ s. IsOther stored.now s target.now) }
     ensures only { (s : Start) → IsOther stored.now s target.now → result ≡ Some s }
 {
     let start = target.start?;
-    if is_stored(stored, &start) {
+    if !is_new(stored, &start) {
         return None;
     }
     Some(start)
 }
 
-/// Whether the client has stored the height of a start.
-fn is_stored(stored: &[Stored<'_>], start: &Start) -> bool
-    ensures { IsTrue result → ¬ All (λ r. r.state.now.height ≢ start.now.height) stored.now }
+/// Whether the client hasn't stored the height of a start.
+fn is_new(stored: &[Stored<'_>], start: &Start) -> bool
+    ensures { IsTrue result ↔ All (λ r. r.state.now.height ≢ start.now.height) stored.now }
 {
     stored
-        .binary_search_by_key(&start.height, |record: &Stored| record.state.height)
-        .is_ok()
+        .iter()
+        .all(|record| record.state.height != start.height)
 }
 
 /// Adds the places of the sets from which the cheapest updates to a header start. The first stored record from which

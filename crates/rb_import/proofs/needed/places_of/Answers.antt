@@ -1,4 +1,4 @@
-use Rattle.std.proofs.Common.{◌≡◌, ℕ, Some, arith, sym, ◌∙◌}
+use Rattle.std.proofs.Common.{◌≡◌, ℕ, Some, arith, refl, sym, ◌∙◌}
 use Rattle.std.specs.Prelude.{IfSome, Vec, slice_get}
 use Rattle.std.specs.Global.{Global}
 use Rattle.std.proofs.lemmas.Bool.{true≢false}
@@ -6,14 +6,14 @@ use Rattle.std.proofs.lemmas.Grind.{common_steps}
 use Rattle.std.proofs.lemmas.Option.{gets}
 use Rattle.std.proofs.lemmas.Result.{IfOk-weaker}
 use Rattle.rb_import_check.specs.declared.chain.SeenChain.{SeenChain}
-use Rattle.rb_import.specs.Parts.{AreJudged, IsOrderly}
+use Rattle.rb_import.specs.Parts.{AreAllUnlessOrderly, AreJudged, IsOrderly}
 use Rattle.rb_import.specs.Finding.{NeedOnly}
-use Rattle.rb_import.proofs.Parting.{need_whole, seen_as}
+use Rattle.rb_import.proofs.Parting.{all_found, all_whole, need_whole, seen_as}
 use Rattle.rb_import.proofs.Using.{needed_where}
 use Rattle.rb_import.proofs.needed.places_of.Goals as goal
 
-pub returns-in-Some-2 : goal.returns-in-Some-2
-returns-in-Some-2 c =
+pub returns-in-Some-2-clause-need : goal.returns-in-Some-2-clause-need
+returns-in-Some-2-clause-need c =
     let setup = c.args.setup.now in
     let seen = c.args.seen.now in
     let chain = c.in-Some.chain.now in
@@ -23,8 +23,26 @@ returns-in-Some-2 c =
     seen_as (slice_get seen.chains.items c.args.place) chain (λ (x : SeenChain). NeedOnly setup seen c.args.place kept x places) at
     (rw c.in-Some-2.is at c.in_ok-places.ensures.need, needed_where setup seen c.args.place chain kept places (rw c.in-Some-2.is at c.in_ok-places.ensures.only))
 
-pub returns-in-None : goal.returns-in-None
-returns-in-None c =
+pub returns-in-Some-2-clause-all : goal.returns-in-Some-2-clause-all
+returns-in-Some-2-clause-all c =
+    let setup = c.args.setup.now in
+    let seen = c.args.seen.now in
+    let chain = c.in-Some.chain.now in
+    let at : slice_get seen.chains.items c.args.place ≡ Some chain = grind (arith, common_steps, gets) in
+    all_found setup seen c.args.place chain c.args.kept.now c.in-Some-2.places.items at ((rw c.in-Some-2.is at c.in_ok-places.ensures.orderly) refl)
+
+pub returns-in-None-clause-all : goal.returns-in-None-clause-all
+returns-in-None-clause-all c =
+    let setup = c.args.setup.now in
+    let seen = c.args.seen.now in
+    let kept = c.args.kept.now in
+    let found = slice_get seen.chains.items c.args.place in
+    IfOk-weaker c.from_slice-in-None.result (λ (places : Vec ℕ Global). places.items ≡ c.as_slice-in-None.result.now)
+    (λ (places : Vec ℕ Global). IfSome found (λ (x : SeenChain). AreAllUnlessOrderly setup seen c.args.place x kept places.items))
+    (λ places is. all_whole setup seen c.args.place kept places.items found (is ∙ c.as_slice-in-None.ensures.value)) c.from_slice-in-None.ensures.items
+
+pub returns-in-None-clause-need : goal.returns-in-None-clause-need
+returns-in-None-clause-need c =
     let setup = c.args.setup.now in
     let seen = c.args.seen.now in
     let chain = c.in-Some.chain.now in

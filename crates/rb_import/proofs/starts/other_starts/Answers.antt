@@ -9,7 +9,7 @@ loop-target-preserved c =
     let before = c.loop-target.starts.items in (
       has_more (IsOther c.args.stored.now) c.args.targets.now c.loop-target.target-index c.target-item.result c.other_start.result before _ (search rules) (search rules) c.in_ok-add_start.ensures
           c.other_start.ensures.only c.loop-target.invariant.0,
-      made_more c.args.targets.now c.loop-target.target-index c.target-item.result c.other_start.result before _ (search rules) (search rules) c.in_ok-add_start.ensures c.other_start.ensures.made c.loop-target.invariant.1,
+      made_more c.args.stored.now c.args.targets.now c.loop-target.target-index c.target-item.result c.other_start.result before _ (search rules) (search rules) c.in_ok-add_start.ensures c.other_start.ensures.made c.loop-target.invariant.1,
     )
 
 pub returns-clause-all : goal.returns-clause-all
