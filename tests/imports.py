@@ -81,7 +81,7 @@ def notice_cases(top):
         setup.write_text(text)
         answers.make(folder, 1, between=0)
         change(folder)
-        lines = [line.replace("{folder}", str(folder)).encode() for line in lines]
+        lines = [line.encode() for line in lines]
         yield Case(f"lacking answers {number}", ["import", str(setup), str(folder)], b"", answers.script_of(text, folder), b"".join(lines[:1]), 0, reader=values_of, named=(b"".join(lines),))
 
 
@@ -106,7 +106,7 @@ def busy_cases(top):
     and with more records than any book holds. Then more headers, and more sets of headers, than any book holds."""
     two = CLIENT % ("again-on-zone", "zone-1", "hub-4")
     for most, every, first, setup, others, lines in (
-        (1500, 1, 1505, HEAD + ONE, {}, [SETS % (482, 0)]),
+        (1500, 1, 1505, HEAD + ONE, {}, [SETS % (482, 0), LEFT_SETS % 482]),
         (4100, 12, 4100, HEAD + ONE + two, {"again-on-zone": [2, 3, 7, 4100]}, [MANY % ("hub-on-zone", 6), MANY % ("again-on-zone", 2)]),
     ):
         folder, path = top / f"busy-{most}", top / f"busy-{most}.toml"
@@ -495,8 +495,14 @@ CHANGES = [
 ]
 
 
-NEXT_SET = ("notice MissingNextSet at hub-on-zone %d: {folder}/hub-on-zone/consensus_states.json: no answer has the next validators, so that no "
-            "update starts from this record; fetch all pages of /validators?height=%d&per_page=100 into files *.json of the folder hub-4\n")
+NEXT_SETS = "notice MissingNextSet at hub-on-zone: no update starts from stored records without their next validators"
+NEXT_SET = NEXT_SETS + f"; no answer has those of %d records: fetch all pages of /validators?height=%d&per_page=100, for the highest of them,{INTO}hub-4\n"
+LEFT_SETS = NEXT_SETS + "; those of %d records are of sets of hub-4 that are left out\n"
+LATEST = ("notice MissingLatest at hub-on-zone %d: the client's latest height is not among its stored records, so that its answers are of two moments or of two "
+          "nodes, or pages of records are missing; fetch client_states and all pages of consensus_states of the client again, from one node,"
+          f"{INTO}hub-on-zone\n")
+NOT_CANONICAL = ("notice NotCanonical at hub-4 %d: %d commits, this the highest, are not canonical yet, since the node had no next block; the chain may store more "
+                 "votes of them, so that an update costs more; fetch /commit?height=%d again, in place of that answer\n")
 MANY = "notice TooManyRecords at %s: %d of its stored records, the lowest, are left out; a chain's book holds 4,096 records\n"
 HEADERS = "notice TooManyHeaders at hub-4: %d of its headers, the lowest, are left out; a chain's book holds 4,096 records\n"
 SETS = "notice TooManySets at hub-4: %d of its validator sets, the lowest, are left out, with %d headers of them; a chain's book holds 1,024 sets\n"
@@ -527,9 +533,14 @@ NOTICES = [
     (0, str, in_turn(removed("hub-4/commit-1.json"), edited(STORED_FILE, put(f"{CONSENSUS}.consensus_state.next_validators_hash", "00" * 32))), [NEXT_SET % (1, 2)]),
     (0, str, lambda folder: [file.unlink() for file in (folder / "hub-4").glob("*.json")], [
         "notice MissingHeaders at hub-4: no answer is of /commit, so that there is nothing to update to; fetch /commit and /validators of some "
-        "heights into files *.json of the folder hub-4\n", NEXT_SET % (1, 2), NEXT_SET % (80, 81)]),
-    (0, str, edited(STORED_FILE, many), [*(NEXT_SET % (height, height + 1) for height in range(2, 22)),
-                                         "notice MissingNextSet at hub-on-zone: so it is of 10 more of its stored records\n"]),
+        "heights into files *.json of the folder hub-4\n", NEXT_SET % (2, 81)]),
+    (0, str, edited(STORED_FILE, many), [NEXT_SET % (30, 32)]),
+    (0, str, edited(STATE_FILE, put(f"{STATE}.latest_height.revision_height", "79")), [LATEST % 79]),
+    (0, str, in_turn(edited(STORED_FILE, many), edited(STATE_FILE, put(f"{STATE}.latest_height.revision_height", "81"))), [NEXT_SET % (30, 32), LATEST % 81]),
+    (0, str, edited(COMMIT_FILE, put("result.canonical", False)), [NOT_CANONICAL % (80, 1, 80)]),
+    (0, str, in_turn(*(edited(f"hub-4/commit-{height}.json", put("result.canonical", False)) for height in (1, 80))), [NOT_CANONICAL % (80, 2, 80)]),
+    (0, str, edited("hub-4/commit-1.json", put("result.canonical", False)), [NOT_CANONICAL % (1, 1, 1)]),
+    (0, str, edited(COMMIT_FILE, gone("result.canonical")), []),
     (0, swapped("at_least = 80", "at_least = 81"), removed(), [GOAL % (81, "at or above the goal's", 81, 81)]),
     (0, swapped("at_least = 80", "exactly = 79"), removed(), [GOAL % (79, "at the goal's", 79, 79)]),
     (0, str, removed(COMMIT_FILE), []),  # height 80 is stored
@@ -538,21 +549,21 @@ NOTICES = [
     (0, str, in_turn(*(step for page in (1, 2) for step in (
         moved(f"hub-4/validators-1-{page}.json", f"hub-4/validators-90-{page}.json", copy=True),
         edited(f"hub-4/validators-90-{page}.json", put("result.block_height", "90"))))), []),
-    (0, str, in_turn(removed(COMMIT_FILE), edited(STORED_FILE, gone("consensus_states[1]"))), [GOAL % (80, "at or above the goal's", 80, 80)]),
+    (0, str, in_turn(removed(COMMIT_FILE), edited(STORED_FILE, gone("consensus_states[1]"))), [GOAL % (80, "at or above the goal's", 80, 80), LATEST % 80]),
     (0, swapped(SETTING, SETTING + "period_ns = 1\n"), removed(), [EXPIRED % "all 2 stored records have expired at the window's end"]),
     (0, swapped(SETTING, SETTING + "period_ns = 563_000_000_000\n"), removed(), []),  # record 80 is trusted until 12:17:55.8
     # record 80 is trusted to the window's end, and a nanosecond longer
     (0, swapped(SETTING, SETTING + "period_ns = 57_196_761_877\n"), removed(), [EXPIRED % "all 2 stored records have expired at the window's end"]),
     (0, swapped(SETTING, SETTING + "period_ns = 57_196_761_878\n"), removed(), []),
     (0, swapped(SETTING, SETTING + "period_ns = 1\n"), edited(STORED_FILE, gone("consensus_states[0]")), [EXPIRED % "its stored record has expired at the window's end"]),
-    (0, str, NO_RECORD, [EXPIRED % "it has stored no record"]),
+    (0, str, NO_RECORD, [EXPIRED % "it has stored no record", LATEST % 80]),
     (0, swapped(FROM, "12:08:32Z"), removed(), [FUTURE % (80, 1)]),
     (0, swapped(FROM, "12:00:01Z"), removed(), [FUTURE % (1, 2)]),
     (0, swapped(FROM, "12:08:33Z"), removed(), []),
     # at the window's end header 80 is 57.2 seconds old
     (0, swapped(SETTING, SETTING + "refresh_ns = 57_000_000_000\n"), removed(), [FRESH]),
     (0, swapped(SETTING, SETTING + "refresh_ns = 58_000_000_000\n"), removed(), []),
-    (0, swapped(SETTING, SETTING + "refresh_ns = 1\n"), NO_RECORD, [EXPIRED % "it has stored no record"]),
+    (0, swapped(SETTING, SETTING + "refresh_ns = 1\n"), NO_RECORD, [EXPIRED % "it has stored no record", LATEST % 80]),
     (1, str, saved(*packet_txs(OURS, *((40, "send_packet", sequence) for sequence in range(100, 4195)))), [PACKETS % (4098, 3, 3)]),
     (1, str, edited(RECEIVED_FILE, put(f"{TX}.tx_result.code", 11)), []),  # what failed did nothing
     # of one packet several events: both searches saved, and messages that were relayed once more, before and after
@@ -744,7 +755,8 @@ TAKEN = [
 # changes after which a root is another: that of an upgraded client's record where there is no header, and those of headers
 ROOTS = [
     in_turn(removed(COMMIT_FILE), rooted(b"sentinel_root", commit=False)), rooted(b"sentinel_root"), rooted(bytes(1)), rooted(bytes(31)), rooted(bytes(33)), rooted(bytes(64)),
-    in_turn(edited(STORED_FILE, gone("consensus_states[1]")), edited(COMMIT_FILE, hashed(put(f"{HEADER}.app_hash", "")))),
+    in_turn(edited(STORED_FILE, gone("consensus_states[1]")), edited(STATE_FILE, put(f"{STATE}.latest_height.revision_height", "1")),
+            edited(COMMIT_FILE, hashed(put(f"{HEADER}.app_hash", "")))),
 ]
 
 
@@ -775,19 +787,14 @@ def import_cases(top, seeds):
     yield from opening_cases(top)
 
 
-NEXT = """notice MissingNextSet at hub-on-zone 1: %s/hub-on-zone/consensus_states-1.json: no answer has the next validators, \
-so that no update starts from this record; fetch all pages of /validators?height=%d&per_page=100 into files *.json of the folder hub-4
-"""
-
-
 def chain_cases(top, program):
     """`import` and `plan` in a row by a shell; at last over what `examples/collect` got of made-up nodes, also of one without JSON-RPC's envelope."""
     words = " ".join(map(shlex.quote, program))
     folders = [(top / f"seed-{seed}", top / f"setup-{seed}-0.toml", "") for seed in range(1, 21)]
-    # `collect` asks for what a plan needs, and no update has to start from the older of both states.
-    older = NEXT % (top / "collected", 2)
+    # `collect` asks for what a plan needs, and no update has to start from the older states.
+    older = NEXT_SET % (2, 31)
     folders += [(top / "collected", top / "setup-4-0.toml", older), (top / "busy-1500", top / "busy-1500.toml", SETS % (482, 0))]
-    folders.append((top / "collected-bare", top / "setup-4-0.toml", NEXT % (top / "collected-bare", 2)))
+    folders.append((top / "collected-bare", top / "setup-4-0.toml", older))
     for name, shape in ("collected-bare", without_envelope), ("collected", lambda answer: answer):
         with answers.serve(random.Random(7), shape) as (rpc, rest):
             subprocess.run([TOP / "examples" / "collect", top / name, "hub-on-zone", "hub-4", rpc, rest], env={**os.environ, "IBCPLAN": program[0]}, check=True)
