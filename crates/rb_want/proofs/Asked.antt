@@ -1,5 +1,5 @@
 -- What is asked of what is needed.
-use Rattle.std.proofs.Common.{◌≡◌, ℕ, ◌+◌, ◌<◌, ◌≤◌, List, [], ◌∷◌, ◌++◌, ◌||◌, Bool, true, false, All, length, length-append, get_or, rules, ap, sym, subst, refl, ◌∙◌, arith}
+use Rattle.std.proofs.Common.{◌≡◌, ◌<◌, ◌≤◌, List, [], ◌∷◌, ◌++◌, ◌||◌, Bool, true, false, All, length, length-append, get_or, ap, sym, subst, refl, ◌∙◌, arith}
 use Rattle.std.specs.Prelude.{Contains, if◌then◌else◌}
 use Rattle.std.specs.List.{list_any}
 use Rattle.std.proofs.lemmas.Grind.{common_steps}
@@ -9,7 +9,7 @@ use Rattle.std.proofs.lemmas.List.Folds.{list_any-append}
 use Rattle.rb_want_requests.specs.declared.content.Folders.{Folders}
 use Rattle.rb_want_requests.specs.declared.request.Request.{Request}
 use Rattle.rb_want_requests.specs.Requests.{is_new, is_same, may_be_added}
-use Rattle.rb_want.specs.Adding.{EachIsAsked, with_needed, with_request}
+use Rattle.rb_want.specs.Adding.{with_needed, with_request}
 use Rattle.rb_want.specs.Laws.{NeedsAreAsked, NoneIsIdle}
 
 one_grows : (b : Bool) (rs : List Request) (r : Request) → length rs ≤ length (if b then rs ++ r ∷ [] else rs)

@@ -1,14 +1,11 @@
 -- What an element more brings.
 use Rattle.std.proofs.Common.{◌≡◌, ℕ, ◌+◌, ◌<◌, List, [], ◌∷◌, ◌++◌, append-nil, length, get_or, take, refl, ap, sym, ◌∙◌}
-use Rattle.std.specs.Prelude.{Option, None, fold}
+use Rattle.std.specs.Prelude.{None, fold}
 use Rattle.std.specs.List.{flat_map}
 use Rattle.std.proofs.lemmas.List.{take_more}
 use Rattle.std.proofs.lemmas.List.Concat.{flat_map-append}
 use Rattle.std.proofs.lemmas.List.Sums.{fold-append}
-use Rattle.rb_import_answers.specs.declared.client.ClientState.{ClientState}
-use Rattle.rb_import_answers.specs.declared.client.ConsensusState.{ConsensusState}
 use Rattle.rb_want_requests.specs.declared.content.Content.{Content}
-use Rattle.rb_want_requests.specs.declared.content.NodeStatus.{NodeStatus}
 use Rattle.rb_want.specs.Clients.{later_state, later_status, state_in, states_of, status_in, stored_in}
 
 next : {X : Type 0} (xs : List X) (i : ℕ) (x : X) → i < length xs → x ≡ get_or xs i x → take (i + 1) xs ≡ take i xs ++ x ∷ []

@@ -1,6 +1,6 @@
 -- What a step waits for.
-use Rattle.std.proofs.Common.{◌≡◌, ℕ, ◌+◌, ◌<◌, ◌≤◌, ◌⊎◌, ◌^◌, List, [], ◌∷◌, ◌++◌, append-nil, append_assoc, Bool, true, false, Result, Ok, Err, Option, Some, None, inl, inr, refl, sym, ap, subst, ◌∙◌, arith}
-use Rattle.std.specs.Prelude.{OnOk, IfOk, IsTrue, ◌↔◌, nat_le, nat_lt, ◌&&◌, if◌then◌else◌, not}
+use Rattle.std.proofs.Common.{◌≡◌, ℕ, ◌+◌, ◌<◌, ◌≤◌, ◌^◌, List, [], ◌∷◌, ◌++◌, append_assoc, Bool, true, false, Result, Ok, Err, inl, inr, refl, sym, ap, subst, ◌∙◌, arith}
+use Rattle.std.specs.Prelude.{OnOk, IfOk, IsTrue, ◌↔◌, if◌then◌else◌}
 use Rattle.std.specs.List.{list_any}
 use Rattle.std.proofs.lemmas.Bool.{true≢false}
 use Rattle.std.proofs.lemmas.Bool.Decides.{nat_tests}
@@ -8,11 +8,10 @@ use Rattle.std.proofs.lemmas.Grind.{common_steps}
 use Rattle.rb_book.specs.Header.{Record}
 use Rattle.rb_import_answers.specs.declared.commit.SignedHeader.{SignedHeader}
 use Rattle.rb_want_requests.specs.Answered.{is_commit_of}
-use Rattle.rb_want_requests.specs.Requests.{is_named}
 use Rattle.rb_want_requests.specs.declared.request.Query.{Query}
 use Rattle.rb_want_requests.specs.declared.request.Query.TheVariants as queries
 use Rattle.rb_want.specs.Clients.{IsHeaderAt, next_page}
-use Rattle.rb_want.specs.Judgements.{LacksHeader, LacksSet, LacksTrust, may_come}
+use Rattle.rb_want.specs.Judgements.{LacksHeader, LacksSet, LacksTrust}
 use Rattle.rb_want.specs.Steps.{IsRecordAt}
 use Rattle.rb_want.specs.Waiting.{HasSet, WaitsForHeader, WaitsForNext, WaitsForSet, is_height, page_asked}
 use Rattle.rb_want.specs.declared.judged.Steps.{Steps}

@@ -1,7 +1,6 @@
 -- What the folder of a client tells of it, and that of the chain that it tracks.
 use Rattle.std.specs.Prelude.{◌≡◌, ℕ, ◌+◌, ◌-◌, ◌^◌, ◌==◌, min, nat_le, Contains, Bool, true, false, if◌then◌else◌, List, [], ◌∷◌, Option, Some, None, fold, filter, length, count_by, slice_get}
 use Rattle.std.specs.List.{filter_map, flat_map, sum_by}
-use Rattle.std.specs.Option.{option_or}
 use Rattle.rb_import_answers.specs.declared.client.ClientState.{ClientState}
 use Rattle.rb_import_answers.specs.declared.client.ConsensusState.{ConsensusState}
 use Rattle.rb_import_answers.specs.declared.commit.SignedHeader.{SignedHeader}

@@ -1,6 +1,6 @@
 -- What a client of a setup needs in its last turn: first its state, its consensus states and what the node of its chain says of itself, then what a
 -- search for accepted steps asks for.
-use Rattle.std.specs.Prelude.{◌≡◌, ◌≢◌, ◌==◌, ◌⊎◌, ℕ, ◌+◌, ◌*◌, ◌-◌, ◌<◌, ◌≤◌, ◌^◌, nat_le, nat_lt, Bool, true, false, not, ◌&&◌, ◌||◌, if◌then◌else◌, List, [], ◌∷◌, ◌++◌, All, Any, Option, Some, None, count_by, is_some, length, map, slice_get, option_map}
+use Rattle.std.specs.Prelude.{◌≡◌, ◌==◌, ℕ, ◌*◌, ◌-◌, ◌<◌, ◌≤◌, ◌^◌, nat_le, nat_lt, Bool, true, false, not, ◌&&◌, ◌||◌, if◌then◌else◌, List, [], ◌∷◌, ◌++◌, All, Any, Option, Some, None, count_by, is_some, length, map, slice_get, option_map}
 use Rattle.std.specs.List.{filter_map, list_any}
 use Rattle.std.specs.List.Sorted.{IsPermutation}
 use Rattle.std.specs.Option.{option_or}
@@ -21,7 +21,6 @@ use Rattle.rb_script_types.specs.declared.goal.Goal.TheVariants as goals
 use Rattle.rb_script_types.specs.declared.script.Asked.{Asked}
 use Rattle.rb_want_requests.specs.Answered.{is_part_of}
 use Rattle.rb_want_requests.specs.declared.answered.PartKind.TheVariants as kinds
-use Rattle.rb_want_requests.specs.declared.content.Content.{Content}
 use Rattle.rb_want_requests.specs.declared.content.Folder.{Folder}
 use Rattle.rb_want_requests.specs.declared.content.Folders.{Folders}
 use Rattle.rb_want_requests.specs.declared.content.NodeStatus.{NodeStatus}

@@ -1,5 +1,4 @@
 use Rattle.std.proofs.Common.{map, sym, subst, take, ◌+◌}
-use Rattle.std.specs.Prelude.{Option, ℕ}
 use Rattle.rb_want.specs.Needs.{IsStart}
 use Rattle.rb_want.proofs.Starting.{start_step}
 use Rattle.rb_want.proofs.client.first_for.Goals as goal

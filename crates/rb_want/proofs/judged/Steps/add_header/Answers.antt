@@ -1,4 +1,4 @@
-use Rattle.std.proofs.Common.{◌≡◌, ◌∙◌, sym, refl, ap, rules}
+use Rattle.std.proofs.Common.{rules}
 use Rattle.rb_want.proofs.Waiting.{header_asked, header_new, on_ok}
 use Rattle.rb_want.proofs.judged.Steps.add_header.Goals as goal
 

@@ -1,4 +1,4 @@
-use Rattle.std.proofs.Common.{◌≡◌, ◌∙◌, sym, refl, ap, rules}
+use Rattle.std.proofs.Common.{rules}
 use Rattle.rb_want.proofs.Waiting.{next_asked, on_ok}
 use Rattle.rb_want.proofs.judged.Steps.add_next.Goals as goal
 

@@ -1,4 +1,3 @@
-use Rattle.std.proofs.Common.{◌≡◌, ◌∙◌, sym, refl, ap, rules}
 use Rattle.rb_want.proofs.Waiting.{on_ok, set_asked, unseen}
 use Rattle.rb_want.proofs.judged.Steps.add_set.Goals as goal
 
