@@ -17,7 +17,7 @@ one_grows true rs r = omega (arith, length-append rs (r ∷ []))
 one_grows false rs r = omega arith
 
 -- the requests never get fewer
-grows : (f : Folders) (rs needed : List Request) → length rs ≤ length (with_needed f rs needed)
+pub grows : (f : Folders) (rs needed : List Request) → length rs ≤ length (with_needed f rs needed)
 unfolding with_needed
 grows f rs [] = omega arith
 grows f rs (r ∷ needed) = omega (arith, one_grows (may_be_added f rs r) rs r, grows f (with_request f rs r) needed)

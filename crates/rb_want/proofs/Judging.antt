@@ -3,7 +3,10 @@ use Rattle.std.proofs.Common.{◌≡◌, ◌≢◌, ℕ, ◌+◌, ◌≤◌, ◌
 use Rattle.std.proofs.lemmas.Option.{none-some}
 use Rattle.rb_base.specs.Options.{ClientOptions}
 use Rattle.rb_base.specs.Window.{Span, IsWithin}
-use Rattle.std.specs.Prelude.{◌↔◌}
+use Rattle.std.specs.Prelude.{◌↔◌, false}
+use Rattle.std.specs.List.{list_any}
+use Rattle.rb_valset.specs.ValidatorSet.{set_hash}
+use Rattle.rb_want_requests.specs.Answered.{is_commit_of}
 use Rattle.rb_book.specs.Header.{Record, Header, IsSignedBy, Names}
 use Rattle.rb_valset.specs.Validator.{Member}
 use Rattle.rb_step.specs.Answer.{answer_at}
@@ -18,7 +21,8 @@ use Rattle.rb_want_search.specs.declared.judge.Judgement.{Judgement}
 use Rattle.rb_want_search.specs.declared.judge.Judgement.TheVariants.{Accepted, Refused, Never, Gone, Unknown}
 use Rattle.rb_want.specs.declared.judged.Steps.{Steps}
 use Rattle.rb_want.specs.Clients.{IsHeaderAt}
-use Rattle.rb_want.specs.Judgements.{AreByRule, IsExpiring, LacksTrust}
+use Rattle.rb_want.specs.Judgements.{AreByRule, IsExpiring, LacksStep, LacksTrust}
+use Rattle.rb_want.specs.Waiting.{HasNoRecord, HasSet}
 use Rattle.rb_want.specs.Steps.{HoldsWithin, IsRecordAt, IsVerdictOn, header_of, record_of}
 
 -- the record of a header that is there
@@ -61,3 +65,31 @@ by_rule s trusted height v Refused is accepted refused last decided = (is.0, is.
 by_rule s trusted height v Never is accepted refused last decided = never s trusted height v is (last refl)
 by_rule s trusted height v Gone is accepted refused last decided = absurd (decided.0 refl)
 by_rule s trusted height v Unknown is accepted refused last decided = absurd (decided.1 refl)
+
+-- ---- what it takes to judge a step isn't there
+
+pub no_record : (s : Steps) (trusted height : ℕ) → HasNoRecord s trusted → LacksStep s trusted height
+unfolding LacksStep
+no_record s trusted height none = inl none
+
+pub no_next : (s : Steps) (trusted height : ℕ) (r : Record) (hash : List ℕ) → IsRecordAt s trusted r → hash ≡ r.next → (HasSet s hash → ⊥) → LacksStep s trusted height
+unfolding LacksStep
+no_next s trusted height r hash stored named denied = inr (inl (r, stored, subst (λ h. HasSet s h → ⊥) named denied))
+
+pub no_header : (s : Steps) (trusted height : ℕ) → list_any (is_commit_of height) s.chain.now.folder.now.contents.items ≡ false → LacksStep s trusted height
+unfolding LacksStep
+no_header s trusted height none = inr (inr (inl none))
+
+pub no_own : (s : Steps) (trusted height : ℕ) (h : SignedHeader) → IsHeaderAt s.chain.now.folder.now.contents.items height h → (HasSet s h.set → ⊥)
+    → LacksStep s trusted height
+unfolding LacksStep
+no_own s trusted height h there denied = inr (inr (inr (h, there, inl denied)))
+
+pub no_votes : (s : Steps) (trusted height : ℕ) (h : SignedHeader) (header : Header) (own : List Member)
+    → IsHeaderAt s.chain.now.folder.now.contents.items height h → header ≡ header_of h → set_hash own ≡ h.set → (IsSignedBy header own → ⊥)
+    → LacksStep s trusted height
+unfolding LacksStep
+no_votes s trusted height h header own there is named denied =
+    inr (inr (inr (h, there, inr (own, named, subst (λ x. IsSignedBy x own → ⊥) is denied))))
+
+pub ruleset lacking = (no_record, no_next, no_header, no_own, no_votes)

@@ -6,6 +6,7 @@ pub mod Pages
 pub mod Searches
 pub mod Seeking
 pub mod Sequences
+pub mod Sets
 pub mod Starting
 pub mod Taking
 pub mod Waiting

@@ -1,10 +1,16 @@
 -- What the folder of a client tells of it, and that of the chain that it tracks.
-use Rattle.std.specs.Prelude.{◌≡◌, ℕ, ◌+◌, ◌-◌, ◌^◌, ◌==◌, min, nat_le, Contains, Bool, true, false, if◌then◌else◌, List, [], ◌∷◌, Option, Some, None, fold, filter, length, count_by, slice_get}
+use Rattle.std.specs.Prelude.{◌≡◌, ◌≢◌, ◌↔◌, ℕ, ◌+◌, ◌-◌, ◌^◌, ◌==◌, min, nat_le, Contains, Bool, true, false, if◌then◌else◌, List, [], ◌∷◌, Option, Some, None, fold, filter, length, count_by, slice_get}
 use Rattle.std.specs.List.{filter_map, flat_map, sum_by}
 use Rattle.rb_import_answers.specs.declared.client.ClientState.{ClientState}
 use Rattle.rb_import_answers.specs.declared.client.ConsensusState.{ConsensusState}
 use Rattle.rb_import_answers.specs.declared.commit.SignedHeader.{SignedHeader}
 use Rattle.rb_import_answers.specs.declared.validators.ValidatorsPage.{ValidatorsPage}
+use Rattle.rb_import_check.specs.Chains.{AreAllPages, validators_of}
+use Rattle.rb_import_check.specs.Sets.{WasSeen}
+use Rattle.rb_import_check.specs.declared.sets.SeenSet.{SeenSet}
+use Rattle.rb_valset.specs.Refusal.{set_refusal}
+use Rattle.rb_valset.specs.Validator.{Member}
+use Rattle.rb_valset.specs.ValidatorSet.{in_set_order, set_hash}
 use Rattle.rb_want_requests.specs.declared.content.Content.{Content}
 use Rattle.rb_want_requests.specs.declared.content.Content.TheVariants as contents
 use Rattle.rb_want_requests.specs.declared.content.NodeStatus.{NodeStatus}
@@ -61,13 +67,40 @@ status_in there = fold later_status None there
 abbrev pub IsHeaderAt : List Content → ℕ → SignedHeader → Type 0
 IsHeaderAt there height h = Contains there (contents.Commit h) × (h.height ≡ height)
 
+-- the page, if the content is one of validators
+abbrev pub page_in : Content → Option ValidatorsPage
+page_in (contents.Validators page) = Some page
+page_in _ = None
+
+-- the page, if it is of this height
+abbrev pub if_at : ℕ → Option ValidatorsPage → Option ValidatorsPage
+if_at height (Some page) = if page.height == height then Some page else None
+if_at height None = None
+
 -- the page, if the content is one of this height
 abbrev pub page_at : ℕ → Content → Option ValidatorsPage
-page_at height (contents.Validators page) = if page.height == height then Some page else None
-page_at height _ = None
+page_at height content = if_at height (page_in content)
 
 abbrev pub pages_at : ℕ → List Content → List ValidatorsPage
 pages_at height there = filter_map (page_at height) there
+
+-- the set that these validators make; none where they are refused
+abbrev pub MayMake : List Member → Option (List Member) → Type 0
+MayMake members (Some set) = (set_refusal members ≡ None) × (set ≡ in_set_order members)
+MayMake members None = set_refusal members ≢ None
+
+-- these are all pages of the validators of a height, who make a set of this hash
+unfoldable pub MakeSet : List ValidatorsPage → List ℕ → Type 0
+MakeSet pages hash =
+    AreAllPages pages × (set_refusal (validators_of pages) ≡ None) × (set_hash (in_set_order (validators_of pages)) ≡ hash)
+
+-- a set of this hash is there: the pages of the validators of some height make it
+abbrev pub IsSetThere : List Content → List ℕ → Type 0
+IsSetThere there hash = ∥ ((height : ℕ) × MakeSet (pages_at height there) hash) ∥₁
+
+-- the sets are those that are there
+abbrev pub AreSetsThere : List Content → List SeenSet → Type 0
+AreSetsThere there sets = (hash : List ℕ) → ∥ WasSeen sets hash ∥₁ ↔ IsSetThere there hash
 
 -- how many validators these pages have
 abbrev pub members_at : ℕ → List Content → ℕ

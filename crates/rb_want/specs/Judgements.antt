@@ -1,9 +1,12 @@
 -- How steps of a client are judged by the answers that are there.
-use Rattle.std.specs.Prelude.{◌≡◌, ◌⊎◌, ℕ, ◌+◌, ◌<◌, ◌≤◌, Bool, true, false, not, List, [], length}
+use Rattle.std.specs.Prelude.{◌≡◌, ◌⊎◌, ℕ, ◌+◌, ◌<◌, ◌≤◌, Bool, true, false, not, List, [], length, Option, Some, None}
 use Rattle.std.specs.List.{list_any}
-use Rattle.rb_book.specs.Header.{Record}
+use Rattle.rb_book.specs.Header.{IsSignedBy, Record}
 use Rattle.rb_import_answers.specs.declared.commit.SignedHeader.{SignedHeader}
 use Rattle.rb_step.specs.StepRule.{Step, AcceptsWithin}
+use Rattle.rb_step.specs.declared.verdict.Verdict.{Verdict}
+use Rattle.rb_valset.specs.Validator.{Member}
+use Rattle.rb_valset.specs.ValidatorSet.{set_hash}
 use Rattle.rb_want_requests.specs.Answered.{is_commit_of}
 use Rattle.rb_want_requests.specs.Requests.{is_named}
 use Rattle.rb_want_requests.specs.declared.request.Query.{Query}
@@ -11,7 +14,7 @@ use Rattle.rb_want_requests.specs.declared.request.Query.TheVariants as queries
 use Rattle.rb_want_search.specs.declared.judge.Judgement.{Judgement}
 use Rattle.rb_want_search.specs.declared.judge.Judgement.TheVariants.{Accepted, Refused, Never, Gone, Unknown}
 use Rattle.rb_want.specs.Clients.{IsHeaderAt}
-use Rattle.rb_want.specs.Steps.{IsRecordAt, IsStepAt}
+use Rattle.rb_want.specs.Steps.{IsRecordAt, IsStepAt, IsVerdictOn, header_of}
 use Rattle.rb_want.specs.Waiting.{HasNoRecord, HasSet, WaitsFor, page_asked}
 use Rattle.rb_want.specs.declared.judged.Steps.{Steps}
 
@@ -36,6 +39,28 @@ abbrev pub LacksHeader : Steps → ℕ → Type 0
 LacksHeader s height =
     ((h : SignedHeader) × IsHeaderAt s.chain.now.folder.now.contents.items height h × LacksSet s h.set height)
     ⊎ ((list_any (is_commit_of height) s.chain.now.folder.now.contents.items ≡ false) × (is_named s.chain.now.folder.now.refused.items (queries.Commit height) ≡ true))
+
+-- no set of the header's hash is there, or one with another number of members than the header has votes
+abbrev pub LacksVoters : Steps → SignedHeader → Type 0
+LacksVoters s h = (¬ HasSet s h.set) ⊎ ((own : List Member) × (set_hash own ≡ h.set) × (¬ IsSignedBy (header_of h) own))
+
+-- what it takes to judge the step isn't there: its record, the set that this names, its header, or a set with a member for each vote of that
+unfoldable pub LacksStep : Steps → ℕ → ℕ → Type 0
+LacksStep s trusted height =
+    HasNoRecord s trusted
+    ⊎ (((r : Record) × IsRecordAt s trusted r × (¬ HasSet s r.next))
+    ⊎ ((list_any (is_commit_of height) s.chain.now.folder.now.contents.items ≡ false)
+    ⊎ ((h : SignedHeader) × IsHeaderAt s.chain.now.folder.now.contents.items height h × LacksVoters s h)))
+
+-- what the step rule says of the step, and nothing where it can't be judged
+abbrev pub IsSaidOf : Steps → ℕ → ℕ → Option Verdict → Type 0
+IsSaidOf s trusted height (Some verdict) = IsVerdictOn s trusted height verdict
+IsSaidOf s trusted height None = LacksStep s trusted height
+
+-- the same of a step that was refused, if one was
+abbrev pub IsSaidIf : Steps → ℕ → Option ℕ → Option Verdict → Type 0
+IsSaidIf s trusted (Some height) said = IsSaidOf s trusted height said
+IsSaidIf s trusted None said = said ≡ None
 
 -- What is judged to be accepted is accepted by the step rule at every moment of the window, and what is judged to be refused isn't. Never is a step
 -- accepted from a record that expires, or that lacks the set to trust. A step is gone whose header isn't given, or for which nothing is left to be asked

@@ -19,11 +19,18 @@ use Rattle.rb_import_setup.specs.declared.setup.TurnSetup.{TurnSetup}
 use Rattle.rb_script_types.specs.declared.goal.Goal.{Goal}
 use Rattle.rb_script_types.specs.declared.goal.Goal.TheVariants as goals
 use Rattle.rb_script_types.specs.declared.script.Asked.{Asked}
+use Rattle.rb_step.specs.declared.verdict.Verdict.{Verdict}
 use Rattle.rb_want_requests.specs.Answered.{is_part_of}
+use Rattle.rb_want_requests.specs.Requests.{is_named}
 use Rattle.rb_want_requests.specs.declared.answered.PartKind.TheVariants as kinds
 use Rattle.rb_want_requests.specs.declared.content.Folder.{Folder}
 use Rattle.rb_want_requests.specs.declared.content.Folders.{Folders}
 use Rattle.rb_want_requests.specs.declared.content.NodeStatus.{NodeStatus}
+use Rattle.rb_want_requests.specs.declared.reason.End.{End}
+use Rattle.rb_want_requests.specs.declared.reason.End.TheVariants as endings
+use Rattle.rb_want_requests.specs.declared.reason.Missing.{Missing}
+use Rattle.rb_want_requests.specs.declared.reason.Missing.TheVariants.{State, Records, LatestHeight}
+use Rattle.rb_want_requests.specs.declared.reason.Why.{Why}
 use Rattle.rb_want_requests.specs.declared.request.Owner.TheVariants as owners
 use Rattle.rb_want_requests.specs.declared.request.Query.{Query}
 use Rattle.rb_want_requests.specs.declared.request.Query.TheVariants as queries
@@ -32,8 +39,10 @@ use Rattle.rb_want_search.specs.Search.{IsFinding}
 use Rattle.rb_want_search.specs.declared.searching.Aim.{Aim}
 use Rattle.rb_want_search.specs.declared.searching.Finding.{Finding}
 use Rattle.rb_want_search.specs.declared.searching.Finding.TheVariants as findings
+use Rattle.rb_want_search.specs.declared.searching.Question.{Question}
+use Rattle.rb_want.specs.Adding.{Outcome, ended, no_outcome}
 use Rattle.rb_want.specs.Clients.{after, is_last_states, is_other_client, state_in, status_in, stored_in}
-use Rattle.rb_want.specs.Judgements.{AreByRule}
+use Rattle.rb_want.specs.Judgements.{AreByRule, IsSaidIf, IsSaidOf}
 use Rattle.rb_want.specs.Waiting.{WaitsFor}
 use Rattle.rb_want.specs.declared.client.Case.{Case}
 use Rattle.rb_want.specs.declared.judged.Steps.{Steps}
@@ -90,6 +99,21 @@ first_needs t =
     ++ ((if lacks_states t then host_request t (queries.ConsensusStates (next_states t)) ∷ [] else [])
     ++ (if lacks_status t then node_request t queries.Status ∷ [] else []))
 
+-- that no more is asked, since this isn't given
+abbrev pub not_given : Tracking → Missing → End
+not_given t missing = endings.NotGiven t.setup.id missing
+
+-- where the query was refused, that it isn't given
+abbrev pub if_refused : Folder → Query → End → List End
+if_refused folder query end = if is_named folder.refused.items query then end ∷ [] else []
+
+-- what of that isn't given
+unfoldable pub first_ends : Tracking → List End
+first_ends t =
+    (if lacks_state t then if_refused t.own queries.ClientState (not_given t State) else [])
+    ++ ((if lacks_states t then if_refused t.own (queries.ConsensusStates (next_states t)) (not_given t Records) else [])
+    ++ (if lacks_status t then if_refused t.chain queries.Status (not_given t LatestHeight) else []))
+
 -- ---- how the client judges headers
 
 -- these options, where the trust level and the drift are in range (CometBFT light client: trust level)
@@ -99,6 +123,10 @@ options_with (Some period) (Some drift) (Some level) =
     then Some (record { period = period; drift = drift; trust = record { numerator = level.numerator; denominator = level.denominator }; votes = carried.Commit })
     else None
 options_with _ _ _ = None
+
+-- the trust level of these options
+abbrev pub level_in : ClientOptions → TrustLevel
+level_in o = record { numerator = o.trust.numerator; denominator = o.trust.denominator }
 
 abbrev pub level_of : TrustSetup → TrustLevel
 level_of level = record { numerator = level.numerator; denominator = level.denominator }
@@ -127,6 +155,13 @@ aim_below goal stored latest =
     if nat_lt latest (least_of goal latest) && not (list_any (λ s. s.height == least_of goal latest) stored) then None
     else Some (record { least = least_of goal latest; most = most_of goal latest })
 
+-- why it is nowhere: the votes of no height from the goal on are final
+abbrev pub ends_below : Tracking → List ConsensusState → ℕ → List End
+ends_below t stored latest =
+    if nat_lt latest (least_of t.goal latest) && not (list_any (λ s. s.height == least_of t.goal latest) stored)
+    then endings.GoalAhead t.setup.id (least_of t.goal latest) latest ∷ []
+    else []
+
 -- the node says that it is one of another chain
 abbrev pub is_elsewhere : Option (List ℕ) → List ℕ → Bool
 is_elsewhere (Some network) chain = not (bytes_eq network chain)
@@ -142,6 +177,17 @@ aim_by t stored None = None
 
 unfoldable pub aim_of : Tracking → List ConsensusState → Option Aim
 aim_of t stored = aim_by t stored (status_in t.chain.contents.items)
+
+abbrev pub aim_ends_by : Tracking → List ConsensusState → Option NodeStatus → List End
+aim_ends_by t stored (Some status) =
+    if is_elsewhere status.network t.tracks then endings.OtherNetwork t.setup.id t.tracks ∷ []
+    else if nat_le status.latest 1 then []
+    else ends_below t stored (status.latest - 1)
+aim_ends_by t stored None = []
+
+-- why the client is to get nowhere: its goal is ahead, or the node is one of another chain
+unfoldable pub aim_ends : Tracking → List ConsensusState → List End
+aim_ends t stored = aim_ends_by t stored (status_in t.chain.contents.items)
 
 -- the greatest height of a record from which the client can be updated to a goal
 abbrev pub highest_of : Option Goal → ℕ → ℕ
@@ -164,34 +210,53 @@ abbrev pub AreStepsOf : Tracking → ClientOptions → List ConsensusState → S
 AreStepsOf t options stored s =
     (s.options ≡ options) × (s.window ≡ t.window) × (s.chain.now.folder.now ≡ t.chain) × (map (λ r. r.now) s.records.now ≡ stored)
 
--- what the step of a search's question waits for; nothing where the search has ended
-abbrev pub IsNeededBy : Tracking → Steps → Finding → List Request → Type 0
-IsNeededBy t s (findings.Asks q) needed = (asked : List Query) × WaitsFor s q.trusted q.height asked × (needed ≡ map (node_request t) asked)
-IsNeededBy t s (findings.Reached height) needed = needed ≡ []
-IsNeededBy t s (findings.Stuck trusted height) needed = needed ≡ []
+-- why the step of a question is asked for: between which heights, with what the step rule says of the one that was refused
+abbrev pub why_of : Tracking → ClientOptions → Question → Option Verdict → Why
+why_of t options q said =
+    record { client = t.setup.id; trusted = q.trusted; accepted = q.accepted; refused = q.refused; verdict = said; trust = level_in options }
 
--- what the search asks for from a stored height, with these options and this aim
-abbrev pub IsSoughtFrom : Tracking → ClientOptions → Aim → List ConsensusState → Option ℕ → List Request → Type 0
-IsSoughtFrom t options aim stored None needed = needed ≡ []
-IsSoughtFrom t options aim stored (Some first) needed =
-    (s : Steps) × (finding : Finding) × AreStepsOf t options stored s × IsFinding (AreByRule s) first aim finding × IsNeededBy t s finding needed
+-- why no step goes on from a trusted height: what the step rule says of the one to another
+abbrev pub why_stuck : Tracking → ClientOptions → ℕ → ℕ → Option Verdict → Why
+why_stuck t options trusted height said =
+    record { client = t.setup.id; trusted = trusted; accepted = None; refused = Some height; verdict = said; trust = level_in options }
 
-abbrev pub IsSoughtWith : Tracking → List ConsensusState → Option ClientOptions → Option Aim → List Request → Type 0
-IsSoughtWith t stored (Some options) (Some aim) needed =
-    (first : Option ℕ) × IsStart stored (highest_of t.goal (2 ^ 63 - 1)) first × IsSoughtFrom t options aim stored first needed
-IsSoughtWith t stored _ _ needed = needed ≡ []
+-- what the step of a question waits for, and why
+abbrev pub IsAskedBy : Tracking → ClientOptions → Steps → Question → Outcome → Type 0
+IsAskedBy t options s q o =
+    (asked : List Query) × (said : Option Verdict) × WaitsFor s q.trusted q.height asked × IsSaidIf s q.trusted q.refused said
+    × (o ≡ record { needed = map (node_request t) asked; reasons = why_of t options q said ∷ []; ends = [] })
 
-abbrev pub IsSought : Tracking → List ConsensusState → List Request → Type 0
-IsSought t stored needed = IsSoughtWith t stored (options_of t.setup (state_in t.own.contents.items)) (aim_of t stored) needed
+-- the step that a search asks for; nothing where the search has reached its aim; and else why no step goes on
+abbrev pub IsOutcomeOf : Tracking → ClientOptions → Steps → Finding → Outcome → Type 0
+IsOutcomeOf t options s (findings.Asks q) o = IsAskedBy t options s q o
+IsOutcomeOf t options s (findings.Reached height) o = o ≡ no_outcome
+IsOutcomeOf t options s (findings.Stuck trusted height) o =
+    (said : Option Verdict) × IsSaidOf s trusted height said × (o ≡ ended (endings.Stuck (why_stuck t options trusted height said)))
 
--- nothing for a client that is frozen or isn't Tendermint's; what is needed first; and once that is there, what the search asks for
-abbrev pub IsNeededIf : Bool → Bool → Tracking → List ConsensusState → List Request → Type 0
-IsNeededIf true lacks t stored needed = needed ≡ []
-IsNeededIf false true t stored needed = needed ≡ first_needs t
-IsNeededIf false false t stored needed = IsSought t stored needed
+-- what the search comes to from a stored height, with these options and this aim; without one, that no record is stored
+abbrev pub IsSoughtFrom : Tracking → ClientOptions → Aim → List ConsensusState → Option ℕ → Outcome → Type 0
+IsSoughtFrom t options aim stored None o = o ≡ ended (endings.NoRecord t.setup.id)
+IsSoughtFrom t options aim stored (Some first) o =
+    (s : Steps) × (finding : Finding) × AreStepsOf t options stored s × IsFinding (AreByRule s) first aim finding × IsOutcomeOf t options s finding o
 
-abbrev pub IsNeeded : Tracking → List ConsensusState → List Request → Type 0
-IsNeeded t stored needed = IsNeededIf (list_any is_other_client t.own.contents.items) (lacks_first t) t stored needed
+-- with options that are out of range, that these are; without an aim, why there is none
+abbrev pub IsSoughtWith : Tracking → List ConsensusState → Option ClientOptions → Option Aim → Outcome → Type 0
+IsSoughtWith t stored None aim o = o ≡ ended (endings.BadOptions t.setup.id)
+IsSoughtWith t stored (Some options) None o = o ≡ record { needed = []; reasons = []; ends = aim_ends t stored }
+IsSoughtWith t stored (Some options) (Some aim) o =
+    (first : Option ℕ) × IsStart stored (highest_of t.goal (2 ^ 63 - 1)) first × IsSoughtFrom t options aim stored first o
+
+abbrev pub IsSought : Tracking → List ConsensusState → Outcome → Type 0
+IsSought t stored o = IsSoughtWith t stored (options_of t.setup (state_in t.own.contents.items)) (aim_of t stored) o
+
+-- that a client is frozen or isn't Tendermint's; else what is needed first; and once that is there, what the search comes to
+abbrev pub IsOutcomeIf : Bool → Bool → Tracking → List ConsensusState → Outcome → Type 0
+IsOutcomeIf true lacks t stored o = o ≡ ended (endings.OtherClient t.setup.id)
+IsOutcomeIf false true t stored o = o ≡ record { needed = first_needs t; reasons = []; ends = first_ends t }
+IsOutcomeIf false false t stored o = IsSought t stored o
+
+abbrev pub IsOutcome : Tracking → List ConsensusState → Outcome → Type 0
+IsOutcome t stored o = IsOutcomeIf (list_any is_other_client t.own.contents.items) (lacks_first t) t stored o
 
 -- ---- the clients of a setup
 
@@ -228,10 +293,10 @@ IsCaseOf setup own chains c None = tracking_at setup own chains c ≡ None
 IsCaseOf setup own chains c (Some case) =
     (tracking_at setup own chains c ≡ Some (tracking_of case)) × AreStoredBy (tracking_of case) (map (λ r. r.now) case.answers.records.items)
 
-abbrev pub IsNeededIn : Option Tracking → List Request → Type 0
-IsNeededIn None needed = needed ≡ []
-IsNeededIn (Some t) needed = (stored : List ConsensusState) × AreStoredBy t stored × IsNeeded t stored needed
+abbrev pub IsOutcomeIn : Option Tracking → Outcome → Type 0
+IsOutcomeIn None o = o ≡ no_outcome
+IsOutcomeIn (Some t) o = (stored : List ConsensusState) × AreStoredBy t stored × IsOutcome t stored o
 
--- what the client at a place needs
-abbrev pub IsNeededAt : Setup → Folders → ℕ × ClientSetup → List Request → Type 0
-IsNeededAt setup folders c needed = IsNeededIn (tracking_at setup folders.clients.items folders.chains.items c) needed
+-- what the client at a place needs, and why, or why no more is asked
+abbrev pub IsOutcomeAt : Setup → Folders → ℕ × ClientSetup → Outcome → Type 0
+IsOutcomeAt setup folders c o = IsOutcomeIn (tracking_at setup folders.clients.items folders.chains.items c) o

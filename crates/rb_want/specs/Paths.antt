@@ -10,6 +10,8 @@ use Rattle.rb_want_requests.specs.Answered.{is_part_of}
 use Rattle.rb_want_requests.specs.PacketPaths.{pending_in}
 use Rattle.rb_want_requests.specs.declared.answered.PartKind.TheVariants as kinds
 use Rattle.rb_want_requests.specs.declared.content.Folder.{Folder}
+use Rattle.rb_want_requests.specs.Requests.{is_named}
+use Rattle.rb_want_requests.specs.declared.reason.PathEnd.{PathEnd}
 use Rattle.rb_want_requests.specs.declared.request.Owner.TheVariants as owners
 use Rattle.rb_want_requests.specs.declared.request.Query.{Query}
 use Rattle.rb_want_requests.specs.declared.request.Query.TheVariants as queries
@@ -56,6 +58,23 @@ path_needs p folder =
     ++ flat_map (packet_needs p folder) (pending_in folder.contents.items)
     else side_request p p.source (queries.Commitments (after (count_by (is_part_of kinds.Commitments) folder.contents.items))) ∷ []
 
+-- ---- what isn't given
+
+-- where the end of the channel refused a query, that it doesn't give which packets are pending
+abbrev pub side_ends : NamedPath → Folder → Side → Query → List PathEnd
+side_ends p folder side query = if is_named folder.refused.items query then record { path = p.id; chain = side.chain } ∷ [] else []
+
+abbrev pub part_ends : NamedPath → Folder → ℕ → List PathEnd
+part_ends p folder part =
+    side_ends p folder p.destination (queries.Unreceived part) ++ side_ends p folder p.destination (queries.Acknowledgements part)
+
+-- of the commitments; once all of these are there, of each part of the pending packets
+unfoldable pub path_ends : NamedPath → Folder → List PathEnd
+path_ends p folder =
+    if list_any is_last_page folder.contents.items
+    then flat_map (part_ends p folder) (range_with_len 1 (parts_in folder.contents.items))
+    else side_ends p folder p.source (queries.Commitments (after (count_by (is_part_of kinds.Commitments) folder.contents.items)))
+
 -- ---- the paths of a setup
 
 -- an end of a path's channel on a chain
@@ -90,10 +109,19 @@ needs_in _ _ = []
 abbrev pub needs_at : List (List ℕ) → List Folder → ℕ × PathSetup → List Request
 needs_at chains folders p = needs_in (named_path chains p.0 p.1) (slice_get folders p.0)
 
+abbrev pub ends_in : Option NamedPath → Option Folder → List PathEnd
+ends_in (Some p) (Some folder) = path_ends p folder
+ends_in _ _ = []
+
+-- why no more is asked for the path at a place
+abbrev pub ends_at : List (List ℕ) → List Folder → ℕ × PathSetup → List PathEnd
+ends_at chains folders p = ends_in (named_path chains p.0 p.1) (slice_get folders p.0)
+
 abbrev pub path_view : PathCase → NamedPath
 path_view p = record { place = p.place; id = p.id; first = p.first; source = p.source; destination = p.destination }
 
 -- the case is that of the path at a place, with the folder of it; there is none where the path doesn't name both ends
 abbrev pub IsCaseAt : List (List ℕ) → List Folder → ℕ × PathSetup → Option PathCase → Type 0
-IsCaseAt chains folders p None = needs_at chains folders p ≡ []
-IsCaseAt chains folders p (Some case) = needs_at chains folders p ≡ path_needs (path_view case) case.answers.folder.now
+IsCaseAt chains folders p None = (needs_at chains folders p ≡ []) × (ends_at chains folders p ≡ [])
+IsCaseAt chains folders p (Some case) =
+    (needs_at chains folders p ≡ path_needs (path_view case) case.answers.folder.now) × (ends_at chains folders p ≡ path_ends (path_view case) case.answers.folder.now)

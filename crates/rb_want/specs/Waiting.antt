@@ -3,11 +3,10 @@ use Rattle.std.specs.Prelude.{◌≡◌, ◌≢◌, ◌⊎◌, ℕ, ◌+◌, ◌
 use Rattle.std.specs.List.{list_any}
 use Rattle.rb_book.specs.Header.{Record}
 use Rattle.rb_import_answers.specs.declared.commit.SignedHeader.{SignedHeader}
-use Rattle.rb_import_check.specs.Sets.{WasSeen}
 use Rattle.rb_want_requests.specs.Answered.{is_commit_of}
 use Rattle.rb_want_requests.specs.declared.request.Query.{Query}
 use Rattle.rb_want_requests.specs.declared.request.Query.TheVariants as queries
-use Rattle.rb_want.specs.Clients.{IsHeaderAt, next_page}
+use Rattle.rb_want.specs.Clients.{IsHeaderAt, IsSetThere, next_page}
 use Rattle.rb_want.specs.Steps.{IsRecordAt}
 use Rattle.rb_want.specs.declared.judged.Steps.{Steps}
 
@@ -21,7 +20,7 @@ page_asked s height = if is_height height then next_page height s.chain.now.fold
 
 -- a set of this hash is there
 abbrev pub HasSet : Steps → List ℕ → Type 0
-HasSet s hash = WasSeen s.chain.now.sets.sets.items hash
+HasSet s hash = IsSetThere s.chain.now.folder.now.contents.items hash
 
 -- a set of this hash is there, or the next page of the validators of the height is asked for
 abbrev pub WaitsForSet : Steps → List ℕ → ℕ → List Query → Type 0

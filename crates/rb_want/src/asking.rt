@@ -1,11 +1,10 @@
 //! What is to be fetched next for a setup.
-ghost use Rattle.std.specs.Prelude.{◌≡◌, List, IfOk, OnOk, map};
+ghost use Rattle.std.specs.Prelude.{◌≡◌, List, IfOk, OnOk, fold, map};
 ghost use Rattle.std.specs.List.{AllZip, enumerate_from, flat_map};
-ghost use Rattle.rb_want_requests.specs.declared.request.Request.{Request};
-ghost use Rattle.rb_want.specs.Adding.{with_needed};
-ghost use Rattle.rb_want.specs.Needs.{IsNeededAt};
-ghost use Rattle.rb_want.specs.Paths.{needs_at};
-ghost use Rattle.rb_want.specs.Wanted.{AreAsked};
+ghost use Rattle.rb_want.specs.Adding.{Outcome, told_of, with_needed, with_outcome, with_path_ends};
+ghost use Rattle.rb_want.specs.Needs.{IsOutcomeAt};
+ghost use Rattle.rb_want.specs.Paths.{ends_at, needs_at};
+ghost use Rattle.rb_want.specs.Wanted.{AreAsked, path_ends_of};
 
 use crate::chain::ChainAnswers;
 use crate::client::case_of;
@@ -24,7 +23,8 @@ pub fn wanted_of<'a>(
     folders: &'a Folders,
 ) -> Result<Wanted<'a>, AllocError>
     ensures folders { IfOk result (λ wanted. wanted.folders.now ≡ folders.entry.now) }
-    ensures requests { IfOk result (λ wanted. AreAsked setup.entry.now folders.entry.now wanted.requests.items) }
+    ensures asked { IfOk result (λ wanted. AreAsked setup.entry.now folders.entry.now (told_of wanted)) }
+    ensures path_ends { IfOk result (λ wanted. wanted.path_ends.items ≡ path_ends_of setup.entry.now folders.entry.now) }
 {
     let mut wanted = Wanted::nothing(alloc, folders);
     let chains = answers_of(alloc, folders)?;
@@ -51,9 +51,10 @@ fn add_clients<'a>(
     wanted: &mut Wanted<'_>,
 ) -> Result<(), AllocError>
     requires { map (λ a. a.folder.now) chains.now ≡ folders.now.chains.items }
-    ensures requests { OnOk result ((needs : List (List Request)) × AllZip (IsNeededAt setup.entry.now folders.entry.now) (enumerate_from 0 clients.entry.now) needs
-        × (wanted.new.requests.items ≡ with_needed wanted.old.folders.now wanted.old.requests.items (flat_map (λ rs. rs) needs))) }
+    ensures outcomes { OnOk result ((outcomes : List Outcome) × AllZip (IsOutcomeAt setup.entry.now folders.entry.now) (enumerate_from 0 clients.entry.now) outcomes
+        × (told_of wanted.new ≡ fold (with_outcome wanted.old.folders.now) (told_of wanted.old) outcomes)) }
     ensures folders { wanted.new.folders ≡ wanted.old.folders }
+    ensures path_ends { wanted.new.path_ends ≡ wanted.old.path_ends }
 {
     for (place, client) in clients.iter().enumerate() {
         add_client(alloc, setup, folders, chains, place, client, wanted)?;
@@ -72,9 +73,10 @@ fn add_client<'a>(
     wanted: &mut Wanted<'_>,
 ) -> Result<(), AllocError>
     requires { map (λ a. a.folder.now) chains.now ≡ folders.now.chains.items }
-    ensures requests { OnOk result ((needed : List Request) × IsNeededAt setup.entry.now folders.entry.now (place, client.entry.now) needed
-        × (wanted.new.requests.items ≡ with_needed wanted.old.folders.now wanted.old.requests.items needed)) }
+    ensures outcome { OnOk result ((o : Outcome) × IsOutcomeAt setup.entry.now folders.entry.now (place, client.entry.now) o
+        × (told_of wanted.new ≡ with_outcome wanted.old.folders.now (told_of wanted.old) o)) }
     ensures folders { wanted.new.folders ≡ wanted.old.folders }
+    ensures path_ends { wanted.new.path_ends ≡ wanted.old.path_ends }
 {
     match case_of(alloc, setup, folders, chains, place, client)? {
         Some(case) => case.add_wanted(wanted),
@@ -83,7 +85,7 @@ fn add_client<'a>(
 }
 
 /// Adds what is wanted for each path.
-#[tactic(auto, using(crate::proofs::Adding::adding))]
+#[tactic(auto, using(crate::proofs::Adding::adding, crate::proofs::Adding::path_ending))]
 fn add_paths<'a>(
     alloc: Global,
     setup: &Setup,
@@ -94,6 +96,10 @@ fn add_paths<'a>(
     ensures requests { OnOk result (wanted.new.requests.items ≡ with_needed wanted.old.folders.now wanted.old.requests.items
         (flat_map (needs_at setup.now.chains.items folders.entry.now.paths.items) (enumerate_from 0 paths.now))) }
     ensures folders { wanted.new.folders ≡ wanted.old.folders }
+    ensures reasons { wanted.new.reasons ≡ wanted.old.reasons }
+    ensures ends { wanted.new.ends ≡ wanted.old.ends }
+    ensures path_ends { OnOk result (wanted.new.path_ends.items ≡ with_path_ends wanted.old.path_ends.items
+        (flat_map (ends_at setup.now.chains.items folders.entry.now.paths.items) (enumerate_from 0 paths.now))) }
 {
     for (place, path) in paths.iter().enumerate() {
         add_path(alloc, setup, folders, place, path, wanted)?;
@@ -102,7 +108,7 @@ fn add_paths<'a>(
 }
 
 /// Adds what is wanted for the path at a place.
-#[tactic(auto, using(crate::proofs::Adding::adding))]
+#[tactic(auto, using(crate::proofs::Adding::adding, crate::proofs::Adding::path_ending))]
 fn add_path<'a>(
     alloc: Global,
     setup: &Setup,
@@ -114,6 +120,10 @@ fn add_path<'a>(
     ensures requests { OnOk result (wanted.new.requests.items ≡ with_needed wanted.old.folders.now wanted.old.requests.items
         (needs_at setup.now.chains.items folders.entry.now.paths.items (place, path.now))) }
     ensures folders { wanted.new.folders ≡ wanted.old.folders }
+    ensures reasons { wanted.new.reasons ≡ wanted.old.reasons }
+    ensures ends { wanted.new.ends ≡ wanted.old.ends }
+    ensures path_ends { OnOk result (wanted.new.path_ends.items ≡ with_path_ends wanted.old.path_ends.items
+        (ends_at setup.now.chains.items folders.entry.now.paths.items (place, path.now))) }
 {
     match path_case_of(alloc, setup, folders, place, path)? {
         Some(case) => case.add_wanted(wanted),

@@ -1,16 +1,19 @@
 //! What the answers of a chain give to judge steps with.
-ghost use Rattle.std.specs.Prelude.{◌≡◌, ◌↔◌, false, IfNone, IfOk, IfSome, IsSome, IsTrue, min, not, slice_get, ◌-◌, ◌^◌};
-ghost use Rattle.std.specs.List.{list_any};
+ghost use Rattle.std.specs.Prelude.{◌≡◌, ◌==◌, ◌↔◌, ◌⊎◌, ℕ, false, List, IfNone, IfOk, IfSome, IsSome, IsTrue, OnOk, filter, map, min, not, slice_get, ◌-◌, ◌^◌};
+ghost use Rattle.std.specs.List.{filter_map, list_all, list_any};
+ghost use Rattle.std.specs.List.Sorted.{IsNonDecreasingBy};
 ghost use Rattle.std.specs.Option.{option_copied, option_to_list};
+ghost use Rattle.rb_import_check.specs.Chains.{validators_of};
 ghost use Rattle.rb_import_check.specs.Sets.{WasSeen};
+ghost use Rattle.rb_valset.specs.ValidatorSet.{set_hash};
 ghost use Rattle.rb_want_requests.specs.Answered.{is_commit_of};
 ghost use Rattle.rb_want_requests.specs.Requests.{is_named};
-ghost use Rattle.rb_want.specs.Clients.{IsHeaderAt, later_status, members_at, next_page, page_at, pages_at, status_in};
+ghost use Rattle.rb_want.specs.Clients.{AreSetsThere, IsHeaderAt, IsSetThere, MakeSet, MayMake, later_status, members_at, next_page, page_at, page_in, pages_at, status_in};
 
 use rb_base::Height;
 use rb_import_answers::{SignedHeader, ValidatorsPage};
 use rb_import_check::{SeenSet, SeenSets};
-use rb_valset::{ValidatorSet, ValsetError};
+use rb_valset::{Validator, ValidatorSet, ValsetError};
 use rb_want_requests::{Content, Folder, NodeStatus, Query, count_pages, is_named};
 use std::alloc::{AllocError, Global};
 
@@ -25,6 +28,7 @@ pub struct ChainAnswers<'a> {
     pub status: Option<NodeStatus>,
     sets: SeenSets<'a>,
     ghost told: { status ≡ status_in folder.now.contents.items },
+    ghost made: { AreSetsThere folder.now.contents.items sets.sets.items },
 }
 
 impl<'a> ChainAnswers<'a> {
@@ -33,12 +37,10 @@ impl<'a> ChainAnswers<'a> {
         ensures folder { IfOk result (λ answers. answers.folder.now ≡ folder.entry.now) }
     {
         let contents = folder.contents.as_slice();
-        let mut pages = all_pages(alloc, contents)?;
-        pages.sort_by_key(|page: &&ValidatorsPage| page.height)?;
         Ok(ChainAnswers {
             folder,
             status: status_in(contents),
-            sets: sets_of(alloc, pages.as_slice())?,
+            sets: sets_in(alloc, contents)?,
         })
     }
 
@@ -52,7 +54,8 @@ impl<'a> ChainAnswers<'a> {
 
     /// The set of this hash, where it is there.
     pub fn set_with(&self, hash: &[u8; 32]) -> Option<&ValidatorSet>
-        ensures { IsSome result ↔ WasSeen self.now.sets.sets.items hash.now }
+        ensures found { IsSome result ↔ IsSetThere self.now.folder.now.contents.items hash.now }
+        ensures hash { IfSome result (λ set. set_hash set.now ≡ hash.now) }
     {
         match self.sets.with_hash(hash) {
             Some(seen) => Some(&seen.set),
@@ -62,7 +65,7 @@ impl<'a> ChainAnswers<'a> {
 
     /// Whether the set of this hash is there.
     pub fn has_set(&self, hash: &[u8; 32]) -> bool
-        ensures { IsTrue result ↔ WasSeen self.now.sets.sets.items hash.now }
+        ensures { IsTrue result ↔ IsSetThere self.now.folder.now.contents.items hash.now }
     {
         self.set_with(hash).is_some()
     }
@@ -154,8 +157,18 @@ fn first_page(contents: &[Content], height: Height) -> Option<&ValidatorsPage>
 fn page_at(content: &Content, height: Height) -> Option<&ValidatorsPage>
     ensures { option_copied result ≡ page_at height content.now }
 {
+    match page_in(content) {
+        Some(page) if page.height == height => Some(page),
+        _ => None,
+    }
+}
+
+/// The page, if a content is one of validators.
+fn page_in(content: &Content) -> Option<&ValidatorsPage>
+    ensures { option_copied result ≡ page_in content.now }
+{
     match content {
-        Content::Validators(page) if page.height == height => Some(page),
+        Content::Validators(page) => Some(page),
         _ => None,
     }
 }
@@ -174,27 +187,47 @@ fn count_members(contents: &[Content], height: Height) -> u64
     members
 }
 
+/// The pages of validators by rising height, those of one height in the order of the contents.
+fn pages_in<'a>(
+    alloc: Global,
+    contents: &'a [Content],
+) -> Result<Vec<&'a ValidatorsPage>, AllocError>
+    ensures order { IfOk result (λ pages. IsNonDecreasingBy (λ p. p.now.height) pages.items) }
+    ensures same { IfOk result (λ pages. (height : ℕ) → map (λ p. p.now) (filter (λ p. p.now.height == height) pages.items) ≡ pages_at height contents.entry.now) }
+{
+    let mut pages = all_pages(alloc, contents)?;
+    pages.sort_by_key(|page: &&ValidatorsPage| page.height)?;
+    Ok(pages)
+}
+
+/// The pages of validators in the order of the contents.
+#[tactic(auto, using(crate::proofs::Sets::gathering))]
 fn all_pages<'a>(
     alloc: Global,
     contents: &'a [Content],
-) -> Result<Vec<&'a ValidatorsPage>, AllocError> {
+) -> Result<Vec<&'a ValidatorsPage>, AllocError>
+    ensures { IfOk result (λ pages. map (λ p. p.now) pages.items ≡ filter_map page_in contents.entry.now) }
+{
     let mut pages = Vec::new(alloc);
     for content in contents {
-        if let Content::Validators(page) = content {
+        if let Some(page) = page_in(content) {
             pages.push(page)?;
         }
     }
     Ok(pages)
 }
 
-/// The sets of the heights all of whose pages are among these, which stand by rising height.
-fn sets_of<'a>(alloc: Global, pages: &[&'a ValidatorsPage]) -> Result<SeenSets<'a>, AllocError> {
+/// The sets of the heights all of whose pages are there.
+fn sets_in<'a>(alloc: Global, contents: &'a [Content]) -> Result<SeenSets<'a>, AllocError>
+    ensures { IfOk result (λ sets. AreSetsThere contents.entry.now sets.sets.items) }
+{
+    let pages = pages_in(alloc, contents)?;
     let mut sets = SeenSets::new(alloc);
     let mut last = None;
-    for page in pages {
+    for page in &pages {
         let height = page.height;
         if last != Some(height) {
-            let same = of_height(pages, height);
+            let same = of_height(pages.as_slice(), height);
             add_set(alloc, same, &mut sets)?;
             last = Some(height);
         }
@@ -203,7 +236,10 @@ fn sets_of<'a>(alloc: Global, pages: &[&'a ValidatorsPage]) -> Result<SeenSets<'
 }
 
 /// Of pages that stand by rising height those of this one.
-fn of_height<'a, 'b>(pages: &'b [&'a ValidatorsPage], height: Height) -> &'b [&'a ValidatorsPage] {
+fn of_height<'a, 'b>(pages: &'b [&'a ValidatorsPage], height: Height) -> &'b [&'a ValidatorsPage]
+    requires { IsNonDecreasingBy (λ p. p.now.height) pages.now }
+    ensures { result.now ≡ filter (λ p. p.now.height == height) pages.now }
+{
     let start = pages.partition_point(|page: &&ValidatorsPage| page.height < height);
     let (_, rest) = pages.split_at(start);
     let count = rest.partition_point(|page: &&ValidatorsPage| page.height <= height);
@@ -216,19 +252,48 @@ fn add_set<'a>(
     alloc: Global,
     same: &[&'a ValidatorsPage],
     sets: &mut SeenSets<'a>,
-) -> Result<(), AllocError> {
-    let mut members = Vec::new(alloc);
-    let mut total = 0;
-    for page in same {
-        members.extend_from_slice(page.validators.as_slice())?;
-        total = page.total;
-    }
-    if members.len() as u64 != total {
+) -> Result<(), AllocError>
+    ensures stays { OnOk result ((hash : List ℕ) → WasSeen sets.old.sets.items hash → WasSeen sets.new.sets.items hash) }
+    ensures added { OnOk result ((hash : List ℕ) → MakeSet (map (λ p. p.now) same.now) hash → WasSeen sets.new.sets.items hash) }
+    ensures only { OnOk result ((hash : List ℕ) → WasSeen sets.new.sets.items hash → WasSeen sets.old.sets.items hash ⊎ MakeSet (map (λ p. p.now) same.now) hash) }
+{
+    let members = members_of(alloc, same)?;
+    if same.is_empty() || !say_total(same, members.len() as u64) {
         return Ok(());
     }
-    match ValidatorSet::new(alloc, members) {
-        Ok(set) => sets.add(SeenSet { file: "", set }),
-        Err(ValsetError::NoMemory) => Err(AllocError),
-        Err(_) => Ok(()),
+    match set_of(alloc, members)? {
+        Some(set) => sets.add(SeenSet { file: "", set }),
+        None => Ok(()),
     }
+}
+
+/// The set of these validators, if they make one.
+fn set_of(alloc: Global, members: Vec<Validator>) -> Result<Option<ValidatorSet>, AllocError>
+    ensures { IfOk result (MayMake members.items) }
+{
+    match ValidatorSet::new(alloc, members) {
+        Ok(set) => Ok(Some(set)),
+        Err(ValsetError::NoMemory) => Err(AllocError),
+        Err(_) => Ok(None),
+    }
+}
+
+/// The validators on these pages, in their order.
+fn members_of(alloc: Global, pages: &[&ValidatorsPage]) -> Result<Vec<Validator>, AllocError>
+    ensures { IfOk result (λ members. members.items ≡ validators_of (map (λ p. p.now) pages.now)) }
+{
+    let mut members = Vec::new(alloc);
+    for page in pages {
+        members.extend_from_slice(page.validators.as_slice())?;
+    }
+    Ok(members)
+}
+
+/// Whether each of these pages says that there are so many validators.
+fn say_total(pages: &[&ValidatorsPage], count: u64) -> bool
+    ensures { result ≡ list_all (λ p. p.now.total == count) pages.now }
+{
+    pages
+        .iter()
+        .all(|page: &&ValidatorsPage| page.total == count)
 }

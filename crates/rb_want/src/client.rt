@@ -2,13 +2,12 @@
 ghost use Rattle.std.specs.Prelude.{◌≡◌, ◌==◌, ◌-◌, ◌<◌, ◌^◌, ◌∷◌, [], List, IfOk, OnOk, Some, SomeIff, if◌then◌else◌, not, map, option_map};
 ghost use Rattle.std.specs.List.{list_any};
 ghost use Rattle.std.specs.List.Sorted.{IsNonDecreasingBy};
-ghost use Rattle.rb_want_requests.specs.declared.request.Query.{Query};
 ghost use Rattle.rb_want_requests.specs.declared.request.Query.TheVariants as queries;
-ghost use Rattle.rb_want_requests.specs.declared.request.Request.{Request};
-ghost use Rattle.rb_want.specs.Adding.{with_needed};
+ghost use Rattle.rb_want_requests.specs.declared.reason.Missing.TheVariants.{State, Records, LatestHeight};
+ghost use Rattle.rb_want.specs.Adding.{Outcome, told_of, with_ends, with_needed, with_outcome};
 ghost use Rattle.rb_want.specs.Clients.{state_in};
-ghost use Rattle.rb_want.specs.Needs.{AreStepsOf, IsCaseOf, IsNeeded, IsSought, IsSoughtFrom, IsStart, aim_below, aim_of, first_needs, goal_at, goal_if, highest_of, host_request, is_elsewhere, is_told, lacks_first, lacks_state, lacks_states, lacks_status, least_of, most_of, next_states, node_request, options_of, start_with, tracking_of};
-ghost use Rattle.rb_want.specs.Waiting.{WaitsFor};
+ghost use Rattle.rb_want.specs.Judgements.{IsSaidIf};
+ghost use Rattle.rb_want.specs.Needs.{AreStepsOf, IsAskedBy, IsCaseOf, IsOutcome, IsSought, IsSoughtFrom, IsStart, aim_below, aim_ends, aim_of, ends_below, first_ends, first_needs, goal_at, goal_if, highest_of, host_request, if_refused, is_elsewhere, is_told, lacks_first, lacks_state, lacks_states, lacks_status, least_of, level_in, most_of, next_states, node_request, not_given, options_of, start_with, tracking_of};
 
 use crate::chain::ChainAnswers;
 use crate::judged::Steps;
@@ -17,6 +16,7 @@ use rb_base::{ChainId, ClientId, Fraction, Height, Options, Window};
 use rb_import_answers::{ConsensusState, TrustLevel, revision_of};
 use rb_import_setup::{ClientSetup, Setup};
 use rb_script_types::{Asked, Goal};
+use rb_step::Verdict;
 use rb_want_requests::{End, Folders, Missing, Owner, Query, Request, Wanted, Why, is_named};
 use rb_want_search::{Aim, Finding, Question, search};
 use std::alloc::{AllocError, Global};
@@ -102,6 +102,7 @@ fn goal_if(asked: &Asked, place: usize) -> Option<Goal>
 struct Judging {
     options: Options,
     trust: TrustLevel,
+    ghost same: { trust ≡ level_in options },
 }
 
 impl<'b, 'a> Case<'b, 'a> {
@@ -112,11 +113,12 @@ impl<'b, 'a> Case<'b, 'a> {
     }
 
     /// Adds what is wanted for the client.
-    #[tactic(auto, using(crate::proofs::Adding::adding))]
+    #[tactic(auto, using(crate::proofs::Adding::adding, crate::proofs::Adding::ending))]
     pub fn add_wanted(&self, wanted: &mut Wanted<'_>) -> Result<(), AllocError>
-        ensures requests { OnOk result ((needed : List Request) × IsNeeded (tracking_of self.now) (map (λ r. r.now) self.now.answers.records.items) needed
-            × (wanted.new.requests.items ≡ with_needed wanted.old.folders.now wanted.old.requests.items needed)) }
+        ensures outcome { OnOk result ((o : Outcome) × IsOutcome (tracking_of self.now) (map (λ r. r.now) self.now.answers.records.items) o
+            × (told_of wanted.new ≡ with_outcome wanted.old.folders.now (told_of wanted.old) o)) }
         ensures folders { wanted.new.folders ≡ wanted.old.folders }
+        ensures path_ends { wanted.new.path_ends ≡ wanted.old.path_ends }
     {
         if self.answers.is_other {
             let client = self.id();
@@ -130,11 +132,14 @@ impl<'b, 'a> Case<'b, 'a> {
     }
 
     /// Adds what is missing of the client's state, its records and the chain's latest height, and tells whether something is.
-    #[tactic(auto, unfolding(crate::specs::Needs::first_needs), using(crate::proofs::Adding::adding))]
+    #[tactic(auto, unfolding(crate::specs::Needs::first_needs, crate::specs::Needs::first_ends), using(crate::proofs::Adding::adding, crate::proofs::Adding::ending))]
     fn add_missing(&self, wanted: &mut Wanted<'_>) -> Result<bool, AllocError>
         ensures lacks { IfOk result (λ lacks. lacks ≡ lacks_first (tracking_of self.now)) }
         ensures requests { OnOk result (wanted.new.requests.items ≡ with_needed wanted.old.folders.now wanted.old.requests.items (first_needs (tracking_of self.now))) }
         ensures folders { wanted.new.folders ≡ wanted.old.folders }
+        ensures reasons { wanted.new.reasons ≡ wanted.old.reasons }
+        ensures ends { OnOk result (wanted.new.ends.items ≡ with_ends wanted.old.ends.items (first_ends (tracking_of self.now))) }
+        ensures path_ends { wanted.new.path_ends ≡ wanted.old.path_ends }
     {
         let state = self.add_state(wanted)?;
         let records = self.add_states(wanted)?;
@@ -143,12 +148,16 @@ impl<'b, 'a> Case<'b, 'a> {
     }
 
     /// Adds the client's state, if it is needed and isn't there, and tells whether that is so.
-    #[tactic(auto, using(crate::proofs::Adding::adding))]
+    #[tactic(auto, using(crate::proofs::Adding::adding, crate::proofs::Adding::ending))]
     fn add_state(&self, wanted: &mut Wanted<'_>) -> Result<bool, AllocError>
         ensures lacks { IfOk result (λ lacks. lacks ≡ lacks_state (tracking_of self.now)) }
         ensures requests { OnOk result (wanted.new.requests.items ≡ with_needed wanted.old.folders.now wanted.old.requests.items
             (if lacks_state (tracking_of self.now) then host_request (tracking_of self.now) queries.ClientState ∷ [] else [])) }
         ensures folders { wanted.new.folders ≡ wanted.old.folders }
+        ensures reasons { wanted.new.reasons ≡ wanted.old.reasons }
+        ensures ends { OnOk result (wanted.new.ends.items ≡ with_ends wanted.old.ends.items
+            (if lacks_state (tracking_of self.now) then if_refused self.now.answers.folder.now queries.ClientState (not_given (tracking_of self.now) State) else [])) }
+        ensures path_ends { wanted.new.path_ends ≡ wanted.old.path_ends }
     {
         if !self.needs_state() || self.answers.state.is_some() {
             return Ok(false);
@@ -158,12 +167,16 @@ impl<'b, 'a> Case<'b, 'a> {
     }
 
     /// Adds the next page of the client's records, if one isn't there, and tells whether that is so.
-    #[tactic(auto, using(crate::proofs::Adding::adding))]
+    #[tactic(auto, using(crate::proofs::Adding::adding, crate::proofs::Adding::ending))]
     fn add_states(&self, wanted: &mut Wanted<'_>) -> Result<bool, AllocError>
         ensures lacks { IfOk result (λ lacks. lacks ≡ lacks_states (tracking_of self.now)) }
         ensures requests { OnOk result (wanted.new.requests.items ≡ with_needed wanted.old.folders.now wanted.old.requests.items
             (if lacks_states (tracking_of self.now) then host_request (tracking_of self.now) (queries.ConsensusStates (next_states (tracking_of self.now))) ∷ [] else [])) }
         ensures folders { wanted.new.folders ≡ wanted.old.folders }
+        ensures reasons { wanted.new.reasons ≡ wanted.old.reasons }
+        ensures ends { OnOk result (wanted.new.ends.items ≡ with_ends wanted.old.ends.items
+            (if lacks_states (tracking_of self.now) then if_refused self.now.answers.folder.now (queries.ConsensusStates (next_states (tracking_of self.now))) (not_given (tracking_of self.now) Records) else [])) }
+        ensures path_ends { wanted.new.path_ends ≡ wanted.old.path_ends }
     {
         if self.answers.has_last {
             return Ok(false);
@@ -174,12 +187,16 @@ impl<'b, 'a> Case<'b, 'a> {
     }
 
     /// Adds what the node of the chain says of itself, if it isn't there, and tells whether that is so.
-    #[tactic(auto, using(crate::proofs::Adding::adding))]
+    #[tactic(auto, using(crate::proofs::Adding::adding, crate::proofs::Adding::ending))]
     fn add_status(&self, wanted: &mut Wanted<'_>) -> Result<bool, AllocError>
         ensures lacks { IfOk result (λ lacks. lacks ≡ lacks_status (tracking_of self.now)) }
         ensures requests { OnOk result (wanted.new.requests.items ≡ with_needed wanted.old.folders.now wanted.old.requests.items
             (if lacks_status (tracking_of self.now) then node_request (tracking_of self.now) queries.Status ∷ [] else [])) }
         ensures folders { wanted.new.folders ≡ wanted.old.folders }
+        ensures reasons { wanted.new.reasons ≡ wanted.old.reasons }
+        ensures ends { OnOk result (wanted.new.ends.items ≡ with_ends wanted.old.ends.items
+            (if lacks_status (tracking_of self.now) then if_refused self.now.chain.now.folder.now queries.Status (not_given (tracking_of self.now) LatestHeight) else [])) }
+        ensures path_ends { wanted.new.path_ends ≡ wanted.old.path_ends }
     {
         if self.chain.status.is_some() {
             return Ok(false);
@@ -199,7 +216,7 @@ impl<'b, 'a> Case<'b, 'a> {
     }
 
     /// Asks the client's host for what is missing, and tells where it refused that.
-    #[tactic(auto, using(crate::proofs::Adding::adding))]
+    #[tactic(auto, using(crate::proofs::Adding::adding, crate::proofs::Adding::ending))]
     fn ask_host(
         &self,
         wanted: &mut Wanted<'_>,
@@ -208,6 +225,9 @@ impl<'b, 'a> Case<'b, 'a> {
     ) -> Result<(), AllocError>
         ensures requests { OnOk result (wanted.new.requests.items ≡ with_needed wanted.old.folders.now wanted.old.requests.items (host_request (tracking_of self.now) query ∷ [])) }
         ensures folders { wanted.new.folders ≡ wanted.old.folders }
+        ensures reasons { wanted.new.reasons ≡ wanted.old.reasons }
+        ensures ends { OnOk result (wanted.new.ends.items ≡ with_ends wanted.old.ends.items (if_refused self.now.answers.folder.now query (not_given (tracking_of self.now) missing))) }
+        ensures path_ends { wanted.new.path_ends ≡ wanted.old.path_ends }
     {
         let owner = Owner::Client {
             place: self.place,
@@ -227,7 +247,9 @@ impl<'b, 'a> Case<'b, 'a> {
     }
 
     /// That no more is asked, since this isn't given.
-    fn not_given(&self, missing: Missing) -> End {
+    fn not_given(&self, missing: Missing) -> End
+        ensures { result ≡ not_given (tracking_of self.now) missing }
+    {
         End::NotGiven {
             client: self.id(),
             missing,
@@ -235,10 +257,13 @@ impl<'b, 'a> Case<'b, 'a> {
     }
 
     /// Asks a node of the chain that the client tracks.
-    #[tactic(auto, using(crate::proofs::Adding::adding))]
+    #[tactic(auto, using(crate::proofs::Adding::adding, crate::proofs::Adding::ending))]
     fn ask_node(&self, wanted: &mut Wanted<'_>, query: Query) -> Result<(), AllocError>
         ensures requests { OnOk result (wanted.new.requests.items ≡ with_needed wanted.old.folders.now wanted.old.requests.items (node_request (tracking_of self.now) query ∷ [])) }
         ensures folders { wanted.new.folders ≡ wanted.old.folders }
+        ensures reasons { wanted.new.reasons ≡ wanted.old.reasons }
+        ensures ends { wanted.new.ends ≡ wanted.old.ends }
+        ensures path_ends { wanted.new.path_ends ≡ wanted.old.path_ends }
     {
         let request = Request {
             chain: self.tracks,
@@ -274,11 +299,14 @@ impl<'b, 'a> Case<'b, 'a> {
 
     /// Where the client is to get: its goal, or the greatest height whose votes are final, the one before the node's latest. None,
     /// and why, where the chain isn't there yet.
-    #[tactic(auto, unfolding(crate::specs::Needs::aim_of))]
+    #[tactic(auto, unfolding(crate::specs::Needs::aim_of, crate::specs::Needs::aim_ends), using(crate::proofs::Adding::ending))]
     fn aim(&self, wanted: &mut Wanted<'_>) -> Result<Option<Aim>, AllocError>
         ensures aim { IfOk result (λ aim. aim ≡ aim_of (tracking_of self.now) (map (λ r. r.now) self.now.answers.records.items)) }
         ensures requests { wanted.new.requests ≡ wanted.old.requests }
         ensures folders { wanted.new.folders ≡ wanted.old.folders }
+        ensures reasons { wanted.new.reasons ≡ wanted.old.reasons }
+        ensures ends { OnOk result (wanted.new.ends.items ≡ with_ends wanted.old.ends.items (aim_ends (tracking_of self.now) (map (λ r. r.now) self.now.answers.records.items))) }
+        ensures path_ends { wanted.new.path_ends ≡ wanted.old.path_ends }
     {
         let Some(status) = self.chain.status else {
             return Ok(None);
@@ -295,10 +323,15 @@ impl<'b, 'a> Case<'b, 'a> {
     }
 
     /// Where the client is to get, of the heights up to the greatest whose votes are final.
+    #[tactic(auto, using(crate::proofs::Adding::ending))]
     fn aim_below(&self, wanted: &mut Wanted<'_>, latest: Height) -> Result<Option<Aim>, AllocError>
         ensures aim { IfOk result (λ aim. aim ≡ aim_below self.now.goal (map (λ r. r.now) self.now.answers.records.items) latest) }
         ensures requests { wanted.new.requests ≡ wanted.old.requests }
         ensures folders { wanted.new.folders ≡ wanted.old.folders }
+        ensures reasons { wanted.new.reasons ≡ wanted.old.reasons }
+        ensures ends { OnOk result (wanted.new.ends.items ≡ with_ends wanted.old.ends.items
+            (ends_below (tracking_of self.now) (map (λ r. r.now) self.now.answers.records.items) latest)) }
+        ensures path_ends { wanted.new.path_ends ≡ wanted.old.path_ends }
     {
         let least = least_of(&self.goal, latest);
         if least > latest && !is_stored(self.answers.records.as_slice(), least) {
@@ -317,11 +350,12 @@ impl<'b, 'a> Case<'b, 'a> {
     }
 
     /// Adds what the client's search asks for, if it can be searched.
-    #[tactic(auto, using(crate::proofs::Adding::adding))]
+    #[tactic(auto, using(crate::proofs::Adding::adding, crate::proofs::Adding::ending))]
     fn add_sought(&self, wanted: &mut Wanted<'_>) -> Result<(), AllocError>
-        ensures requests { OnOk result ((needed : List Request) × IsSought (tracking_of self.now) (map (λ r. r.now) self.now.answers.records.items) needed
-            × (wanted.new.requests.items ≡ with_needed wanted.old.folders.now wanted.old.requests.items needed)) }
+        ensures outcome { OnOk result ((o : Outcome) × IsSought (tracking_of self.now) (map (λ r. r.now) self.now.answers.records.items) o
+            × (told_of wanted.new ≡ with_outcome wanted.old.folders.now (told_of wanted.old) o)) }
         ensures folders { wanted.new.folders ≡ wanted.old.folders }
+        ensures path_ends { wanted.new.path_ends ≡ wanted.old.path_ends }
     {
         let client = self.id();
         let Some(judging) = self.judging() else {
@@ -341,7 +375,7 @@ impl<'b, 'a> Case<'b, 'a> {
     }
 
     /// Adds what the client's search from a stored height asks for.
-    #[tactic(auto, using(crate::proofs::Adding::adding))]
+    #[tactic(auto, using(crate::proofs::Adding::adding, crate::proofs::Adding::ending))]
     fn add_search(
         &self,
         wanted: &mut Wanted<'_>,
@@ -349,17 +383,16 @@ impl<'b, 'a> Case<'b, 'a> {
         first: Height,
         aim: &Aim,
     ) -> Result<(), AllocError>
-        ensures requests { OnOk result ((needed : List Request)
-            × IsSoughtFrom (tracking_of self.now) judging.now.options aim.now (map (λ r. r.now) self.now.answers.records.items) (Some first) needed
-            × (wanted.new.requests.items ≡ with_needed wanted.old.folders.now wanted.old.requests.items needed)) }
+        ensures outcome { OnOk result ((o : Outcome)
+            × IsSoughtFrom (tracking_of self.now) judging.now.options aim.now (map (λ r. r.now) self.now.answers.records.items) (Some first) o
+            × (told_of wanted.new ≡ with_outcome wanted.old.folders.now (told_of wanted.old) o)) }
         ensures folders { wanted.new.folders ≡ wanted.old.folders }
+        ensures path_ends { wanted.new.path_ends ≡ wanted.old.path_ends }
     {
         let steps = self.steps_of(judging);
         match search(&steps, first, aim)? {
             Finding::Reached(_) => Ok(()),
-            Finding::Asks(question) => {
-                self.add_question(wanted, &steps, judging.trust, &question)
-            }
+            Finding::Asks(question) => self.add_question(wanted, &steps, judging, &question),
             Finding::Stuck { trusted, height } => {
                 let why = Why {
                     client: self.id(),
@@ -393,30 +426,28 @@ impl<'b, 'a> Case<'b, 'a> {
         &self,
         wanted: &mut Wanted<'_>,
         steps: &Steps<'_, 'a>,
-        trust: TrustLevel,
+        judging: &Judging,
         question: &Question,
     ) -> Result<(), AllocError>
-        ensures requests { OnOk result ((asked : List Query) × WaitsFor steps.now question.now.trusted question.now.height asked
-            × (wanted.new.requests.items ≡ with_needed wanted.old.folders.now wanted.old.requests.items (map (node_request (tracking_of self.now)) asked))) }
+        ensures outcome { OnOk result ((o : Outcome) × IsAskedBy (tracking_of self.now) judging.now.options steps.now question.now o
+            × (told_of wanted.new ≡ with_outcome wanted.old.folders.now (told_of wanted.old) o)) }
         ensures folders { wanted.new.folders ≡ wanted.old.folders }
+        ensures path_ends { wanted.new.path_ends ≡ wanted.old.path_ends }
     {
         let before = wanted.requests.len();
         let lacks = steps.lacks(question.trusted, question.height)?;
+        let verdict = verdict_if(steps, question.trusted, question.refused)?;
         self.add_queries(wanted, lacks.as_slice())?;
         if wanted.requests.len() == before {
             return Ok(());
         }
-        let verdict = match question.refused {
-            Some(height) => steps.verdict_on(question.trusted, height)?,
-            None => None,
-        };
         wanted.reasons.push(Why {
             client: self.id(),
             trusted: question.trusted,
             accepted: question.accepted,
             refused: question.refused,
             verdict,
-            trust,
+            trust: judging.trust,
         })?;
         Ok(())
     }
@@ -426,6 +457,9 @@ impl<'b, 'a> Case<'b, 'a> {
     fn add_queries(&self, wanted: &mut Wanted<'_>, asked: &[Query]) -> Result<(), AllocError>
         ensures requests { OnOk result (wanted.new.requests.items ≡ with_needed wanted.old.folders.now wanted.old.requests.items (map (node_request (tracking_of self.now)) asked.now)) }
         ensures folders { wanted.new.folders ≡ wanted.old.folders }
+        ensures reasons { wanted.new.reasons ≡ wanted.old.reasons }
+        ensures ends { wanted.new.ends ≡ wanted.old.ends }
+        ensures path_ends { wanted.new.path_ends ≡ wanted.old.path_ends }
     {
         for query in asked {
             self.ask_node(wanted, *query)?;
@@ -434,10 +468,28 @@ impl<'b, 'a> Case<'b, 'a> {
     }
 }
 
+/// What the step rule says of the step to a height that was refused, if one was.
+fn verdict_if(
+    steps: &Steps<'_, '_>,
+    trusted: Height,
+    refused: Option<Height>,
+) -> Result<Option<Verdict>, AllocError>
+    ensures { IfOk result (IsSaidIf steps.now trusted refused) }
+{
+    match refused {
+        Some(height) => steps.verdict_on(trusted, height),
+        None => Ok(None),
+    }
+}
+
 /// Adds why no more is asked for a client.
+#[tactic(auto, unfolding(crate::specs::Adding::with_ends))]
 fn add_end(wanted: &mut Wanted<'_>, end: End) -> Result<(), AllocError>
     ensures requests { wanted.new.requests ≡ wanted.old.requests }
     ensures folders { wanted.new.folders ≡ wanted.old.folders }
+    ensures reasons { wanted.new.reasons ≡ wanted.old.reasons }
+    ensures ends { OnOk result (wanted.new.ends.items ≡ with_ends wanted.old.ends.items (end ∷ [])) }
+    ensures path_ends { wanted.new.path_ends ≡ wanted.old.path_ends }
 {
     // An end may hold a height: rattle proves the push only where the function names that type.
     let _height: Option<Height> = None;
@@ -479,10 +531,10 @@ fn is_stored(records: &[&ConsensusState], height: Height) -> bool
 }
 
 /// Whether a record is of a height.
-fn is_at(record: &ConsensusState, height: Height) -> bool
-    ensures { result ≡ (record.now.height == height) }
+fn is_at(state: &ConsensusState, height: Height) -> bool
+    ensures { result ≡ (state.now.height == height) }
 {
-    record.height == height
+    state.height == height
 }
 
 /// Whether a node's network is named, and isn't this chain.

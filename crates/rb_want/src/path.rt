@@ -3,9 +3,9 @@ ghost use Rattle.std.specs.Prelude.{◌≡◌, ◌∷◌, [], IfOk, OnOk};
 ghost use Rattle.std.specs.List.{flat_map, range_with_len};
 ghost use Rattle.rb_script_types.specs.Channels.{end_text};
 ghost use Rattle.rb_want_requests.specs.PacketPaths.{pending_in};
-ghost use Rattle.rb_want.specs.Adding.{with_needed};
+ghost use Rattle.rb_want.specs.Adding.{with_needed, with_path_ends};
 ghost use Rattle.rb_want.specs.Packets.{lacks_ack, parts_in};
-ghost use Rattle.rb_want.specs.Paths.{IsCaseAt, packet_needs, part_needs, path_needs, path_view, side_request};
+ghost use Rattle.rb_want.specs.Paths.{IsCaseAt, packet_needs, part_ends, part_needs, path_ends, path_needs, path_view, side_ends, side_request};
 
 use crate::packets::{PacketAnswers, tell_ack_written};
 use rb_base::{ChainId, PathId};
@@ -76,10 +76,13 @@ pub fn path_case_of<'a>(
 impl PathCase<'_> {
     /// Adds what is wanted for the path: its commitments; then which of these packets weren't received and of which the
     /// acknowledgement was written; and where each was sent, received and acknowledged.
-    #[tactic(auto, unfolding(crate::specs::Paths::path_needs), using(crate::proofs::Adding::adding))]
+    #[tactic(auto, unfolding(crate::specs::Paths::path_needs, crate::specs::Paths::path_ends), using(crate::proofs::Adding::adding, crate::proofs::Adding::path_ending))]
     pub fn add_wanted(&self, wanted: &mut Wanted<'_>) -> Result<(), AllocError>
         ensures requests { OnOk result (wanted.new.requests.items ≡ with_needed wanted.old.folders.now wanted.old.requests.items (path_needs (path_view self.now) self.now.answers.folder.now)) }
         ensures folders { wanted.new.folders ≡ wanted.old.folders }
+        ensures reasons { wanted.new.reasons ≡ wanted.old.reasons }
+        ensures ends { wanted.new.ends ≡ wanted.old.ends }
+        ensures path_ends { OnOk result (wanted.new.path_ends.items ≡ with_path_ends wanted.old.path_ends.items (path_ends (path_view self.now) self.now.answers.folder.now)) }
     {
         if !self.answers.has_last {
             let page = self.answers.pages.saturating_add(1);
@@ -90,11 +93,15 @@ impl PathCase<'_> {
     }
 
     /// Adds what became of each part of the pending packets.
-    #[tactic(auto, using(crate::proofs::Adding::adding))]
+    #[tactic(auto, using(crate::proofs::Adding::adding, crate::proofs::Adding::path_ending))]
     fn add_parts(&self, wanted: &mut Wanted<'_>) -> Result<(), AllocError>
         ensures requests { OnOk result (wanted.new.requests.items ≡ with_needed wanted.old.folders.now wanted.old.requests.items
             (flat_map (part_needs (path_view self.now)) (range_with_len 1 (parts_in self.now.answers.folder.now.contents.items)))) }
         ensures folders { wanted.new.folders ≡ wanted.old.folders }
+        ensures reasons { wanted.new.reasons ≡ wanted.old.reasons }
+        ensures ends { wanted.new.ends ≡ wanted.old.ends }
+        ensures path_ends { OnOk result (wanted.new.path_ends.items ≡ with_path_ends wanted.old.path_ends.items
+            (flat_map (part_ends (path_view self.now) self.now.answers.folder.now) (range_with_len 1 (parts_in self.now.answers.folder.now.contents.items)))) }
     {
         for before in 0..self.answers.parts() {
             self.add_part(wanted, before + 1)?;
@@ -103,21 +110,27 @@ impl PathCase<'_> {
     }
 
     /// Adds what became of a part of the pending packets.
-    #[tactic(auto, using(crate::proofs::Adding::adding))]
+    #[tactic(auto, using(crate::proofs::Adding::adding, crate::proofs::Adding::path_ending))]
     fn add_part(&self, wanted: &mut Wanted<'_>, part: u64) -> Result<(), AllocError>
         ensures requests { OnOk result (wanted.new.requests.items ≡ with_needed wanted.old.folders.now wanted.old.requests.items (part_needs (path_view self.now) part)) }
         ensures folders { wanted.new.folders ≡ wanted.old.folders }
+        ensures reasons { wanted.new.reasons ≡ wanted.old.reasons }
+        ensures ends { wanted.new.ends ≡ wanted.old.ends }
+        ensures path_ends { OnOk result (wanted.new.path_ends.items ≡ with_path_ends wanted.old.path_ends.items (part_ends (path_view self.now) self.now.answers.folder.now part)) }
     {
         self.need(wanted, &self.destination, Query::Unreceived { part })?;
         self.need(wanted, &self.destination, Query::Acknowledgements { part })
     }
 
     /// Adds where each pending packet was sent, received and acknowledged.
-    #[tactic(auto, using(crate::proofs::Adding::adding))]
+    #[tactic(auto, using(crate::proofs::Adding::adding, crate::proofs::Adding::path_ending))]
     fn add_packets(&self, wanted: &mut Wanted<'_>) -> Result<(), AllocError>
         ensures requests { OnOk result (wanted.new.requests.items ≡ with_needed wanted.old.folders.now wanted.old.requests.items
             (flat_map (packet_needs (path_view self.now) self.now.answers.folder.now) (pending_in self.now.answers.folder.now.contents.items))) }
         ensures folders { wanted.new.folders ≡ wanted.old.folders }
+        ensures reasons { wanted.new.reasons ≡ wanted.old.reasons }
+        ensures ends { wanted.new.ends ≡ wanted.old.ends }
+        ensures path_ends { wanted.new.path_ends ≡ wanted.old.path_ends }
     {
         for sequence in &self.answers.pending {
             self.add_packet(wanted, *sequence)?;
@@ -127,10 +140,13 @@ impl PathCase<'_> {
 
     /// Adds of a pending packet that the path has to do with where it was sent and, where that is done, received and
     /// acknowledged.
-    #[tactic(auto, unfolding(crate::specs::Paths::packet_needs), using(crate::proofs::Adding::adding))]
+    #[tactic(auto, unfolding(crate::specs::Paths::packet_needs), using(crate::proofs::Adding::adding, crate::proofs::Adding::path_ending))]
     fn add_packet(&self, wanted: &mut Wanted<'_>, sequence: u64) -> Result<(), AllocError>
         ensures requests { OnOk result (wanted.new.requests.items ≡ with_needed wanted.old.folders.now wanted.old.requests.items (packet_needs (path_view self.now) self.now.answers.folder.now sequence)) }
         ensures folders { wanted.new.folders ≡ wanted.old.folders }
+        ensures reasons { wanted.new.reasons ≡ wanted.old.reasons }
+        ensures ends { wanted.new.ends ≡ wanted.old.ends }
+        ensures path_ends { wanted.new.path_ends ≡ wanted.old.path_ends }
     {
         if sequence < self.first {
             return Ok(());
@@ -164,9 +180,13 @@ impl PathCase<'_> {
     }
 
     /// Asks an end of the channel, and tells where it refused that.
+    #[tactic(auto, using(crate::proofs::Adding::path_ending))]
     fn need(&self, wanted: &mut Wanted<'_>, side: &Side, query: Query) -> Result<(), AllocError>
         ensures requests { OnOk result (wanted.new.requests.items ≡ with_needed wanted.old.folders.now wanted.old.requests.items (side_request (path_view self.now) side.now query ∷ [])) }
         ensures folders { wanted.new.folders ≡ wanted.old.folders }
+        ensures reasons { wanted.new.reasons ≡ wanted.old.reasons }
+        ensures ends { wanted.new.ends ≡ wanted.old.ends }
+        ensures path_ends { OnOk result (wanted.new.path_ends.items ≡ with_path_ends wanted.old.path_ends.items (side_ends (path_view self.now) self.now.answers.folder.now side.now query)) }
     {
         self.ask(wanted, side, query)?;
         if is_named(self.alloc, self.answers.folder.refused.as_slice(), &query)? {
@@ -178,10 +198,13 @@ impl PathCase<'_> {
     }
 
     /// Asks an end of the channel.
-    #[tactic(auto, using(crate::proofs::Adding::adding))]
+    #[tactic(auto, using(crate::proofs::Adding::adding, crate::proofs::Adding::path_ending))]
     fn ask(&self, wanted: &mut Wanted<'_>, side: &Side, query: Query) -> Result<(), AllocError>
         ensures requests { OnOk result (wanted.new.requests.items ≡ with_needed wanted.old.folders.now wanted.old.requests.items (side_request (path_view self.now) side.now query ∷ [])) }
         ensures folders { wanted.new.folders ≡ wanted.old.folders }
+        ensures reasons { wanted.new.reasons ≡ wanted.old.reasons }
+        ensures ends { wanted.new.ends ≡ wanted.old.ends }
+        ensures path_ends { wanted.new.path_ends ≡ wanted.old.path_ends }
     {
         let request = Request {
             chain: side.chain,

@@ -5,7 +5,7 @@ ghost use Rattle.std.specs.Option.{option_to_list};
 ghost use Rattle.rb_book.specs.Header.{IsSignedBy, Names};
 ghost use Rattle.rb_step.specs.StepRule.{AcceptsWithin, step_of};
 ghost use Rattle.rb_want_requests.specs.declared.request.Query.{Query};
-ghost use Rattle.rb_want.specs.Judgements.{AreByRule, LacksHeader, LacksSet, LacksTrust};
+ghost use Rattle.rb_want.specs.Judgements.{AreByRule, IsSaidOf, LacksHeader, LacksSet, LacksTrust};
 ghost use Rattle.rb_want.specs.Steps.{HoldsWithin, IsRecordAt, IsStoredAt, IsVerdictOn, header_of, record_of, record_of_state, vote_of};
 ghost use Rattle.rb_want.specs.Waiting.{HasNoRecord, WaitsFor, WaitsForHeader, WaitsForNext, WaitsForSet, page_asked};
 
@@ -68,8 +68,9 @@ impl<'b, 'a> Steps<'b, 'a> {
     }
 
     /// What the step rule says of a step in the window, where all is there that it takes.
+    #[tactic(auto, using(crate::proofs::Judging::lacking))]
     pub fn verdict_on(&self, trusted: Height, height: Height) -> Result<Option<Verdict>, AllocError>
-        ensures { IfOk result (λ found. IfSome found (IsVerdictOn self.now trusted height)) }
+        ensures { IfOk result (IsSaidOf self.now trusted height) }
     {
         let Some(record) = self.record_at(trusted) else {
             return Ok(None);

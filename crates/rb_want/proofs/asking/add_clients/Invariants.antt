@@ -1,13 +1,12 @@
-use Rattle.std.specs.Prelude.{◌≡◌, List, take}
-use Rattle.std.specs.List.{AllZip, enumerate_from, flat_map}
-use Rattle.rb_want_requests.specs.declared.request.Request.{Request}
-use Rattle.rb_want.specs.Adding.{with_needed}
-use Rattle.rb_want.specs.Needs.{IsNeededAt}
+use Rattle.std.specs.Prelude.{◌≡◌, List, fold, take}
+use Rattle.std.specs.List.{AllZip, enumerate_from}
+use Rattle.rb_want.specs.Adding.{Outcome, told_of, with_outcome}
+use Rattle.rb_want.specs.Needs.{IsOutcomeAt}
 use Rattle.rb_want.proofs.asking.add_clients.Given as goal
 
--- what the clients so far need is added
+-- the outcomes for the clients so far are added
 abbrev pub invariant-loop-place : goal.invariant-loop-place
 invariant-loop-place l =
-    ((needs : List (List Request)) × AllZip (IsNeededAt l.setup l.folders) (take l.place (enumerate_from 0 l.clients)) needs
-    × (l.wanted.requests.items ≡ with_needed l.fn.wanted.folders.now l.fn.wanted.requests.items (flat_map (λ rs. rs) needs)))
-    × (l.wanted.folders ≡ l.fn.wanted.folders)
+    ((outcomes : List Outcome) × AllZip (IsOutcomeAt l.setup l.folders) (take l.place (enumerate_from 0 l.clients)) outcomes
+    × (told_of l.wanted ≡ fold (with_outcome l.fn.wanted.folders.now) (told_of l.fn.wanted) outcomes))
+    × (l.wanted.folders ≡ l.fn.wanted.folders) × (l.wanted.path_ends ≡ l.fn.wanted.path_ends)

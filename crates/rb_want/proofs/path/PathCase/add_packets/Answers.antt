@@ -10,10 +10,14 @@ use Rattle.rb_want.proofs.path.PathCase.add_packets.Goals as goal
 pub loop-sequence-preserved : goal.loop-sequence-preserved
 loop-sequence-preserved c =
     let now = c.loop-sequence.wanted in
-    let old = c.args.wanted.now in (
-      more_step old.folders.now now.folders.now old.requests.items now.requests.items _
+    let old = c.args.wanted.now in
+    record {
+      requests = more_step old.folders.now now.folders.now old.requests.items now.requests.items _
           (packet_needs (path_view c.args.self.now) c.args.self.now.answers.folder.now) c.deref-sequence-items.result.now c.loop-sequence.sequence-index _
-          (search rules) (search (rules, get_or_default)) (ap (λ (b : Bor Folders). b.now) c.loop-sequence.invariant.1) c.loop-sequence.invariant.0
-          c.in_ok-add_packet.ensures.requests,
-      c.add_packet.ensures.folders ∙ c.loop-sequence.invariant.1,
-    )
+          (search rules) (search (rules, get_or_default)) (ap (λ (b : Bor Folders). b.now) c.loop-sequence.invariant.folders)
+          c.loop-sequence.invariant.requests c.in_ok-add_packet.ensures.requests;
+      folders = c.add_packet.ensures.folders ∙ c.loop-sequence.invariant.folders;
+      reasons = c.add_packet.ensures.reasons ∙ c.loop-sequence.invariant.reasons;
+      ends = c.add_packet.ensures.ends ∙ c.loop-sequence.invariant.ends;
+      path_ends = c.add_packet.ensures.path_ends ∙ c.loop-sequence.invariant.path_ends;
+    }

@@ -6,8 +6,12 @@ use Rattle.rb_want.proofs.path.PathCase.add_packets.Given as goal
 
 -- what the packets so far need is added
 abbrev pub invariant-loop-sequence : goal.invariant-loop-sequence
-invariant-loop-sequence l =
-    (l.wanted.requests.items
-    ≡ with_needed l.fn.wanted.folders.now l.fn.wanted.requests.items
-    (flat_map (packet_needs (path_view l.self) l.self.answers.folder.now) (take l.sequence-index l.sequence-items)))
-    × (l.wanted.folders ≡ l.fn.wanted.folders)
+invariant-loop-sequence l = record {
+  requests : l.wanted.requests.items
+      ≡ with_needed l.fn.wanted.folders.now l.fn.wanted.requests.items
+      (flat_map (packet_needs (path_view l.self) l.self.answers.folder.now) (take l.sequence-index l.sequence-items));
+  folders : l.wanted.folders ≡ l.fn.wanted.folders;
+  reasons : l.wanted.reasons ≡ l.fn.wanted.reasons;
+  ends : l.wanted.ends ≡ l.fn.wanted.ends;
+  path_ends : l.wanted.path_ends ≡ l.fn.wanted.path_ends;
+}
