@@ -427,6 +427,12 @@ def kept(records, folder):
     return records
 
 
+def revision_of(state):
+    """The revision number of a consensus state's height, which is 0 where it isn't there."""
+    height = state["height"]
+    return int(height.get("revision_number", 0)) if isinstance(height, dict) else 0
+
+
 def script_of(setup, folder):
     """The script of a setup's text and of the answers, as TOML's values, its times in nanoseconds."""
     script = tomllib.loads(setup) | {"version": 3}
@@ -439,7 +445,7 @@ def script_of(setup, folder):
         client.setdefault("trust", [int(given["trust_level"][k]) for k in ("numerator", "denominator")])
         client.setdefault("refresh_ns", 0)
         revision = int(client["of"].rsplit("-", 1)[1])
-        stored = [s for a in states for s in a.get("consensus_states", []) if int(s["height"]["revision_number"]) >= revision]
+        stored = [s for a in states for s in a.get("consensus_states", []) if revision_of(s) >= revision]
         records += [(client, state) for state in sorted(stored, key=height_of)]
         by_chain.setdefault(client["of"], set())
     records = kept(records, folder)

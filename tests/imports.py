@@ -218,6 +218,7 @@ LEFT_OUT = {
         *((f"{HEADER}.{name}", None, "0x", "BadHex") for name in HASHES)],
     "hub-on-zone/client_state.json": [
         (f"{STATE}.frozen_height", None, None, None), (f"{STATE}.latest_height.revision_number", None, "four", "BadNumber"),
+        (f"{STATE}.latest_height.revision_height", None, "-1", "BadNumber"),
         (f"{STATE}.frozen_height.revision_number", None, "", "BadNumber"), (f"{STATE}.frozen_height.revision_height", None, "-0", "BadNumber")],
     "hub-on-zone/consensus_states.json": [
         (f"{CONSENSUS}.height.revision_number", f"{CONSENSUS}.revision_number", "-4", "BadNumber"), ("pagination", None, None, None)],
@@ -242,7 +243,8 @@ DAMAGES = [
     (STORED_FILE, gone("consensus_states"), "UnknownShape at -"),
     (STORED_FILE, put("consensus_states", True), "WrongType at consensus_states"),
     (STORED_FILE, gone(f"{CONSENSUS}.height"), f"MissingField at {CONSENSUS}.height"),
-    (STORED_FILE, put(f"{CONSENSUS}.height", True), f"MissingField at {CONSENSUS}.revision_height"),
+    (STORED_FILE, put(f"{CONSENSUS}.height", {"revision_number": "4"}), f"MissingField at {CONSENSUS}.revision_height"),
+    (STORED_FILE, put(f"{CONSENSUS}.height", {"revision_number": "5"}), f"MissingField at {CONSENSUS}.revision_height"),
     (STORED_FILE, gone(f"{CONSENSUS}.consensus_state"), f"MissingField at {CONSENSUS}.consensus_state"),
     (STORED_FILE, put(f"{CONSENSUS}.consensus_state", True), f"MissingField at {CONSENSUS}.timestamp"),
     (STORED_FILE, gone(f"{CONSENSUS}.consensus_state.root"), f"MissingField at {CONSENSUS}.root"),
@@ -342,6 +344,14 @@ def upgraded(value):
     """The edit that adds a record of an earlier revision, which an upgrade wrote."""
     earlier(value)
     value["consensus_states"][0]["consensus_state"]["root"]["hash"] = answers.base64.b64encode(b"sentinel_root").decode()
+
+
+def earlier_with(edit):
+    """The edit that adds a record of an earlier revision, edited so that it couldn't be read: the rest of it isn't."""
+    def added(value):
+        earlier(value)
+        edit(value)
+    return added
 
 
 def many(value):
@@ -600,6 +610,11 @@ NOTICES = [
     (1, str, saved(answers.transaction(40, answers.client_packet_event(1), answers.packet_event("send_packet", 20, 0))), []),
     (0, str, edited(STORED_FILE, earlier), []),
     (0, str, edited(STORED_FILE, upgraded), []),
+    *((0, str, edited(STORED_FILE, earlier_with(edit)), []) for edit in (
+        put(f"{CONSENSUS}.consensus_state", True), gone(f"{CONSENSUS}.consensus_state"), put(f"{CONSENSUS}.consensus_state.timestamp", "yesterday"),
+        put(f"{CONSENSUS}.consensus_state.root.hash", "="), put(f"{CONSENSUS}.consensus_state.next_validators_hash", ""),
+        put(f"{CONSENSUS}.height.revision_height", "0"), gone(f"{CONSENSUS}.height.revision_height"),
+        gone(f"{CONSENSUS}.height.revision_number"), put(f"{CONSENSUS}.height", {}), put(f"{CONSENSUS}.height", True))),
     (1, str, removed(RECEIVED_FILE), [UNSEARCHED % "recv_packet"]),
     (1, str, removed(SENT_FILE, RECEIVED_FILE, CLEARED_FILE), [UNSEARCHED % "send_packet, recv_packet, acknowledge_packet or timeout_packet"]),
     (1, str, in_turn(removed(SENT_FILE, CLEARED_FILE), NOTHING_FOUND), [UNSEARCHED % "send_packet, recv_packet, acknowledge_packet or timeout_packet"]),
