@@ -33,17 +33,19 @@ use Rattle.rb_core_model.proofs.Accepted.{window_stays, window_entered}
 use Rattle.rb_core_model.proofs.Marks.{all_at, configs_changed, configs_messages}
 use Rattle.rb_core_model.proofs.Sound.{IsSoundClient, IsSound, client_view_sound, opening_sound}
 use Rattle.rb_super_turn.specs.Report.{Outcome, held, idle, planned, ClientReport, TurnReport, Report}
-use Rattle.rb_super_turn.specs.Script.{Turn, IsSeen, IsTurn}
+use Rattle.rb_super_turn.specs.Script.{Turn, Script, IsSeen, IsTurn, IsScript}
 use Rattle.rb_super_turn.specs.Turns.{after_window, after_question, before_events, before_plans, opened, after_outcome, after_reports, after_plans, settlement_event, after_settlement, taking, after_taking, takers, after_turn}
 use Rattle.rb_forgetting.specs.Free.{after_freely, turn_freely, AreFreeReports}
-use Rattle.rb_forgetting.specs.Laws.{HasRoom, AreSpared, forgotten, MayForget, raised, AreForgetful, AreSparedRuns, ForgettingIsUnseen}
+use Rattle.rb_forgetting.specs.Laws.{HasRoom, AreSpared, forgotten, MayForget, raised, AreForgetful, AreSparedRuns, ForgettingIsUnseen, floors_if, floors_after, AreSparedTurns, ForgettingByFloorsIsUnseen}
 use Rattle.rb_forgetting.specs.Left.{IsLeft, IsBookLeft, AreStoredLeft}
+use Rattle.rb_forgetting.specs.Needs.{floor}
 use Rattle.rb_forgetting.specs.Rest.{rest, rest_of_books, rest_of_client, NeedsNoLower, AreFloors}
 use Rattle.rb_forgetting.specs.Remains.{IsAfterGone, PacketFits, IsClientLeft, IsLeftOf, AreRouted}
 use Rattle.rb_forgetting.proofs.Fit.{IsFit, opening_fit, before_fit, turn_fit, seen_outside}
 use Rattle.rb_forgetting.proofs.Again.{left_of_left}
 use Rattle.rb_forgetting.proofs.Books.{record_here}
 use Rattle.rb_forgetting.proofs.Forgotten.{length-rest, rest_is_left}
+use Rattle.rb_forgetting.proofs.Needed.{floors_are_floors}
 use Rattle.rb_forgetting.proofs.Plannable.{IsPlannable}
 use Rattle.rb_forgetting.proofs.Room.{same_after, turn_same, with_limits}
 use Rattle.rb_forgetting.proofs.Turns.{turn_reported, turn_left}
@@ -401,20 +403,58 @@ has_room m s t (e ∷ es) same (spared, room, more) =
     let next : after_freely s e ≡ standing_after t e = ap (λ (x : Standing). after_freely x e) same ∙ same_after t e room in
     (room, has_room m (after_freely s e) (standing_after t e) es next more)
 
+-- ---- what may be forgotten, where what is left is sound
+
+-- as AreSparedRuns says, where what may be forgotten is asked of sound standings alone
+abbrev AreSoundlySpared : (ℕ → ℕ) → Standing → Standing → List Turn → List (Option (ℕ → ℕ)) → Report → Type 0
+AreSoundlySpared m s t [] os rs = Unit {0}
+AreSoundlySpared m s t (turn ∷ turns) os [] = Unit {0}
+AreSoundlySpared m s t (turn ∷ turns) [] (r ∷ rs) = ⊥
+AreSoundlySpared m s t (turn ∷ turns) (o ∷ os) (r ∷ rs) =
+    AreSpared m (before_events s turn) (before_events t turn) turn.events × (IsSound (after_turn t turn r) → MayForget o (after_turn t turn r))
+    × AreSoundlySpared (raised m o) (turn_freely s turn r) (forgotten o (after_turn t turn r)) turns os rs
+
+if_may : (m : ℕ → ℕ) (s t : Standing) (turns : List Turn) (os : List (Option (ℕ → ℕ))) (rs : Report) → AreSparedRuns m s t turns os rs → AreSoundlySpared m s t turns os rs
+if_may m s t [] os rs spared = tt
+if_may m s t (turn ∷ turns) [] rs spared = absurd spared
+if_may m s t (turn ∷ turns) (o ∷ os) [] spared = tt
+if_may m s t (turn ∷ turns) (o ∷ os) (r ∷ rs) (spared, may, more) =
+    (spared, (λ sound. may), if_may (raised m o) (turn_freely s turn r) (forgotten o (after_turn t turn r)) turns os rs more)
+
+floors_may : (chosen : Standing → Bool) (s : Standing) → IsSound s → MayForget (floors_if chosen s) s
+floors_may chosen s sound = go (chosen s)
+  where
+    at : (o : Option Span) → s.window ≡ o → MayForget (option_map (λ w. floor w s) o) s
+    at None e = tt
+    at (Some w) e = floors_are_floors w s e (book_all s.books sound.books)
+
+    go : (b : Bool) → MayForget (cond b (option_map (λ w. floor w s) s.window) None) s
+    go false = tt
+    go true = at s.window refl
+
+by_floors : (chosen : Standing → Bool) (m : ℕ → ℕ) (s t : Standing) (turns : List Turn) (rs : Report) → AreSparedTurns chosen m s t turns rs
+    → AreSoundlySpared m s t turns (floors_after chosen t turns rs) rs
+by_floors chosen m s t [] rs spared = tt
+by_floors chosen m s t (turn ∷ turns) [] spared = tt
+by_floors chosen m s t (turn ∷ turns) (r ∷ rs) (spared, more) =
+    let o = floors_if chosen (after_turn t turn r) in
+    (spared, floors_may chosen (after_turn t turn r), by_floors chosen (raised m o) (turn_freely s turn r) (forgotten o (after_turn t turn r)) turns rs more)
+
 -- ---- a script
 
 module _ (finds : FindsWhatWasAdded) (stays : StaysABook) (orderly : ViewsAreOrderly) (by_standing : JudgedByStanding) where
   runs : (config : Config) → IsSetUp config → (m : ℕ → ℕ) (s t : Standing) → IsLeftOf m s t → IsFit config t → HasConfigs config t → (turns : List Turn) (os : List (Option (ℕ → ℕ))) (report : Report)
-      → AllByRecursion (IsTurn config) turns → AreSparedRuns m s t turns os report → AreFreeReports s turns report → AreForgetful t turns os report
+      → AllByRecursion (IsTurn config) turns → AreSoundlySpared m s t turns os report → AreFreeReports s turns report → AreForgetful t turns os report
   runs config set_up m s t is fit has [] os [] are spared right = tt
   runs config set_up m s t is fit has [] os (r ∷ rs) are spared right = right
-  runs config set_up m s t is fit has (turn ∷ turns) [] rs are spared right = spared
-  runs config set_up m s t is fit has (turn ∷ turns) (o ∷ os) [] are spared right = right
-  runs config set_up m s t is fit has (turn ∷ turns) (o ∷ os) (r ∷ rs) are (spared, may, more) right =
+  runs config set_up m s t is fit has (turn ∷ turns) os [] are spared right = absurd right
+  runs config set_up m s t is fit has (turn ∷ turns) [] (r ∷ rs) are spared right = absurd spared
+  runs config set_up m s t is fit has (turn ∷ turns) (o ∷ os) (r ∷ rs) are (spared, if_sound, more) right =
       let can = plannable config set_up (before_plans t turn) (before_configs config t turn are.0 has) (before_fit finds stays orderly by_standing config t turn are.0 fit) in
       let reported = turn_reported stays m config s t is turn are.0 spared can r right.0 in
       let next = turn_left stays m config s t is turn are.0 spared can r right.0 in
       let next_fit = turn_fit finds stays orderly by_standing config t turn r are.0 reported fit in
+      let may = if_sound next_fit.sound in
       let next_has = turn_configs config t turn r are.0 has in (
         reported,
         runs config set_up (raised m o) (turn_freely s turn r) (forgotten o (after_turn t turn r)) (forgotten_left (turn_freely s turn r) (after_turn t turn r) m next next_fit.sound o may)
@@ -422,15 +462,16 @@ module _ (finds : FindsWhatWasAdded) (stays : StaysABook) (orderly : ViewsAreOrd
       )
 
   from_first : (config : Config) → IsSetUp config → (s : Standing) → IsFit config s → HasConfigs config s → (turns : List Turn) (os : List (Option (ℕ → ℕ))) (report : Report) → AllByRecursion (IsTurn config) turns
-      → AreSparedRuns (λ (chain : ℕ). 0) s s turns os report → AreFreeReports s turns report → AreForgetful s turns os report
+      → AreSoundlySpared (λ (chain : ℕ). 0) s s turns os report → AreFreeReports s turns report → AreForgetful s turns os report
   from_first config set_up s fit has [] os [] are spared right = tt
   from_first config set_up s fit has [] os (r ∷ rs) are spared right = right
-  from_first config set_up s fit has (turn ∷ turns) [] rs are spared right = spared
-  from_first config set_up s fit has (turn ∷ turns) (o ∷ os) [] are spared right = right
-  from_first config set_up s fit has (turn ∷ turns) (o ∷ os) (r ∷ rs) are (spared, may, more) right =
+  from_first config set_up s fit has (turn ∷ turns) os [] are spared right = absurd right
+  from_first config set_up s fit has (turn ∷ turns) [] (r ∷ rs) are spared right = absurd spared
+  from_first config set_up s fit has (turn ∷ turns) (o ∷ os) (r ∷ rs) are (spared, if_sound, more) right =
       let room = has_room (λ (chain : ℕ). 0) (before_events s turn) (before_events s turn) turn.events refl spared in
       let reported = with_limits s turn room r right.0 in
       let next_fit = turn_fit finds stays orderly by_standing config s turn r are.0 reported fit in
+      let may = if_sound next_fit.sound in
       let next_has = turn_configs config s turn r are.0 has in
       let window = some_is (after_turn s turn r).window (turn_window s turn r) in
       let self = self_left (after_turn s turn r) window.0 window.1 (book_all (after_turn s turn r).books next_fit.sound.books) in
@@ -442,7 +483,18 @@ module _ (finds : FindsWhatWasAdded) (stays : StaysABook) (orderly : ViewsAreOrd
             (forgotten_fit config o (after_turn s turn r) may next_fit) (forgotten_configs config o (after_turn s turn r) next_has) turns os rs are.1 more right.1,
       )
 
-  pub unseen : ForgettingIsUnseen
-  unseen = λ script os report is spared right.
+  soundly : (script : Script) (os : List (Option (ℕ → ℕ))) (report : Report) → IsScript script
+      → AreSoundlySpared (λ (chain : ℕ). 0) (opening_standing script.config) (opening_standing script.config) script.turns os report
+      → AreFreeReports (opening_standing script.config) script.turns report → AreForgetful (opening_standing script.config) script.turns os report
+  soundly script os report is spared right =
       from_first script.config is.config (opening_standing script.config) (opening_fit script.config is.config (opening_sound finds stays orderly))
       (record { clients = new_configs script.config.clients; paths = new_paths script.config.paths }) script.turns os report (recursion_from_All (IsTurn script.config) script.turns is.turns) spared right
+
+  pub unseen : ForgettingIsUnseen
+  unseen = λ script os report is spared right.
+      soundly script os report is (if_may (λ (chain : ℕ). 0) (opening_standing script.config) (opening_standing script.config) script.turns os report spared) right
+
+  pub unseen_by_floors : ForgettingByFloorsIsUnseen
+  unseen_by_floors = λ chosen script report is spared right.
+      soundly script (floors_after chosen (opening_standing script.config) script.turns report) report is
+      (by_floors chosen (λ (chain : ℕ). 0) (opening_standing script.config) (opening_standing script.config) script.turns report spared) right

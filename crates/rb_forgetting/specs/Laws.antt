@@ -1,5 +1,6 @@
 -- What forgetting leaves as it is.
-use Rattle.std.specs.Prelude.{◌≡◌, ◌↔◌, ℕ, ◌≤◌, max, List, [], ◌∷◌, All, Option, Some, None}
+use Rattle.std.specs.Prelude.{◌≡◌, ◌↔◌, ℕ, ◌≤◌, max, Bool, List, [], ◌∷◌, All, Option, Some, None, if◌then◌else◌}
+use Rattle.std.specs.Option.{option_map}
 use Rattle.std.specs.List.Sorted.{IsStrictlyIncreasing}
 use Rattle.rb_base.specs.Window.{Span}
 use Rattle.rb_book.specs.Invariant.{IsBook}
@@ -70,6 +71,39 @@ ForgettingIsUnseen =
     (script : Script) (os : List (Option (ℕ → ℕ))) (report : Report) → IsScript script
     → AreSparedRuns (λ (chain : ℕ). 0) (opening_standing script.config) (opening_standing script.config) script.turns os report
     → AreFreeReports (opening_standing script.config) script.turns report → AreForgetful (opening_standing script.config) script.turns os report
+
+-- ---- forgetting by the floors
+
+-- the floors, where it is chosen to forget
+abbrev pub floors_if : (Standing → Bool) → Standing → Option (ℕ → ℕ)
+floors_if chosen s = if chosen s then option_map (λ w. floor w s) s.window else None
+
+-- the same after each of turns that were reported so
+abbrev pub floors_after : (Standing → Bool) → Standing → List Turn → Report → List (Option (ℕ → ℕ))
+floors_after chosen t [] rs = []
+floors_after chosen t (turn ∷ turns) [] = []
+floors_after chosen t (turn ∷ turns) (r ∷ rs) =
+    floors_if chosen (after_turn t turn r)
+    ∷ floors_after chosen (forgotten (floors_if chosen (after_turn t turn r)) (after_turn t turn r)) turns rs
+
+-- no event speaks of what was forgotten by then
+abbrev pub AreSparedTurns : (Standing → Bool) → (ℕ → ℕ) → Standing → Standing → List Turn → Report → Type 0
+AreSparedTurns chosen m s t [] rs = Unit {0}
+AreSparedTurns chosen m s t (turn ∷ turns) [] = Unit {0}
+AreSparedTurns chosen m s t (turn ∷ turns) (r ∷ rs) =
+    AreSpared m (before_events s turn) (before_events t turn) turn.events
+    × AreSparedTurns chosen (raised m (floors_if chosen (after_turn t turn r))) (turn_freely s turn r)
+    (forgotten (floors_if chosen (after_turn t turn r)) (after_turn t turn r)) turns rs
+
+-- In every script: whoever forgets what lies below the floors, after turns that are chosen by how things stand, gives the reports that the same turns
+-- would give, were nothing forgotten and no light store or path ever full, as long as no event speaks of what was forgotten, and none is refused for
+-- want of room.
+abbrev pub ForgettingByFloorsIsUnseen : Type 0
+ForgettingByFloorsIsUnseen =
+    (chosen : Standing → Bool) (script : Script) (report : Report) → IsScript script
+    → AreSparedTurns chosen (λ (chain : ℕ). 0) (opening_standing script.config) (opening_standing script.config) script.turns report
+    → AreFreeReports (opening_standing script.config) script.turns report
+    → AreForgetful (opening_standing script.config) script.turns (floors_after chosen (opening_standing script.config) script.turns report) report
 
 -- ---- scripts that stay within their limits
 

@@ -1,6 +1,6 @@
 //! Laws of forgetting, over the definitions alone.
 ghost use Rattle.rb_forgetting.specs.Cut.{CutPathsActTheSame};
-ghost use Rattle.rb_forgetting.specs.Laws.{ForgettingIsUnseen, ReportsAreFree, RestIsLeft, FloorsAreFloors, KeptListsAreTaken};
+ghost use Rattle.rb_forgetting.specs.Laws.{ForgettingIsUnseen, ForgettingByFloorsIsUnseen, ReportsAreFree, RestIsLeft, FloorsAreFloors, KeptListsAreTaken};
 
 use rb_book::laws::{finds_what_was_added, stays_a_book};
 use rb_core_model::laws::judged_by_standing;
@@ -22,6 +22,18 @@ pub fn rest_is_left()
 /// forgotten, and none is refused for want of room.
 pub fn forgetting_is_unseen()
     ensures { ForgettingIsUnseen }
+{
+    finds_what_was_added();
+    stays_a_book();
+    views_are_orderly();
+    judged_by_standing();
+}
+
+/// In every script, whoever forgets what lies below the floors, after turns that are chosen by how things stand,
+/// gives the reports that the same turns would give, were nothing forgotten and no light store or path ever full, as
+/// long as no event speaks of what was forgotten, and none is refused for want of room.
+pub fn forgetting_by_floors_is_unseen()
+    ensures { ForgettingByFloorsIsUnseen }
 {
     finds_what_was_added();
     stays_a_book();
