@@ -213,7 +213,10 @@ fn desks_show_what_they_were_told_of(rt: HostRuntime) -> Result<(), Fail> {
 
 /// How many events a desk shows.
 fn shown_by(desk: &mut Desk) -> Option<usize> {
-    desk.front().ok()
+    match desk.front() {
+        Ok(front) => Some(front),
+        Err(_) => None,
+    }
 }
 
 /// Sends a packet and publishes it; tells whether a desk then shows all that was appended, or where nothing was published what
