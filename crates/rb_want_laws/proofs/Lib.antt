@@ -1,0 +1,5 @@
+pub mod Asking
+pub mod Same
+pub mod Searching
+pub mod Staying
+pub mod Totals
