@@ -65,6 +65,9 @@ pub fn advice_for(name: FaultName, path: &str) -> &'static str {
         FaultName::TooMuchToPlan => {
             "the turns up to this one ask for too much planning, as docs/FORMATS.md counts it; cut the script into several, of fewer turns, chains or clients"
         }
+        FaultName::Forgotten => {
+            "what lies below the heights that clients trust or need was forgotten; leave this event out"
+        }
     }
 }
 

@@ -73,6 +73,8 @@ pub enum FaultName {
     BadTrust,
     /// More labels or messages to be planned, over all turns, than are allowed.
     TooMuchToPlan,
+    /// A height that a follower has forgotten.
+    Forgotten,
 }
 
 impl FaultName {
@@ -120,6 +122,7 @@ impl FaultName {
             FaultName::InputTooBig => "InputTooBig",
             FaultName::BadTrust => "BadTrust",
             FaultName::TooMuchToPlan => "TooMuchToPlan",
+            FaultName::Forgotten => "Forgotten",
         }
     }
 }
