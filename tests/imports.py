@@ -243,6 +243,8 @@ DAMAGES = [
     (STORED_FILE, gone("consensus_states"), "UnknownShape at -"),
     (STORED_FILE, put("consensus_states", True), "WrongType at consensus_states"),
     (STORED_FILE, gone(f"{CONSENSUS}.height"), f"MissingField at {CONSENSUS}.height"),
+    (STORED_FILE, put(f"{CONSENSUS}.height", True), f"MissingField at {CONSENSUS}.revision_height"),
+    (STORED_FILE, put(f"{CONSENSUS}.height", {"revision_number": "3"}), f"MissingField at {CONSENSUS}.revision_height"),
     (STORED_FILE, put(f"{CONSENSUS}.height", {"revision_number": "4"}), f"MissingField at {CONSENSUS}.revision_height"),
     (STORED_FILE, put(f"{CONSENSUS}.height", {"revision_number": "5"}), f"MissingField at {CONSENSUS}.revision_height"),
     (STORED_FILE, gone(f"{CONSENSUS}.consensus_state"), f"MissingField at {CONSENSUS}.consensus_state"),
@@ -613,8 +615,7 @@ NOTICES = [
     *((0, str, edited(STORED_FILE, earlier_with(edit)), []) for edit in (
         put(f"{CONSENSUS}.consensus_state", True), gone(f"{CONSENSUS}.consensus_state"), put(f"{CONSENSUS}.consensus_state.timestamp", "yesterday"),
         put(f"{CONSENSUS}.consensus_state.root.hash", "="), put(f"{CONSENSUS}.consensus_state.next_validators_hash", ""),
-        put(f"{CONSENSUS}.height.revision_height", "0"), gone(f"{CONSENSUS}.height.revision_height"),
-        gone(f"{CONSENSUS}.height.revision_number"), put(f"{CONSENSUS}.height", {}), put(f"{CONSENSUS}.height", True))),
+        gone(f"{CONSENSUS}.height.revision_number"))),
     (1, str, removed(RECEIVED_FILE), [UNSEARCHED % "recv_packet"]),
     (1, str, removed(SENT_FILE, RECEIVED_FILE, CLEARED_FILE), [UNSEARCHED % "send_packet, recv_packet, acknowledge_packet or timeout_packet"]),
     (1, str, in_turn(removed(SENT_FILE, CLEARED_FILE), NOTHING_FOUND), [UNSEARCHED % "send_packet, recv_packet, acknowledge_packet or timeout_packet"]),

@@ -91,11 +91,10 @@ root state = do
   b ← base64_bytes Key.Hash r
   if length b == 0 then Err (flaw_at r Key.Hash BadBase64) else Ok (root_of b)
 
--- an entry of `consensus_states`: the height that it is stored at, of this revision number, and what it holds
-unfoldable pub consensus_state : ℕ → Object → Object → Result ConsensusState FieldError
-consensus_state n at o = do
+-- an entry of `consensus_states`, of this revision number and height: what it holds
+unfoldable pub consensus_state : ℕ → ℕ → Object → Result ConsensusState FieldError
+consensus_state n h o = do
   state ← inner Key.ConsensusState o
-  h ← height Key.RevisionHeight at
   moment ← time Key.Timestamp state
   bytes ← root state
   next ← record_hash Key.NextValidatorsHash state
@@ -106,7 +105,8 @@ unfoldable pub state_since : ℕ → Object → Result (Option ConsensusState) F
 state_since since o = do
   at ← inner Key.Height o
   n ← number_or_zero Key.RevisionNumber at
-  if nat_lt n since then Ok None else (consensus_state n at o >>= λ s. Ok (Some s))
+  h ← height Key.RevisionHeight at
+  if nat_lt n since then Ok None else (consensus_state n h o >>= λ s. Ok (Some s))
 
 -- the records of a revision and of later ones among entries, the first of which stands at this index, after those before them
 abbrev pub states_since : ℕ → ℕ → List ConsensusState → Items → Result (List ConsensusState) FieldError

@@ -221,10 +221,11 @@ fn read_since(
 {
     let at = entry.inner(Key::Height)?;
     let revision = at.number_or_zero(Key::RevisionNumber)?;
+    let height = at.height(Key::RevisionHeight)?;
     if revision < since {
         return Ok(None);
     }
-    Ok(Some(read_consensus_state(alloc, entry, &at, revision)?))
+    Ok(Some(read_consensus_state(alloc, entry, revision, height)?))
 }
 
 /// Whether no page follows, as the key of the next one says, which is null or empty then, or isn't there.
@@ -263,13 +264,12 @@ fn is_empty_text(value: &Value) -> bool
 fn read_consensus_state(
     alloc: Global,
     entry: &Object<'_>,
-    at: &Object<'_>,
     revision: u64,
+    height: Height,
 ) -> Result<ConsensusState, AnswerError>
-    ensures { Gives (λ s. s) result (consensus_state revision (object_view at.now) (object_view entry.now)) }
+    ensures { Gives (λ s. s) result (consensus_state revision height (object_view entry.now)) }
 {
     let state = entry.inner(Key::ConsensusState)?;
-    let height = at.height(Key::RevisionHeight)?;
     let time = state.time(Key::Timestamp)?;
     let root = read_root(alloc, &state)?;
     let next = state.record_hash(Key::NextValidatorsHash)?;
