@@ -66,7 +66,7 @@ pub fn advice_for(name: FaultName, path: &str) -> &'static str {
             "the turns up to this one ask for too much planning, as docs/FORMATS.md counts it; cut the script into several, of fewer turns, chains or clients"
         }
         FaultName::Forgotten => {
-            "what lies below the heights that clients trust or need was forgotten; leave this event out"
+            "follow has forgotten what no client trusts or needs any more, and packets that were cleared; leave this event out"
         }
     }
 }

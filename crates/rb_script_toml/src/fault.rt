@@ -73,7 +73,7 @@ pub enum FaultName {
     BadTrust,
     /// More labels or messages to be planned, over all turns, than are allowed.
     TooMuchToPlan,
-    /// A height that a follower has forgotten.
+    /// An event about a height, or a packet, that `follow` has forgotten.
     Forgotten,
 }
 
