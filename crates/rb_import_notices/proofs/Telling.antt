@@ -1,57 +1,68 @@
 -- Notices of a list's first elements.
-use Rattle.std.proofs.Common.{◌≡◌, ℕ, ◌<◌, ◌≤◌, ◌+◌, ◌⊎◌, List, [], ◌∷◌, ◌++◌, length, get_or, Some, inl, inr, refl, sym, subst, ap, ◌∙◌, arith, All}
-use Rattle.std.specs.Prelude.{Any, slice_get}
-use Rattle.std.proofs.lemmas.Bool.{cases_lt}
-use Rattle.std.proofs.lemmas.Option.{same_Some, slice_get_read, slice_get_within}
-use Rattle.std.proofs.lemmas.List.Elements.{All-nil, All-push}
-use Rattle.std.proofs.lemmas.List.Quantifiers.{Any-push}
-use Rattle.std.proofs.lemmas.Grind.{common_steps}
-use Rattle.rb_import_notices.specs.Notices.{AreNotices}
+use Rattle.std.proofs.Common.{◌≡◌, ℕ, ◌<◌, ◌≤◌, ◌+◌, List, [], ◌∷◌, ◌++◌, length, get_or, take, inl, inr, refl, sym, subst, ap, ◌∙◌, arith}
+use Rattle.std.proofs.lemmas.List.{length-take-le, take_all, take_more}
+use Rattle.rb_import_notices.specs.Notices.{AreNotices, AreNoticesFrom}
 
--- each notice is of an element for which it is due, and each of the first so many for which one is due has one
+-- these are the notices of the first so many
 unfoldable pub AreNoticesBefore : {X N : Type 0} → ℕ → (ℕ → X → Type 0) → (ℕ → X → N → Type 0) → List X → List N → Type 0
-AreNoticesBefore {X = X} {N = N} n IsDue Says xs notices =
-    All (λ (k : N). (i : ℕ) × (x : X) × (slice_get xs i ≡ Some x) × IsDue i x × Says i x k) notices
-    × ((i : ℕ) → (x : X) → i < n → slice_get xs i ≡ Some x → IsDue i x → Any (Says i x) notices)
+AreNoticesBefore n IsDue Says xs notices = AreNoticesFrom IsDue Says 0 (take n xs) notices
 
-pub any_more : {N : Type 0} (P : N → Type 0) (before : List N) (k : N) → Any P before → Any P (before ++ k ∷ [])
-any_more P before k (i, y, small, is, p) = (i, y, grind (arith, common_steps, small), grind (arith, common_steps, small, is), p)
+-- an element more for which one is due
+from_more : {X N : Type 0} (IsDue : ℕ → X → Type 0) (Says : ℕ → X → N → Type 0) (place : ℕ) (xs : List X) (x : X) (n : N) (notices : List N) → IsDue (place + length xs) x → Says (place + length xs) x n
+    → AreNoticesFrom IsDue Says place xs notices → AreNoticesFrom IsDue Says place (xs ++ x ∷ []) (notices ++ n ∷ [])
+from_more IsDue Says place [] x n notices due says none =
+    let same : place + 0 ≡ place = omega arith in
+    inl (subst (λ i. IsDue i x) same due, n, [], ap (λ l. l ++ n ∷ []) none, subst (λ i. Says i x n) same says, refl)
+from_more IsDue Says place (y ∷ ys) x n notices due says (inl (due_y, m, others, is, says_y, further)) =
+    let same : place + length (y ∷ ys) ≡ (place + 1) + length ys = omega arith in
+    inl (
+      due_y,
+      m,
+      others ++ n ∷ [],
+      ap (λ l. l ++ n ∷ []) is,
+      says_y,
+      from_more IsDue Says (place + 1) ys x n others (subst (λ i. IsDue i x) same due) (subst (λ i. Says i x n) same says) further,
+    )
+from_more IsDue Says place (y ∷ ys) x n notices due says (inr (not, further)) =
+    let same : place + length (y ∷ ys) ≡ (place + 1) + length ys = omega arith in
+    inr (not, from_more IsDue Says (place + 1) ys x n notices (subst (λ i. IsDue i x) same due) (subst (λ i. Says i x n) same says) further)
+
+-- one for which none is
+from_same : {X N : Type 0} (IsDue : ℕ → X → Type 0) (Says : ℕ → X → N → Type 0) (place : ℕ) (xs : List X) (x : X) (notices : List N) → (IsDue (place + length xs) x → ⊥)
+    → AreNoticesFrom IsDue Says place xs notices → AreNoticesFrom IsDue Says place (xs ++ x ∷ []) notices
+from_same IsDue Says place [] x notices not none =
+    let same : place + 0 ≡ place = omega arith in
+    inr (subst (λ i. ¬ IsDue i x) same not, none)
+from_same IsDue Says place (y ∷ ys) x notices not (inl (due_y, m, others, is, says_y, further)) =
+    let same : place + length (y ∷ ys) ≡ (place + 1) + length ys = omega arith in
+    inl (due_y, m, others, is, says_y, from_same IsDue Says (place + 1) ys x others (subst (λ i. ¬ IsDue i x) same not) further)
+from_same IsDue Says place (y ∷ ys) x notices not (inr (not_y, further)) =
+    let same : place + length (y ∷ ys) ≡ (place + 1) + length ys = omega arith in
+    inr (not_y, from_same IsDue Says (place + 1) ys x notices (subst (λ i. ¬ IsDue i x) same not) further)
 
 pub notices_none : {X N : Type 0} (IsDue : ℕ → X → Type 0) (Says : ℕ → X → N → Type 0) (xs : List X) → AreNoticesBefore 0 IsDue Says xs []
 unfolding AreNoticesBefore
-notices_none {X = X} {N = N} IsDue Says xs =
-    (All-nil (λ (k : N). (i : ℕ) × (x : X) × (slice_get xs i ≡ Some x) × IsDue i x × Says i x k), λ i x small at due. absurd (omega (arith, small)))
+notices_none IsDue Says xs = refl
 
 pub notices_more : {X N : Type 0} (IsDue : ℕ → X → Type 0) (Says : ℕ → X → N → Type 0) (xs : List X) (n : ℕ) (x : X) (k : N) (before after : List N)
     → n < length xs → x ≡ get_or xs n x → IsDue n x × Says n x k → after ≡ before ++ k ∷ [] → AreNoticesBefore n IsDue Says xs before → AreNoticesBefore (n + 1) IsDue Says xs after
 unfolding AreNoticesBefore
-notices_more {X = X} {N = N} IsDue Says xs n x k before after small is (due, says) now (sound, whole) =
-    let at : slice_get xs n ≡ Some x = slice_get_read xs (length xs) n x refl small is in
-    let Is : N → Type 0 = λ m. (i : ℕ) × (y : X) × (slice_get xs i ≡ Some y) × IsDue i y × Says i y m in
-    (subst (All Is) (sym now) (All-push Is before k sound (n, x, at, due, says)), λ i y low there it. subst (Any (Says i y)) (sym now) (each at i y low there it (cases_lt i n)))
-  where
-    each : slice_get xs n ≡ Some x → (i : ℕ) (y : X) → i < n + 1 → slice_get xs i ≡ Some y → IsDue i y → (i < n) ⊎ (n ≤ i) → Any (Says i y) (before ++ k ∷ [])
-    each at i y low there it (inl earlier) = any_more (Says i y) before k (whole i y earlier there it)
-    each at i y low there it (inr later) =
-        let here : n ≡ i = omega (arith, low, later) in
-        let same : x ≡ y = same_Some x y (sym at ∙ ap (slice_get xs) here ∙ there) in
-        Any-push (Says i y) before k (subst (λ z. Says i z k) same (subst (λ j. Says j x k) here says))
+notices_more IsDue Says xs n x k before after small is (due, says) now all =
+    let here : n ≡ 0 + length (take n xs) = omega (arith, length-take-le n xs (omega (arith, small))) in
+    let front : take (n + 1) xs ≡ take n xs ++ x ∷ [] = take_more xs n x small ∙ ap (λ y. take n xs ++ y ∷ []) (sym is) in
+    subst (λ l. AreNoticesFrom IsDue Says 0 l after) (sym front)
+    (subst (AreNoticesFrom IsDue Says 0 (take n xs ++ x ∷ [])) (sym now)
+    (from_more IsDue Says 0 (take n xs) x k before (subst (λ i. IsDue i x) here due) (subst (λ i. Says i x k) here says) all))
 
 pub notices_same : {X N : Type 0} (IsDue : ℕ → X → Type 0) (Says : ℕ → X → N → Type 0) (xs : List X) (n : ℕ) (x : X) (notices : List N)
     → n < length xs → x ≡ get_or xs n x → (IsDue n x → ⊥) → AreNoticesBefore n IsDue Says xs notices → AreNoticesBefore (n + 1) IsDue Says xs notices
 unfolding AreNoticesBefore
-notices_same {X = X} {N = N} IsDue Says xs n x notices small is not_due (sound, whole) =
-    let at : slice_get xs n ≡ Some x = slice_get_read xs (length xs) n x refl small is in
-    (sound, λ i y low there it. each at i y low there it (cases_lt i n))
-  where
-    each : slice_get xs n ≡ Some x → (i : ℕ) (y : X) → i < n + 1 → slice_get xs i ≡ Some y → IsDue i y → (i < n) ⊎ (n ≤ i) → Any (Says i y) notices
-    each at i y low there it (inl earlier) = whole i y earlier there it
-    each at i y low there it (inr later) =
-        let here : i ≡ n = omega (arith, low, later) in
-        let same : y ≡ x = same_Some y x (sym there ∙ ap (slice_get xs) here ∙ at) in
-        absurd (not_due (subst (IsDue n) same (subst (λ j. IsDue j y) here it)))
+notices_same IsDue Says xs n x notices small is not all =
+    let here : n ≡ 0 + length (take n xs) = omega (arith, length-take-le n xs (omega (arith, small))) in
+    let front : take (n + 1) xs ≡ take n xs ++ x ∷ [] = take_more xs n x small ∙ ap (λ y. take n xs ++ y ∷ []) (sym is) in
+    subst (λ l. AreNoticesFrom IsDue Says 0 l notices) (sym front) (from_same IsDue Says 0 (take n xs) x notices (subst (λ i. ¬ IsDue i x) here not) all)
 
 pub notices_all : {X N : Type 0} (IsDue : ℕ → X → Type 0) (Says : ℕ → X → N → Type 0) (xs : List X) (n : ℕ) (notices : List N) → length xs ≤ n
     → AreNoticesBefore n IsDue Says xs notices → AreNotices IsDue Says xs notices
 unfolding AreNoticesBefore
-notices_all IsDue Says xs n notices long (sound, whole) = (sound, λ i x at due. whole i x (omega (arith, long, slice_get_within xs i x at)) at due)
+notices_all IsDue Says xs n notices long all = subst (λ l. AreNoticesFrom IsDue Says 0 l notices) (take_all n xs long) all

@@ -1,9 +1,8 @@
 -- What is told of the last turn's window and goals.
-use Rattle.std.proofs.Common.{◌≡◌, ℕ, ◌<◌, List, [], Vec, Option, Some, None, length, sym, subst, ap, arith}
+use Rattle.std.proofs.Common.{◌≡◌, ℕ, ◌<◌, List, [], Vec, Option, Some, None, length, sym, subst, ap, refl}
 use Rattle.std.specs.Prelude.{Any, IsSomeAnd, slice_get}
 use Rattle.std.specs.Global.{Global}
 use Rattle.std.proofs.lemmas.Option.{slice_get_within}
-use Rattle.std.proofs.lemmas.List.Elements.{All-nil}
 use Rattle.rb_base.specs.Window.{Span}
 use Rattle.rb_script_types.specs.declared.script.Asked.{Asked}
 use Rattle.rb_import_setup.specs.declared.setup.ClientSetup.{ClientSetup}
@@ -72,11 +71,7 @@ goal_here setup seen asked c chain records id notice client named tracked stored
 
 pub no_goals : (setup : Setup) (seen : Seen) → TellThese setup seen [] []
 unfolding TellThese
-no_goals setup seen =
-    (All-nil (λ (n : UnseenGoal). (i : ℕ) × (x : Asked) × (slice_get {X = Asked} [] i ≡ Some x) × MissesGoal setup seen x × SaysGoal setup x n), λ i x at due. absurd (none i x at))
-  where
-    none : (i : ℕ) (x : Asked) → slice_get {X = Asked} [] i ≡ Some x → ⊥
-    none i x at = omega (arith, slice_get_within {A = Asked} [] i x at)
+no_goals setup seen = refl
 
 pub no_last : (setup : Setup) (seen : Seen) (found : List UnseenGoal) → last_turn setup ≡ None → found ≡ [] → TellGoals setup seen found
 no_last setup seen found none empty =
