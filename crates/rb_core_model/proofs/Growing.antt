@@ -19,7 +19,7 @@ use Rattle.rb_scan.specs.declared.message.PacketMsg.{PacketMsg}
 use Rattle.rb_valset.specs.Validator.{Member}
 use Rattle.rb_valset.specs.ValidatorSet.{set_hash}
 use Rattle.rb_core_model.specs.Event.{Event, Window, Asked, SetSeen, HeaderSeen, StoredSeen, Sent, Received, AckWritten, Cleared, Closed, Scanned, Planned, Settled}
-use Rattle.rb_core_model.specs.Machine.{State, opening, refusal_of, accepted, after, state_of}
+use Rattle.rb_core_model.specs.Machine.{State, begun, refusal_of, accepted, after}
 use Rattle.rb_script_types.specs.declared.refusal.Refusal.{Refusal}
 use Rattle.rb_script_types.specs.declared.refusal.Refusal.TheVariants.{OutOfOrder, Repeat}
 use Rattle.rb_core_model.specs.Refusal.{refused_if}
@@ -272,8 +272,8 @@ book_grown s chain b grown path v e =
     )
   where
     by_times : (p : PathState) (ts us : List (ℕ × ℕ)) → (ts ≡ us) ⊎ (length ts < length us)
-        → Grown (record { order = p.config.order; first = p.config.first; packets = p.packets; closed = p.closed; destination = ts }) (record { order = p.config.order; first = p.config.first; packets = p.packets; closed = p.closed; destination = us })
-    by_times p ts us (inl same) = inl (λ i. record { order = p.config.order; first = p.config.first; packets = p.packets; closed = p.closed; destination = same i })
+        → Grown (record { order = p.config.order; first = p.first; packets = p.packets; closed = p.closed; destination = ts }) (record { order = p.config.order; first = p.first; packets = p.packets; closed = p.closed; destination = us })
+    by_times p ts us (inl same) = inl (λ i. record { order = p.config.order; first = p.first; packets = p.packets; closed = p.closed; destination = same i })
     by_times p ts us (inr lt) = inr (omega arith)
 
     by_place : (p : PathState) → (p.config.destination ≡ chain) ⊎ (p.config.destination ≡ chain → ⊥) → (chain < length s.books) ⊎ (length s.books ≤ chain) → Grown (view_of_path s.books p) (view_of_path (set s.books chain b) p)
@@ -401,12 +401,14 @@ fold-append s [] ys = refl
 fold-append s (x ∷ xs) ys = fold-append (after s x) xs ys
 
 pub never_back : ViewsNeverComeBack
-never_back config events then_seen and_then path v w at_first at_second at_third =
-    let one = state_of config events in
-    let two = state_of config (events ++ then_seen) in
-    let three = state_of config ((events ++ then_seen) ++ and_then) in
-    let first = subst (λ t. GrownAt one.standing t.standing) (sym (fold-append (opening config) events then_seen)) (events_grown one then_seen) path v at_first in
-    let second = subst (λ t. GrownAt two.standing t.standing) (sym (fold-append (opening config) (events ++ then_seen) and_then)) (events_grown two and_then) path w at_second in
+never_back config log then_seen and_then path v w at_first at_second at_third =
+    let start = begun config log.start in
+    let events = log.events in
+    let one = fold after start events in
+    let two = fold after start (events ++ then_seen) in
+    let three = fold after start ((events ++ then_seen) ++ and_then) in
+    let first = subst (λ t. GrownAt one.standing t.standing) (sym (fold-append start events then_seen)) (events_grown one then_seen) path v at_first in
+    let second = subst (λ t. GrownAt two.standing t.standing) (sym (fold-append start (events ++ then_seen) and_then)) (events_grown two and_then) path w at_second in
     let same_w : first.0 ≡ w = same_Some first.0 w (sym first.1 ∙ at_second) in
     let same_v : second.0 ≡ v = same_Some second.0 v (sym second.1 ∙ at_third) in
     both (subst (λ x. Grown v x) same_w first.2) (subst (λ x. Grown w x) same_v second.2)

@@ -1,22 +1,26 @@
 -- What is kept after every list of events.
 use Rattle.std.proofs.Common.{◌≡◌, ℕ, zero, suc, ◌+◌, ◌<◌, ◌≤◌, Bool, true, false, cond, List, [], ◌∷◌, length, map, get_or, set, replicate, Option, Some, None, is_some, refl, sym, ap, ◌∙◌, subst, inl, inr, arith}
-use Rattle.std.specs.Prelude.{IfSome}
-use Rattle.std.specs.List.{fold, slice_get}
-use Rattle.std.specs.Option.{option_map, option_map_or, option_and_then}
+use Rattle.std.specs.Prelude.{IfSome, All}
+use Rattle.std.specs.List.{fold, slice_get, AllByRecursion}
+use Rattle.std.specs.Option.{option_map_or, option_and_then}
 use Rattle.std.proofs.lemmas.List.{length-set, length-map, length-replicate}
 use Rattle.std.proofs.lemmas.List.Elements.{recursion_from_All}
-use Rattle.std.proofs.lemmas.Option.{none-some}
-use Rattle.rb_script_types.specs.Config.{Config, IsClient}
+use Rattle.std.proofs.lemmas.Option.{none-some, same_Some}
+use Rattle.rb_script_types.specs.Config.{Config, IsClient, IsConfig}
 use Rattle.rb_script_types.specs.declared.config.ClientConfig.{ClientConfig}
+use Rattle.rb_script_types.specs.declared.config.PathConfig.{PathConfig}
+use Rattle.rb_core_model.specs.Begun.{IsBegun, max_begun}
 use Rattle.rb_core_model.specs.Config.{IsSetUp}
 use Rattle.rb_plan_client.specs.Draft.{Planned as Answer}
 use Rattle.rb_core_model.specs.Event.{Event, Window, Asked, SetSeen, HeaderSeen, StoredSeen, Sent, Received, AckWritten, Cleared, Closed, Scanned, Planned, Settled}
 use Rattle.rb_core_model.specs.Invariant.{HasInvariant}
-use Rattle.rb_core_model.specs.Machine.{State, opening, no_scans, plan_number, plans_after, scans_after, refusal_of, accepted, after, state_of}
-use Rattle.rb_core_model.specs.Standing.{OpenBatch, ClientState, Standing, empty_book, new_client, new_path, tracked, changed_at, changed, batch_opened, with_batch, after_answer, after_batch, open_batch, after_settled}
+use Rattle.rb_core_model.specs.Machine.{State, begun, no_scans, plan_number, plans_after, scans_after, refusal_of, accepted, after, state_of}
+use Rattle.rb_core_model.specs.Snapshot.{ClientSnapshot, Snapshot, Log, client_from, clients_from}
+use Rattle.rb_core_model.specs.Standing.{OpenBatch, ClientState, Standing, new_client, tracked, changed_at, changed, batch_opened, with_batch, after_answer, after_batch, open_batch, after_settled}
+use Rattle.rb_core_model.proofs.Configs.{IsConfigured, config_of, path_config_of, configured_begun}
 use Rattle.rb_core_model.proofs.Lengths.{lengths_changed}
 use Rattle.rb_core_model.proofs.Marks.{all_at}
-use Rattle.rb_core_model.proofs.Options.{mapped, get_changed}
+use Rattle.rb_core_model.proofs.Options.{get_changed}
 use Rattle.rb_core_model.proofs.Right.{opens}
 
 -- ---- what an event makes of a client
@@ -125,8 +129,8 @@ set_within (x ∷ xs) (suc i) (suc j) n most new old = set_within xs i j n most 
 one_more : (n most : ℕ) → n ≤ most → n ≤ suc most
 one_more n most le = omega (arith, le)
 
-two_more : (n m most : ℕ) → n ≤ suc m → m ≤ most → n ≤ suc most
-two_more n m most few le = omega (arith, few, le)
+two_more : (n m before most : ℕ) → n ≤ suc m → m ≤ before + most → n ≤ before + suc most
+two_more n m before most few le = omega (arith, few, le)
 
 suc_within : (n most : ℕ) → n ≤ most → suc n ≤ suc most
 suc_within n most le = omega (arith, le)
@@ -155,7 +159,7 @@ pub record IsTended (s : State) : Type 0 where
   tracks : (place : ℕ) (c : ClientState) → slice_get s.standing.clients place ≡ Some c → c.config.tracks < length s.standing.books
   plans : length s.plans ≡ length s.standing.clients
   scans : length s.scans ≡ length s.standing.paths
-  batches : (place : ℕ) (c : ClientState) → slice_get s.standing.clients place ≡ Some c → c.batches ≤ s.front
+  batches : (place : ℕ) (c : ClientState) → slice_get s.standing.clients place ≡ Some c → c.batches ≤ max_begun + s.front
   numbers : (client : ℕ) → plan_number s client ≤ s.front
 
 pub accepted_tended : (s : State) (e : Event) → IsTended s → IsTended (accepted s e)
@@ -170,7 +174,7 @@ accepted_tended s e is =
       scans = scans_long s e ∙ is.scans ∙ sym long.paths;
       batches = λ place d at.
           let was = keeps s.standing e place d at in
-          two_more d.batches was.client.batches s.front was.grows.batches (is.batches place was.client was.found);
+          two_more d.batches was.client.batches max_begun s.front was.grows.batches (is.batches place was.client was.found);
       numbers = numbers_within s e is.numbers;
     }
 
@@ -187,31 +191,45 @@ events_tended s (e ∷ es) is = events_tended (after s e) es (after_tended s e i
 
 -- ---- before the first event
 
-zeros : (n i : ℕ) → get_or (replicate n 0) i 0 ≤ 0
+pub zeros : (n i : ℕ) → get_or (replicate n 0) i 0 ≤ 0
 zeros zero i = omega arith
 zeros (suc n) zero = omega arith
 zeros (suc n) (suc i) = zeros n i
 
-get_new : (cs : List ClientConfig) (place : ℕ) → slice_get (map new_client cs) place ≡ option_map new_client (slice_get cs place)
-get_new [] place = refl
-get_new (c ∷ cs) zero = refl
-get_new (c ∷ cs) (suc place) = get_new cs place
+config_at : (cs : List ClientState) (place : ℕ) (c : ClientState) → slice_get cs place ≡ Some c → slice_get (map config_of cs) place ≡ Some c.config
+config_at [] place c e = absurd (none-some c e)
+config_at (d ∷ cs) zero c e = ap (λ (k : ClientState). Some k.config) (same_Some d c e)
+config_at (d ∷ cs) (suc place) c e = config_at cs place c e
 
-pub opening_tended : (config : Config) → IsSetUp config → IsTended (opening config)
-opening_tended config is = record {
-  tracks = λ place c at.
-      let m = mapped new_client (slice_get config.clients place) c (sym (get_new config.clients place) ∙ at) in
-      let client = all_at (IsClient (length config.chains)) config.clients place m.0 (recursion_from_All (IsClient (length config.chains)) config.clients is.rules.clients) m.1 in
-      let same : m.0.tracks ≡ c.config.tracks = ap (λ (k : ClientState). k.config.tracks) m.2 in
-      subst (λ n. c.config.tracks < n) (sym (length-replicate (length config.chains) (empty_book config.limit))) (subst (λ n. n < length config.chains) same client.tracks);
-  plans = length-replicate (length config.clients) 0 ∙ sym (length-map config.clients new_client);
-  scans = length-replicate (length config.paths) no_scans ∙ sym (length-map config.paths new_path);
-  batches = λ place c at.
-      let m = mapped new_client (slice_get config.clients place) c (sym (get_new config.clients place) ∙ at) in
-      let none : 0 ≡ c.batches = ap (λ (k : ClientState). k.batches) m.2 in
-      subst (λ n. n ≤ 0) none (omega arith);
-  numbers = zeros (length config.clients);
-}
+tracked_within : (config : Config) (s : Standing) → IsConfig config → IsConfigured config s → (place : ℕ) (c : ClientState) → slice_get s.clients place ≡ Some c → c.config.tracks < length s.books
+tracked_within config s is has place c at =
+    let there : slice_get config.clients place ≡ Some c.config = ap (λ cs. slice_get cs place) (sym has.clients) ∙ config_at s.clients place c at in
+    let client = all_at (IsClient (length config.chains)) config.clients place c.config (recursion_from_All (IsClient (length config.chains)) config.clients is.clients) there in
+    subst (λ n. c.config.tracks < n) (sym has.books) client.tracks
+
+-- as many batches were opened as the log begins with
+few_new : (cs : List ClientConfig) (place : ℕ) (c : ClientState) → slice_get (map new_client cs) place ≡ Some c → c.batches ≤ max_begun
+few_new [] place c e = absurd (none-some c e)
+few_new (d ∷ cs) zero c e = subst (λ (k : ClientState). k.batches ≤ max_begun) (same_Some (new_client d) c e) (omega arith)
+few_new (d ∷ cs) (suc place) c e = few_new cs place c e
+
+few_known : (xs : List ClientSnapshot) (cs : List ClientConfig) → AllByRecursion (λ (x : ClientSnapshot). x.batches ≤ max_begun) xs
+    → (place : ℕ) (c : ClientState) → slice_get (clients_from xs cs) place ≡ Some c → c.batches ≤ max_begun
+few_known [] cs few place c e = few_new cs place c e
+few_known (x ∷ xs) [] few place c e = absurd (none-some c e)
+few_known (x ∷ xs) (d ∷ cs) few zero c e = subst (λ (k : ClientState). k.batches ≤ max_begun) (same_Some (client_from d x) c e) few.0
+few_known (x ∷ xs) (d ∷ cs) few (suc place) c e = few_known xs cs few.1 place c e
+
+pub begun_tended : (config : Config) (start : Snapshot) → IsConfig config → All (λ (x : ClientSnapshot). x.batches ≤ max_begun) start.clients → IsTended (begun config start)
+begun_tended config start is few =
+    let has = configured_begun config start in
+    record {
+      tracks = tracked_within config (begun config start).standing is has;
+      plans = length-replicate (length config.clients) 0 ∙ ap (λ (cs : List ClientConfig). length cs) (sym has.clients) ∙ length-map (begun config start).standing.clients config_of;
+      scans = length-replicate (length config.paths) no_scans ∙ ap (λ (ps : List PathConfig). length ps) (sym has.paths) ∙ length-map (begun config start).standing.paths path_config_of;
+      batches = λ place c at. omega (arith, few_known start.clients config.clients (recursion_from_All (λ (x : ClientSnapshot). x.batches ≤ max_begun) start.clients few) place c at);
+      numbers = zeros (length config.clients);
+    }
 
 -- ---- every list of events
 
@@ -230,12 +248,13 @@ kept s is = record {
   tracked = tracked_there s.standing.clients (length s.standing.books) is.tracks;
   plans = is.plans;
   scans = is.scans;
-  batches = λ client. if_some (λ (c : ClientState). c.batches ≤ s.front) (slice_get s.standing.clients client) (is.batches client);
+  batches = λ client. if_some (λ (c : ClientState). c.batches ≤ max_begun + s.front) (slice_get s.standing.clients client) (is.batches client);
   numbers = is.numbers;
 }
 
-pub kept_of_events : (config : Config) (events : List Event) → IsSetUp config → HasInvariant (state_of config events)
-kept_of_events config events is = kept (state_of config events) (events_tended (opening config) events (opening_tended config is))
+pub kept_of_events : (config : Config) (log : Log) → IsSetUp config → IsBegun config log.start → HasInvariant (state_of config log)
+kept_of_events config log is start =
+    kept (state_of config log) (events_tended (begun config log.start) log.events (begun_tended config log.start is.rules start.few))
 
 -- ---- one event more
 
@@ -251,7 +270,7 @@ tended s is = record {
       subst (λ n. n < length s.standing.books) there (is.tracked place (some_within s.standing.clients place c at));
   plans = is.plans;
   scans = is.scans;
-  batches = λ place c at. subst (λ (o : Option ClientState). IfSome o (λ (d : ClientState). d.batches ≤ s.front)) at (is.batches place);
+  batches = λ place c at. subst (λ (o : Option ClientState). IfSome o (λ (d : ClientState). d.batches ≤ max_begun + s.front)) at (is.batches place);
   numbers = is.numbers;
 }
 

@@ -5,6 +5,8 @@ pub mod Floors
 pub mod InTurn
 pub mod Right
 pub mod Marks
+pub mod Over
+pub mod Paths
 pub mod Open
 pub mod Intake
 pub mod Rising
@@ -16,3 +18,7 @@ pub mod Logs
 pub mod Growing
 pub mod Apart
 pub mod Keeping
+pub mod Left
+pub mod Configs
+pub mod Begun
+pub mod EveryLog

@@ -3,7 +3,7 @@ use Rattle.std.proofs.Common.{◌≡◌, ℕ, suc, ◌+◌, Bool, true, false, c
 use Rattle.std.specs.List.{fold}
 use Rattle.rb_core_model.specs.Event.{Event}
 use Rattle.rb_core_model.specs.Log.{accepted_from, StatesAreOfLogs}
-use Rattle.rb_core_model.specs.Machine.{State, opening, refusal_of, accepted, after}
+use Rattle.rb_core_model.specs.Machine.{State, begun, refusal_of, accepted, after}
 
 abbrev next : State → Event → Bool → State
 next s e b = cond b s (accepted s e)
@@ -57,9 +57,9 @@ long s (e ∷ es) = go (is_some (refusal_of s e)) refl (long (after s e) es)
 
 pub states_of_logs : StatesAreOfLogs
 states_of_logs c events = record {
-  state = leads (opening c) events;
-  log = again (opening c) events;
-  front = long (opening c) events ∙ first (length (accepted_from (opening c) events));
+  state = leads (begun c events.start) events.events;
+  log = ap (λ es. record events { events = es }) (again (begun c events.start) events.events);
+  front = long (begun c events.start) events.events ∙ first (length (accepted_from (begun c events.start) events.events));
 }
   where
     first : (n : ℕ) → 0 + n ≡ n

@@ -94,8 +94,8 @@ module _ (law : ReadyReceivesAreConsecutive) (s : State) (d : Draft) where
       })
 
 pub batches_right : ReadyReceivesAreConsecutive → BatchesAreRight
-batches_right law config events d number is accepted_by reply =
-    let s : State = state_of config events in
+batches_right law config log d number is accepted_by reply =
+    let s : State = state_of config log in
     let x = drafted s d accepted_by in
     let b = replied (batch_for s d) number reply in
     let at : batch_for s d ≡ batch_opened x.known d.answer = ap (option_and_then (λ c. batch_opened c d.answer)) x.is_known in

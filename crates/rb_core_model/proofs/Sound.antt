@@ -1,24 +1,21 @@
 -- What is true of how things stand after every list of events.
-use Rattle.std.proofs.Common.{◌≡◌, ℕ, zero, suc, ◌+◌, ◌<◌, ◌≤◌, Bool, true, false, cond, eqb, ltb, List, [], ◌∷◌, length, map, set, get_or, replicate, Option, Some, None, All, IsSome, is_some, refl, sym, ap, ◌∙◌, subst, inl, inr, arith, if◌then◌else◌}
+use Rattle.std.proofs.Common.{◌≡◌, ℕ, zero, suc, ◌+◌, ◌<◌, ◌≤◌, Bool, true, false, cond, eqb, List, [], ◌∷◌, length, map, set, get_or, replicate, Option, Some, None, IsSome, is_some, refl, sym, ap, ◌∙◌, subst, inl, inr, arith, if◌then◌else◌}
 use Rattle.std.specs.List.{fold, slice_get, AllByRecursion}
 use Rattle.std.specs.List.Sorted.{IsStrictlyIncreasing}
 use Rattle.std.specs.Option.{option_map, option_map_or, option_and_then, IsSomeAnd, MatchOption}
-use Rattle.std.proofs.lemmas.Bool.{cases_eq, cases_lt, ltb-false, eq-eqb}
+use Rattle.std.proofs.lemmas.Bool.{cases_eq, cases_lt, eq-eqb}
 use Rattle.std.proofs.lemmas.List.{get_or-set_same, get_or-set_other, length-set, length-replicate, set_past}
 use Rattle.std.proofs.lemmas.List.Elements.{All-from_recursion, recursion_from_All}
 use Rattle.std.proofs.lemmas.Option.{none-some, same_Some}
 use Rattle.rb_base.specs.Fee.{IsFeeTable}
 use Rattle.rb_base.specs.Window.{Span}
-use Rattle.rb_book.specs.Book.{Book, RecordAt, height_of, time_of, record_at, set_of}
+use Rattle.rb_book.specs.Book.{Book, record_at, set_of}
 use Rattle.rb_book.specs.Header.{Record, Header}
-use Rattle.rb_book.specs.Intake.{set_refusal, header_refusal, record_refusal, after_set, after_header, after_record, with_set}
+use Rattle.rb_book.specs.Intake.{header_refusal, record_refusal, after_set, after_header, after_record, with_set}
 use Rattle.rb_book.specs.Invariant.{IsBook}
 use Rattle.rb_book.specs.Laws.{FindsWhatWasAdded, StaysABook}
 use Rattle.rb_plan.specs.Least.{IsUnreachable}
-use Rattle.rb_scan.specs.declared.message.Kind.{Kind}
-use Rattle.rb_scan.specs.declared.message.Kind.TheVariants.{Receive, Acknowledge, Timeout}
 use Rattle.rb_scan.specs.Packet.{Packet}
-use Rattle.rb_scan.specs.Path.{IsPath, sequences_of}
 use Rattle.rb_step.specs.Laws.{ViewsAreOrderly}
 use Rattle.rb_step.specs.LightClient.{Update, Runs, IsOrderly}
 use Rattle.rb_step.specs.View.{View, IsView, client_of}
@@ -26,26 +23,23 @@ use Rattle.rb_valset.specs.Validator.{Member}
 use Rattle.rb_valset.specs.ValidatorSet.{set_hash}
 use Rattle.rb_script_types.specs.Config.{Config, IsClient}
 use Rattle.rb_script_types.specs.declared.config.ClientConfig.{ClientConfig}
-use Rattle.rb_script_types.specs.declared.config.PathConfig.{PathConfig}
 use Rattle.rb_core_model.specs.Config.{IsSetUp}
-use Rattle.rb_plan_client.specs.Draft.{Planned as Answer, IsPlan, IsPlanned, IsAnswer, Draft, IsDraft, Job}
+use Rattle.rb_plan_client.specs.Draft.{Planned as Answer, IsPlan, IsPlanned, IsAnswer, Draft, IsDraft}
 use Rattle.rb_core_model.specs.Event.{Event, IsEvent, Window, Asked, SetSeen, HeaderSeen, StoredSeen, Sent, Received, AckWritten, Cleared, Closed, Scanned, Planned, Settled}
-use Rattle.rb_core_model.specs.Machine.{State, opening, job_of, refusal_of, accepted, after, state_of}
+use Rattle.rb_core_model.specs.Machine.{State, opening, refusal_of, accepted, after}
 use Rattle.rb_script_types.specs.declared.refusal.Refusal.{Refusal}
-use Rattle.rb_script_types.specs.declared.refusal.Refusal.TheVariants.{OutOfOrder}
-use Rattle.rb_core_model.specs.Standing.{OpenBatch, ClientState, PathState, Standing, empty_book, new_client, new_path, opening_standing, book_at, tracked, view_of_path, task_of, task_in, changed, changed_at, with_book, with_client, with_path, with_height, with_packet, new_packet, marked, with_mark, mark_of, batch_opened, with_batch, after_answer, after_batch, after_message, after_messages, settled_updates, settled_messages, sent_refusal}
-use Rattle.rb_plan_client.specs.Task.{Message, view_of, sending_reach, messages_of}
-use Rattle.rb_core_model.specs.Views.{ClientViewsAreViews, PathViewsArePaths}
-use Rattle.rb_core_model.specs.Batches.{AreApart, MessagesStandOnce}
+use Rattle.rb_core_model.specs.Standing.{OpenBatch, ClientState, PathState, Standing, empty_book, new_client, opening_standing, book_at, tracked, view_of_path, task_of, task_in, changed, with_book, with_client, with_path, with_height, with_packet, new_packet, with_mark, batch_opened, with_batch, after_answer, after_batch, settled_updates, settled_messages, sent_refusal}
+use Rattle.rb_plan_client.specs.Task.{view_of, sending_reach, messages_of}
+use Rattle.rb_core_model.specs.Batches.{AreApart}
 use Rattle.rb_core_model.proofs.Apart.{messages_apart}
-use Rattle.rb_book.proofs.Rising.{Up, Up-from_increasing, pairs_from_up}
-use Rattle.rb_core_model.proofs.Drafted.{IsDrafted, drafted}
+use Rattle.rb_book.proofs.Rising.{Up, Up-from_increasing}
+use Rattle.rb_core_model.proofs.Drafted.{drafted}
 use Rattle.rb_core_model.proofs.Intake.{set_accepted, header_accepted, record_accepted}
 use Rattle.rb_core_model.proofs.Marks.{all_at, all_take, all_weaker}
-use Rattle.rb_core_model.proofs.Open.{judged_none, settling, sent_new}
-use Rattle.rb_core_model.proofs.Options.{passes, mapped, chained}
+use Rattle.rb_core_model.proofs.Open.{judged_none, settling}
+use Rattle.rb_core_model.proofs.Paths.{IsSoundPath, all_set, all_changed, mark_sound, messages_sound, packet_sound, new_sound}
 use Rattle.rb_core_model.proofs.Right.{opens}
-use Rattle.rb_core_model.proofs.Rising.{height_rises, new_rises, all_insert, all_height}
+use Rattle.rb_core_model.proofs.Rising.{height_rises, all_height}
 
 -- ---- what is true
 
@@ -61,11 +55,6 @@ pub record IsSoundClient (books : List Book) (c : ClientState) : Type 0 where
   pub updates : (b : OpenBatch) → c.batch ≡ Some b → AllByRecursion (λ (u : Update). IsRecorded (book_at books c.config.tracks) u.height) b.updates
   pub apart : (b : OpenBatch) → c.batch ≡ Some b → Up AreApart b.messages
 
--- a path's packets rise, from its first one on
-pub record IsSoundPath (p : PathState) : Type 0 where
-  pub rising : IsStrictlyIncreasing (sequences_of p.packets)
-  pub from_first : AllByRecursion (λ (q : Packet). p.config.first ≤ q.sequence) p.packets
-
 -- how things stand is sound
 pub record IsSound (s : Standing) : Type 0 where
   pub window : (w : Span) → s.window ≡ Some w → w.from ≤ w.until
@@ -74,18 +63,6 @@ pub record IsSound (s : Standing) : Type 0 where
   pub paths : AllByRecursion IsSoundPath s.paths
 
 -- ---- lists
-
-all_set : {X : Type 0} (P : X → Type 0) (xs : List X) (i : ℕ) (x : X) → P x → AllByRecursion P xs → AllByRecursion P (set xs i x)
-all_set P [] i x p all = tt
-all_set P (y ∷ xs) zero x p all = (p, all.1)
-all_set P (y ∷ xs) (suc i) x p all = (all.0, all_set P xs i x p all.1)
-
-all_changed : {X : Type 0} (P : X → Type 0) (f : X → X) (xs : List X) (i : ℕ) → ((x : X) → slice_get xs i ≡ Some x → P x → P (f x)) → AllByRecursion P xs → AllByRecursion P (changed_at f xs i)
-all_changed {X} P f xs i one all = go (slice_get xs i) refl
-  where
-    go : (o : Option X) → slice_get xs i ≡ o → AllByRecursion P (option_map_or (λ x. set xs i (f x)) o xs)
-    go None e = all
-    go (Some x) e = all_set P xs i (f x) (one x e (all_at P xs i x all e)) all
 
 all_read : {X : Type 0} (P : X → Type 0) (xs : List X) (i : ℕ) (d : X) → P d → AllByRecursion P xs → P (get_or xs i d)
 all_read P [] i d p all = p
@@ -105,7 +82,7 @@ empty_is_book limit within = record {
   few_addresses = omega arith;
 }
 
-book_sound : (books : List Book) (n : ℕ) → AllByRecursion IsBook books → IsBook (book_at books n)
+pub book_sound : (books : List Book) (n : ℕ) → AllByRecursion IsBook books → IsBook (book_at books n)
 book_sound books n all = all_read IsBook books n (empty_book 1) (empty_is_book 1 (omega arith, omega arith)) all
 
 -- ---- a book changes
@@ -199,41 +176,6 @@ all_stored books c (u ∷ us) is all = all_stored books (record c { stored = wit
 
 closed_sound : (books : List Book) (c : ClientState) → IsSoundClient books c → IsSoundClient books (record c { batch = None })
 closed_sound books c is = record { tracks = is.tracks; fees = is.fees; rising = is.rising; recorded = is.recorded; updates = λ b e. absurd (none-some b e); apart = λ b e. absurd (none-some b e) }
-
--- ---- packets
-
-sequences_marked : (f : Packet → Packet) → ((q : Packet) → (f q).sequence ≡ q.sequence) → (n : ℕ) (ps : List Packet) → sequences_of (map (marked f n) ps) ≡ sequences_of ps
-sequences_marked f same n [] = refl
-sequences_marked f same n (q ∷ ps) = (λ i. one (eqb q.sequence n) i ∷ sequences_marked f same n ps i)
-  where
-    one : (b : Bool) → (cond b (f q) q).sequence ≡ q.sequence
-    one true = same q
-    one false = refl
-
-from_marked : (f : Packet → Packet) → ((q : Packet) → (f q).sequence ≡ q.sequence) → (n first : ℕ) (ps : List Packet) → AllByRecursion (λ (q : Packet). first ≤ q.sequence) ps → AllByRecursion (λ (q : Packet). first ≤ q.sequence) (map (marked f n) ps)
-from_marked f same n first [] all = tt
-from_marked f same n first (q ∷ ps) all = (one (eqb q.sequence n), from_marked f same n first ps all.1)
-  where
-    one : (b : Bool) → first ≤ (cond b (f q) q).sequence
-    one true = subst (λ m. first ≤ m) (sym (same q)) all.0
-    one false = all.0
-
-mark_sound : (f : Packet → Packet) → ((q : Packet) → (f q).sequence ≡ q.sequence) → (n : ℕ) (p : PathState) → IsSoundPath p → IsSoundPath (with_mark f n p)
-mark_sound f same n p is = record { rising = subst IsStrictlyIncreasing (sym (sequences_marked f same n p.packets)) is.rising; from_first = from_marked f same n p.config.first p.packets is.from_first }
-
-mark_of_same : (kind : Kind) (q : Packet) → (mark_of kind q).sequence ≡ q.sequence
-mark_of_same Receive q = refl
-mark_of_same Acknowledge q = refl
-mark_of_same Timeout q = refl
-
-message_sound : (m : Message) (p : PathState) → IsSoundPath p → IsSoundPath (after_message m.packet p)
-message_sound m p is =
-    let marked_is = mark_sound (mark_of m.packet.kind) (mark_of_same m.packet.kind) m.packet.sequence p is in
-    record { rising = marked_is.rising; from_first = marked_is.from_first }
-
-messages_sound : (ms : List Message) (ps : List PathState) → AllByRecursion IsSoundPath ps → AllByRecursion IsSoundPath (after_messages ps ms)
-messages_sound [] ps all = all
-messages_sound (m ∷ ms) ps all = messages_sound ms (changed_at (after_message m.packet) ps m.path) (all_changed IsSoundPath (after_message m.packet) ps m.path (λ p e is. message_sound m p is) all)
 
 -- ---- views
 
@@ -332,11 +274,7 @@ module _ (finds : FindsWhatWasAdded) (stays : StaysABook) (orderly : ViewsAreOrd
       with_path_sound s.standing path (with_packet (new_packet sequence block timeout_height timeout_time)) sound (λ p at is.
       let v = view_of_path s.standing.books p in
       let fits : sent_refusal v sequence ≡ None = ap (λ o. option_and_then (λ v. sent_refusal v sequence) (option_map (view_of_path s.standing.books) o)) (sym at) ∙ judged_is in
-      record {
-        rising = new_rises (λ (q : Packet). q.sequence) p.packets (new_packet sequence block timeout_height timeout_time) is.rising (sent_new v sequence fits);
-        from_first = all_insert (λ (q : Packet). p.config.first ≤ q.sequence) p.packets _ (new_packet sequence block timeout_height timeout_time)
-            (ltb-false sequence p.config.first (passes (ltb sequence p.config.first) OutOfOrder _ fits).0) is.from_first;
-      })
+      packet_sound s.standing.books p (new_packet sequence block timeout_height timeout_time) fits is)
 
   mark_event : (s : Standing) (path sequence : ℕ) (f : Packet → Packet) → ((q : Packet) → (f q).sequence ≡ q.sequence) → IsSound s → IsSound (with_path s path (with_mark f sequence))
   mark_event s path sequence f same sound = with_path_sound s path (with_mark f sequence) sound (λ p at is. mark_sound f same sequence p is)
@@ -372,7 +310,7 @@ module _ (finds : FindsWhatWasAdded) (stays : StaysABook) (orderly : ViewsAreOrd
       go None ok = step_sound s e sound is ok
       go (Some r) refused = sound
 
-  events_sound : (s : State) (es : List Event) → IsSound s.standing → AllByRecursion IsEvent es → IsSound (fold after s es).standing
+  pub events_sound : (s : State) (es : List Event) → IsSound s.standing → AllByRecursion IsEvent es → IsSound (fold after s es).standing
   events_sound s [] sound are = sound
   events_sound s (e ∷ es) sound are = events_sound (after s e) es (event_sound s e sound are.0) are.1
 
@@ -385,10 +323,6 @@ module _ (finds : FindsWhatWasAdded) (stays : StaysABook) (orderly : ViewsAreOrd
     new_clients config books cs long all.1 fees.1,
   )
 
-  new_paths : (ps : List PathConfig) → AllByRecursion IsSoundPath (map new_path ps)
-  new_paths [] = tt
-  new_paths (p ∷ ps) = (record { rising = λ k lt. absurd (omega arith); from_first = tt }, new_paths ps)
-
   new_books : (n limit : ℕ) → (1 ≤ limit) × (limit ≤ 4096) → AllByRecursion IsBook (replicate n (empty_book limit))
   new_books zero limit within = tt
   new_books (suc n) limit within = (empty_is_book limit within, new_books n limit within)
@@ -398,49 +332,5 @@ module _ (finds : FindsWhatWasAdded) (stays : StaysABook) (orderly : ViewsAreOrd
     window = λ w e. absurd (none-some w e);
     books = new_books (length config.chains) config.limit is.rules.limit;
     clients = new_clients config (opening_standing config).books config.clients (length-replicate (length config.chains) (empty_book config.limit)) (recursion_from_All (IsClient (length config.chains)) config.clients is.rules.clients) (recursion_from_All (λ (c : ClientConfig). IsFeeTable c.fees) config.clients is.fees);
-    paths = new_paths config.paths;
+    paths = new_sound config.paths;
   }
-
-  sound_after : (config : Config) (es : List Event) → IsSetUp config → All IsEvent es → IsSound (state_of config es).standing
-  sound_after config es is are = events_sound (opening config) es (opening_sound config is) (recursion_from_All IsEvent es are)
-
-  -- ---- the laws
-
-  pub stand_once : MessagesStandOnce
-  stand_once config es is are client b opened =
-      let s = state_of config es in
-      let sound = sound_after config es is are in
-      let c = chained (λ (k : ClientState). k.batch) (slice_get s.standing.clients client) b opened in
-      pairs_from_up AreApart b.messages ((all_at (IsSoundClient s.standing.books) s.standing.clients client c.0 sound.clients c.1).apart b c.2)
-
-  pub client_views : ClientViewsAreViews
-  client_views config es is are client job view =
-      let s = state_of config es in
-      let sound = sound_after config es is are in
-      let w = chained (λ window. option_map (job_of s client window) (slice_get s.standing.clients client)) s.standing.window job view in
-      let c = mapped (job_of s client w.0) (slice_get s.standing.clients client) job w.2 in
-      subst (λ (j : Job). IsView (view_of j.task)) c.2
-      (client_view_sound s.standing w.0 c.0 sound w.1 (all_at (IsSoundClient s.standing.books) s.standing.clients client c.0 sound.clients c.1))
-
-  heights_same : (ks : List RecordAt) → map (λ (r : ℕ × ℕ). r.0) (map (λ (k : RecordAt). (height_of k, time_of k)) ks) ≡ map height_of ks
-  heights_same [] = refl
-  heights_same (k ∷ ks) = ap (λ hs. height_of k ∷ hs) (heights_same ks)
-
-  times_same : (ks : List RecordAt) → map (λ (r : ℕ × ℕ). r.1) (map (λ (k : RecordAt). (height_of k, time_of k)) ks) ≡ map time_of ks
-  times_same [] = refl
-  times_same (k ∷ ks) = ap (λ ts. time_of k ∷ ts) (times_same ks)
-
-  pub path_views : PathViewsArePaths
-  path_views config es is are path v view =
-      let s = state_of config es in
-      let sound = sound_after config es is are in
-      let p = mapped (view_of_path s.standing.books) (slice_get s.standing.paths path) v view in
-      let good = all_at IsSoundPath s.standing.paths path p.0 sound.paths p.1 in
-      let book = book_sound s.standing.books p.0.config.destination sound.books in
-      let known = (book_at s.standing.books p.0.config.destination).records in
-      subst IsPath p.2 (record {
-        sequences = good.rising;
-        from_first = All-from_recursion (λ (q : Packet). p.0.config.first ≤ q.sequence) p.0.packets good.from_first;
-        heights = subst IsStrictlyIncreasing (sym (heights_same known)) book.records.heights;
-        times = subst IsStrictlyIncreasing (sym (times_same known)) book.records.times;
-      })

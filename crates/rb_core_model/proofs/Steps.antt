@@ -1,5 +1,5 @@
 -- Laws of single events.
-use Rattle.std.proofs.Common.{◌≡◌, List, length, None, is_some, refl, sym, ap, ◌∙◌, subst, if◌then◌else◌}
+use Rattle.std.proofs.Common.{◌≡◌, length, None, is_some, refl, sym, ap, ◌∙◌, subst, if◌then◌else◌}
 use Rattle.std.specs.List.{slice_get}
 use Rattle.std.specs.Option.{option_map}
 use Rattle.std.proofs.lemmas.Bool.{lt-ltb}
@@ -7,6 +7,7 @@ use Rattle.std.proofs.lemmas.Option.{same_Some, slice_get_within}
 use Rattle.rb_script_types.specs.Config.{Config}
 use Rattle.rb_core_model.specs.Event.{Event, Window, Asked, SetSeen, HeaderSeen, StoredSeen, Sent, Received, AckWritten, Cleared, Closed, Scanned, Planned, Settled}
 use Rattle.rb_core_model.specs.Machine.{State, Reply, is_scanned, job_of, refusal_beside, refusal_of, reply_of, accepted, after, state_of}
+use Rattle.rb_core_model.specs.Snapshot.{Log}
 use Rattle.rb_core_model.specs.Standing.{judged}
 use Rattle.rb_core_model.specs.Steps.{IsFromOutside, JudgedByStanding, PresentScansAreAccepted, IsAfterScan, ScansLast, PresentDraftsAreAccepted, AcceptedDraftsAreOfTheMoment}
 use Rattle.rb_core_model.proofs.Accepted.{open_to, standing_of, scan_ok, now_scanned, still_scanned, draft_ok}
@@ -68,7 +69,7 @@ of_the_moment s d ok =
     }
 
 -- a reply to an event, where all that it speaks of is known by other names
-pub replies : (reply : Reply) (old_config config : Config) (old_log log : List Event) (old_event event : Event)
+pub replies : (reply : Reply) (old_config config : Config) (old_log log : Log) (old_event event : Event)
     → reply ≡ reply_of (state_of old_config old_log) old_event → old_config ≡ config → old_log ≡ log → old_event ≡ event → reply ≡ reply_of (state_of config log) event
 replies reply old_config config old_log log old_event event is to_config to_log to_event =
     is ∙ (λ i. reply_of (state_of (to_config i) (to_log i)) (to_event i))

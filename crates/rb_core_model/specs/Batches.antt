@@ -1,5 +1,5 @@
--- Laws of batches, over every list of events.
-use Rattle.std.specs.Prelude.{◌≡◌, ℕ, ◌≤◌, Bool, ◌&&◌, ◌==◌, List, ◌∷◌, ◌++◌, length, map, filter, All, AllPairs, Contains, Option, Some, None, slice_get}
+-- Laws of batches, over every log.
+use Rattle.std.specs.Prelude.{◌≡◌, ℕ, ◌≤◌, Bool, ◌&&◌, ◌==◌, List, ◌∷◌, length, map, filter, All, AllPairs, Contains, Option, Some, None, slice_get}
 use Rattle.std.specs.List.{range_with_len}
 use Rattle.rb_base.specs.Window.{Span}
 use Rattle.rb_batch.specs.Cut.{IsLeastCut}
@@ -13,10 +13,12 @@ use Rattle.rb_scan.specs.declared.message.Kind.TheVariants.{Receive}
 use Rattle.rb_scan.specs.declared.path.Order.TheVariants.{Ordered}
 use Rattle.rb_step.specs.View.{client_of}
 use Rattle.rb_script_types.specs.Config.{Config}
+use Rattle.rb_core_model.specs.Begun.{IsBegun}
 use Rattle.rb_core_model.specs.Config.{IsSetUp}
 use Rattle.rb_plan_client.specs.Draft.{Draft, IsDraft}
 use Rattle.rb_core_model.specs.Event.{Event, IsEvent, Planned, Settled}
 use Rattle.rb_core_model.specs.Machine.{Opened, refusal_of, reply_of, after, state_of}
+use Rattle.rb_core_model.specs.Snapshot.{Log, followed_by}
 use Rattle.rb_plan_client.specs.Reach.{IsReach}
 use Rattle.rb_core_model.specs.Standing.{OpenBatch, ClientState, Standing, path_view, task_in, settled_messages, batch_open}
 use Rattle.rb_plan_client.specs.Task.{Message, view_of, goal_of, messages_of, gases}
@@ -71,18 +73,18 @@ pub record Carries (s : Standing) (client path : ℕ) (kind : Kind) (sequence : 
 -- each batch that is opened is the right one as things stand at its place in the log
 abbrev pub BatchesAreRight : Type 0
 BatchesAreRight =
-    (config : Config) (events : List Event) (d : Draft) (number : ℕ) → IsDraft d
-    → refusal_of (state_of config events) (Planned d) ≡ None → reply_of (state_of config events) (Planned d) ≡ Opened number
+    (config : Config) (log : Log) (d : Draft) (number : ℕ) → IsDraft d
+    → refusal_of (state_of config log) (Planned d) ≡ None → reply_of (state_of config log) (Planned d) ≡ Opened number
     → (b : OpenBatch) × (b.number ≡ number)
-    × (batch_open (after (state_of config events) (Planned d)).standing d.job.client ≡ Some b)
-    × IsRightBatch (state_of config events).standing d.job.client b
+    × (batch_open (after (state_of config log) (Planned d)).standing d.job.client ≡ Some b)
+    × IsRightBatch (state_of config log).standing d.job.client b
 
 -- a packet message is in the open batch of at most one client
 abbrev pub MessagesAreInOneBatch : Type 0
 MessagesAreInOneBatch =
-    (config : Config) (events : List Event) → All IsEvent events
+    (config : Config) (log : Log) → IsBegun config log.start → All IsEvent log.events
     → (client other path : ℕ) (kind : Kind) (sequence : ℕ)
-    → Carries (state_of config events).standing client path kind sequence → Carries (state_of config events).standing other path kind sequence
+    → Carries (state_of config log).standing client path kind sequence → Carries (state_of config log).standing other path kind sequence
     → client ≡ other
 
 -- two messages are for different paths, of different kinds, or for different packets
@@ -92,17 +94,17 @@ AreApart m n = (m.path ≡ n.path) × (m.packet.kind ≡ n.packet.kind) × (m.pa
 -- no message stands twice in an open batch
 abbrev pub MessagesStandOnce : Type 0
 MessagesStandOnce =
-    (config : Config) (events : List Event) → IsSetUp config → All IsEvent events
-    → (client : ℕ) (b : OpenBatch) → batch_open (state_of config events).standing client ≡ Some b → AllPairs AreApart b.messages
+    (config : Config) (log : Log) → IsSetUp config → IsBegun config log.start → All IsEvent log.events
+    → (client : ℕ) (b : OpenBatch) → batch_open (state_of config log).standing client ≡ Some b → AllPairs AreApart b.messages
 
 -- once it was settled it is in no open batch any more, whatever happens later
 abbrev pub SettledMessagesAreGone : Type 0
 SettledMessagesAreGone =
-    (config : Config) (events later : List Event) (client number done : ℕ) (b : OpenBatch) (m : Message)
-    → All IsEvent events → All IsEvent later
-    → refusal_of (state_of config events) (Settled client number done) ≡ None
-    → batch_open (state_of config events).standing client ≡ Some b → Contains (settled_messages b done) m
-    → (other : ℕ) → Carries (state_of config (events ++ Settled client number done ∷ later)).standing other m.path m.packet.kind m.packet.sequence → ⊥
+    (config : Config) (log : Log) (later : List Event) (client number done : ℕ) (b : OpenBatch) (m : Message)
+    → IsBegun config log.start → All IsEvent log.events → All IsEvent later
+    → refusal_of (state_of config log) (Settled client number done) ≡ None
+    → batch_open (state_of config log).standing client ≡ Some b → Contains (settled_messages b done) m
+    → (other : ℕ) → Carries (state_of config (followed_by log (Settled client number done ∷ later))).standing other m.path m.packet.kind m.packet.sequence → ⊥
 
 -- All four. A client has at most one open batch: a batch is opened while none is open.
 pub record Batches : Type 0 where

@@ -5,8 +5,9 @@ use Rattle.rb_script_types.specs.Config.{Config}
 use Rattle.rb_base.specs.declared.gate.Part.{Part}
 use Rattle.rb_plan_client.specs.Draft.{Planned as Answer}
 use Rattle.rb_core_model.specs.Event.{Event, Window, Asked, SetSeen, HeaderSeen, StoredSeen, Sent, Received, AckWritten, Cleared, Closed, Scanned, Planned, Settled}
-use Rattle.rb_core_model.specs.Machine.{State, opening, client_view, after}
+use Rattle.rb_core_model.specs.Machine.{State, begun, client_view, after}
 use Rattle.rb_core_model.specs.Seen.{observed}
+use Rattle.rb_core_model.specs.Snapshot.{Snapshot, Log}
 use Rattle.rb_core_model.specs.Standing.{path_view}
 use Rattle.rb_core_model.specs.declared.entry.Entry.{Entry}
 use Rattle.rb_core_model.specs.declared.entry.Entry.TheVariants as entry
@@ -51,6 +52,6 @@ abbrev pub events_of : State → List Logged → List Event
 events_of s [] = []
 events_of s (x ∷ xs) = option_map_or (λ event. event ∷ events_of (after s event) xs) (event_of s x) (events_of s xs)
 
--- the events that the entries of a log stand for
-abbrev pub log_from : Config → List Logged → List Event
-log_from config entries = events_of (opening config) entries
+-- the log whose entries these are
+abbrev pub log_from : Config → Snapshot → List Logged → Log
+log_from config start entries = record { start = start; events = events_of (begun config start) entries }

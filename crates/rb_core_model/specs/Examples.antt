@@ -19,6 +19,7 @@ use Rattle.rb_script_types.specs.declared.version.Version.TheVariants.{One}
 use Rattle.rb_plan_client.specs.Draft.{batched, Planned as Answer, Job, Draft}
 use Rattle.rb_core_model.specs.Event.{Event, Window, Asked, StoredSeen, Sent, Received, AckWritten, Cleared, Closed, Scanned, Planned, Settled}
 use Rattle.rb_core_model.specs.Machine.{State, Opened, client_view, client_view_refusal, path_view_refusal, max_events, refusal_of, reply_of, state_of}
+use Rattle.rb_core_model.specs.Snapshot.{from_nothing}
 use Rattle.rb_script_types.specs.declared.refusal.Refusal.{Refusal}
 use Rattle.rb_script_types.specs.declared.refusal.Refusal.TheVariants.{Conflict, UnknownObject, Stale, Busy, Repeat, OutOfOrder, WindowBack, NotOwed, LogFull}
 use Rattle.rb_core_model.specs.Standing.{ClientState, path_view, view_of_path, after_message}
@@ -72,7 +73,7 @@ abbrev pub beginning : List Event
 beginning = a_window ∷ StoredSeen 0 9 (a_record 90) ∷ StoredSeen 1 5 (a_record 50) ∷ Sent 0 4 8 None None ∷ []
 
 abbrev pub at : Order → List Event → State
-at order events = state_of (a_config order) events
+at order events = state_of (a_config order) (from_nothing events)
 
 -- the path as it is after these events, and scans of it
 abbrev pub path_after : Order → List Event → Path

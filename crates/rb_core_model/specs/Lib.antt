@@ -3,7 +3,11 @@ pub mod Refusal
 pub mod Scan
 pub mod Event
 pub mod Standing
+pub mod Snapshot
 pub mod Machine
+pub mod Over
+pub mod Forgetting
+pub mod Begun
 pub mod Batches
 pub mod Examples
 pub mod Views

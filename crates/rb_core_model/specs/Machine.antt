@@ -17,7 +17,8 @@ use Rattle.rb_script_types.specs.declared.refusal.Refusal.{Refusal}
 use Rattle.rb_script_types.specs.declared.refusal.Refusal.TheVariants.{UnknownObject, Stale, Busy, Repeat, OutOfOrder, NotOwed, LogFull}
 use Rattle.rb_core_model.specs.Refusal.{refused_if}
 use Rattle.rb_plan_client.specs.Same.{same_job}
-use Rattle.rb_core_model.specs.Standing.{OpenBatch, ClientState, PathState, Standing, opening_standing, path_view, owed_at, path_tasks, task_of, judged, changed, batch_opened}
+use Rattle.rb_core_model.specs.Snapshot.{Snapshot, Log, nothing, standing_from}
+use Rattle.rb_core_model.specs.Standing.{OpenBatch, ClientState, PathState, Standing, path_view, owed_at, path_tasks, task_of, judged, changed, batch_opened}
 
 -- each part of a path as it was last scanned
 pub record Scans : Type 0 where
@@ -34,13 +35,17 @@ pub record State : Type 0 where
 abbrev pub no_scans : Scans
 no_scans = record { packets = None; channel = None }
 
-abbrev pub opening : Config → State
-opening c = record {
-  standing = opening_standing c;
+-- the state of a relayer that begins with what was known before: no plan was made, nothing was scanned, and no event was taken in
+abbrev pub begun : Config → Snapshot → State
+begun c start = record {
+  standing = standing_from c start;
   plans = replicate (length c.clients) 0;
   scans = replicate (length c.paths) no_scans;
   front = 0;
 }
+
+abbrev pub opening : Config → State
+opening c = begun c nothing
 
 -- ---- scans
 
@@ -202,6 +207,6 @@ abbrev pub reply_of : State → Event → Reply
 reply_of s (Planned d) = reply_for (batch_for s d)
 reply_of s event = Noted
 
--- the state that events lead to
-abbrev pub state_of : Config → List Event → State
-state_of c events = fold after (opening c) events
+-- the state that a log leads to
+abbrev pub state_of : Config → Log → State
+state_of c log = fold after (begun c log.start) log.events

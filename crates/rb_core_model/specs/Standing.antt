@@ -48,9 +48,11 @@ pub record ClientState : Type 0 where
   pub batches : ℕ
   pub batch : Option OpenBatch
 
--- a path: its configuration, the packets that were sent, by rising sequence, and whether it is closed
+-- a path: its configuration, its first sequence (all lower ones are finished and cleared), the packets that were sent, by rising sequence, and
+-- whether it is closed
 pub record PathState : Type 0 where
   pub config : PathConfig
+  pub first : ℕ
   pub packets : List Packet
   pub closed : Bool
 
@@ -70,7 +72,7 @@ abbrev pub new_client : ClientConfig → ClientState
 new_client config = record { config = config; stored = []; asked = None; batches = 0; batch = None }
 
 abbrev pub new_path : PathConfig → PathState
-new_path config = record { config = config; packets = []; closed = false }
+new_path config = record { config = config; first = config.first; packets = []; closed = false }
 
 abbrev pub opening_standing : Config → Standing
 opening_standing c = record {
@@ -93,7 +95,7 @@ tracked clients client = option_map_or (λ (c : ClientState). c.config.tracks) (
 abbrev pub view_of_path : List Book → PathState → Path
 view_of_path books p = record {
   order = p.config.order;
-  first = p.config.first;
+  first = p.first;
   packets = p.packets;
   closed = p.closed;
   destination = heights_and_times_of (book_at books p.config.destination);

@@ -1,4 +1,4 @@
-use Rattle.rb_core_model.proofs.Sound.{client_views}
+use Rattle.rb_core_model.proofs.EveryLog.{client_views}
 use Rattle.rb_core_model.proofs.laws.client_views_are_views.Goals as goal
 
 pub returns : goal.returns

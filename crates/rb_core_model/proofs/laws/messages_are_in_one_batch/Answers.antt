@@ -1,4 +1,4 @@
-use Rattle.rb_core_model.proofs.Open.{in_one_batch}
+use Rattle.rb_core_model.proofs.EveryLog.{in_one_batch}
 use Rattle.rb_core_model.proofs.laws.messages_are_in_one_batch.Goals as goal
 
 pub returns : goal.returns

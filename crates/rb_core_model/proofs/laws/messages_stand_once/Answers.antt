@@ -1,4 +1,4 @@
-use Rattle.rb_core_model.proofs.Sound.{stand_once}
+use Rattle.rb_core_model.proofs.EveryLog.{stand_once}
 use Rattle.rb_core_model.proofs.laws.messages_stand_once.Goals as goal
 
 pub returns : goal.returns

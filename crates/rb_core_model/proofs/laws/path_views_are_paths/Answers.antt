@@ -1,4 +1,4 @@
-use Rattle.rb_core_model.proofs.Sound.{path_views}
+use Rattle.rb_core_model.proofs.EveryLog.{path_views}
 use Rattle.rb_core_model.proofs.laws.path_views_are_paths.Goals as goal
 
 pub returns : goal.returns

@@ -1,4 +1,4 @@
-use Rattle.rb_core_model.proofs.Open.{settled_gone}
+use Rattle.rb_core_model.proofs.EveryLog.{settled_gone}
 use Rattle.rb_core_model.proofs.laws.settled_messages_are_gone.Goals as goal
 
 pub returns : goal.returns
