@@ -1,5 +1,5 @@
 -- How many sequences of a path from the first on are finished: that only grows.
-use Rattle.std.proofs.Common.{◌≡◌, ℕ, zero, suc, ◌+◌, ◌<◌, ◌≤◌, Bool, true, false, cond, eqb, ltb, leb, ◌||◌, List, [], ◌∷◌, length, map, Option, Some, None, is_some, refl, sym, ap, ◌∙◌, subst, inl, inr, arith, All}
+use Rattle.std.proofs.Common.{◌≡◌, ℕ, zero, suc, ◌+◌, ◌<◌, ◌≤◌, Bool, true, false, cond, eqb, ltb, leb, ◌||◌, List, [], ◌∷◌, length, map, Option, Some, None, is_some, refl, sym, ap, ◌∙◌, subst, inl, inr, arith}
 use Rattle.std.specs.List.{find, insert, prefix_len, range_with_len, count_by, AllByRecursion}
 use Rattle.std.specs.List.Sorted.{IsStrictlyIncreasing}
 use Rattle.std.specs.Option.{option_map, option_map_or}
@@ -10,11 +10,11 @@ use Rattle.std.proofs.lemmas.Option.{none-some, slice_get-get_or}
 use Rattle.rb_book.specs.Search.{IsKnownPlace}
 use Rattle.rb_script_types.specs.declared.refusal.Refusal.TheVariants.{OutOfOrder, Repeat, Full}
 use Rattle.rb_scan.specs.Packet.{Packet, is_finished}
-use Rattle.rb_scan.specs.Path.{sequences_of, AreFrom}
+use Rattle.rb_scan.specs.Path.{sequences_of}
 use Rattle.rb_scan.specs.declared.message.Kind.TheVariants.{Receive, Acknowledge, Timeout}
 use Rattle.rb_core_state.specs.Room.{next_among, next_of, IsPathWithRoom}
 use Rattle.rb_core_state.specs.Marked.{mark_by}
-use Rattle.rb_core_model.specs.Standing.{PathState, marked, with_mark, with_packet, mark_of, max_packets, view_of_path, sent_refusal}
+use Rattle.rb_core_model.specs.Standing.{PathState, marked, with_mark, with_packet, max_packets, view_of_path, sent_refusal}
 use Rattle.rb_core_state.specs.declared.mark.Mark.{Mark}
 use Rattle.rb_core_state.specs.declared.mark.Mark.TheVariants.{Received, Written, Cleared, Settled}
 use Rattle.rb_core_model.proofs.Marks.{has, find_map, marked_sequence, insert_other, mark_of_sequence}
@@ -105,7 +105,7 @@ marked_finished m s q e = go (eqb q.sequence s)
 pub next_marked : (m : Mark) (s : ℕ) (p : PathState) → next_of p ≤ next_of (with_mark (mark_by m) s p)
 next_marked m s p =
     let same = length-map p.packets (marked (mark_by m) s) in
-    let more = passes_more (done_at p.packets) (done_at (map (marked (mark_by m) s) p.packets)) still p.config.first (length p.packets) (length (map (marked (mark_by m) s) p.packets)) (omega arith) in
+    let more = passes_more (done_at p.packets) (done_at (map (marked (mark_by m) s) p.packets)) still p.first (length p.packets) (length (map (marked (mark_by m) s) p.packets)) (omega arith) in
     omega arith
   where
     go : (o : Option Packet) → option_map_or (λ q. is_finished q) o false ≡ true → option_map_or (λ q. is_finished q) (option_map (marked (mark_by m) s) o) false ≡ true
@@ -134,7 +134,7 @@ next_placed q p new = go (count_by (λ (other : Packet). ltb other.sequence q.se
     go : (i : ℕ) → next_of p ≤ next_of (record p { packets = insert p.packets i q })
     go i =
         let long = long_insert p.packets i q in
-        let more = passes_more (done_at p.packets) (done_at (insert p.packets i q)) (still i) p.config.first (length p.packets) (length (insert p.packets i q)) (omega arith) in
+        let more = passes_more (done_at p.packets) (done_at (insert p.packets i q)) (still i) p.first (length p.packets) (length (insert p.packets i q)) (omega arith) in
         omega arith
 
 -- ---- what is held of a path stays so
@@ -150,15 +150,15 @@ from_marked f same s first (q ∷ ps) all = (subst (λ n. first ≤ n) (sym (mar
 pub held_marked : (m : Mark) (s count : ℕ) (p : PathState) → IsPathWithRoom p count → IsPathWithRoom (with_mark (mark_by m) s p) count
 held_marked m s count p h = record {
   rising = subst IsStrictlyIncreasing (sym (sequences_marked (mark_by m) (mark_sequence m) s p.packets)) h.rising;
-  from_first = All-from_recursion (λ (q : Packet). p.config.first ≤ q.sequence) _ (from_marked (mark_by m) (mark_sequence m) s p.config.first p.packets (recursion_from_All (λ (q : Packet). p.config.first ≤ q.sequence) p.packets h.from_first));
+  from_first = All-from_recursion (λ (q : Packet). p.first ≤ q.sequence) _ (from_marked (mark_by m) (mark_sequence m) s p.first p.packets (recursion_from_All (λ (q : Packet). p.first ≤ q.sequence) p.packets h.from_first));
   few = (let long = length-map p.packets (marked (mark_by m) s) in let few = h.few in omega arith);
   run = (let more = next_marked m s p in let run = h.run in omega arith);
 }
 
-pub held_placed : (q : Packet) (count : ℕ) (p : PathState) → find (has q.sequence) p.packets ≡ None → p.config.first ≤ q.sequence → length p.packets < max_packets → IsPathWithRoom p count → IsPathWithRoom (with_packet q p) count
+pub held_placed : (q : Packet) (count : ℕ) (p : PathState) → find (has q.sequence) p.packets ≡ None → p.first ≤ q.sequence → length p.packets < max_packets → IsPathWithRoom p count → IsPathWithRoom (with_packet q p) count
 held_placed q count p new above room h = record {
   rising = new_rises (λ (x : Packet). x.sequence) p.packets q h.rising new;
-  from_first = All-from_recursion (λ (x : Packet). p.config.first ≤ x.sequence) _ (all_insert (λ (x : Packet). p.config.first ≤ x.sequence) p.packets _ q above (recursion_from_All (λ (x : Packet). p.config.first ≤ x.sequence) p.packets h.from_first));
+  from_first = All-from_recursion (λ (x : Packet). p.first ≤ x.sequence) _ (all_insert (λ (x : Packet). p.first ≤ x.sequence) p.packets _ q above (recursion_from_All (λ (x : Packet). p.first ≤ x.sequence) p.packets h.from_first));
   few = (let long = long_insert p.packets (count_by (λ (other : Packet). ltb other.sequence q.sequence) p.packets) q in omega arith);
   run = (let more = next_placed q p new in let run = h.run in omega arith);
 }
@@ -186,10 +186,10 @@ none_some (Some x) e = absurd (true≢false e)
 -- one that is accepted is new, from the first on, and there is room for it
 pub sent_held : (q : Packet) (count : ℕ) (p : PathState) → sent_refusal (view_of_path [] p) q.sequence ≡ None → IsPathWithRoom p count → IsPathWithRoom (with_packet q p) count
 sent_held q count p accepted h =
-    let one = passes (ltb q.sequence p.config.first) OutOfOrder _ accepted in
+    let one = passes (ltb q.sequence p.first) OutOfOrder _ accepted in
     let two = passes (is_some (find (has q.sequence) p.packets)) Repeat _ one.1 in
     let three = passes (leb max_packets (length p.packets)) Full None two.1 in
-    held_placed q count p (none_some (find (has q.sequence) p.packets) two.0) (ltb-false q.sequence p.config.first one.0) (below (leb max_packets (length p.packets)) refl three.0) h
+    held_placed q count p (none_some (find (has q.sequence) p.packets) two.0) (ltb-false q.sequence p.first one.0) (below (leb max_packets (length p.packets)) refl three.0) h
   where
     below : (b : Bool) → leb max_packets (length p.packets) ≡ b → b ≡ false → length p.packets < max_packets
     below true at e = absurd (true≢false e)
@@ -198,6 +198,6 @@ sent_held q count p accepted h =
 -- so it isn't known already
 pub sent_new : (q : Packet) (p : PathState) (k : ℕ) → sent_refusal (view_of_path [] p) q.sequence ≡ None → IsKnownPlace (has q.sequence) p.packets k → ⊥
 sent_new q p k accepted known =
-    let one = passes (ltb q.sequence p.config.first) OutOfOrder _ accepted in
+    let one = passes (ltb q.sequence p.first) OutOfOrder _ accepted in
     let two = passes (is_some (find (has q.sequence) p.packets)) Repeat _ one.1 in
     none-some _ (sym (none_some (find (has q.sequence) p.packets) two.0) ∙ known.found ∙ slice_get-get_or p.packets k q known.within)

@@ -1,6 +1,10 @@
 pub mod Copied
 pub mod Places
 pub mod Counted
+pub mod Fronts
+pub mod Late
 pub mod Replaced
 pub mod Stored
 pub mod Found
+pub mod Lowest
+pub mod Forgotten

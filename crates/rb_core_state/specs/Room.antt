@@ -49,12 +49,12 @@ abbrev pub next_among : ℕ → List Packet → ℕ
 next_among first packets = next_sequence (record { order = Unordered; first = first; packets = packets; closed = false; destination = [] }) Receive
 
 abbrev pub next_of : PathState → ℕ
-next_of p = next_among p.config.first p.packets
+next_of p = next_among p.first p.packets
 
 -- sequences rise from the first on, there are no more packets than may be, and so many sequences from the first on are
 -- finished
 pub record IsPathWithRoom (p : PathState) (count : ℕ) : Type 0 where
   pub rising : IsStrictlyIncreasing (sequences_of p.packets)
-  pub from_first : AreFrom p.config.first p.packets
+  pub from_first : AreFrom p.first p.packets
   pub few : length p.packets ≤ max_packets
-  pub run : p.config.first + count ≤ next_of p
+  pub run : p.first + count ≤ next_of p

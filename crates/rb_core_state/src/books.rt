@@ -2,10 +2,14 @@
 ghost use Rattle.std.specs.Prelude.{◌≡◌, ◌<◌, ◌≤◌, ℕ, None, length, replicate, slice_set, IfOk, OnOk};
 ghost use Rattle.std.specs.Option.{option_and_then};
 ghost use Rattle.rb_book.specs.Intake.{set_refusal, header_refusal, record_refusal, after_set, after_header, after_record};
+ghost use Rattle.rb_book.specs.Rest.{rest_of_book};
 ghost use Rattle.rb_script_types.specs.Refusal.{of_book};
+ghost use Rattle.rb_core_state.specs.Floors.{floor_in, floor_or_none};
 ghost use Rattle.rb_core_state.specs.Room.{books_of, IsApart};
+ghost use Rattle.rb_core_model.specs.Forgetting.{rest_of_books};
 ghost use Rattle.rb_core_model.specs.Standing.{book_at, empty_book};
 
+use crate::floors::floor_at;
 use rb_base::Height;
 use rb_book::{BookError, ChainBook, Header, Record, SharedBook};
 use rb_script_types::Refusal;
@@ -177,4 +181,31 @@ pub fn share_books<A: Allocator + Copy>(
         shared.push(book.share()?)?;
     }
     Ok(shared)
+}
+
+/// Forgets what lies below a floor, if there is one.
+fn forget_below<A: Allocator + Copy>(
+    book: &mut SharedBook<A>,
+    floor: Option<Height>,
+) -> Result<(), AllocError>
+    ensures { OnOk result (book.new.book ≡ rest_of_book (floor_or_none floor) book.old.book) }
+{
+    match floor {
+        Some(floor) => book.forget(floor),
+        None => Ok(()),
+    }
+}
+
+/// Forgets what lies below the floor of each chain that has one. `AllocError` where memory is refused for
+/// the copy of a book that has other owners.
+pub fn forget<A: Allocator + Copy>(
+    books: &mut Vec<SharedBook<A>, A>,
+    floors: &[Option<Height>],
+) -> Result<(), AllocError>
+    ensures { OnOk result (books_of books.new.items ≡ rest_of_books (floor_in floors.now) 0 (books_of books.old.items)) }
+{
+    for chain in 0..books.len() {
+        forget_below(&mut books[chain], floor_at(floors, chain))?;
+    }
+    Ok(())
 }

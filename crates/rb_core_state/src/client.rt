@@ -1,7 +1,8 @@
 //! The state of one client.
-ghost use Rattle.std.specs.Prelude.{◌≡◌, ◌==◌, ◌≤◌, ◌<◌, ◌+◌, ℕ, fold, length, nat_lt, Some, None, IfOk, OnOk, is_some, vec_len, vec_capacity};
+ghost use Rattle.std.specs.Prelude.{◌≡◌, ◌==◌, ◌≤◌, ◌<◌, ◌+◌, ℕ, filter, fold, length, nat_le, nat_lt, Some, None, IfOk, OnOk, is_some, vec_len, vec_capacity};
 ghost use Rattle.std.specs.List.Sorted.{IsStrictlyIncreasing};
 ghost use Rattle.std.specs.Option.{option_map, option_map_or, option_copied};
+ghost use Rattle.rb_core_model.specs.Begun.{max_begun};
 ghost use Rattle.rb_core_model.specs.Machine.{max_events};
 ghost use Rattle.rb_book.specs.Search.{IsPlace};
 ghost use Rattle.rb_step.specs.LightClient.{Update};
@@ -86,6 +87,13 @@ impl<A: Allocator> ClientState<A> {
         self.batch.as_ref()
     }
 
+    /// How many batches were opened for the client.
+    pub fn batches(&self) -> u64
+        ensures { result ≡ self.now.client.batches }
+    {
+        self.batches
+    }
+
     /// Whether a batch of the client is open.
     pub fn is_held(&self) -> bool
         ensures { result ≡ is_some self.now.client.batch }
@@ -158,7 +166,7 @@ impl<A: Allocator> ClientState<A> {
     /// Drops what was asked for, and opens the next batch, if a plan opens one, whose number is
     /// then the answer.
     pub(crate) fn open(&mut self, answer: Option<Planned<A>>) -> Option<u64>
-        requires { self.old.client.batches < max_events }
+        requires { self.old.client.batches < max_begun + max_events }
         ensures client { self.new.client ≡ after_answer answer self.old.client }
         ensures number { result ≡ option_map (λ (b : standings.OpenBatch). b.number) (batch_opened self.old.client answer) }
         ensures room { self.new.room ≡ self.old.room }
@@ -176,6 +184,13 @@ impl<A: Allocator> ClientState<A> {
         ensures { self.new.client ≡ record self.old.client { stored = fold (λ heights (u : Update). with_height u.height heights) self.old.client.stored updates.now } }
     {
         put_heights(&mut self.stored, updates);
+    }
+
+    /// Forgets the stored heights below a height.
+    pub(crate) fn forget(&mut self, below: Height)
+        ensures client { self.new.client ≡ record self.old.client { stored = filter (λ h. nat_le below h) self.old.client.stored } }
+    {
+        self.stored.retain(|height| below <= *height);
     }
 
     /// Closes the batch that is open.

@@ -1,12 +1,16 @@
 //! The states of the clients, by their places.
-ghost use Rattle.std.specs.Prelude.{◌≡◌, ◌<◌, ℕ, length, map, slice_get, Some, IfOk, IfSome, IsSome, IsSomeAnd, OnOk};
+ghost use Rattle.std.specs.Prelude.{◌≡◌, ◌<◌, ◌+◌, ℕ, length, map, slice_get, Some, IfOk, IfSome, IsSome, IsSomeAnd, OnOk};
 ghost use Rattle.std.specs.Option.{option_copied, option_map, option_and_then};
+ghost use Rattle.rb_core_model.specs.Begun.{max_begun};
+ghost use Rattle.rb_core_model.specs.Forgetting.{rest_of_client};
 ghost use Rattle.rb_core_model.specs.Machine.{max_events};
+ghost use Rattle.rb_core_state.specs.Floors.{floor_in};
 ghost use Rattle.rb_core_state.specs.Room.{clients_of, HasStoredRoom, HasSettleRoom};
 ghost use Rattle.rb_core_model.specs.Standing as standings;
 ghost use Rattle.rb_core_model.specs.Standing.{changed_at, tracked, new_client, with_height, batch_opened, after_answer, settled_refusal, after_batch};
 
 use crate::client::ClientState;
+use crate::floors::floor_at;
 use crate::opened::OpenBatch;
 use crate::settling::settled_updates;
 use rb_base::Height;
@@ -97,7 +101,7 @@ pub fn open<A: Allocator>(
     answer: Option<Planned<A>>,
 ) -> Option<u64>
     requires within { client < length clients.old.items }
-    requires few { IfSome (slice_get (clients_of clients.old.items) client) (λ (c : standings.ClientState). c.batches < max_events) }
+    requires few { IfSome (slice_get (clients_of clients.old.items) client) (λ (c : standings.ClientState). c.batches < max_begun + max_events) }
     ensures clients { clients_of clients.new.items ≡ changed_at (after_answer answer) (clients_of clients.old.items) client }
     ensures number { result ≡ option_map (λ (b : standings.OpenBatch). b.number) (option_and_then (λ c. batch_opened c answer) (slice_get (clients_of clients.old.items) client)) }
 {
@@ -167,4 +171,23 @@ pub fn copy_clients<A: Allocator + Copy>(
         copies.push(client.copy()?)?;
     }
     Ok(copies)
+}
+
+/// Forgets the stored heights of a client below the floor of the chain that it tracks, if that has one.
+fn forget_below<A: Allocator>(client: &mut ClientState<A>, floors: &[Option<Height>])
+    ensures { client.new.client ≡ rest_of_client (floor_in floors.now) client.old.client }
+{
+    let chain = client.config().tracks;
+    if let Some(floor) = floor_at(floors, chain) {
+        client.forget(floor);
+    }
+}
+
+/// Forgets the stored heights of each client below the floor of the chain that it tracks, where that has one.
+pub fn forget<A: Allocator>(clients: &mut Vec<ClientState<A>, A>, floors: &[Option<Height>])
+    ensures { clients_of clients.new.items ≡ map (rest_of_client (floor_in floors.now)) (clients_of clients.old.items) }
+{
+    for client in 0..clients.len() {
+        forget_below(&mut clients[client], floors);
+    }
 }

@@ -10,8 +10,10 @@
 pub mod books;
 mod client;
 pub mod clients;
+pub mod floors;
 mod mark;
 mod opened;
+mod over;
 mod packets;
 mod path;
 pub mod paths;

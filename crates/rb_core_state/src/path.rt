@@ -7,10 +7,12 @@ ghost use Rattle.rb_scan.specs.Packet.{Packet};
 ghost use Rattle.rb_scan.specs.Path.{sequences_of, AreFrom};
 ghost use Rattle.rb_core_state.specs.Room.{next_among};
 ghost use Rattle.rb_core_state.specs.Marked.{mark_by};
+ghost use Rattle.rb_core_model.specs.Over.{gone_in, rest_of_path};
 ghost use Rattle.rb_core_model.specs.Refusal.{refused_if};
 ghost use Rattle.rb_core_model.specs.Standing.{max_packets, view_of_path, new_path, sent_refusal, comes_early, received_refusal, written_refusal, cleared_refusal, with_packet, with_mark, after_message};
 
 use crate::mark::Mark;
+use crate::over::{gone_from, later};
 use crate::packets::{is_finished, packet, place, put_mark};
 use rb_base::Height;
 use rb_scan::{Kind, Order, Packet, PacketMsg, Sequence};
@@ -21,12 +23,15 @@ use std::marker::Model;
 /// The most packets of a path.
 const MAX_PACKETS: usize = 4096;
 
-/// The state of one path (ICS 4): its configuration, the packets that were sent, by rising sequence, how
-/// many sequences from the first on are finished, as far as it was counted, and whether the channel is
-/// closed. A contract sees for how many more packets there is room, and not how far was counted.
+/// The state of one path (ICS 4): its configuration, its first sequence, the packets that were sent, by
+/// rising sequence, how many sequences from the first on are finished, as far as it was counted, and
+/// whether the channel is closed. All sequences below the first are finished and cleared: it is the
+/// configuration's, or a later one where packets were forgotten. A contract sees for how many more packets
+/// there is room, and not how far was counted.
 #[derive(Drop)]
 pub struct PathState<A: Allocator = Global> {
     config: PathConfig,
+    first: Sequence,
     packets: Vec<Packet, A>,
     run: usize,
     closed: bool,
@@ -39,11 +44,11 @@ impl<A: Allocator> Model for PathState<A> {
     ghost Value = { room.PathWithRoom };
 
     ghost view = { λ p. record {
-      path = record { config = p.config; packets = p.packets.items; closed = p.closed };
+      path = record { config = p.config; first = p.first; packets = p.packets.items; closed = p.closed };
       room = vec_capacity p.packets - vec_len p.packets;
     } };
 
-    ghost invariant = { λ p. room.IsPathWithRoom (record { config = p.config; packets = p.packets.items; closed = p.closed }) p.run };
+    ghost invariant = { λ p. room.IsPathWithRoom (record { config = p.config; first = p.first; packets = p.packets.items; closed = p.closed }) p.run };
 }
 
 /// Counts on how many sequences from the first on are finished.
@@ -68,6 +73,7 @@ impl<A: Allocator> PathState<A> {
     {
         PathState {
             config,
+            first: config.first,
             packets: Vec::new(alloc),
             run: 0,
             closed: false,
@@ -81,12 +87,19 @@ impl<A: Allocator> PathState<A> {
         &self.config
     }
 
+    /// The first sequence: all lower ones are finished and cleared.
+    pub fn first(&self) -> Sequence
+        ensures { result ≡ self.now.path.first }
+    {
+        self.first
+    }
+
     /// The packets that were sent on the path, by rising sequence, at most 4,096. None has a sequence
     /// below the path's first one.
     pub fn packets(&self) -> &[Packet]
         ensures value { result.now ≡ self.now.path.packets }
         ensures rising { IsStrictlyIncreasing (sequences_of self.now.path.packets) }
-        ensures from_first { AreFrom self.now.path.config.first self.now.path.packets }
+        ensures from_first { AreFrom self.now.path.first self.now.path.packets }
         ensures few { length self.now.path.packets ≤ max_packets }
     {
         self.packets.as_slice()
@@ -113,8 +126,8 @@ impl<A: Allocator> PathState<A> {
         if self.config.order == Order::Unordered {
             return false;
         }
-        let run = count_run(self.packets.as_slice(), self.config.first, self.run);
-        self.config.first.get() + (run as u64) < sequence.get()
+        let run = count_run(self.packets.as_slice(), self.first, self.run);
+        self.first.get() + (run as u64) < sequence.get()
     }
 
     /// Why the sending of a packet would be refused: `OutOfOrder` where its sequence is below the path's
@@ -123,7 +136,7 @@ impl<A: Allocator> PathState<A> {
     pub(crate) fn refuse_sent(&self, sequence: Sequence) -> Option<Refusal>
         ensures { result ≡ sent_refusal (view_of_path [] self.now.path) sequence }
     {
-        if sequence < self.config.first {
+        if sequence < self.first {
             return Some(Refusal::OutOfOrder);
         }
         if self.packet(sequence).is_some() {
@@ -230,7 +243,7 @@ impl<A: Allocator> PathState<A> {
     pub(crate) fn count_on(&mut self)
         ensures { self.new ≡ self.old }
     {
-        self.run = count_run(self.packets.as_slice(), self.config.first, self.run);
+        self.run = count_run(self.packets.as_slice(), self.first, self.run);
     }
 
     /// Closes the channel.
@@ -239,6 +252,30 @@ impl<A: Allocator> PathState<A> {
         ensures room { self.new.room ≡ self.old.room }
     {
         self.closed = true;
+    }
+
+    /// How many packets at the front are forgotten: those that are over, but for the last ones.
+    pub(crate) fn gone(&self) -> usize
+        ensures { result ≡ gone_in self.now.path }
+    {
+        gone_from(self.config.order, self.first, self.packets.as_slice())
+    }
+
+    /// Forgets the packets that are over at the front, but for the last ones: the path goes on from the
+    /// next sequence.
+    pub(crate) fn forget(&mut self)
+        ensures { self.new.path ≡ rest_of_path self.old.path }
+    {
+        let count = self.gone();
+        let first = later(
+            self.config.order,
+            self.first,
+            self.packets.as_slice(),
+            count,
+        );
+        self.packets.retain(|packet| first <= packet.sequence());
+        self.first = first;
+        self.run = 0;
     }
 
     /// Takes in that a message was settled: its packet goes on, and a timeout closes an ORDERED path
@@ -261,6 +298,7 @@ impl<A: Allocator + Copy> PathState<A> {
     {
         Ok(PathState {
             config: self.config,
+            first: self.first,
             packets: Vec::from_slice(*self.packets.allocator(), self.packets.as_slice())?,
             run: self.run,
             closed: self.closed,

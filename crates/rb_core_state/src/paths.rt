@@ -1,11 +1,15 @@
 //! The states of the paths, by their places.
 ghost use Rattle.std.specs.Prelude.{◌≡◌, ◌<◌, ℕ, List, [], length, map, slice_get, Some, None, true, IfOk, IfSome, OnOk};
+ghost use Rattle.std.specs.List.{list_any};
 ghost use Rattle.std.specs.Option.{option_map, option_and_then};
 ghost use Rattle.rb_book.specs.Book.{Book};
 ghost use Rattle.rb_scan.specs.Owed.{packet_at};
 ghost use Rattle.rb_scan.specs.Path.{Path};
 ghost use Rattle.rb_core_state.specs.Room.{paths_of, HasPacketRoom};
 ghost use Rattle.rb_core_state.specs.Marked.{mark_by};
+ghost use Rattle.rb_core_model.specs.Forgetting.{has_many_over};
+ghost use Rattle.rb_core_model.specs.Over.{rest_of_path};
+ghost use Rattle.rb_core_model.specs.Standing as standings;
 ghost use Rattle.rb_core_model.specs.Standing.{changed_at, new_path, view_of_path, with_packet, with_mark, sent_refusal, received_refusal, written_refusal, cleared_refusal, after_message, after_messages};
 ghost use Rattle.rb_core_model.specs.Refusal.{refused_if};
 
@@ -128,6 +132,49 @@ pub fn put_mark<A: Allocator>(
     let path = &mut paths[path];
     path.put_mark(sequence, mark);
     path.count_on();
+}
+
+/// Forgets the packets that are over at the front of each path, but for the last 256: cleared, and received,
+/// too, on an ORDERED path, one after another from its first sequence on.
+pub fn forget<A: Allocator>(paths: &mut Vec<PathState<A>, A>)
+    ensures { paths_of paths.new.items ≡ map rest_of_path (paths_of paths.old.items) }
+{
+    for path in 0..paths.len() {
+        paths[path].forget();
+    }
+}
+
+/// The first sequences of the paths, in their order. `AllocError` where memory is refused.
+pub fn firsts<A: Allocator + Copy>(
+    alloc: A,
+    paths: &[PathState<A>],
+) -> Result<Vec<u64, A>, AllocError>
+    ensures { IfOk result (λ firsts. firsts.items ≡ map (λ (p : standings.PathState). p.first) (paths_of paths.now)) }
+{
+    let mut firsts = Vec::with_capacity(alloc, paths.len())?;
+    for path in paths {
+        firsts.push(path.first().get())?;
+    }
+    Ok(firsts)
+}
+
+/// Whether so many packets at the front of a path would be forgotten.
+fn has_many<A: Allocator>(least: usize, path: &PathState<A>) -> bool
+    ensures { result ≡ has_many_over least path.now.path }
+{
+    least <= path.gone()
+}
+
+/// Whether so many packets at the front of some path would be forgotten.
+pub(crate) fn has_many_over<A: Allocator>(least: usize, paths: &[PathState<A>]) -> bool
+    ensures { result ≡ list_any (has_many_over least) (paths_of paths.now) }
+{
+    for path in paths {
+        if has_many(least, path) {
+            return true;
+        }
+    }
+    false
 }
 
 /// Closes the channel of a path.

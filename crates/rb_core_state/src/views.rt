@@ -66,7 +66,7 @@ pub fn view_of<A: Allocator + Copy>(
     let config = path.config();
     let sent = Vec::from_slice(alloc, path.packets())?;
     let list = times_in(alloc, books, config.destination)?;
-    Ok(PathView::new(config.order, config.first, sent, path.is_closed(), list))
+    Ok(PathView::new(config.order, path.first(), sent, path.is_closed(), list))
 }
 
 fn same_packets(packets: &[Packet], others: &[Packet]) -> bool
@@ -94,11 +94,10 @@ fn are_times_of(times: &[(Height, Moment)], records: &[RecordAt]) -> bool
 /// Whether a path's order, first sequence, packets and closedness are those of a view.
 fn is_sent_as_seen<A: Allocator + Copy>(path: &PathState<A>, view: &PathView<A>) -> bool
     ensures { let p = path.now.path in let v = view.now
-        in result ≡ (same_order v.order p.config.order && (v.first == p.config.first) && beq v.closed p.closed && pointwise same_packet v.packets p.packets) }
+        in result ≡ (same_order v.order p.config.order && (v.first == p.first) && beq v.closed p.closed && pointwise same_packet v.packets p.packets) }
 {
-    let config = path.config();
-    view.order() == config.order
-        && view.first() == config.first
+    view.order() == path.config().order
+        && view.first() == path.first()
         && view.is_closed() == path.is_closed()
         && same_packets(view.packets(), path.packets())
 }

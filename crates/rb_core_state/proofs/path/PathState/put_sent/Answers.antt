@@ -1,4 +1,4 @@
-use Rattle.std.proofs.Common.{◌≡◌, ℕ, [], None, sym, ap, ◌∙◌, subst}
+use Rattle.std.proofs.Common.{◌≡◌, ℕ, [], None, sym, ◌∙◌, subst}
 use Rattle.std.specs.List.{insert}
 use Rattle.rb_book.specs.Search.{IsKnownPlace, IsNewPlace}
 use Rattle.rb_scan.specs.Packet.{Packet}
@@ -10,7 +10,7 @@ use Rattle.rb_core_state.proofs.path.PathState.put_sent.Goals as goal
 
 pub invariant_of-self : goal.invariant_of-self
 invariant_of-self g c =
-    let old : PathState = record { config = c.self.inside.config; packets = c.self.inside.packets.items; closed = c.self.inside.closed } in
+    let old : PathState = record { config = c.self.inside.config; first = c.self.inside.first; packets = c.self.inside.packets.items; closed = c.self.inside.closed } in
     let q : Packet = c.args.packet in
     let sequence : c.get-sequence.result ≡ q.sequence = c.get-sequence.ensures.value ∙ c.sequence.ensures in
     let new : IsNewPlace (has c.get-sequence.result) _ old.packets c.in-Err.place = rw c.as_slice.ensures.value at c.in-Err.ensures in
@@ -20,7 +20,7 @@ invariant_of-self g c =
 
 pub returns-in_default : goal.returns-in_default
 returns-in_default g c =
-    let old : PathState = record { config = c.self.inside.config; packets = c.self.inside.packets.items; closed = c.self.inside.closed } in
+    let old : PathState = record { config = c.self.inside.config; first = c.self.inside.first; packets = c.self.inside.packets.items; closed = c.self.inside.closed } in
     let q : Packet = c.args.packet in
     let sequence : c.get-sequence.result ≡ q.sequence = c.get-sequence.ensures.value ∙ c.sequence.ensures in
     let known : IsKnownPlace (has c.get-sequence.result) old.packets c.in_default.field-0 = rw c.as_slice.ensures.value at c.in_default.ensures in
