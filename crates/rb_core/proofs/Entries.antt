@@ -11,12 +11,13 @@ use Rattle.rb_script_types.specs.declared.refusal.Refusal.TheVariants.{UnknownOb
 use Rattle.rb_scan.specs.Same.{same_path, same_path-Decides}
 use Rattle.rb_core.specs.Core.{IsFold}
 use Rattle.rb_plan_client.specs.Draft.{Draft}
-use Rattle.rb_core_model.specs.Entry.{Logged, logged_of, event_of, events_of}
+use Rattle.rb_core_model.specs.Entry.{Logged, logged_of, event_of, events_of, log_from}
 use Rattle.rb_core_model.specs.Event.{Event, IsEvent, Window, Asked, SetSeen, HeaderSeen, StoredSeen, Sent, Received, AckWritten, Cleared, Closed, Scanned, Planned, Settled}
 use Rattle.rb_core_model.specs.Log.{accepted_from}
-use Rattle.rb_core_model.specs.Machine.{State, opening, plan_number, is_held, all_scanned, is_view, is_job, client_view, max_events, is_known, refusal_beside, refusal_of, accepted, after, state_of}
+use Rattle.rb_core_model.specs.Machine.{State, begun, plan_number, is_held, all_scanned, is_view, is_job, client_view, max_events, is_known, refusal_beside, refusal_of, accepted, after, state_of}
 use Rattle.rb_plan_client.specs.Same.{same_job, same_job-Decides}
 use Rattle.rb_core_model.specs.Scan.{Scan}
+use Rattle.rb_core_model.specs.Snapshot.{Snapshot, Log, followed_by}
 use Rattle.rb_core_model.specs.Standing.{path_view}
 use Rattle.rb_core_model.proofs.Options.{passes, tested}
 
@@ -99,24 +100,28 @@ pub after_free : (s : State) (e : Event) → refusal_of s e ≡ None → after s
 after_free s e none = ap (λ (o : Option Refusal). cond (is_some o) s (accepted s e)) none
 
 -- what entries stand for, with that of one more event that isn't refused
-pub events_grow : (config : Config) (xs : List Logged) (e : Event) → refusal_of (state_of config (events_of (opening config) xs)) e ≡ None
-    → events_of (opening config) (xs ++ logged_of e ∷ []) ≡ events_of (opening config) xs ++ e ∷ []
-events_grow config xs e none =
-    let s = state_of config (events_of (opening config) xs) in
-    events-append (opening config) xs (logged_of e ∷ []) ∙ ap (λ o. events_of (opening config) xs ++ next s [] o) (event_back s e (free s e none).beside)
+pub events_grow : (config : Config) (start : Snapshot) (xs : List Logged) (e : Event) → refusal_of (state_of config (log_from config start xs)) e ≡ None
+    → log_from config start (xs ++ logged_of e ∷ []) ≡ followed_by (log_from config start xs) (e ∷ [])
+events_grow config start xs e none =
+    let s = begun config start in
+    let t = state_of config (log_from config start xs) in
+    ap (λ es. record { start = start; events = es })
+    (events-append s xs (logged_of e ∷ []) ∙ ap (λ o. events_of s xs ++ next t [] o) (event_back t e (free t e none).beside))
 
 -- what the entries of a log stand for, with one more accepted event
-pub settled : (config : Config) (old now : State) (xs ys : List Logged) (e : Event) → IsFold config (events_of (opening config) xs) old
+pub settled : (config : Config) (start : Snapshot) (old now : State) (xs ys : List Logged) (e : Event) → IsFold config (log_from config start xs) old
     → refusal_of old e ≡ None → IsEvent e → now ≡ accepted old e → ys ≡ xs ++ logged_of e ∷ []
-    → (events_of (opening config) ys ≡ events_of (opening config) xs ++ e ∷ []) × IsFold config (events_of (opening config) ys) now
-settled config old now xs ys e is none rule now_is ys_is =
-    let log = events_of (opening config) xs in
+    → (log_from config start ys ≡ followed_by (log_from config start xs) (e ∷ [])) × IsFold config (log_from config start ys) now
+settled config start old now xs ys e is none rule now_is ys_is =
+    let s = begun config start in
+    let log = log_from config start xs in
     let free_there : refusal_of (state_of config log) e ≡ None = subst (λ (t : State). refusal_of t e ≡ None) is.state none in
-    let more : events_of (opening config) ys ≡ log ++ e ∷ [] = ap (events_of (opening config)) ys_is ∙ events_grow config xs e free_there in
-    let grown : IsFold config (log ++ e ∷ []) now = record {
-      state = now_is ∙ sym (after_free old e none) ∙ ap (λ (t : State). after t e) is.state ∙ sym (fold-append after (opening config) log (e ∷ []));
+    let more : log_from config start ys ≡ followed_by log (e ∷ []) = ap (log_from config start) ys_is ∙ events_grow config start xs e free_there in
+    let grown : IsFold config (followed_by log (e ∷ [])) now = record {
+      state = now_is ∙ sym (after_free old e none) ∙ ap (λ (t : State). after t e) is.state ∙ sym (fold-append after s log.events (e ∷ []));
       set_up = is.set_up;
-      events = All-append IsEvent log (e ∷ []) is.events (All-cons IsEvent e [] rule (All-nil IsEvent));
-      accepted = accepted-snoc (opening config) log e free_there ∙ ap (λ es. es ++ e ∷ []) is.accepted;
+      begun = is.begun;
+      events = All-append IsEvent log.events (e ∷ []) is.events (All-cons IsEvent e [] rule (All-nil IsEvent));
+      accepted = ap (λ es. record log { events = es }) (accepted-snoc s log.events e free_there ∙ ap (λ es. es ++ e ∷ []) (ap (λ (x : Log). x.events) is.accepted));
     } in
-    (more, subst (λ es. IsFold config es now) (sym more) grown)
+    (more, subst (λ (l : Log). IsFold config l now) (sym more) grown)

@@ -4,3 +4,4 @@ pub mod Shown
 pub mod Entries
 pub mod Unjudged
 pub mod Rooms
+pub mod Anew

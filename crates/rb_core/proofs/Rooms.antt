@@ -1,5 +1,5 @@
 -- The room of what the code holds is the room that a contract sees.
-use Rattle.std.proofs.Common.{◌≡◌, ℕ, zero, suc, ◌-◌, ◌<◌, ◌≤◌, Bool, true, List, [], ◌∷◌, Option, Some, None, Result, Ok, Err, IfOk, IsSomeAnd, All, length, map, refl, sym, ap, ◌∙◌, subst, arith}
+use Rattle.std.proofs.Common.{◌≡◌, ℕ, zero, suc, ◌-◌, ◌<◌, ◌≤◌, Bool, true, List, [], ◌∷◌, None, Result, Ok, Err, IfOk, IsSomeAnd, All, length, map, refl, sym, ap, ◌∙◌, subst, arith}
 use Rattle.std.specs.List.{slice_get}
 use Rattle.std.specs.Option.{option_and_then}
 use Rattle.std.proofs.lemmas.List.Elements.{All-nil}
@@ -7,23 +7,24 @@ use Rattle.rb_book.specs.Shared.{Shared}
 use Rattle.rb_base.specs.Fee.{IsFeeTable}
 use Rattle.rb_script_types.specs.Config.{Config, IsConfig}
 use Rattle.rb_script_types.specs.declared.config.ClientConfig.{ClientConfig}
-use Rattle.rb_core.specs.Core.{Core, Room, room_of, state_in, refusal_in, HasOwnRoom, IsReady, IsFold}
-use Rattle.rb_core_model.specs.Entry.{Logged, events_of}
+use Rattle.rb_core.specs.Core.{Core, Room, room_of, state_in, HasOwnRoom, IsReady, IsFold}
+use Rattle.rb_core_model.specs.Begun.{max_begun}
+use Rattle.rb_core_model.specs.Entry.{Logged, log_from}
 use Rattle.rb_core_model.specs.Event.{Event, IsEvent, Window, Asked, SetSeen, HeaderSeen, StoredSeen, Sent, Received, AckWritten, Cleared, Closed, Scanned, Planned, Settled}
 use Rattle.rb_core_state.specs.Room.{ClientWithRoom, PathWithRoom, clients_of, HasSettleRoom}
 use Rattle.rb_core_model.specs.Judged.{Ready}
 use Rattle.rb_core.specs.State.{state_view, HasRoom}
-use Rattle.rb_core_model.specs.Log.{log_of}
 use Rattle.rb_core_model.specs.Machine.{State, opening, state_of, refusal_of}
+use Rattle.rb_core_model.specs.Snapshot.{ClientSnapshot, Log, nothing, from_nothing}
 use Rattle.rb_core_model.specs.Standing.{OpenBatch, ClientState}
 use Rattle.rb_core.specs.declared.state.CoreState.{CoreState}
 use Rattle.rb_core_model.proofs.Logs.{states_of_logs}
 
 -- the front of the fold of a log is its length
-pub long : (config : Config) (log : List Event) (s : State) → IsFold config log s → s.front ≡ length log
+pub long : (config : Config) (log : Log) (s : State) → IsFold config log s → s.front ≡ length log.events
 long config log s is =
     let of = states_of_logs config log in
-    ap (λ (t : State). t.front) is.state ∙ of.front ∙ ap (λ (es : List Event). length es) is.accepted
+    ap (λ (t : State). t.front) is.state ∙ of.front ∙ ap (λ (l : Log). length l.events) is.accepted
 
 to_seen : {X Y : Type 0} (view : X → Y) (P : Y → Type 0) (xs : List X) (i : ℕ) → IsSomeAnd (slice_get xs i) (λ x. P (view x)) → IsSomeAnd (slice_get (map view xs) i) P
 to_seen view P [] i h = absurd h
@@ -103,7 +104,7 @@ module _ {A : Type 0} where
   room_had n k (Settled client number done) h = settle_had k.clients.items client h
 
   -- a core whose parts have judged an event and made room for it is ready
-  pub is_ready : (config : Config) (old new : CoreState A) (log items : List Event) (len cap : ℕ) (e : Event) {E : Type 0} (r : Result Ready E)
+  pub is_ready : (config : Config) (old new : CoreState A) (log items : Log) (len cap : ℕ) (e : Event) {E : Type 0} (r : Result Ready E)
       → IsFold config items (state_view old) → state_view new ≡ state_view old → log ≡ items
       → IfOk r (λ ready. ready ≡ record { front = old.front; event = e })
       → IfOk r (λ _. refusal_of (state_view old) e ≡ None)
@@ -116,7 +117,7 @@ module _ {A : Type 0} where
       let core : Core = record { config = config; log = log; room = room_of (cap - len) new } in
       let its_event : x.event ≡ e = ap (λ (y : Ready). y.event) ready in
       record {
-        front = ap (λ (y : Ready). y.front) ready ∙ long config items (state_view old) is ∙ ap (λ (es : List Event). length es) (sym kept);
+        front = ap (λ (y : Ready). y.front) ready ∙ long config items (state_view old) is ∙ ap (λ (l : Log). length l.events) (sym kept);
         accepted = (λ i. refusal_of ((sym here) i) (its_event i)) ∙ accepted;
         log_room = omega (arith, more);
         own_room = subst (λ (p : State × Event). HasOwnRoom core.room p.0 p.1) (λ i. (now i, sym its_event i)) (room_seen (cap - len) new e room);
@@ -137,7 +138,7 @@ module _ {A : Type 0} where
       let some : 0 < n = subst (λ (x : Room). 0 < x.log) room ready.log_room in
       let left : 0 < cap - len = omega (arith, more some) in
       record {
-        front = ready.front ∙ ap (λ (es : List Event). length es) (sym log);
+        front = ready.front ∙ ap (λ (l : Log). length l.events) (sym log);
         accepted = (λ i. refusal_of (states i) r.event) ∙ ready.accepted;
         log_room = subst (λ (x : Room). 0 < x.log) (sym its_room) left;
         own_room = subst (λ (p : Room × State). HasOwnRoom p.0 p.1 r.event) (λ i. (sym its_room i, (same ∙ now ∙ sym states) i)) seen;
@@ -145,7 +146,13 @@ module _ {A : Type 0} where
 
 -- before the first event
 pub new_fold : (config : Config) (s : State) (xs : List Logged) → IsConfig config → All (λ (client : ClientConfig). IsFeeTable client.fees) config.clients
-    → s ≡ opening config → xs ≡ [] → IsFold config (events_of (opening config) xs) s
+    → s ≡ opening config → xs ≡ [] → IsFold config (log_from config nothing xs) s
 new_fold config s xs rules fees state none =
-    let first : IsFold config [] s = record { state = state; set_up = record { rules = rules; fees = fees }; events = All-nil IsEvent; accepted = refl } in
-    subst (λ (ys : List Logged). IsFold config (events_of (opening config) ys) s) (sym none) first
+    let first : IsFold config (from_nothing []) s = record {
+      state = state;
+      set_up = record { rules = rules; fees = fees };
+      begun = record { earlier = []; events = All-nil (All IsEvent); is = refl; few = All-nil (λ (x : ClientSnapshot). x.batches ≤ max_begun) };
+      events = All-nil IsEvent;
+      accepted = refl;
+    } in
+    subst (λ (ys : List Logged). IsFold config (log_from config nothing ys) s) (sym none) first

@@ -1,13 +1,12 @@
 -- What is followed is what the core takes in.
-use Rattle.std.proofs.Common.{◌≡◌, ℕ, Bool, not, leb, List, [], ◌∷◌, ◌++◌, Option, Some, None, is_none, Result, IfErr, length, refl, sym, ap, ◌∙◌, subst}
+use Rattle.std.proofs.Common.{◌≡◌, Bool, not, leb, Option, Some, None, is_none, Result, IfErr, length, refl, ap, ◌∙◌, subst}
 use Rattle.std.specs.Option.{option_map_or}
 use Rattle.std.proofs.lemmas.Option.{none-some}
 use Rattle.std.proofs.lemmas.Result.{IfErr-weaker}
 use Rattle.rb_base.specs.Window.{Span}
-use Rattle.rb_script_types.specs.Config.{Config}
 use Rattle.rb_script_types.specs.declared.refusal.Refusal.{Refusal}
 use Rattle.rb_script_types.specs.declared.refusal.Refusal.TheVariants.{UnknownObject, LogFull, OutOfOrder}
-use Rattle.rb_core.specs.Follower.{Past, Follower, IsOfLog, Told, after_entry, entry_refusal, events_in, followed, followed_as, judged_again, refused_first, state_after, told_of}
+use Rattle.rb_core.specs.Follower.{Follower, IsOfLog, Told, after_entry, entry_refusal, log_in, followed, followed_as, judged_again, refused_first, state_after, told_of}
 use Rattle.rb_core_model.specs.Entry as entries
 use Rattle.rb_core_model.specs.Entry.{Logged, event_of, logged_of}
 use Rattle.rb_core_model.specs.Scan.{Scan}
@@ -48,9 +47,9 @@ pub known_after : (f seen : Follower) → f ≡ seen → IsOfLog seen → f.stat
 known_after f seen same is = ap (λ (x : Follower). x.state) same ∙ is.state
 
 -- there are as many events as were taken in
-pub as_many : (f seen : Follower) → f ≡ seen → IsOfLog seen → f.state.front ≡ length (events_in seen.past)
+pub as_many : (f seen : Follower) → f ≡ seen → IsOfLog seen → f.state.front ≡ length (log_in seen.past).events
 as_many f seen same is =
-    long seen.past.config (events_in seen.past) f.state (record { state = known_after f seen same is; set_up = is.set_up; events = is.events; accepted = is.accepted })
+    long seen.past.config (log_in seen.past) f.state (record { state = known_after f seen same is; set_up = is.set_up; begun = is.begun; events = is.events; accepted = is.accepted })
 
 -- ---- what is told
 

@@ -3,12 +3,14 @@ use Rattle.std.specs.Prelude.{◌≡◌, ℕ, ◌<◌, ◌≤◌, Bool, true, Li
 use Rattle.rb_book.specs.Shared.{Shared}
 use Rattle.rb_script_types.specs.Config.{Config}
 use Rattle.rb_script_types.specs.declared.refusal.Refusal.{Refusal}
+use Rattle.rb_core_model.specs.Begun.{IsBegun}
 use Rattle.rb_core_model.specs.Config.{IsSetUp}
 use Rattle.rb_core_model.specs.Event.{Event, IsEvent, SetSeen, HeaderSeen, StoredSeen, Sent, Settled}
 use Rattle.rb_core_state.specs.Room.{ClientWithRoom, PathWithRoom}
 use Rattle.rb_core_model.specs.Judged.{Ready}
 use Rattle.rb_core_model.specs.Log.{IsLog}
 use Rattle.rb_core_model.specs.Machine.{State, state_of, refusal_of}
+use Rattle.rb_core_model.specs.Snapshot.{Log}
 use Rattle.rb_core_model.specs.Standing.{OpenBatch, tracked, batch_open}
 use Rattle.rb_core.specs.declared.state.CoreState.{CoreState}
 
@@ -28,10 +30,10 @@ room_of log k = record {
   packets = map (λ (h : PathWithRoom). h.room) k.paths.items;
 }
 
--- how it is configured, the events that it has taken in, and the room that it has for more
+-- how it is configured, what it began with and the events that it has taken in since, and the room that it has for more
 pub record Core : Type 0 where
   pub config : Config
-  pub log : List Event
+  pub log : Log
   pub room : Room
 
 -- what is known after the log
@@ -55,14 +57,16 @@ HasOwnRoom room s event = Unit {0}
 
 -- the core, with the log that it has, has judged the event, and made room for it
 pub record IsReady (core : Core) (ready : Ready) : Type 0 where
-  pub front : ready.front ≡ length core.log
+  pub front : ready.front ≡ length core.log.events
   pub accepted : refusal_in core ready.event ≡ None
   pub log_room : 0 < core.room.log
   pub own_room : HasOwnRoom core.room (state_in core) ready.event
 
--- the state is the fold of the log, whose events are ones of a relayer that is set up, each accepted in its turn
-pub record IsFold (config : Config) (log : List Event) (s : State) : Type 0 where
+-- the state is the fold of the log, which begins as logs may, and whose events are ones of a relayer that is set up, each accepted
+-- in its turn
+pub record IsFold (config : Config) (log : Log) (s : State) : Type 0 where
   pub state : s ≡ state_of config log
   pub set_up : IsSetUp config
-  pub events : All IsEvent log
+  pub begun : IsBegun config log.start
+  pub events : All IsEvent log.events
   pub accepted : IsLog config log

@@ -5,40 +5,44 @@ use Rattle.std.specs.Option.{option_map_or}
 use Rattle.rb_script_types.specs.Config.{Config}
 use Rattle.rb_script_types.specs.declared.refusal.Refusal.{Refusal}
 use Rattle.rb_script_types.specs.declared.refusal.Refusal.TheVariants.{UnknownObject, LogFull, OutOfOrder}
+use Rattle.rb_core_model.specs.Begun.{IsBegun}
 use Rattle.rb_core_model.specs.Config.{IsSetUp}
 use Rattle.rb_core_model.specs.Entry as entries
-use Rattle.rb_core_model.specs.Entry.{Logged, logged_of, event_of, events_of}
+use Rattle.rb_core_model.specs.Entry.{Logged, logged_of, event_of, log_from}
 use Rattle.rb_core_model.specs.Event.{Event, IsEvent, Received, AckWritten, Cleared, Scanned}
 use Rattle.rb_core_model.specs.Log.{IsLog}
-use Rattle.rb_core_model.specs.Machine.{State, opening, knows_client, knows_path, is_known, max_events, accepted, state_of}
+use Rattle.rb_core_model.specs.Machine.{State, knows_client, knows_path, is_known, max_events, accepted, state_of}
 use Rattle.rb_core_model.specs.Refusal.{refused_if}
+use Rattle.rb_core_model.specs.Snapshot.{Snapshot, Log}
 use Rattle.rb_core_model.specs.Standing.{Standing, judged}
 use Rattle.rb_core_model.specs.Scan.{Scan}
 
--- how a relayer is configured, and the entries of a log
+-- how a relayer is configured, what a log begins with, and the log's entries
 pub record Past : Type 0 where
   pub config : Config
+  pub start : Snapshot
   pub entries : List Logged
 
--- the events that the entries stand for
-abbrev pub events_in : Past → List Event
-events_in p = events_of (opening p.config) p.entries
+-- the log
+abbrev pub log_in : Past → Log
+log_in p = log_from p.config p.start p.entries
 
--- what is known after those events
+-- what is known after it
 abbrev pub state_after : Past → State
-state_after p = state_of p.config (events_in p)
+state_after p = state_of p.config (log_in p)
 
 -- what it has followed, and what it knows
 pub record Follower : Type 0 where
   pub past : Past
   pub state : State
 
--- what it has followed is a log: events of a relayer that is set up, each accepted in its turn; and it knows what is known after
--- them
+-- what it has followed is a log: it begins as logs may, and has events of a relayer that is set up, each accepted in its turn; and it
+-- knows what is known after them
 pub record IsOfLog (f : Follower) : Type 0 where
   pub set_up : IsSetUp f.past.config
-  pub events : All IsEvent (events_in f.past)
-  pub accepted : IsLog f.past.config (events_in f.past)
+  pub begun : IsBegun f.past.config f.past.start
+  pub events : All IsEvent (log_in f.past).events
+  pub accepted : IsLog f.past.config (log_in f.past)
   pub state : f.state ≡ state_after f.past
 
 -- what followers are told of an event: what the log keeps of it, and a scan as it was made
@@ -73,7 +77,7 @@ followed s x = followed_as s x.entry x.scan
 -- a follower that has followed what is told, too
 abbrev pub follows : Follower → Told → Follower
 follows f x = record {
-  past = record { config = f.past.config; entries = f.past.entries ++ x.entry ∷ [] };
+  past = record f.past { entries = f.past.entries ++ x.entry ∷ [] };
   state = followed f.state x;
 }
 

@@ -1,8 +1,10 @@
 //! Followers of a core's log.
 ghost use Rattle.std.specs.Prelude.{◌≡◌, length, None, Some, IfOk, IfErr, OnErr, OnOk};
 ghost use Rattle.rb_script_types.specs.Config.{config_view};
-ghost use Rattle.rb_core.specs.Follower.{IsOfLog, entry_refusal, events_in, follows, state_after, told_of};
-ghost use Rattle.rb_core.specs.State.{state_view};
+ghost use Rattle.std.specs.Arc.{arc_value};
+ghost use Rattle.std.specs.Option.{option_map};
+ghost use Rattle.rb_core.specs.Follower.{IsOfLog, entry_refusal, follows, log_in, state_after, told_of};
+ghost use Rattle.rb_core.specs.State.{start_of, state_view};
 ghost use Rattle.rb_core_model.specs.Event.{Event};
 ghost use Rattle.rb_core_model.specs.Invariant.{HasInvariant};
 ghost use Rattle.rb_core_model.specs.Machine.{client_view, client_view_refusal, path_view_refusal, refusal_of};
@@ -11,7 +13,7 @@ ghost use Rattle.rb_core_model.specs.Standing.{path_view};
 ghost use Rattle.rb_core_model.specs.declared.error.CoreError.TheVariants as errors;
 
 use crate::client_views::client_view;
-use crate::copies::copy_state;
+use crate::copies::{copy_state, share_begun};
 use crate::following::follow_told;
 use crate::path_views::path_view;
 use crate::state::CoreState;
@@ -23,46 +25,52 @@ use rb_scan::PathView;
 use rb_script_types::Config;
 use std::alloc::{AllocError, Allocator, Global};
 use std::marker::Model;
+use std::sync::Arc;
 
 /// A core's state, by a replay of its log: what a scan or a plan was made for isn't compared again, and what
 /// was received, written or cleared isn't judged again; the rest is, since taking it in asks for it. A
-/// contract sees the configuration, the entries of the log, and the state. It is the state after these
+/// contract sees the configuration, what the log begins with, its entries, and the state. It is the state after these
 /// entries where what was replayed is of the log (`IsOfLog`).
 #[derive(Drop)]
 pub struct Follower<A: Allocator = Global> {
     alloc: A,
     config: Config<A>,
+    begun: Option<Arc<CoreState<A>, A>>,
     state: CoreState<A>,
     log: Vec<SharedEntry<A>, A>,
 }
 
 impl<A: Allocator> Model for Follower<A> {
+    ghost use Rattle.std.specs.Arc.{arc_value};
+    ghost use Rattle.std.specs.Option.{option_map};
     ghost use Rattle.rb_script_types.specs.Config.{config_view};
     ghost use Rattle.rb_core.specs.Follower as followers;
-    ghost use Rattle.rb_core.specs.State.{state_view};
+    ghost use Rattle.rb_core.specs.State.{start_of, state_view};
     ghost use Rattle.rb_core_model.specs.Invariant.{HasInvariant};
 
     ghost Value = { followers.Follower };
 
-    ghost view = { λ f. record { past = record { config = config_view f.config; entries = f.log.items }; state = state_view f.state } };
+    ghost view = { λ f. record { past = record { config = config_view f.config; start = start_of (option_map arc_value f.begun); entries = f.log.items }; state = state_view f.state } };
 
     ghost invariant = { λ f. HasInvariant (state_view f.state) };
 }
 
 impl<A: Allocator + Copy> Follower<A> {
-    /// The follower with this state, which has replayed these entries.
+    /// The follower with this state, which has replayed these entries of a log that begins so.
     pub(crate) fn new(
         alloc: A,
         config: Config<A>,
+        begun: Option<Arc<CoreState<A>, A>>,
         state: CoreState<A>,
         log: Vec<SharedEntry<A>, A>,
     ) -> Follower<A>
         requires { HasInvariant (state_view state) }
-        ensures { result ≡ record { past = record { config = config_view config; entries = log.items }; state = state_view state } }
+        ensures { result ≡ record { past = record { config = config_view config; start = start_of (option_map arc_value begun); entries = log.items }; state = state_view state } }
     {
         Follower {
             alloc,
             config,
+            begun,
             state,
             log,
         }
@@ -75,6 +83,7 @@ impl<A: Allocator + Copy> Follower<A> {
         Ok(Follower {
             alloc: self.alloc,
             config: self.config.copy()?,
+            begun: share_begun(&self.begun)?,
             state: copy_state(self.alloc, &self.state)?,
             log: share_entries(self.alloc, self.log.as_slice())?,
         })
@@ -101,7 +110,7 @@ impl<A: Allocator + Copy> Follower<A> {
     /// How many events were replayed.
     pub fn front(&self) -> usize
         requires { IsOfLog self.now }
-        ensures { result ≡ length (events_in self.now.past) }
+        ensures { result ≡ length (log_in self.now.past).events }
     {
         self.state.front
     }

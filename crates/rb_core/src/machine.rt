@@ -1,22 +1,26 @@
 //! The relayer state machine.
-ghost use Rattle.std.specs.Prelude.{◌≡◌, ◌++◌, ◌∷◌, [], All, length, Some, IfOk, IfErr};
+ghost use Rattle.std.specs.Prelude.{◌≡◌, ◌∷◌, [], All, length, Some, IfOk, IfErr};
 ghost use Rattle.std.specs.Option.{option_copied};
 ghost use Rattle.rb_script_types.specs.Config.{config_view, IsConfig};
 ghost use Rattle.rb_core_model.specs.Config.{IsSetUp};
 ghost use Rattle.rb_core.specs.Core.{state_in, refusal_in, IsReady};
-ghost use Rattle.rb_core.specs.Follower.{IsOfLog, events_in};
+ghost use Rattle.rb_core.specs.Follower.{IsOfLog, log_in};
+ghost use Rattle.rb_core_model.specs.Begun.{IsBegun};
 ghost use Rattle.rb_core_model.specs.Entry.{log_from};
 ghost use Rattle.rb_core_model.specs.Event.{IsEvent};
+ghost use Rattle.rb_core_model.specs.Forgetting.{floors_of, has_many_to_forget, rest_at_floors};
+ghost use Rattle.rb_core_model.specs.Over.{firsts_of};
 ghost use Rattle.rb_core_model.specs.Judged as judged;
 ghost use Rattle.rb_core_model.specs.Log.{IsLog};
 ghost use Rattle.rb_core_model.specs.Machine.{client_view, client_view_refusal, is_scanned, path_view_refusal, reply_of};
 ghost use Rattle.rb_core_model.specs.Refused.{IsRefusal};
 ghost use Rattle.rb_core_model.specs.Replied.{reply_view};
 ghost use Rattle.rb_core_model.specs.Seen.{event_view};
+ghost use Rattle.rb_core_model.specs.Snapshot.{followed_by, from_nothing, snapshot_of};
 ghost use Rattle.rb_core_model.specs.Standing.{book_at, path_view, batch_open};
 
 use crate::client_views::{book_of, client_view};
-use crate::copies::{copy_state, new_state};
+use crate::copies::{anew, copy_state, floors_of, has_many_to_forget, new_state, share_begun};
 use crate::follower::Follower;
 use crate::judging::{make_ready, make_ready_accepted, take_in};
 use crate::path_views::{is_scanned, path_view};
@@ -28,35 +32,42 @@ use rb_core_model::rules::fee_tables;
 use rb_core_model::{CoreError, Event, Ready, Reply, SharedEntry, share_entries};
 use rb_core_state::OpenBatch;
 use rb_core_state::clients::open_batch;
+use rb_core_state::paths::firsts;
 use rb_plan_client::JobView;
 use rb_scan::PathView;
 use rb_script_types::Config;
 use std::alloc::{AllocError, Allocator, Global};
 use std::marker::Model;
+use std::sync::Arc;
 
 /// The relayer state machine: the state of all chains, clients and paths, as the fold of the events that
-/// were taken in. A contract sees its configuration, its log, and the room that it has for more.
+/// were taken in since it began. A contract sees its configuration, its log (what it began with, and
+/// these events), and the room that it has for more.
 #[derive(Drop)]
 pub struct Core<A: Allocator = Global> {
     alloc: A,
     config: Config<A>,
+    // what was known before the first entry of the log; None where nothing was
+    begun: Option<Arc<CoreState<A>, A>>,
     state: CoreState<A>,
     log: Vec<SharedEntry<A>, A>,
 }
 
 impl<A: Allocator> Model for Core<A> {
     ghost use Rattle.std.specs.Prelude.{◌-◌, vec_len, vec_capacity};
+    ghost use Rattle.std.specs.Arc.{arc_value};
+    ghost use Rattle.std.specs.Option.{option_map};
     ghost use Rattle.rb_script_types.specs.Config.{config_view};
     ghost use Rattle.rb_core.specs.Core as cores;
     ghost use Rattle.rb_core.specs.Core.{IsFold};
     ghost use Rattle.rb_core_model.specs.Entry.{log_from};
-    ghost use Rattle.rb_core.specs.State.{state_view};
+    ghost use Rattle.rb_core.specs.State.{start_of, state_view};
 
     ghost Value = { cores.Core };
 
-    ghost view = { λ c. record { config = config_view c.config; log = log_from (config_view c.config) c.log.items; room = cores.room_of (vec_capacity c.log - vec_len c.log) c.state } };
+    ghost view = { λ c. record { config = config_view c.config; log = log_from (config_view c.config) (start_of (option_map arc_value c.begun)) c.log.items; room = cores.room_of (vec_capacity c.log - vec_len c.log) c.state } };
 
-    ghost invariant = { λ c. IsFold (config_view c.config) (log_from (config_view c.config) c.log.items) (state_view c.state) };
+    ghost invariant = { λ c. IsFold (config_view c.config) (log_from (config_view c.config) (start_of (option_map arc_value c.begun)) c.log.items) (state_view c.state) };
 }
 
 impl<A: Allocator + Copy> Core<A> {
@@ -65,13 +76,14 @@ impl<A: Allocator + Copy> Core<A> {
     pub fn new(alloc: A, config: Config<A>) -> Result<Core<A>, AllocError>
         requires { IsConfig (config_view config) }
         ensures config { IfOk result (λ core. core.config ≡ config_view config) }
-        ensures log { IfOk result (λ core. core.log ≡ []) }
+        ensures log { IfOk result (λ core. core.log ≡ from_nothing []) }
     {
         let state = new_state(alloc, &config)?;
         fee_tables(config.clients.as_slice());
         Ok(Core {
             alloc,
             config,
+            begun: None,
             state,
             log: Vec::new(alloc),
         })
@@ -87,6 +99,7 @@ impl<A: Allocator + Copy> Core<A> {
         Ok(Core {
             alloc: self.alloc,
             config: self.config.copy()?,
+            begun: share_begun(&self.begun)?,
             state: copy_state(self.alloc, &self.state)?,
             log: share_entries(self.alloc, self.log.as_slice())?,
         })
@@ -95,15 +108,65 @@ impl<A: Allocator + Copy> Core<A> {
     /// A follower of this core that has replayed its log. `AllocError` as for `copy`.
     pub fn follower(&self) -> Result<Follower<A>, AllocError>
         ensures config { IfOk result (λ follower. follower.past.config ≡ self.now.config) }
-        ensures events { IfOk result (λ follower. events_in follower.past ≡ self.now.log) }
+        ensures followed { IfOk result (λ follower. log_in follower.past ≡ self.now.log) }
         ensures log { IfOk result IsOfLog }
     {
         Ok(Follower::new(
             self.alloc,
             self.config.copy()?,
+            share_begun(&self.begun)?,
             copy_state(self.alloc, &self.state)?,
             share_entries(self.alloc, self.log.as_slice())?,
         ))
+    }
+
+    /// The floors of all chains, by their places; 0 where a chain has none. `AllocError` where memory is refused.
+    pub fn floors(&self) -> Result<Vec<u64, A>, AllocError>
+        ensures { IfOk result (λ floors. floors.items ≡ floors_of (state_in self.now).standing) }
+    {
+        floors_of(self.alloc, &self.state)
+    }
+
+    /// The first sequences of the paths, in their order: below them packets were forgotten, if any were, or none
+    /// was sent. `AllocError` where memory is refused.
+    pub fn firsts(&self) -> Result<Vec<u64, A>, AllocError>
+        ensures { IfOk result (λ firsts. firsts.items ≡ firsts_of (state_in self.now).standing) }
+    {
+        firsts(self.alloc, self.state.paths.as_slice())
+    }
+
+    /// Whether so many records of some chain lie below its floor, or so many packets at the front of some path
+    /// are over, and go where the core begins anew.
+    pub fn has_many_to_forget(&self, least: usize) -> bool
+        ensures { result ≡ has_many_to_forget least (state_in self.now).standing }
+    {
+        has_many_to_forget(&self.state, least)
+    }
+
+    /// This core, which begins anew: it forgets what lies below the floors of its chains, and the packets that
+    /// are over at the front of its paths, but for the last 256 of each, and its log begins with what is left.
+    /// `AllocError` where memory is refused, something has as many owners as can be counted, or a client has
+    /// opened more than 2^62 batches; the core is given up then.
+    pub fn begin_anew(self) -> Result<Core<A>, AllocError>
+        ensures config { IfOk result (λ core. core.config ≡ self.config) }
+        ensures log { IfOk result (λ core. core.log ≡ record { start = snapshot_of (rest_at_floors (state_in self).standing); events = [] }) }
+        ensures standing { IfOk result (λ core. (state_in core).standing ≡ rest_at_floors (state_in self).standing) }
+    {
+        let Core {
+            alloc,
+            config,
+            state,
+            ..
+        } = self;
+        let state = anew(alloc, &config, state)?;
+        let begun = Arc::new(alloc, copy_state(alloc, &state)?)?;
+        Ok(Core {
+            alloc,
+            config,
+            begun: Some(begun),
+            state,
+            log: Vec::new(alloc),
+        })
     }
 
     /// Judges an event, and makes room for it. The state stays as it is, whatever is answered. An error
@@ -137,7 +200,7 @@ impl<A: Allocator + Copy> Core<A> {
     pub fn settle(&mut self, ready: Ready<A>) -> Reply
         requires { IsReady self.old ready }
         ensures config { self.new.config ≡ self.old.config }
-        ensures log { self.new.log ≡ self.old.log ++ ready.event ∷ [] }
+        ensures log { self.new.log ≡ followed_by self.old.log (ready.event ∷ []) }
         ensures reply { reply_view result ≡ reply_of (state_in self.old) ready.event }
     {
         take_in(&mut self.state, &mut self.log, ready)
@@ -153,17 +216,18 @@ impl<A: Allocator + Copy> Core<A> {
 
     /// How many events were taken in.
     pub fn front(&self) -> usize
-        ensures count { result ≡ length self.now.log }
+        ensures count { result ≡ length self.now.log.events }
         ensures state { result ≡ (state_in self.now).front }
-        ensures events { All IsEvent self.now.log }
+        ensures begun { IsBegun self.now.config self.now.log.start }
+        ensures events { All IsEvent self.now.log.events }
         ensures accepted { IsLog self.now.config self.now.log }
     {
         self.state.front
     }
 
-    /// The log: an entry for each event that was taken in, from which the events come back.
+    /// The log: an entry for each event that was taken in since it began, from which the events come back.
     pub fn log(&self) -> &[SharedEntry<A>]
-        ensures { log_from self.now.config result.now ≡ self.now.log }
+        ensures { log_from self.now.config self.now.log.start result.now ≡ self.now.log }
     {
         self.log.as_slice()
     }

@@ -1,6 +1,7 @@
 //! What a relayer knows between two events, and what it makes of what is observed.
-ghost use Rattle.std.specs.Prelude.{◌≡◌, ◌<◌, suc, true, None, IfSome, IsSome, IsSomeAnd, OnOk, length, slice_get, slice_set, slice_index_or};
+ghost use Rattle.std.specs.Prelude.{◌≡◌, ◌<◌, ◌+◌, suc, true, None, IfSome, IsSome, IsSomeAnd, OnOk, length, slice_get, slice_set, slice_index_or};
 ghost use Rattle.std.specs.Option.{option_and_then};
+ghost use Rattle.rb_core_model.specs.Begun.{max_begun};
 ghost use Rattle.rb_core_model.specs.Event as events;
 ghost use Rattle.rb_core_model.specs.Event.{Event};
 ghost use Rattle.rb_core_state.specs.Room.{HasSettleRoom};
@@ -243,7 +244,7 @@ impl<A: Allocator + Copy> CoreState<A> {
     pub(crate) fn put_planned(&mut self, client: usize, answer: Option<Planned<A>>) -> Reply
         requires within { client < length self.old.clients.items }
         requires plans { client < length self.old.plans.items }
-        requires batches { IfSome (slice_get (standing_view self.old).clients client) (λ (c : standings.ClientState). c.batches < max_events) }
+        requires batches { IfSome (slice_get (standing_view self.old).clients client) (λ (c : standings.ClientState). c.batches < max_begun + max_events) }
         requires number { plan_number (state_view self.old) client < max_events }
         ensures state { state_view self.new ≡ record (state_view self.old) {
           standing = with_client (standing_view self.old) client (after_answer answer);

@@ -1,7 +1,9 @@
 use Rattle.std.proofs.Common.{rules, ◌≡◌, ◌++◌, ◌∷◌, [], IfErr, sym, ap, ◌∙◌, subst}
 use Rattle.rb_script_types.specs.Config.{config_view}
 use Rattle.rb_core.specs.Follower.{Follower, entry_refusal, follows}
-use Rattle.rb_core.specs.State.{state_view}
+use Rattle.std.specs.Arc.{arc_value}
+use Rattle.std.specs.Option.{option_map}
+use Rattle.rb_core.specs.State.{start_of, state_view}
 use Rattle.rb_core_model.specs.Invariant.{HasInvariant}
 use Rattle.rb_core_model.specs.Machine.{State}
 use Rattle.rb_core_model.specs.Refused.{IsRefusal}
@@ -14,7 +16,7 @@ invariant_of-self-2 g c = subst HasInvariant (sym c.in_ok-follow_told.ensures.fo
 pub returns-clause-followed : goal.returns-clause-followed
 returns-clause-followed g c =
     let entries : c.push_reserved.new.self.items ≡ c.self.inside.log.items ++ c.args.told.now.entry ∷ [] = search rules in
-    (λ i. record { past = record { config = config_view c.self.inside.config; entries = entries i }; state = c.in_ok-follow_told.ensures.followed i })
+    (λ i. record { past = record { config = config_view c.self.inside.config; start = start_of (option_map arc_value c.self.inside.begun); entries = entries i }; state = c.in_ok-follow_told.ensures.followed i })
     ∙ ap (λ (f : Follower). follows f c.args.told.now) c.self.view_is
 
 pub returns-in_err-follow_told-clause-refused : goal.returns-in_err-follow_told-clause-refused

@@ -6,4 +6,5 @@ use Rattle.rb_core.proofs.machine.Core.log.Goals as goal
 pub returns : goal.returns
 returns g c =
     let config = ap (λ (x : Core). x.config) (sym c.self.view_is) in
-    (λ i. log_from (config i) (c.as_slice.ensures.value i)) ∙ ap (λ (x : Core). x.log) c.self.view_is
+    let start = ap (λ (x : Core). x.log.start) (sym c.self.view_is) in
+    (λ i. log_from (config i) (start i) (c.as_slice.ensures.value i)) ∙ ap (λ (x : Core). x.log) c.self.view_is
