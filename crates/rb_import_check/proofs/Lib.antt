@@ -1,3 +1,5 @@
+mod ChainReasons
+mod SetReasons
 mod OtherVotes
 pub mod Sorting
 pub mod SetsLemmas

@@ -9,6 +9,11 @@ abbrev pub IsToldOf : List ℕ → ImportError → Type 0
 IsToldOf id (errors.CheckError p) = p.object.now ≡ id
 IsToldOf id errors.NoMemory = ⊤
 
+-- the problem is one whose name tells what holds
+abbrev pub IsToldBy : (CheckErrorName → Type 0) → ImportError → Type 0
+IsToldBy Tells (errors.CheckError p) = Tells p.name
+IsToldBy Tells errors.NoMemory = ⊤
+
 -- the problem has this name, and this holds
 abbrev pub IsTold : CheckErrorName → Type 0 → ImportError → Type 0
 IsTold name Reason (errors.CheckError p) = (p.name ≡ name) × Reason

@@ -7,5 +7,6 @@ pub mod Saved
 pub mod Sets
 pub mod Verdicts
 pub mod Chains
+pub mod Refusals
 pub mod Clients
 pub mod Accord

@@ -1,9 +1,13 @@
 //! The sets and headers of a chain: each height once, rising, and each header with its set.
-ghost use Rattle.std.specs.Prelude.{◌≡◌, ◌↔◌, ◌<◌, ◌≤◌, ◌==◌, ℕ, List, length, map, filter, All, IsTrue, IfOk, IfErr, OnOk, Some, None, IfSome, IfNone, option_map, option_to_list};
+ghost use Rattle.std.specs.Prelude.{◌≡◌, ◌≢◌, ◌↔◌, ◌⊎◌, ◌<◌, ◌≤◌, ◌==◌, ⊤, ℕ, List, length, map, filter, All, Any, IsSome, IsTrue, IfOk, IfErr, IsSomeAnd, OnOk, Some, None, IfSome, IfNone, option_map, option_to_list};
 ghost use Rattle.std.specs.List.{AllZip};
 ghost use Rattle.std.specs.List.Sorted.{IsNonDecreasingBy, IsStrictlyIncreasing};
+ghost use Rattle.rb_valset.specs.Refusal.{set_refusal};
 ghost use Rattle.rb_valset.specs.ValidatorSet.{set_hash, in_set_order};
-ghost use Rattle.rb_import_check.specs.Errors.{IsToldOf};
+ghost use Rattle.rb_import_check.specs.Errors.{IsTold, IsToldBy, IsToldOf};
+ghost use Rattle.rb_import_check.specs.Refusals.{HasReasonOf, RefusesCommit};
+ghost use Rattle.rb_import_check.specs.Verdicts.{TellsOtherVotes, verdict_list};
+ghost use Rattle.rb_import_check.specs.Clients.{Falls};
 ghost use Rattle.rb_import_check.specs.Sets.{WasSeen};
 ghost use Rattle.rb_import_check.specs.Chains.{AreAllPages, AreOfFiles, Differ, HaveHeaders, HaveSets, HasItsValidators, HasSet, HasValidators, IsAbsentOrOf, IsAmong, IsJudged, IsJudgedBy, IsOfChain, IsOfItsBlock, TakesSetOf, filed, filed_of, headers_of, pages_at, pages_of, validators_of, without_files};
 
@@ -78,6 +82,7 @@ fn commits_of<'a>(
     ensures headers { IfOk result (λ commits. HaveHeaders (headers_of answers.entry.now) commits.items) }
     ensures files { IfOk result (λ commits. AreOfFiles (filed_of answers.entry.now) commits.items) }
     ensures verdicts { IfOk result (λ commits. All (IsJudged answers.entry.now) commits.items) }
+    ensures reason { IfErr result (HasReasonOf id.entry.now answers.entry.now) }
     ensures told { IfErr result (IsToldOf id.entry.now) }
 {
     let mut commits = all_commits(alloc, id, answers)?;
@@ -95,6 +100,7 @@ fn all_commits<'a>(
     ensures headers { IfOk result (λ commits. map (λ c. c.header.now) commits.items ≡ headers_of answers.entry.now) }
     ensures files { IfOk result (λ commits. map filed commits.items ≡ filed_of answers.entry.now) }
     ensures verdicts { IfOk result (λ commits. All (IsJudged answers.entry.now) commits.items) }
+    ensures reason { IfErr result (HasReasonOf id.entry.now answers.entry.now) }
     ensures told { IfErr result (IsToldOf id.entry.now) }
 {
     let verdicts = verdicts_in(id, answers)?;
@@ -126,6 +132,7 @@ fn commit_in<'a>(
     ensures header { IfOk result (λ commit. commit.header.now ≡ header.entry.now) }
     ensures digest { IfOk result (λ commit. commit.digest ≡ saved.entry.now.digest) }
     ensures verdict { IfOk result (IsJudgedBy (option_to_list (option_map (λ v. v.now) verdicts.entry))) }
+    ensures other { IfErr result (IsTold CheckErrorName.OtherVerdict (TellsOtherVotes (verdict_list (option_to_list (option_map (λ v. v.now) verdicts.entry))) saved.entry.now.digest (length header.entry.now.signatures.items))) }
     ensures told { IfErr result (IsToldOf id.entry.now) }
 {
     let verdict = verdict_on(id, verdicts, saved, header)?;
@@ -140,6 +147,7 @@ fn commit_in<'a>(
 /// Refuses commits of another chain.
 fn judge_chains<'a>(id: &'a str, commits: &[Commit<'a>]) -> Result<(), ImportError<'a>>
     ensures chain { OnOk result (All (IsOfChain id.entry.now) commits.now) }
+    ensures other { IfErr result (IsTold CheckErrorName.OtherChain (Any (λ c. ¬ IsOfChain id.entry.now c) commits.now)) }
     ensures told { IfErr result (IsToldOf id.entry.now) }
 {
     for commit in commits {
@@ -151,6 +159,7 @@ fn judge_chains<'a>(id: &'a str, commits: &[Commit<'a>]) -> Result<(), ImportErr
 /// Refuses a commit of another chain.
 fn judge_chain<'a>(id: &'a str, commit: &Commit<'a>) -> Result<(), ImportError<'a>>
     ensures chain { OnOk result (IsOfChain id.entry.now commit.now) }
+    ensures other { IfErr result (IsTold CheckErrorName.OtherChain (¬ IsOfChain id.entry.now commit.now)) }
     ensures told { IfErr result (IsToldOf id.entry.now) }
 {
     if commit.header.chain.as_str() == id {
@@ -165,6 +174,7 @@ fn judge_chain<'a>(id: &'a str, commit: &Commit<'a>) -> Result<(), ImportError<'
 /// Refuses headers whose hash isn't that of the block that their commit is for.
 fn judge_blocks<'a>(id: &'a str, commits: &[Commit<'a>]) -> Result<(), ImportError<'a>>
     ensures blocks { OnOk result (All IsOfItsBlock commits.now) }
+    ensures other { IfErr result (IsTold CheckErrorName.OtherHeader (Any (λ c. ¬ IsOfItsBlock c) commits.now)) }
     ensures told { IfErr result (IsToldOf id.entry.now) }
 {
     for commit in commits {
@@ -176,6 +186,7 @@ fn judge_blocks<'a>(id: &'a str, commits: &[Commit<'a>]) -> Result<(), ImportErr
 /// Refuses a header whose hash isn't that of the block that its commit is for.
 fn judge_block<'a>(id: &'a str, commit: &Commit<'a>) -> Result<(), ImportError<'a>>
     ensures block { OnOk result (IsOfItsBlock commit.now) }
+    ensures other { IfErr result (IsTold CheckErrorName.OtherHeader (¬ IsOfItsBlock commit.now)) }
     ensures told { IfErr result (IsToldOf id.entry.now) }
 {
     let header = commit.header.hash;
@@ -196,6 +207,7 @@ fn judge_heights<'a>(
     commits: &[Commit<'a>],
 ) -> Result<(), ImportError<'a>>
     ensures rising { OnOk result (IsStrictlyIncreasing (map (λ c. c.header.now.height) commits.now)) }
+    ensures falling { IfErr result (IsTold CheckErrorName.TwoAnswers (Falls (map (λ c. c.header.now.height) commits.now))) }
     ensures told { IfErr result (IsToldOf id.entry.now) }
 {
     let heights = heights_of(alloc, commits)?;
@@ -216,7 +228,8 @@ pub(crate) fn heights_of(alloc: Global, commits: &[Commit]) -> Result<Vec<Height
 }
 
 fn two_commits<'a>(id: &'a str, commit: &Commit<'a>, other: &Commit<'a>) -> ImportError<'a>
-    ensures { IsToldOf id.entry.now result }
+    ensures name { IsTold CheckErrorName.TwoAnswers ⊤ result }
+    ensures told { IsToldOf id.entry.now result }
 {
     let height = commit.header.height.get();
     ImportError::between(
@@ -344,6 +357,7 @@ fn missing_page<'a>(
     commit: Option<Commit<'a>>,
 ) -> Result<(), ImportError<'a>>
     ensures none { OnOk result (commit.entry ≡ None) }
+    ensures some { IfErr result (IsTold CheckErrorName.MissingPage (IsSome commit.entry)) }
     ensures told { IfErr result (IsToldOf id.entry.now) }
 {
     match commit {
@@ -390,6 +404,7 @@ fn judge_total<'a>(
     page: &Page<'a>,
 ) -> Result<(), ImportError<'a>>
     ensures total { OnOk result (IfSome before.entry (λ lower. lower.page.now.total ≡ page.now.page.now.total)) }
+    ensures other { IfErr result (IsTold CheckErrorName.OtherTotal (IsSomeAnd before.entry (λ lower. lower.page.now.total ≢ page.now.page.now.total))) }
     ensures told { IfErr result (IsToldOf id.entry.now) }
 {
     match before {
@@ -406,7 +421,8 @@ fn two_pages<'a>(
     page: &Page<'a>,
     other: &Page<'a>,
 ) -> ImportError<'a>
-    ensures { IsToldOf id.entry.now result }
+    ensures name { IsTold name ⊤ result }
+    ensures told { IsToldOf id.entry.now result }
 {
     ImportError::between(name, id, page.page.height.get(), page.file, other.file)
 }
@@ -418,6 +434,7 @@ fn set_of<'a>(
     members: Vec<Validator>,
 ) -> Result<ValidatorSet, ImportError<'a>>
     ensures set { IfOk result (λ set. set ≡ in_set_order members.items) }
+    ensures refused { IfErr result (IsTold CheckErrorName.BadSet (IsSome (set_refusal members.items))) }
     ensures told { IfErr result (IsToldOf id.entry.now) }
 {
     match ValidatorSet::new(alloc, members) {
@@ -438,6 +455,7 @@ fn judge_set<'a>(
     set: &ValidatorSet,
 ) -> Result<(), ImportError<'a>>
     ensures set { OnOk result (IfSome commit.entry (λ c. c.header.now.set ≡ set_hash set.now)) }
+    ensures other { IfErr result (IsTold CheckErrorName.OtherSet (IsSomeAnd commit.entry (λ c. c.header.now.set ≢ set_hash set.now))) }
     ensures told { IfErr result (IsToldOf id.entry.now) }
 {
     match commit {
@@ -459,6 +477,7 @@ fn judge_signatures<'a>(
     sets: &SeenSets<'a>,
 ) -> Result<(), ImportError<'a>>
     ensures sets { OnOk result (All (HasSet sets.now.sets.items) commits.now) }
+    ensures reason { IfErr result (IsToldBy (λ name. Any (RefusesCommit name sets.now.sets.items) commits.now)) }
     ensures told { IfErr result (IsToldOf id.entry.now) }
 {
     for commit in commits {
@@ -475,6 +494,7 @@ fn judge_commit<'a>(
     sets: &SeenSets<'a>,
 ) -> Result<(), ImportError<'a>>
     ensures set { OnOk result (HasSet sets.now.sets.items commit.now) }
+    ensures reason { IfErr result (IsToldBy (λ name. RefusesCommit name sets.now.sets.items commit.now)) }
     ensures told { IfErr result (IsToldOf id.entry.now) }
 {
     let height = commit.header.height.get();

@@ -2,6 +2,7 @@
 ghost use Rattle.std.specs.Prelude.{◌≡◌, ◌↔◌, ◌<◌, IsTrue, false, length, IfOk, IfErr, option_map, option_to_list};
 ghost use Rattle.rb_import_answers.specs.Votes.{letter_of};
 ghost use Rattle.rb_import_check.specs.Errors.{IsTold, IsToldOf};
+ghost use Rattle.rb_import_check.specs.Refusals.{HasReasonOf};
 ghost use Rattle.rb_import_check.specs.Verdicts.{IsOnOther, IsVerdictOn, HasVotes, TellsOtherVotes, has_verdicts, is_among, is_verdicts, verdict_list, verdicts_of, vote_letter};
 
 use crate::error::{CheckErrorName, ImportError};
@@ -15,13 +16,14 @@ pub fn verdicts_in<'a>(
     answers: &'a [Saved],
 ) -> Result<Option<&'a Verdicts>, ImportError<'a>>
     ensures verdicts { IfOk result (λ found. option_to_list (option_map (λ v. v.now) found) ≡ verdicts_of answers.entry.now) }
+    ensures reason { IfErr result (HasReasonOf id.entry.now answers.entry.now) }
     ensures told { IfErr result (IsToldOf id.entry.now) }
 {
     let mut found: Option<(&'a str, &'a Verdicts)> = None;
     for saved in answers {
         if let NodeAnswer::Verdicts(verdicts) = &saved.answer {
             let file = saved.file.as_str();
-            if verdicts.chain.as_str() != id {
+            if !are_on_chain(verdicts, id) {
                 return Err(ImportError::of_other_chain(id, 0, file, verdicts.chain.as_str()));
             }
             if let Some((earlier, _)) = found {
@@ -32,6 +34,13 @@ pub fn verdicts_in<'a>(
         }
     }
     Ok(found.map(|(_, verdicts)| verdicts))
+}
+
+/// Whether verdicts are on the chain of an identifier.
+fn are_on_chain(verdicts: &Verdicts, id: &str) -> bool
+    ensures { IsTrue result ↔ (verdicts.now.chain ≡ id.now) }
+{
+    verdicts.chain.as_str() == id
 }
 
 /// Whether answers hold verdicts.

@@ -1,0 +1,29 @@
+use Rattle.std.proofs.Common.{◌≡◌, ◌<◌, All, length, get_or, rules, subst, sym}
+use Rattle.std.specs.Prelude.{Any}
+use Rattle.std.proofs.lemmas.List.{take_all}
+use Rattle.std.proofs.lemmas.List.Elements.{All-more}
+use Rattle.rb_import_check.specs.declared.chain.Commit.{Commit}
+use Rattle.rb_import_check.specs.declared.error.CheckErrorName.{CheckErrorName}
+use Rattle.rb_import_check.specs.Chains.{IsOfChain}
+use Rattle.rb_import_check.specs.Errors.{IsTold}
+use Rattle.rb_import_check.proofs.SetReasons.{told_so}
+use Rattle.rb_import_check.proofs.chain.judge_chains.Goals as goal
+
+pub loop-commit-preserved : goal.loop-commit-preserved
+loop-commit-preserved c =
+    let small : c.loop-commit.commit-index < length c.args.commits.now = search rules in
+    let is : c.commit-item.result ≡ get_or c.args.commits.now c.loop-commit.commit-index c.commit-item.result = search rules in
+    All-more (IsOfChain c.args.id.now) c.args.commits.now c.loop-commit.commit-index c.commit-item.result small c.loop-commit.invariant (subst (IsOfChain c.args.id.now) is c.in_ok-judge_chain.ensures.chain)
+
+pub returns-in_err-judge_chain-clause-other : goal.returns-in_err-judge_chain-clause-other
+returns-in_err-judge_chain-clause-other c =
+    let small : c.loop-commit.commit-index < length c.args.commits.now = search rules in
+    let is : c.commit-item.result ≡ get_or c.args.commits.now c.loop-commit.commit-index c.commit-item.result = search rules in
+    let e = c.in_err-judge_chain.field-0.0 in
+    let told : IsTold CheckErrorName.OtherChain (Any (λ (x : Commit). IsOfChain c.args.id.now x → ⊥) c.args.commits.now) e =
+    told_so CheckErrorName.OtherChain (IsOfChain c.args.id.now c.commit-item.result → ⊥) (Any (λ (x : Commit). IsOfChain c.args.id.now x → ⊥) c.args.commits.now) e
+    (λ w. (c.loop-commit.commit-index, c.commit-item.result, small, sym is, w)) c.in_err-judge_chain.ensures.other in
+    search rules
+
+pub returns-clause-chain : goal.returns-clause-chain
+returns-clause-chain c = subst (All (IsOfChain c.args.id.now)) (take_all c.loop-commit.commit-index c.args.commits.now (search rules)) c.loop-commit.invariant

@@ -1,0 +1,32 @@
+use Rattle.std.proofs.Common.{◌≡◌, ◌<◌, All, length, get_or, rules, subst, sym}
+use Rattle.std.specs.Prelude.{Any}
+use Rattle.std.proofs.lemmas.List.{take_all}
+use Rattle.std.proofs.lemmas.List.Elements.{All-more}
+use Rattle.rb_import_check.specs.declared.error.CheckErrorName.{CheckErrorName}
+use Rattle.rb_import_check.specs.Chains.{HasSet}
+use Rattle.rb_import_check.specs.Errors.{IsToldBy}
+use Rattle.rb_import_check.specs.Refusals.{RefusesCommit}
+use Rattle.rb_import_check.proofs.SetReasons.{told_more}
+use Rattle.rb_import_check.proofs.chain.judge_signatures.Goals as goal
+
+pub loop-commit-preserved : goal.loop-commit-preserved
+loop-commit-preserved c =
+    let small : c.loop-commit.commit-index < length c.args.commits.now = search rules in
+    let is : c.commit-item.result ≡ get_or c.args.commits.now c.loop-commit.commit-index c.commit-item.result = search rules in
+    All-more (HasSet c.args.sets.now.sets.items) c.args.commits.now c.loop-commit.commit-index c.commit-item.result small c.loop-commit.invariant
+    (subst (HasSet c.args.sets.now.sets.items) is c.in_ok-judge_commit.ensures.set)
+
+pub returns-in_err-judge_commit-clause-reason : goal.returns-in_err-judge_commit-clause-reason
+returns-in_err-judge_commit-clause-reason c =
+    let small : c.loop-commit.commit-index < length c.args.commits.now = search rules in
+    let is : c.commit-item.result ≡ get_or c.args.commits.now c.loop-commit.commit-index c.commit-item.result = search rules in
+    let e = c.in_err-judge_commit.field-0.0 in
+    let sets = c.args.sets.now.sets.items in
+    let told : IsToldBy (λ name. Any (RefusesCommit name sets) c.args.commits.now) e =
+    told_more (λ name. RefusesCommit name sets c.commit-item.result) (λ name. Any (RefusesCommit name sets) c.args.commits.now) e
+    (λ name w. (c.loop-commit.commit-index, c.commit-item.result, small, sym is, w)) c.in_err-judge_commit.ensures.reason in
+    search rules
+
+pub returns-clause-sets : goal.returns-clause-sets
+returns-clause-sets c =
+    subst (All (HasSet c.args.sets.now.sets.items)) (take_all c.loop-commit.commit-index c.args.commits.now (search rules)) c.loop-commit.invariant

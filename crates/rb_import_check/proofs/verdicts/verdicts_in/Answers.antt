@@ -1,0 +1,25 @@
+use Rattle.std.proofs.Common.{◌≡◌, ◌≢◌, ◌<◌, [], ◌∷◌, length, take, get_or, false, ◌∙◌, arith, inl, inr, rules, ap, subst, sym}
+use Rattle.std.proofs.lemmas.Bool.{true≢false}
+use Rattle.std.proofs.lemmas.Grind.{common_steps}
+use Rattle.rb_import_check.specs.Refusals.{HasReasonOf}
+use Rattle.rb_import_check.specs.Verdicts.{verdicts_in, verdicts_of}
+use Rattle.rb_import_check.proofs.ChainReasons.{other_verdicts, two_files}
+use Rattle.rb_import_check.proofs.SetReasons.{tells_pages, tells_set}
+use Rattle.rb_import_check.proofs.verdicts.verdicts_in.Goals as goal
+
+pub returns-then-not-are_on_chain-clause-reason : goal.returns-then-not-are_on_chain-clause-reason
+returns-then-not-are_on_chain-clause-reason c =
+    let small : c.loop-saved.saved-index < length c.args.answers.now = search rules in
+    let is : c.saved-item.result ≡ get_or c.args.answers.now c.loop-saved.saved-index c.saved-item.result = search rules in
+    let unlike : c.are_on_chain.result ≡ false = search rules in
+    let other : c.in-Verdicts.verdicts.chain ≢ c.args.id.now = (λ same. true≢false (sym (c.are_on_chain.ensures.1 same) ∙ unlike)) in
+    subst (HasReasonOf c.args.id.now c.args.answers.now) (sym c.of_other_chain.ensures)
+    (inr (other_verdicts c.args.id.now c.args.answers.now c.loop-saved.saved-index c.saved-item.result c.in-Verdicts.verdicts small is (ap verdicts_in c.in-Verdicts.is) other))
+
+pub returns-in-Some-clause-reason : goal.returns-in-Some-clause-reason
+returns-in-Some-clause-reason c =
+    let small : c.loop-saved.saved-index < length c.args.answers.now = search rules in
+    let is : c.saved-item.result ≡ get_or c.args.answers.now c.loop-saved.saved-index c.saved-item.result = search rules in
+    let before : c.in-Some.field-0-1.now ∷ [] ≡ verdicts_of (take c.loop-saved.saved-index c.args.answers.now) = grind (arith, common_steps) in
+    subst (HasReasonOf c.args.id.now c.args.answers.now) (sym c.between.ensures)
+    (inl (two_files c.args.answers.now c.loop-saved.saved-index c.saved-item.result c.in-Some.field-0-1.now c.in-Verdicts.verdicts small is before (ap verdicts_in c.in-Verdicts.is)))
