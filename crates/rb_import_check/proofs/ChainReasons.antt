@@ -1,6 +1,6 @@
 -- Why a chain's answers are refused.
-use Rattle.std.proofs.Common.{◌≡◌, ◌≢◌, ◌⊎◌, ℕ, zero, suc, ◌+◌, ◌<◌, ◌≤◌, ◌==◌, List, [], ◌∷◌, ◌++◌, length, get_or, take, map, Option, Some, None, Bool, true, false, cond, inl, inr, refl, sym, subst, ap, ◌∙◌, All, arith, eq-eqb}
-use Rattle.std.specs.Prelude.{Any, Contains, count_by, sum_by, slice_index}
+use Rattle.std.proofs.Common.{◌≡◌, ◌≢◌, ℕ, zero, suc, ◌+◌, ◌<◌, ◌≤◌, ◌==◌, List, [], ◌∷◌, ◌++◌, length, get_or, take, map, Bool, false, cond, inl, inr, refl, sym, subst, ap, ◌∙◌, arith, eq-eqb}
+use Rattle.std.specs.Prelude.{Any, Contains, count_by, sum_by, slice_index, string_bytes}
 use Rattle.std.specs.List.{flat_map}
 use Rattle.std.specs.List.Sorted.{IsNonDecreasingBy, IsPermutation}
 use Rattle.std.proofs.lemmas.List.{length-append}
@@ -17,7 +17,7 @@ use Rattle.rb_import_check.specs.declared.error.CheckErrorName.{CheckErrorName}
 use Rattle.rb_import_check.specs.declared.error.ImportError.{ImportError}
 use Rattle.rb_import_check.specs.declared.error.ImportError.TheVariants as errors
 use Rattle.rb_import_check.specs.declared.saved.Saved.{Saved}
-use Rattle.rb_import_check.specs.Chains.{Filed, HaveHeaders, IsOfChain, IsOfItsBlock, filed_of, headers_in, headers_of}
+use Rattle.rb_import_check.specs.Chains.{Filed, HaveHeaders, IsOfChain, IsOfItsBlock, headers_in, headers_of}
 use Rattle.rb_import_check.specs.Clients.{Falls}
 use Rattle.rb_import_check.specs.Errors.{IsTold}
 use Rattle.rb_import_check.specs.Refusals.{HasReasonOf, Refuses, is_of_chain}
@@ -46,6 +46,10 @@ in_views view P (y ∷ xs) (zero, x, small, is, p) = (view x, (zero, omega arith
 in_views view P (y ∷ xs) (suc k, x, small, is, p) =
     let w = in_views view P xs (k, x, omega (arith, small), is, p) in
     (w.0, (suc w.1.0, omega (arith, w.1.1), w.1.2), w.2)
+
+-- what holds of the view of some element holds of some view
+pub any_map : {X A : Type 0} (view : X → A) (P : A → Type 0) (xs : List X) → Any (λ x. P (view x)) xs → Any P (map view xs)
+any_map view P xs w = let found = in_views view P xs w in (found.1.0, found.0, found.1.1, found.1.2, found.2)
 
 pub any_viewed : {X A : Type 0} (view : X → A) (P : A → Type 0) (all : List A) (xs : List X) → IsPermutation all (map view xs) → Any (λ x. P (view x)) xs → Any P all
 any_viewed view P all xs same w =
@@ -107,7 +111,7 @@ module _ {X A : Type 0} (view : X → A) (height : A → ℕ) where
 
 -- ---- verdicts
 
-longer : {X A : Type 0} (f : X → List A) (xs : List X) (i : ℕ) → length (flat_map f (take i xs)) ≤ length (flat_map f xs)
+pub longer : {X A : Type 0} (f : X → List A) (xs : List X) (i : ℕ) → length (flat_map f (take i xs)) ≤ length (flat_map f xs)
 longer f [] zero = omega arith
 longer f [] (suc i) = omega arith
 longer f (x ∷ xs) zero = omega arith
@@ -159,6 +163,6 @@ pub tells_votes : (id : List ℕ) (saved : List Saved) (i : ℕ) (s : Saved) (h 
     → IsTold CheckErrorName.OtherVerdict (TellsOtherVotes (verdict_list (verdicts_of saved)) s.digest (length h.signatures.items)) e → HasReasonOf id saved e
 tells_votes id saved i s h (errors.CheckError p) small is there w =
     subst (λ name. Refuses name id saved) (sym w.0)
-    (any_one (λ (f : Filed). TellsOtherVotes (verdict_list (verdicts_of saved)) f.1 (length f.0.signatures.items)) (λ (t : Saved). map (λ (x : SignedHeader). (x, t.digest)) (headers_in t.answer))
-    saved i s (h, s.digest) small is (ap (map (λ (x : SignedHeader). (x, s.digest))) there) w.1)
+    (any_one (λ (f : Filed). TellsOtherVotes (verdict_list (verdicts_of saved)) f.1 (length f.0.signatures.items)) (λ (t : Saved). map (λ (x : SignedHeader). (x, t.digest, string_bytes t.file)) (headers_in t.answer))
+    saved i s (h, s.digest, string_bytes s.file) small is (ap (map (λ (x : SignedHeader). (x, s.digest, string_bytes s.file))) there) w.1)
 tells_votes id saved i s h errors.NoMemory small is there w = tt

@@ -1,5 +1,5 @@
-mod ChainReasons
-mod SetReasons
+pub mod ChainReasons
+pub mod SetReasons
 mod OtherVotes
 pub mod Sorting
 pub mod SetsLemmas

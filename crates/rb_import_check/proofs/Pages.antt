@@ -24,7 +24,7 @@ use Rattle.rb_import_check.proofs.ReasonsLemmas.{any_left}
 abbrev pub height_of : Page → ℕ
 height_of p = p.page.now.height
 
-abbrev total_of : Page → ℕ
+abbrev pub total_of : Page → ℕ
 total_of p = p.page.now.total
 
 -- the pages tell the total of the last one of them

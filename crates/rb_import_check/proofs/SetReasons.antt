@@ -1,25 +1,36 @@
 -- Why the validators and the signatures of a chain's answers are refused.
-use Rattle.std.proofs.Common.{◌≡◌, ℕ, zero, suc, ◌+◌, ◌<◌, List, [], ◌∷◌, length, map, sym, subst, ap, ◌∙◌, arith}
-use Rattle.std.specs.Prelude.{Any, Contains}
-use Rattle.std.specs.List.{AllZip}
+use Rattle.std.proofs.Common.{◌≡◌, ◌≢◌, ◌⊎◌, ℕ, zero, suc, ◌+◌, ◌<◌, ◌≤◌, List, [], ◌∷◌, ◌++◌, length, get_or, take, map, Option, Some, None, inl, inr, refl, sym, subst, ap, ◌∙◌, arith}
+use Rattle.std.specs.Prelude.{Any, Contains, IfSome, IsSome, IsSomeAnd, slice_get}
+use Rattle.std.specs.List.{AllZip, flat_map}
 use Rattle.std.specs.List.Sorted.{IsPermutation}
 use Rattle.std.proofs.lemmas.List.Sorted.{Contains-permutation, IsPermutation-sym}
+use Rattle.std.proofs.lemmas.List.Folds.{flat_map-map}
+use Rattle.std.proofs.lemmas.Bool.{true≢false}
+use Rattle.std.proofs.lemmas.Option.{none-some, same_Some}
+use Rattle.rb_valset.specs.Refusal.{set_refusal}
 use Rattle.rb_valset.specs.Validator.{Member}
 use Rattle.rb_valset.specs.ValidatorSet.{set_hash, in_set_order}
 use Rattle.rb_import_answers.specs.declared.commit.SignedHeader.{SignedHeader}
+use Rattle.rb_import_answers.specs.declared.validators.ValidatorsPage.{ValidatorsPage}
 use Rattle.rb_import_check.specs.declared.chain.Commit.{Commit}
+use Rattle.rb_import_check.specs.declared.chain.Page.{Page}
 use Rattle.rb_import_check.specs.declared.error.CheckErrorName.{CheckErrorName}
 use Rattle.rb_import_check.specs.declared.error.ImportError.{ImportError}
 use Rattle.rb_import_check.specs.declared.error.ImportError.TheVariants as errors
 use Rattle.rb_import_check.specs.declared.saved.Saved.{Saved}
 use Rattle.rb_import_check.specs.declared.sets.SeenSet.{SeenSet}
-use Rattle.rb_import_check.specs.Chains.{AreWhole, Differ, HaveHeaders, HaveSets, IsSetAt, headers_of, pages_at, validators_at}
+use Rattle.rb_import_check.specs.Chains.{AreAllPages, AreWhole, Differ, HaveHeaders, HaveSets, IsAmong, IsSetAt, headers_of, pages_at, validators_at, validators_of, without_files}
 use Rattle.rb_import_check.specs.Errors.{IsTold, IsToldBy}
-use Rattle.rb_import_check.specs.Refusals.{HasReasonOf, Refuses, RefusesCommit, RefusesPages}
+use Rattle.rb_import_check.specs.Refusals.{HasReasonOf, HaveTooMany, HaveTwoTotals, Refuses, RefusesCommit, RefusesPages}
 use Rattle.rb_import_check.specs.Sets.{WasSeen}
-use Rattle.rb_import_check.proofs.ChainReasons.{any_viewed}
+use Rattle.rb_import_check.proofs.ChainReasons.{any_map, any_viewed, longer}
+use Rattle.rb_import_check.proofs.Pages.{total_of}
+use Rattle.rb_import_check.proofs.Sorting.{added_more}
 
-abbrev header_of : Commit → SignedHeader
+abbrev pub page_of : Page → ValidatorsPage
+page_of p = p.page.now
+
+abbrev pub header_of : Commit → SignedHeader
 header_of c = c.header.now
 
 any_of : {A : Type 0} (P : A → Type 0) (all bs : List A) → IsPermutation all bs → Any P bs → Any P all
@@ -138,3 +149,80 @@ told_more P Q errors.NoMemory more w = tt
 pub told_so : (name : CheckErrorName) (P Q : Type 0) (e : ImportError) → (P → Q) → IsTold name P e → IsTold name Q e
 told_so name P Q (errors.CheckError p) more w = (w.0, more w.1)
 told_so name P Q errors.NoMemory more w = tt
+
+pub told_by : (Tells : CheckErrorName → Type 0) (name : CheckErrorName) (e : ImportError) → IsTold name (Tells name) e → IsToldBy Tells e
+told_by Tells name (errors.CheckError p) w = subst Tells (sym w.0) w.1
+told_by Tells name errors.NoMemory w = tt
+
+-- ---- the pages of a height
+
+-- a page tells another total than one before it
+pub two_totals : (before : Option Page) (pages : List Page) (page : Page) (i : ℕ) (e : ImportError) → i < length pages → page ≡ get_or pages i page → IfSome before (Contains pages)
+    → IsTold CheckErrorName.OtherTotal (IsSomeAnd before (λ (lower : Page). lower.page.now.total ≢ page.page.now.total)) e → IsTold CheckErrorName.OtherTotal (HaveTwoTotals (without_files pages)) e
+two_totals before pages page i errors.NoMemory small is there told = tt
+two_totals None pages page i (errors.CheckError p) small is there told = absurd told.1
+two_totals (Some lower) pages page i (errors.CheckError p) small is (k, within, at) told =
+    let here : Any (λ (q : ValidatorsPage). lower.page.now.total ≢ q.total) (without_files pages) =
+    any_map page_of (λ (q : ValidatorsPage). lower.page.now.total ≢ q.total) pages (i, page, small, sym is, told.1) in
+    (told.0, any_map page_of (λ (q : ValidatorsPage). Any (λ (r : ValidatorsPage). q.total ≢ r.total) (without_files pages)) pages (k, lower, within, at, here))
+
+-- the pages so far have more validators than a page says that there are
+pub too_many : (pages : List Page) (page : Page) (i : ℕ) (members before : List Member) → i < length pages → page ≡ get_or pages i page
+    → before ≡ flat_map (λ (p : Page). p.page.now.validators.items) (take i pages) → members ≡ before ++ page.page.now.validators.items → page.page.now.total < length members
+    → HaveTooMany (without_files pages)
+too_many pages page i members before small is was now more =
+    let f : Page → List Member = λ p. p.page.now.validators.items in
+    let these : members ≡ flat_map f (take (i + 1) pages) = added_more f before members pages i page small is was now in
+    let few : length (flat_map f (take (i + 1) pages)) ≤ length (flat_map f pages) = longer f pages (i + 1) in
+    let all : validators_of (without_files pages) ≡ flat_map f pages = flat_map-map (λ (p : ValidatorsPage). p.validators.items) page_of pages in
+    let most : page.page.now.total < length (validators_of (without_files pages)) = omega (arith, more, few, ap length these, ap length all) in
+    any_map page_of (λ (q : ValidatorsPage). q.total < length (validators_of (without_files pages))) pages (i, page, small, sym is, most)
+
+pub refuses_total : (headers : List SignedHeader) (height : ℕ) (pages : List ValidatorsPage) (e : ImportError)
+    → IsTold CheckErrorName.OtherTotal (HaveTwoTotals pages) e ⊎ IsTold CheckErrorName.TooManyValidators (HaveTooMany pages) e → IsToldBy (λ name. RefusesPages name headers height pages) e
+refuses_total headers height pages e (inl told) = told_by (λ name. RefusesPages name headers height pages) CheckErrorName.OtherTotal e told
+refuses_total headers height pages e (inr told) = told_by (λ name. RefusesPages name headers height pages) CheckErrorName.TooManyValidators e told
+
+-- there is a commit of the height of pages of which one is missing
+pub refuses_missing : (commits : List Commit) (commit : Option Commit) (height : ℕ) (pages : List Page) (first : Page) (members : List Member) (e : ImportError)
+    → IfSome commit (IsAmong commits height) → Some first ≡ slice_get pages 0 → members ≡ validators_of (without_files pages) → length members < total_of first
+    → IsTold CheckErrorName.MissingPage (IsSome commit) e → IsToldBy (λ name. RefusesPages name (map header_of commits) height (without_files pages)) e
+refuses_missing commits commit height pages first members errors.NoMemory among there is less told = tt
+refuses_missing commits None height pages first members (errors.CheckError p) among there is less told = absurd (true≢false (sym told.1))
+refuses_missing commits (Some c) height [] first members (errors.CheckError p) among there is less told = absurd (none-some first (sym there))
+refuses_missing commits (Some c) height (q ∷ qs) first members (errors.CheckError p) among there is less told =
+    let same : first ≡ q = same_Some first q there in
+    let fewer : length members < total_of q = subst (λ (x : Page). length members < total_of x) same less in
+    let few : length (validators_of (without_files (q ∷ qs))) < q.page.now.total = omega (arith, fewer, ap length is) in
+    let Tells : CheckErrorName → Type 0 = λ name. RefusesPages name (map header_of commits) height (without_files (q ∷ qs)) in
+    subst Tells (sym told.0) (
+      (0, q.page.now, omega arith, refl, few),
+      any_map header_of (λ (h : SignedHeader). h.height ≡ height) commits (among.0.0, c, among.0.1, among.0.2, among.1),
+    )
+
+pub refuses_set : (headers : List SignedHeader) (height : ℕ) (pages : List ValidatorsPage) (members : List Member) (e : ImportError) → AreAllPages pages → members ≡ validators_of pages
+    → IsTold CheckErrorName.BadSet (IsSome (set_refusal members)) e → IsToldBy (λ name. RefusesPages name headers height pages) e
+refuses_set headers height pages members errors.NoMemory all is told = tt
+refuses_set headers height pages members (errors.CheckError p) all is told =
+    subst (λ name. RefusesPages name headers height pages) (sym told.0) (all, subst (λ l. IsSome (set_refusal l)) is told.1)
+
+pub refuses_other : (commits : List Commit) (commit : Option Commit) (height : ℕ) (pages : List ValidatorsPage) (set : List Member) (e : ImportError) → IfSome commit (IsAmong commits height)
+    → AreAllPages pages → set ≡ in_set_order (validators_of pages)
+    → IsTold CheckErrorName.OtherSet (IsSomeAnd commit (λ (c : Commit). c.header.now.set ≢ set_hash set)) e → IsToldBy (λ name. RefusesPages name (map header_of commits) height pages) e
+refuses_other commits commit height pages set errors.NoMemory among all is told = tt
+refuses_other commits None height pages set (errors.CheckError p) among all is told = absurd told.1
+refuses_other commits (Some c) height pages set (errors.CheckError p) among all is told =
+    let other : c.header.now.set ≢ set_hash (in_set_order (validators_of pages)) = subst (λ l. c.header.now.set ≢ set_hash l) is told.1 in
+    let Other : SignedHeader → Type 0 = λ h. (h.height ≡ height) × (h.set ≢ set_hash (in_set_order (validators_of pages))) in
+    subst (λ name. RefusesPages name (map header_of commits) height pages) (sym told.0)
+    (all, any_map header_of Other commits (among.0.0, c, among.0.1, among.0.2, (among.1, other)))
+
+-- ---- the pages of some height
+
+abbrev pub RefusesSome : List SignedHeader → List Saved → CheckErrorName → Type 0
+RefusesSome headers saved name = (height : ℕ) × RefusesPages name headers height (pages_at saved height)
+
+pub refuses_at : (headers : List SignedHeader) (saved : List Saved) (height : ℕ) (pages : List ValidatorsPage) (e : ImportError) → pages ≡ pages_at saved height
+    → IsToldBy (λ name. RefusesPages name headers height pages) e → IsToldBy (RefusesSome headers saved) e
+refuses_at headers saved height pages errors.NoMemory are told = tt
+refuses_at headers saved height pages (errors.CheckError p) are told = (height, subst (RefusesPages p.name headers height) are told)

@@ -45,8 +45,18 @@ wanted_more p before done after xs i x small is was now =
     now ∙ ap (λ l. l ++ (if p x then x ∷ [] else [])) was ∙ sym (assoc before (filter p (take i xs)) (if p x then x ∷ [] else []))
     ∙ ap (λ l. before ++ l) (sym (filter_more p xs i x small ∙ ap (λ y. filter p (take i xs) ++ (if p y then y ∷ [] else [])) (sym is)))
 
+-- the same of what elements are seen as
+pub seen_more : {X A : Type 0} (p : A → Bool) (view : X → A) (before done after : List A) (xs : List X) (i : ℕ) (x : X) → i < length xs → x ≡ get_or xs i x → done ≡ before ++ filter p (map view (take i xs)) → after ≡ done ++ (if p (view x) then view x ∷ [] else []) → after ≡ before ++ filter p (map view (take (i + 1) xs))
+seen_more p view before done after xs i x small is was now =
+    let next : map view (take (i + 1) xs) ≡ map view (take i xs) ++ view x ∷ [] =
+    ap (map view) (take_more xs i x small ∙ ap (λ y. take i xs ++ y ∷ []) (sym is)) ∙ map_push view (take i xs) x in
+    now ∙ ap (λ l. l ++ (if p (view x) then view x ∷ [] else [])) was ∙ sym (assoc before (filter p (map view (take i xs))) (if p (view x) then view x ∷ [] else []))
+    ∙ ap (λ l. before ++ l) (sym (ap (filter p) next ∙ filter-append p (map view (take i xs)) (view x ∷ [])))
+
 pub ruleset taking = (taken, pushed_more, nothing_more, added_more)
 
 pub ruleset filtering = (filtered_more, wanted_more)
+
+pub ruleset filing = (filtered_more, wanted_more, seen_more)
 
 pub ruleset sorting = (All-permutation, IsPermutation-map, IsPermutation-trans)

@@ -1,5 +1,5 @@
 -- What was seen of a chain (CometBFT's `/commit` and `/validators`).
-use Rattle.std.specs.Prelude.{◌≡◌, ◌≢◌, ◌⊎◌, ◌<◌, ◌==◌, ◌++◌, ℕ, List, [], ◌∷◌, All, Contains, IfSome, length, map, filter, option_map}
+use Rattle.std.specs.Prelude.{◌≡◌, ◌≢◌, ◌⊎◌, ◌<◌, ◌==◌, ◌++◌, ℕ, List, [], ◌∷◌, All, Contains, IfSome, length, map, filter, option_map, string_bytes}
 use Rattle.std.specs.List.{AllZip, flat_map}
 use Rattle.std.specs.List.Sorted.{IsPermutation, IsStrictlyIncreasing}
 use Rattle.rb_valset.specs.Validator.{Member, address_of}
@@ -36,16 +36,16 @@ headers_of saved = flat_map (λ s. headers_in s.answer) saved
 abbrev pub HaveHeaders : List SignedHeader → List Commit → Type 0
 HaveHeaders headers commits = IsPermutation headers (map (λ (c : Commit). c.header.now) commits)
 
--- a header, and the SHA-256 of its file
+-- a header, the SHA-256 of its file, and the file's name
 abbrev pub Filed : Type 0
-Filed = SignedHeader × List ℕ
+Filed = SignedHeader × List ℕ × List ℕ
 
--- the headers that a chain's answers tell of, each with the SHA-256 of its file
+-- the headers that a chain's answers tell of, each with its file
 abbrev pub filed_of : List Saved → List Filed
-filed_of saved = flat_map (λ s. map (λ h. (h, s.digest)) (headers_in s.answer)) saved
+filed_of saved = flat_map (λ s. map (λ h. (h, s.digest, string_bytes s.file)) (headers_in s.answer)) saved
 
 abbrev pub filed : Commit → Filed
-filed c = (c.header.now, c.digest)
+filed c = (c.header.now, c.digest, c.file.now)
 
 -- the commits are those of these files
 abbrev pub AreOfFiles : List Filed → List Commit → Type 0

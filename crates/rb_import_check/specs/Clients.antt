@@ -1,5 +1,5 @@
 -- What was seen of a client (ibc-go's `client_states/ID` and `consensus_states/ID`).
-use Rattle.std.specs.Prelude.{option_map, ◌≡◌, ◌≢◌, ◌⊎◌, ◌+◌, ◌<◌, ◌≤◌, ⊤, ℕ, List, [], ◌∷◌, Bool, true, false, Option, Some, None, Any, length, map, filter, count_by, ◌==◌, nat_le, slice_index}
+use Rattle.std.specs.Prelude.{option_map, ◌≡◌, ◌≢◌, ◌⊎◌, ◌+◌, ◌<◌, ◌≤◌, ⊤, ℕ, List, [], ◌∷◌, Bool, true, false, Option, Some, None, Any, length, map, filter, count_by, ◌==◌, nat_le, slice_index, string_bytes}
 use Rattle.std.specs.List.{flat_map, list_any}
 use Rattle.std.specs.List.Sorted.{IsPermutation}
 use Rattle.rb_import_answers.specs.declared.answer.NodeAnswer.{NodeAnswer}
@@ -68,6 +68,25 @@ stored_of saved = flat_map (λ s. stored_in s.answer) saved
 -- those of the records that aren't of a revision before this one: ibc-go takes no update from such
 abbrev pub current_of : ℕ → List Saved → List ConsensusState
 current_of revision saved = filter (λ (s : ConsensusState). nat_le revision s.revision) (stored_of saved)
+
+-- a record, and the name of its file
+abbrev pub FiledState : Type 0
+FiledState = ConsensusState × List ℕ
+
+-- the records that an answer tells of, each with its file
+abbrev pub filed_states_in : Saved → List FiledState
+filed_states_in saved = map (λ s. (s, string_bytes saved.file)) (stored_in saved.answer)
+
+-- the records that a client's answers tell of, each with its file, without those of a revision before this one
+abbrev pub filed_states_of : ℕ → List Saved → List FiledState
+filed_states_of revision saved = filter (λ (f : FiledState). nat_le revision f.0.revision) (flat_map filed_states_in saved)
+
+abbrev pub filed_state : Stored → FiledState
+filed_state s = (s.state.now, s.file.now)
+
+-- the records are those of these files, each once
+abbrev pub AreStatesOfFiles : List FiledState → List Stored → Type 0
+AreStatesOfFiles files stored = IsPermutation files (map filed_state stored)
 
 -- this holds at the revision number of the chain that the client tracks
 abbrev pub AtRevision : List ℕ → (ℕ → Type 0) → Type 0

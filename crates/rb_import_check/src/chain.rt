@@ -1,11 +1,11 @@
 //! The sets and headers of a chain: each height once, rising, and each header with its set.
-ghost use Rattle.std.specs.Prelude.{◌≡◌, ◌≢◌, ◌↔◌, ◌⊎◌, ◌<◌, ◌≤◌, ◌==◌, ⊤, ℕ, List, length, map, filter, All, Any, IsSome, IsTrue, IfOk, IfErr, IsSomeAnd, OnOk, Some, None, IfSome, IfNone, option_map, option_to_list};
+ghost use Rattle.std.specs.Prelude.{◌≡◌, ◌≢◌, ◌↔◌, ◌⊎◌, ◌<◌, ◌≤◌, ◌==◌, ⊤, ℕ, List, length, map, filter, All, Any, IsSome, IsTrue, IfOk, IfErr, IsSomeAnd, OnOk, Some, None, IfSome, IfNone, option_map, option_to_list, string_bytes};
 ghost use Rattle.std.specs.List.{AllZip};
 ghost use Rattle.std.specs.List.Sorted.{IsNonDecreasingBy, IsStrictlyIncreasing};
 ghost use Rattle.rb_valset.specs.Refusal.{set_refusal};
 ghost use Rattle.rb_valset.specs.ValidatorSet.{set_hash, in_set_order};
-ghost use Rattle.rb_import_check.specs.Errors.{IsTold, IsToldBy, IsToldOf};
-ghost use Rattle.rb_import_check.specs.Refusals.{HasReasonOf, RefusesCommit};
+ghost use Rattle.rb_import_check.specs.Errors.{IsBetween, IsTold, IsToldBy, IsToldOf};
+ghost use Rattle.rb_import_check.specs.Refusals.{HasReasonOf, HaveTooMany, HaveTwoTotals, RefusesCommit, RefusesPages};
 ghost use Rattle.rb_import_check.specs.Verdicts.{TellsOtherVotes, verdict_list};
 ghost use Rattle.rb_import_check.specs.Clients.{Falls};
 ghost use Rattle.rb_import_check.specs.Sets.{WasSeen};
@@ -61,6 +61,7 @@ pub fn seen_chain<'a>(
     ensures sets { IfOk result (λ chain. All (HasSet chain.sets.sets.items) chain.commits.items) }
     ensures all_sets { IfOk result (λ chain. HaveSets answers.entry.now chain.sets.sets.items) }
     ensures validators { IfOk result (λ chain. All (HasItsValidators answers.entry.now) chain.commits.items) }
+    ensures reason { IfErr result (HasReasonOf id.entry.now answers.entry.now) }
     ensures told { IfErr result (IsToldOf id.entry.now) }
 {
     let commits = commits_of(alloc, id, answers)?;
@@ -80,6 +81,7 @@ fn commits_of<'a>(
     answers: &'a [Saved],
 ) -> Result<Vec<Commit<'a>>, ImportError<'a>>
     ensures headers { IfOk result (λ commits. HaveHeaders (headers_of answers.entry.now) commits.items) }
+    ensures order { IfOk result (λ commits. IsNonDecreasingBy (λ c. c.header.now.height) commits.items) }
     ensures files { IfOk result (λ commits. AreOfFiles (filed_of answers.entry.now) commits.items) }
     ensures verdicts { IfOk result (λ commits. All (IsJudged answers.entry.now) commits.items) }
     ensures reason { IfErr result (HasReasonOf id.entry.now answers.entry.now) }
@@ -131,6 +133,7 @@ fn commit_in<'a>(
 ) -> Result<Commit<'a>, ImportError<'a>>
     ensures header { IfOk result (λ commit. commit.header.now ≡ header.entry.now) }
     ensures digest { IfOk result (λ commit. commit.digest ≡ saved.entry.now.digest) }
+    ensures file { IfOk result (λ commit. commit.file.now ≡ string_bytes saved.entry.now.file) }
     ensures verdict { IfOk result (IsJudgedBy (option_to_list (option_map (λ v. v.now) verdicts.entry))) }
     ensures other { IfErr result (IsTold CheckErrorName.OtherVerdict (TellsOtherVotes (verdict_list (option_to_list (option_map (λ v. v.now) verdicts.entry))) saved.entry.now.digest (length header.entry.now.signatures.items))) }
     ensures told { IfErr result (IsToldOf id.entry.now) }
@@ -229,6 +232,7 @@ pub(crate) fn heights_of(alloc: Global, commits: &[Commit]) -> Result<Vec<Height
 
 fn two_commits<'a>(id: &'a str, commit: &Commit<'a>, other: &Commit<'a>) -> ImportError<'a>
     ensures name { IsTold CheckErrorName.TwoAnswers ⊤ result }
+    ensures files { IsBetween commit.now.file.now other.now.file.now result }
     ensures told { IsToldOf id.entry.now result }
 {
     let height = commit.header.height.get();
@@ -300,6 +304,7 @@ fn sets_of<'a>(
     requires { IsStrictlyIncreasing (map (λ c. c.header.now.height) commits.now) }
     ensures sets { IfOk result (λ sets. HaveSets answers.entry.now sets.sets.items) }
     ensures validators { OnOk result (All (HasItsValidators answers.entry.now) commits.now) }
+    ensures reason { IfErr result (IsToldBy (λ name. (height : ℕ) × RefusesPages name (map (λ c. c.header.now) commits.now) height (pages_at answers.entry.now height))) }
     ensures told { IfErr result (IsToldOf id.entry.now) }
 {
     let pages = pages_of(alloc, answers)?;
@@ -331,6 +336,7 @@ fn add_set<'a>(
     ensures sets { OnOk result (TakesSetOf (without_files pages.now) sets.old.sets.items sets.new.sets.items) }
     ensures seen { OnOk result (AreAllPages (without_files pages.now) → WasSeen sets.new.sets.items (set_hash (in_set_order (validators_of (without_files pages.now))))) }
     ensures validators { OnOk result (0 < length pages.now → All (HasValidators (without_files pages.now) height) commits.now) }
+    ensures reason { IfErr result (IsToldBy (λ name. RefusesPages name (map (λ c. c.header.now) commits.now) height (without_files pages.now))) }
     ensures told { IfErr result (IsToldOf id.entry.now) }
 {
     let Some(first) = pages.first() else {
@@ -381,6 +387,7 @@ fn members_of<'a>(
     ensures members { IfOk result (λ members. members.items ≡ validators_of (without_files pages.now)) }
     ensures total { OnOk result ((total : ℕ) × All (λ p. p.page.now.total ≡ total) pages.now) }
     ensures few { IfOk result (λ members. All (λ p. length members.items ≤ p.page.now.total) pages.now) }
+    ensures reason { IfErr result (λ e. IsTold CheckErrorName.OtherTotal (HaveTwoTotals (without_files pages.now)) e ⊎ IsTold CheckErrorName.TooManyValidators (HaveTooMany (without_files pages.now)) e) }
     ensures told { IfErr result (IsToldOf id.entry.now) }
 {
     let mut members = Vec::new(alloc);
@@ -422,6 +429,7 @@ fn two_pages<'a>(
     other: &Page<'a>,
 ) -> ImportError<'a>
     ensures name { IsTold name ⊤ result }
+    ensures files { IsBetween page.now.file.now other.now.file.now result }
     ensures told { IsToldOf id.entry.now result }
 {
     ImportError::between(name, id, page.page.height.get(), page.file, other.file)

@@ -1,8 +1,8 @@
 //! What a client has stored, and how it judges headers.
 ghost use Rattle.std.specs.Prelude.{◌≡◌, ◌≢◌, ◌↔◌, ◌++◌, ⊤, IsTrue, true, false, map, filter, nat_le, All, Any, IfOk, IfErr, OnOk, option_map, option_to_list};
-ghost use Rattle.rb_import_check.specs.Errors.{IsTold, IsToldOf};
+ghost use Rattle.rb_import_check.specs.Errors.{IsBetween, IsTold, IsToldOf};
 ghost use Rattle.std.specs.List.Sorted.{IsNonDecreasingBy, IsStrictlyIncreasing};
-ghost use Rattle.rb_import_check.specs.Clients.{IsOfRevision, JudgesAs, level_of, AtRevision, HaveStates, HasReason, Falls, client_states_of, current_of, is_of_client, is_last_in, has_last};
+ghost use Rattle.rb_import_check.specs.Clients.{AreStatesOfFiles, IsOfRevision, JudgesAs, level_of, AtRevision, HaveStates, HasReason, Falls, client_states_of, current_of, filed_state, filed_states_of, is_of_client, is_last_in, has_last};
 
 use crate::error::{CheckErrorName, ImportError};
 use crate::repeat::repeated;
@@ -42,6 +42,7 @@ pub fn seen_client<'a>(
     ensures judging { IfOk result (JudgesAs setup.entry.now (client_states_of answers.entry.now)) }
     ensures latest { IfOk result (λ client. option_to_list client.latest ≡ map (λ s. s.latest) (client_states_of answers.entry.now)) }
     ensures states { IfOk result (λ client. AtRevision tracked.now (λ revision. HaveStates (current_of revision answers.entry.now) client.stored.items)) }
+    ensures files { IfOk result (λ client. AtRevision tracked.now (λ revision. AreStatesOfFiles (filed_states_of revision answers.entry.now) client.stored.items)) }
     ensures last { OnOk result (has_last answers.entry.now ≡ true) }
     ensures reason { IfErr result (HasReason setup.entry.now tracked.now answers.entry.now) }
     ensures told { IfErr result (IsToldOf setup.entry.now.id) }
@@ -127,6 +128,7 @@ fn stored_of<'a>(
     ensures rising { IfOk result (λ stored. IsStrictlyIncreasing (map (λ s. s.state.now.height) stored.items)) }
     ensures revision { IfOk result (λ stored. All (IsOfRevision tracked.now) stored.items) }
     ensures states { IfOk result (λ stored. AtRevision tracked.now (λ revision. HaveStates (current_of revision answers.entry.now) stored.items)) }
+    ensures files { IfOk result (λ stored. AtRevision tracked.now (λ revision. AreStatesOfFiles (filed_states_of revision answers.entry.now) stored.items)) }
     ensures last { OnOk result (has_last answers.entry.now ≡ true) }
     ensures reason { IfErr result (HasReason setup.entry.now tracked.now answers.entry.now) }
     ensures told { IfErr result (IsToldOf setup.entry.now.id) }
@@ -146,6 +148,7 @@ fn stored_of<'a>(
 #[tactic(auto, using(crate::proofs::Sorting::sorting))]
 fn sorted<'a>(stored: Vec<Stored<'a>>) -> Result<Vec<Stored<'a>>, AllocError>
     ensures same { IfOk result (λ sorted. HaveStates (map (λ s. s.state.now) stored.entry.items) sorted.items) }
+    ensures files { IfOk result (λ sorted. AreStatesOfFiles (map filed_state stored.entry.items) sorted.items) }
     ensures order { IfOk result (λ sorted. IsNonDecreasingBy (λ s. s.state.now.height) sorted.items) }
 {
     let mut sorted = stored;
@@ -184,6 +187,7 @@ fn current_of<'a>(
     answers: &'a [Saved],
 ) -> Result<Vec<Stored<'a>>, ImportError<'a>>
     ensures states { IfOk result (λ stored. map (λ s. s.state.now) stored.items ≡ current_of revision answers.entry.now) }
+    ensures files { IfOk result (λ stored. map filed_state stored.items ≡ filed_states_of revision answers.entry.now) }
     ensures foreign { IfErr result (IsTold CheckErrorName.WrongFolder (Any (λ s. is_of_client s.answer ≡ false) answers.entry.now)) }
     ensures told { IfErr result (IsToldOf id.entry.now) }
 {
@@ -201,14 +205,15 @@ fn current_of<'a>(
     Ok(stored)
 }
 
-#[tactic(auto, using(crate::proofs::Sorting::filtering))]
+#[tactic(auto, using(crate::proofs::Sorting::filing))]
 fn add_states<'a>(
     file: &'a str,
     revision: u64,
     states: &'a [ConsensusState],
     stored: &mut Vec<Stored<'a>>,
 ) -> Result<(), AllocError>
-    ensures { OnOk result (map (λ s. s.state.now) stored.new.items ≡ map (λ s. s.state.now) stored.old.items ++ filter (λ s. nat_le revision s.revision) states.entry.now) }
+    ensures states { OnOk result (map (λ s. s.state.now) stored.new.items ≡ map (λ s. s.state.now) stored.old.items ++ filter (λ s. nat_le revision s.revision) states.entry.now) }
+    ensures files { OnOk result (map filed_state stored.new.items ≡ map filed_state stored.old.items ++ filter (λ f. nat_le revision f.0.revision) (map (λ s. (s, file.entry.now)) states.entry.now)) }
 {
     for state in states {
         if revision <= state.revision {
@@ -263,16 +268,17 @@ fn heights_of(alloc: Global, stored: &[Stored]) -> Result<Vec<Height>, AllocErro
         .collect(alloc)
 }
 
-fn two_records<'a>(id: &'a str, record: &Stored<'a>, other: &Stored<'a>) -> ImportError<'a>
+fn two_records<'a>(id: &'a str, stored: &Stored<'a>, other: &Stored<'a>) -> ImportError<'a>
     ensures name { IsTold CheckErrorName.TwoAnswers ⊤ result }
+    ensures files { IsBetween stored.now.file.now other.now.file.now result }
     ensures told { IsToldOf id.entry.now result }
 {
-    let height = record.state.height.get();
+    let height = stored.state.height.get();
     ImportError::between(
         CheckErrorName::TwoAnswers,
         id,
         height,
-        record.file,
+        stored.file,
         other.file,
     )
 }

@@ -1,10 +1,8 @@
-use Rattle.std.proofs.Common.{◌≡◌, ◌<◌, All, length, false, get_or, arith, rules, ap, refl, subst, sym}
-use Rattle.std.specs.Prelude.{option_map, option_to_list}
+use Rattle.std.proofs.Common.{◌≡◌, ◌<◌, All, length, false, get_or, arith, rules, ap, subst, sym}
 use Rattle.std.proofs.lemmas.Grind.{common_steps}
-use Rattle.rb_import_answers.specs.declared.verdicts.Verdicts.{Verdicts}
 use Rattle.rb_import_check.specs.declared.error.CheckErrorName.{CheckErrorName}
 use Rattle.rb_import_check.specs.Chains.{IsJudgedBy, headers_in}
-use Rattle.rb_import_check.specs.Errors.{IsTold, IsToldOf}
+use Rattle.rb_import_check.specs.Errors.{IsTold}
 use Rattle.rb_import_check.specs.Refusals.{HasReasonOf, is_of_chain}
 use Rattle.rb_import_check.specs.Verdicts.{TellsOtherVotes, verdict_list, verdicts_of}
 use Rattle.rb_import_check.proofs.ChainReasons.{is_elsewhere, tells_votes}

@@ -2,7 +2,6 @@ use Rattle.std.proofs.Common.{◌≡◌, ◌<◌, All, length, get_or, rules, su
 use Rattle.std.specs.Prelude.{Any}
 use Rattle.std.proofs.lemmas.List.{take_all}
 use Rattle.std.proofs.lemmas.List.Elements.{All-more}
-use Rattle.rb_import_check.specs.declared.error.CheckErrorName.{CheckErrorName}
 use Rattle.rb_import_check.specs.Chains.{HasSet}
 use Rattle.rb_import_check.specs.Errors.{IsToldBy}
 use Rattle.rb_import_check.specs.Refusals.{RefusesCommit}

@@ -7,6 +7,8 @@ use Rattle.rb_import_check.specs.Chains.{pages_at}
 use Rattle.std.specs.List.Sorted.{IsNonDecreasingBy}
 use Rattle.rb_import_check.proofs.Heights.{is_last, is_other}
 use Rattle.rb_import_check.proofs.Pages.{AreSoFar, AreTaken, IsReached, have_sets, have_validators, height_of, next_height, none_so_far, none_taken, reached_more, reached_next, same_height, taken_at, taken_next}
+use Rattle.rb_import_check.specs.Errors.{IsToldBy}
+use Rattle.rb_import_check.proofs.SetReasons.{RefusesSome, header_of, refuses_at}
 use Rattle.rb_import_check.proofs.chain.sets_of.Goals as goal
 use Rattle.rb_import_check.proofs.chain.sets_of.Goals.{then-ne+in_ok-add_set, else-ne}
 
@@ -63,3 +65,14 @@ returns-clause-validators c =
     let all : take c.loop-page.page-index c.deref-page-items.result.now ≡ c.in_ok-pages.pages.items = take_all _ _ (search rules) ∙ c.deref-page-items.ensures.value in
     have_validators c.args.answers.now c.args.commits.now c.in_ok-pages.pages.items c.loop-page.last c.in_ok-pages.ensures.same
     (subst (λ l. AreTaken c.args.answers.now c.args.commits.now l c.loop-page.last) all c.loop-page.invariant.2)
+
+pub returns-in_err-add_set-clause-reason : goal.returns-in_err-add_set-clause-reason
+returns-in_err-add_set-clause-reason c =
+    let height = c.page-item.result.page.now.height in
+    let group : c.of_height-same.result.now ≡ filter (λ (p : Page). p.page.now.height == height) c.in_ok-pages.pages.items =
+    c.of_height-same.ensures ∙ ap (filter (λ (p : Page). p.page.now.height == height)) c.as_slice.ensures.value in
+    let these : map (λ (p : Page). p.page.now) c.of_height-same.result.now ≡ pages_at c.args.answers.now height =
+    ap (map (λ (p : Page). p.page.now)) group ∙ c.in_ok-pages.ensures.same height in
+    let reason : IsToldBy (RefusesSome (map header_of c.args.commits.now) c.args.answers.now) c.in_err-add_set.field-0.0 =
+    refuses_at (map header_of c.args.commits.now) c.args.answers.now height _ _ these c.in_err-add_set.ensures.reason in
+    search rules

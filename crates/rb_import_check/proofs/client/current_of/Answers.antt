@@ -15,6 +15,7 @@ returns-in_default c =
     let other : is_of_client c.saved-item.result.answer ≡ false = is_foreign c.saved-item.result.answer (λ state e. grind (arith, common_steps)) (λ page e. grind (arith, common_steps)) (λ query e. grind (arith, common_steps)) in
     record {
       states = tt;
+      files = tt;
       foreign = subst (IsTold CheckErrorName.WrongFolder (Any (λ (s : Saved). is_of_client s.answer ≡ false) c.args.answers.now)) (sym c.at.ensures) (refl, (c.loop-saved.saved-index, c.saved-item.result, small, sym is, other));
       told = subst (IsToldOf c.args.id.now) (sym c.at.ensures) refl;
     }

@@ -4,7 +4,6 @@ use Rattle.std.proofs.lemmas.Grind.{common_steps}
 use Rattle.rb_import_check.specs.Refusals.{HasReasonOf}
 use Rattle.rb_import_check.specs.Verdicts.{verdicts_in, verdicts_of}
 use Rattle.rb_import_check.proofs.ChainReasons.{other_verdicts, two_files}
-use Rattle.rb_import_check.proofs.SetReasons.{tells_pages, tells_set}
 use Rattle.rb_import_check.proofs.verdicts.verdicts_in.Goals as goal
 
 pub returns-then-not-are_on_chain-clause-reason : goal.returns-then-not-are_on_chain-clause-reason

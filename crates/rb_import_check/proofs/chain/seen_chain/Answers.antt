@@ -1,0 +1,56 @@
+use Rattle.std.proofs.Common.{List, map, rules, subst}
+use Rattle.std.specs.Prelude.{Any}
+use Rattle.rb_import_check.specs.declared.chain.Commit.{Commit}
+use Rattle.rb_import_check.specs.declared.error.CheckErrorName.{CheckErrorName}
+use Rattle.rb_import_check.specs.Chains.{IsOfChain, IsOfItsBlock}
+use Rattle.rb_import_check.specs.Clients.{Falls}
+use Rattle.rb_import_check.specs.Errors.{IsTold, IsToldBy}
+use Rattle.rb_import_check.specs.Refusals.{HasReasonOf, RefusesCommit}
+use Rattle.rb_import_check.proofs.ChainReasons.{tells_block, tells_chain, tells_twice}
+use Rattle.rb_import_check.proofs.SetReasons.{RefusesSome, header_of, tells_pages, tells_set}
+use Rattle.rb_import_check.proofs.chain.seen_chain.Goals as goal
+
+pub returns-in_err-judge_chains-clause-reason : goal.returns-in_err-judge_chains-clause-reason
+returns-in_err-judge_chains-clause-reason c =
+    let e = c.in_err-judge_chains.field-0.0 in
+    let told : IsTold CheckErrorName.OtherChain (Any (λ x. ¬ IsOfChain c.args.id.now x) c.in_ok-commits.commits.items) e =
+    subst (λ (l : List Commit). IsTold CheckErrorName.OtherChain (Any (λ x. ¬ IsOfChain c.args.id.now x) l) e) c.as_slice.ensures.value c.in_err-judge_chains.ensures.other in
+    let reason : HasReasonOf c.args.id.now c.args.answers.now e =
+    tells_chain c.args.id.now c.args.answers.now c.in_ok-commits.commits.items e c.in_ok-commits.ensures.headers told in
+    search rules
+
+pub returns-in_err-judge_blocks-clause-reason : goal.returns-in_err-judge_blocks-clause-reason
+returns-in_err-judge_blocks-clause-reason c =
+    let e = c.in_err-judge_blocks.field-0.0 in
+    let told : IsTold CheckErrorName.OtherHeader (Any (λ x. ¬ IsOfItsBlock x) c.in_ok-commits.commits.items) e =
+    subst (λ (l : List Commit). IsTold CheckErrorName.OtherHeader (Any (λ x. ¬ IsOfItsBlock x) l) e) c.as_slice-2.ensures.value c.in_err-judge_blocks.ensures.other in
+    let reason : HasReasonOf c.args.id.now c.args.answers.now e =
+    tells_block c.args.id.now c.args.answers.now c.in_ok-commits.commits.items e c.in_ok-commits.ensures.headers told in
+    search rules
+
+pub returns-in_err-judge_heights-clause-reason : goal.returns-in_err-judge_heights-clause-reason
+returns-in_err-judge_heights-clause-reason c =
+    let e = c.in_err-judge_heights.field-0.0 in
+    let told : IsTold CheckErrorName.TwoAnswers (Falls (map (λ (x : Commit). x.header.now.height) c.in_ok-commits.commits.items)) e =
+    subst (λ (l : List Commit). IsTold CheckErrorName.TwoAnswers (Falls (map (λ (x : Commit). x.header.now.height) l)) e) c.as_slice-3.ensures.value c.in_err-judge_heights.ensures.falling in
+    let reason : HasReasonOf c.args.id.now c.args.answers.now e =
+    tells_twice c.args.id.now c.args.answers.now c.in_ok-commits.commits.items e c.in_ok-commits.ensures.headers c.in_ok-commits.ensures.order told in
+    search rules
+
+pub returns-in_err-sets-clause-reason : goal.returns-in_err-sets-clause-reason
+returns-in_err-sets-clause-reason c =
+    let e = c.in_err-sets.field-0.0 in
+    let told : IsToldBy (RefusesSome (map header_of c.in_ok-commits.commits.items) c.args.answers.now) e =
+    subst (λ (l : List Commit). IsToldBy (RefusesSome (map header_of l) c.args.answers.now) e) c.as_slice-4.ensures.value c.in_err-sets.ensures.reason in
+    let reason : HasReasonOf c.args.id.now c.args.answers.now e =
+    tells_pages c.args.id.now c.args.answers.now c.in_ok-commits.commits.items c.in_ok-commits.ensures.headers e told in
+    search rules
+
+pub returns-in_err-judge_signatures-clause-reason : goal.returns-in_err-judge_signatures-clause-reason
+returns-in_err-judge_signatures-clause-reason c =
+    let e = c.in_err-judge_signatures.field-0.0 in
+    let told : IsToldBy (λ name. Any (RefusesCommit name c.in_ok-sets.sets.sets.items) c.in_ok-commits.commits.items) e =
+    subst (λ (l : List Commit). IsToldBy (λ name. Any (RefusesCommit name c.in_ok-sets.sets.sets.items) l) e) c.as_slice-5.ensures.value c.in_err-judge_signatures.ensures.reason in
+    let reason : HasReasonOf c.args.id.now c.args.answers.now e =
+    tells_set c.args.id.now c.args.answers.now c.in_ok-commits.commits.items c.in_ok-sets.sets.sets.items c.in_ok-commits.ensures.headers c.in_ok-sets.ensures.sets e told in
+    search rules
