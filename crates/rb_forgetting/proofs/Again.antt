@@ -13,12 +13,14 @@ use Rattle.rb_scan.specs.Packet.{Packet, is_cleared, is_in_flight}
 use Rattle.rb_scan.specs.declared.path.Order.{Order}
 use Rattle.rb_scan.specs.declared.path.Order.TheVariants.{Unordered}
 use Rattle.rb_step.specs.LightClient.{Update}
+use Rattle.rb_core_model.specs.Over.{from_later}
 use Rattle.rb_core_model.specs.Standing.{OpenBatch, ClientState, PathState, Standing, book_at}
 use Rattle.rb_forgetting.specs.Left.{IsLeft, IsBookLeft, AreStoredLeft}
 use Rattle.rb_forgetting.specs.Laws.{greatest}
-use Rattle.rb_forgetting.specs.Remains.{IsAfterGone, PacketFits, PathFits, IsClientLeft, IsLeftOf}
+use Rattle.rb_forgetting.specs.Remains.{IsAfterGone, PacketFits, PathFits, IsClientLeft, IsPathLeft, IsLeftOf}
 use Rattle.rb_forgetting.proofs.Books.{record_here}
 use Rattle.rb_forgetting.proofs.Lists.{first_of_all}
+use Rattle.rb_forgetting.proofs.Paths.{all_fit_behind, paths_again}
 
 most : (a b c : ℕ) → a ≤ c → b ≤ c → max a b ≤ c
 most a b c p q = omega arith
@@ -214,12 +216,25 @@ module _ (m n : ℕ → ℕ) (s t u : Standing) (one : IsLeftOf m s t) (two : Is
       (packet_again (m p.config.destination) (n p.config.destination) (book_at s.books p.config.destination) (book_at t.books p.config.destination) (book_at u.books p.config.destination) (one.books p.config.destination) (two.books p.config.destination)
       (m p.config.source) (n p.config.source) p.config.order) p.packets all more)
 
+  -- what fits what is left of a path fits the path
+  path_before : (p q : PathState) → IsPathLeft p q → PathFits n t.books q → PathFits n t.books p
+  path_before p q is fits = go (subst (PathFits n t.books) is.is fits)
+    where
+      go : PathFits n t.books (from_later is.went p) → PathFits n t.books p
+      go (inl closed) = inl closed
+      go (inr all) = inr (all_fit_behind (n p.config.source) (n p.config.destination) (book_at t.books p.config.destination) p is.went is.over all)
+
+  fit_before : (ps qs : List PathState) → AllZip IsPathLeft ps qs → AllByRecursion (PathFits n t.books) qs → AllByRecursion (PathFits n t.books) ps
+  fit_before [] qs zip all = tt
+  fit_before (p ∷ ps) [] zip all = absurd zip
+  fit_before (p ∷ ps) (q ∷ qs) zip all = (path_before p q zip.0 all.0, fit_before ps qs zip.1 all.1)
+
   pub left_of_left : IsLeftOf (greatest m n) s u
   left_of_left = record {
     window = one.window;
     in_force = one.in_force;
     still = two.still ∙ ap (λ w. Some w) same_window;
-    paths = two.paths ∙ one.paths;
+    paths = paths_again s.paths t.paths u.paths one.paths two.paths;
     chains = two.chains ∙ one.chains;
     books = λ chain. book_again (m chain) (n chain) (book_at s.books chain) (book_at t.books chain) (book_at u.books chain) (one.books chain) (two.books chain);
     rises = one.rises;
@@ -227,5 +242,5 @@ module _ (m n : ℕ → ℕ) (s t u : Standing) (one : IsLeftOf m s t) (two : Is
     clients = clients_again s.clients t.clients u.clients one.clients (subst (λ w. AllZip (IsClientLeft n w t.books) t.clients u.clients) same_window two.clients);
     fit =
         both (PathFits m s.books) (PathFits n t.books) (PathFits (greatest m n) s.books) path_again s.paths one.fit
-        (subst (λ (ps : List PathState). All (PathFits n t.books) ps) one.paths two.fit);
+        (All-from_recursion (PathFits n t.books) s.paths (fit_before s.paths t.paths one.paths (recursion_from_All (PathFits n t.books) t.paths two.fit)));
   }

@@ -1,7 +1,7 @@
 -- What an event makes of all, it makes of what is left, if the event speaks of nothing that went.
 use Rattle.std.proofs.Common.{◌≡◌, ℕ, ◌+◌, ◌<◌, ◌≤◌, ◌==◌, ◌⊎◌, Bool, true, false, cond, ◌||◌, nat_lt, List, length, set, count_by, Option, Some, None, is_some, inl, inr, refl, sym, ap, ◌∙◌, subst, arith}
 use Rattle.std.specs.List.{All, slice_get, slice_index_or}
-use Rattle.std.specs.Option.{IfSome, IsSomeAnd, option_map_or, option_and_then}
+use Rattle.std.specs.Option.{IfSome, IsSomeAnd, option_map, option_map_or, option_and_then}
 use Rattle.std.proofs.lemmas.Bool.{cases_eq, cases_lt, ltb-false}
 use Rattle.std.proofs.lemmas.List.{get_or-set_same, get_or-set_other, length-set, set_past}
 use Rattle.std.proofs.lemmas.List.Elements.{All-from_recursion, All-weaker, recursion_from_All}
@@ -22,22 +22,23 @@ use Rattle.rb_book.proofs.Lists.{All-insert}
 use Rattle.rb_scan.specs.Packet.{Packet, is_in_flight}
 use Rattle.rb_scan.specs.declared.path.Order.TheVariants.{Unordered}
 use Rattle.rb_script_types.specs.Refusal.{of_book}
-use Rattle.rb_script_types.specs.declared.refusal.Refusal.TheVariants.{WindowBack}
+use Rattle.rb_script_types.specs.declared.refusal.Refusal.TheVariants.{OutOfOrder, WindowBack}
 use Rattle.rb_step.specs.LightClient.{Update}
 use Rattle.rb_core_model.specs.Event.{Event, IsEvent, Window, Asked, SetSeen, HeaderSeen, StoredSeen, Sent, Received, AckWritten, Cleared, Closed, Scanned, Planned, Settled}
 use Rattle.rb_core_model.specs.Refusal.{refused_if}
-use Rattle.rb_core_model.specs.Standing.{OpenBatch, ClientState, PathState, Standing, empty_book, book_at, tracked, goes_back, open_batch, judged, changed, changed_at, with_book, with_client, with_path, with_packet, with_mark, with_height, new_packet, after_batch, after_messages, after_settled, settled_messages}
+use Rattle.rb_core_model.specs.Standing.{OpenBatch, ClientState, PathState, Standing, empty_book, book_at, tracked, goes_back, open_batch, judged, changed, changed_at, with_book, with_client, with_path, with_packet, with_mark, with_height, new_packet, after_batch, after_messages, after_settled, settled_messages, view_of_path, sent_refusal}
 use Rattle.rb_core_model.specs.Steps.{IsFromOutside}
 use Rattle.rb_core_model.proofs.Intake.{set_accepted, header_accepted, record_accepted}
 use Rattle.rb_core_model.proofs.Options.{passes, chained}
 use Rattle.rb_forgetting.specs.Free.{if_not_full, freely}
 use Rattle.rb_forgetting.specs.Left.{IsBookLeft}
-use Rattle.rb_forgetting.specs.Remains.{IsAfterGone, PacketFits, PathFits, IsClientLeft, IsLeftOf}
+use Rattle.rb_forgetting.specs.Remains.{IsAfterGone, PacketFits, PathFits, IsClientLeft, IsPathLeft, IsLeftOf}
 use Rattle.rb_forgetting.specs.Spoken.{IsSpared}
 use Rattle.rb_forgetting.proofs.Additions.{IsNewOrSame, record_kept, header_kept, set_kept}
 use Rattle.rb_forgetting.proofs.Judged.{tracked_same}
 use Rattle.rb_forgetting.proofs.Marks.{received_fits, cleared_fits, written_fits, closed_fits, sent_fits, changed_fit, messages_fit}
 use Rattle.rb_forgetting.proofs.Named.{IsNamed, set_named, record_named, header_named}
+use Rattle.rb_forgetting.proofs.Paths.{received_left, written_left, cleared_left, closed_left, packet_left, messages_left}
 use Rattle.rb_forgetting.proofs.Refusals.{if_room}
 use Rattle.rb_forgetting.proofs.Rises.{record_rises, header_rises}
 use Rattle.rb_forgetting.proofs.Stored.{one_stored, batch_stored}
@@ -201,12 +202,12 @@ module _ (m : ℕ → ℕ) (s t : Standing) (left : IsLeftOf m s t) where
   }
 
   path_left : (path : ℕ) (f : PathState → PathState) → ((p : PathState) → slice_get s.paths path ≡ Some p → PathFits m s.books p → PathFits m s.books (f p))
-      → IsLeftOf m (with_path s path f) (with_path t path f)
-  path_left path f keeps = record {
+      → ((p q : PathState) → slice_get s.paths path ≡ Some p → slice_get t.paths path ≡ Some q → IsPathLeft p q → IsPathLeft (f p) (f q)) → IsLeftOf m (with_path s path f) (with_path t path f)
+  path_left path f keeps goes = record {
     window = left.window;
     in_force = left.in_force;
     still = left.still;
-    paths = ap (λ (ps : List PathState). changed_at f ps path) left.paths;
+    paths = zip_changed IsPathLeft f f s.paths t.paths path goes left.paths;
     chains = left.chains;
     books = left.books;
     rises = left.rises;
@@ -267,7 +268,7 @@ module _ (m : ℕ → ℕ) (s t : Standing) (left : IsLeftOf m s t) where
     window = left.window;
     in_force = left.in_force;
     still = left.still;
-    paths = ap (λ (ps : List PathState). after_messages ps (settled_messages b done)) left.paths;
+    paths = messages_left (settled_messages b done) s.paths t.paths left.paths;
     chains = left.chains;
     books = left.books;
     rises = left.rises;
@@ -339,6 +340,12 @@ new_or_same b set ok = go (set_of b (set_hash set)) refl
         let same : x ≡ set = (same_set-Decides x set).0 (passes_test (same_set x set) (ap (λ o. if_room (set_refusal_beside o b set)) (sym e) ∙ ok)) in
         inr (e ∙ ap Some same)
 
+-- a packet that is accepted has no lower sequence than the first
+sent_above : (t : Standing) (path sequence block : ℕ) (timeout_height timeout_time : Option ℕ) (q : PathState) → judged t (Sent path sequence block timeout_height timeout_time) ≡ None → slice_get t.paths path ≡ Some q → q.first ≤ sequence
+sent_above t path sequence block timeout_height timeout_time q ok at =
+    let fits : sent_refusal (view_of_path t.books q) sequence ≡ None = ap (λ o. option_and_then (λ v. sent_refusal v sequence) (option_map (view_of_path t.books) o)) (sym at) ∙ ok in
+    ltb-false sequence q.first (passes (nat_lt sequence q.first) OutOfOrder _ fits).0
+
 module _ (m : ℕ → ℕ) (s t : Standing) (left : IsLeftOf m s t) (stays : StaysABook) where
   stored_event : (client height : ℕ) (r : Record) → IsSpared m s t (StoredSeen client height r) → freely s (StoredSeen client height r) ≡ None → judged t (StoredSeen client height r) ≡ None
       → IsLeftOf m (changed s (StoredSeen client height r)) (changed t (StoredSeen client height r))
@@ -378,16 +385,18 @@ module _ (m : ℕ → ℕ) (s t : Standing) (left : IsLeftOf m s t) (stays : Sta
   changed_left (Sent path sequence block timeout_height timeout_time) from right spared in_s in_t =
       path_left m s t left path (with_packet (new_packet sequence block timeout_height timeout_time))
       (λ p at fits. sent_fits m s.books (new_packet sequence block timeout_height timeout_time) p
-      (subst (λ (o : Option PathState). IfSome o (λ (k : PathState). PacketFits (m k.config.source) (m k.config.destination) (book_at s.books k.config.destination) k.config.order (new_packet sequence block timeout_height timeout_time))) at spared) fits)
+      (subst (λ (o : Option PathState). IfSome o (λ (k : PathState). PacketFits (m k.config.source) (m k.config.destination) (book_at s.books k.config.destination) k.config.order (new_packet sequence block timeout_height timeout_time))) at spared.0) fits)
+      (λ p q at_p at_q is. packet_left (new_packet sequence block timeout_height timeout_time) p q (sent_above t path sequence block timeout_height timeout_time q in_t at_q) is)
   changed_left (Received path sequence block) from right spared in_s in_t =
-      path_left m s t left path (with_mark (λ q. record q { received = Some block }) sequence) (λ p at fits. received_fits m s.books block sequence p fits)
+      path_left m s t left path (with_mark (λ q. record q { received = Some block }) sequence) (λ p at fits. received_fits m s.books block sequence p fits) (λ p q at_p at_q is. received_left block sequence p q is)
   changed_left (AckWritten path sequence block) from right spared in_s in_t =
       path_left m s t left path (with_mark (λ q. record q { written = Some block }) sequence)
       (λ p at fits. written_fits m s.books block sequence p
-      (subst (λ (o : Option PathState). IfSome o (λ (k : PathState). (k.config.order ≡ Unordered) ⊎ (m k.config.destination ≤ block + 1))) at spared) fits)
+      (subst (λ (o : Option PathState). IfSome o (λ (k : PathState). (k.config.order ≡ Unordered) ⊎ (m k.config.destination ≤ block + 1))) at spared.0) fits)
+      (λ p q at_p at_q is. written_left block sequence p q is)
   changed_left (Cleared path sequence) from right spared in_s in_t =
-      path_left m s t left path (with_mark (λ q. record q { cleared = true }) sequence) (λ p at fits. cleared_fits m s.books sequence p fits)
-  changed_left (Closed path) from right spared in_s in_t = path_left m s t left path (λ p. record p { closed = true }) (λ p at fits. closed_fits m s.books p)
+      path_left m s t left path (with_mark (λ q. record q { cleared = true }) sequence) (λ p at fits. cleared_fits m s.books sequence p fits) (λ p q at_p at_q is. cleared_left sequence p q is)
+  changed_left (Closed path) from right spared in_s in_t = path_left m s t left path (λ p. record p { closed = true }) (λ p at fits. closed_fits m s.books p) (λ p q at_p at_q is. closed_left p q is)
   changed_left (Scanned path scan) from right spared in_s in_t = absurd from
   changed_left (Planned d) from right spared in_s in_t = absurd from
   changed_left (Settled client number done) from right spared in_s in_t = settled_left m s t left client number done

@@ -15,19 +15,13 @@ use Rattle.std.proofs.lemmas.List.Kept.{AllPairs-from_increasing}
 use Rattle.rb_core_model.specs.Standing.{ClientState, Standing, book_at}
 use Rattle.rb_forgetting.specs.Left.{IsBookLeft, AreStoredLeft}
 use Rattle.rb_forgetting.specs.Remains.{IsClientLeft, IsLeftOf}
-use Rattle.rb_forgetting.specs.Rest.{rest_of_book, rest_of_books, rest_of_client, rest, NeedsNoLower, AreFloors}
-use Rattle.rb_forgetting.proofs.Resting.{left_filter, book_rest, rest_is_book}
-
--- ---- books at their places
-
-at_rest : (m : ℕ → ℕ) (n : ℕ) (books : List Book) (chain : ℕ) → book_at (rest_of_books m n books) chain ≡ rest_of_book (m (n + chain)) (book_at books chain)
-at_rest m n [] chain = refl
-at_rest m n (b ∷ books) zero = (let e : n ≡ n + 0 = omega arith in ap (λ k. rest_of_book (m k) b) e)
-at_rest m n (b ∷ books) (suc chain) = (let e : n + 1 + chain ≡ n + suc chain = omega arith in at_rest m (n + 1) books chain ∙ ap (λ k. rest_of_book (m k) (book_at books chain)) e)
-
-pub length-rest : (m : ℕ → ℕ) (n : ℕ) (books : List Book) → length (rest_of_books m n books) ≡ length books
-length-rest m n [] = refl
-length-rest m n (b ∷ books) = ap suc (length-rest m (n + 1) books)
+use Rattle.rb_book.specs.Rest.{rest_of_book}
+use Rattle.rb_core_model.specs.Forgetting.{rest_of_books, rest_of_client, rest}
+use Rattle.rb_forgetting.specs.Rest.{NeedsNoLower, AreFloors}
+use Rattle.rb_book.proofs.Resting.{rest_is_book}
+use Rattle.rb_core_model.proofs.Left.{length-rest, book-rest}
+use Rattle.rb_forgetting.proofs.Paths.{all_went}
+use Rattle.rb_forgetting.proofs.Resting.{left_filter, book_rest}
 
 -- ---- a client
 
@@ -88,11 +82,11 @@ rest_is_left m s are books rising = record {
   window = are.window;
   in_force = are.in_force;
   still = are.in_force;
-  paths = refl;
+  paths = all_went s.paths;
   chains = length-rest m 0 s.books;
   books = λ chain. subst (λ (b : Book). IsBookLeft (m chain) (book_at s.books chain) b) (sym (there chain)) (book_rest (m chain) (book_at s.books chain) (books chain) (are.records chain));
   rises = λ chain. (books chain).records;
-  rest = λ chain. subst IsBook (sym (there chain)) (rest_is_book (m chain) (book_at s.books chain) (books chain) (are.records chain));
+  rest = λ chain. subst IsBook (sym (there chain)) (rest_is_book (m chain) (book_at s.books chain) (books chain));
   clients =
       clients_left m are.window s.books s.clients (recursion_from_All (λ (c : ClientState). IsStrictlyIncreasing c.stored) s.clients rising)
       (recursion_from_All (λ (c : ClientState). NeedsNoLower (m c.config.tracks) are.window (book_at s.books c.config.tracks) c) s.clients are.clients);
@@ -100,4 +94,4 @@ rest_is_left m s are books rising = record {
 }
   where
     there : (chain : ℕ) → book_at (rest_of_books m 0 s.books) chain ≡ rest_of_book (m chain) (book_at s.books chain)
-    there chain = (let e : 0 + chain ≡ chain = omega arith in at_rest m 0 s.books chain ∙ ap (λ k. rest_of_book (m k) (book_at s.books chain)) e)
+    there chain = (let e : 0 + chain ≡ chain = omega arith in book-rest m 0 s.books chain ∙ ap (λ k. rest_of_book (m k) (book_at s.books chain)) e)

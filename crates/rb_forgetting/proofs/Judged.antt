@@ -1,7 +1,8 @@
 -- What is left judges an event as all would, if the event speaks of nothing that went and no light store is full.
-use Rattle.std.proofs.Common.{◌≡◌, ℕ, ◌⊎◌, ◌&&◌, nat_lt, nat_le, Bool, true, false, List, ◌∷◌, length, Option, Some, None, inl, inr, refl, sym, ap, ◌∙◌, subst}
-use Rattle.std.specs.List.{slice_get}
+use Rattle.std.proofs.Common.{◌≡◌, ℕ, ◌+◌, ◌<◌, ◌≤◌, ◌==◌, ◌⊎◌, ◌&&◌, nat_lt, nat_le, Bool, true, false, List, ◌∷◌, length, drop, Option, Some, None, is_some, inl, inr, refl, sym, ap, ◌∙◌, subst, arith}
+use Rattle.std.specs.List.{find, slice_get}
 use Rattle.std.specs.Option.{IfSome, option_map, option_map_or, option_and_then}
+use Rattle.std.proofs.lemmas.Bool.{le-ltb, lt-ltb}
 use Rattle.rb_base.specs.Window.{Span}
 use Rattle.rb_valset.specs.Validator.{Member}
 use Rattle.rb_valset.specs.ValidatorSet.{set_hash}
@@ -10,17 +11,26 @@ use Rattle.rb_book.specs.declared.error.BookError.{BookError}
 use Rattle.rb_book.specs.declared.error.BookError.TheVariants as book
 use Rattle.rb_book.specs.Book.{Book, set_of, address_count, max_sets, max_addresses}
 use Rattle.rb_book.specs.Intake.{unless, set_refusal_beside, set_refusal, header_refusal, record_refusal}
-use Rattle.rb_scan.specs.Owed.{packet_at}
+use Rattle.rb_scan.specs.Owed.{packet_at, next_sequence}
+use Rattle.rb_scan.specs.Packet.{Packet}
 use Rattle.rb_scan.specs.Path.{Path}
+use Rattle.rb_scan.specs.Same.{same_order}
+use Rattle.rb_scan.specs.declared.message.Kind.TheVariants.{Receive}
+use Rattle.rb_scan.specs.declared.path.Order.{Order}
+use Rattle.rb_scan.specs.declared.path.Order.TheVariants.{Ordered, Unordered}
 use Rattle.rb_script_types.specs.Refusal.{of_book}
-use Rattle.rb_script_types.specs.declared.refusal.Refusal.TheVariants.{Repeat, WindowBack}
+use Rattle.rb_script_types.specs.declared.refusal.Refusal.{Refusal}
+use Rattle.rb_script_types.specs.declared.refusal.Refusal.TheVariants.{Full, Repeat, OutOfOrder, WindowBack}
 use Rattle.rb_core_model.specs.Event.{Event, Window, Asked, SetSeen, HeaderSeen, StoredSeen, Sent, Received, AckWritten, Cleared, Closed, Scanned, Planned, Settled}
+use Rattle.rb_core_model.specs.Over.{over_in, from_later}
 use Rattle.rb_core_model.specs.Refusal.{refused_if}
-use Rattle.rb_core_model.specs.Standing.{ClientState, PathState, Standing, book_at, tracked, view_of_path, path_view, goes_back, sent_refusal, received_refusal, written_refusal, cleared_refusal, settled_refusal, judged}
+use Rattle.rb_core_model.specs.Standing.{ClientState, PathState, Standing, book_at, tracked, view_of_path, path_view, goes_back, max_packets, sent_refusal, received_refusal, written_refusal, cleared_refusal, settled_refusal, judged}
 use Rattle.rb_forgetting.specs.Free.{if_not_full}
 use Rattle.rb_forgetting.specs.Left.{IsBookLeft}
-use Rattle.rb_forgetting.specs.Remains.{IsClientLeft, IsLeftOf}
-use Rattle.rb_forgetting.specs.Spoken.{IsSetAgain, IsSpared}
+use Rattle.rb_forgetting.specs.Remains.{IsClientLeft, IsLeftOf, IsPathLeft}
+use Rattle.rb_forgetting.specs.Spoken.{IsSetAgain, IsSpared, SparesSequence}
+use Rattle.rb_core_model.proofs.Over.{counted_over, found_later, found_lower}
+use Rattle.rb_forgetting.proofs.Front.{next_later}
 use Rattle.rb_forgetting.proofs.Refusals.{if_room, IsSameFreely, record_refused, header_refused}
 use Rattle.rb_forgetting.proofs.Zips.{IsPair, pair_at}
 
@@ -69,6 +79,59 @@ of_books (Some book.NoMemory) = refl
 by_book : (after before : Option BookError) → IsSameFreely after before → if_not_full (option_and_then of_book after) ≡ if_not_full (option_and_then of_book before)
 by_book after before same = of_books after ∙ ap (option_and_then of_book) same ∙ sym (of_books before)
 
+-- ---- packets that didn't go
+
+no_limit : (b : Bool) → if_not_full (refused_if b Full None) ≡ None
+no_limit true = refl
+no_limit false = refl
+
+module _ (p : PathState) (n : ℕ) (le : n ≤ over_in p) (sequence : ℕ) (spared : (sequence < p.first) ⊎ (p.first + n ≤ sequence)) where
+  pub packet_same : find (λ (q : Packet). q.sequence == sequence) (drop n p.packets) ≡ find (λ (q : Packet). q.sequence == sequence) p.packets
+  packet_same = elim spared [
+    | inl lower ↦ found_lower p.config.order p.first n p.packets sequence (counted_over p.config.order p.first n p.packets le) lower
+    | inr higher ↦ found_later p.config.order p.first n p.packets sequence (counted_over p.config.order p.first n p.packets le) higher
+  ]
+
+module _ (before after : List Book) (p : PathState) (n : ℕ) (le : n ≤ over_in p) (sequence : ℕ) (spared : (sequence < p.first) ⊎ (p.first + n ≤ sequence)) where
+  sent_same : if_not_full (sent_refusal (view_of_path after (from_later n p)) sequence) ≡ if_not_full (sent_refusal (view_of_path before p) sequence)
+  sent_same = elim spared [
+    | inl lower ↦
+        ap (λ b. if_not_full (refused_if b OutOfOrder (refused_if (is_some (find (λ (q : Packet). q.sequence == sequence) (drop n p.packets))) Repeat (refused_if (nat_le max_packets (length (drop n p.packets))) Full None))))
+        (lt-ltb sequence (p.first + n) (omega arith))
+        ∙ sym (ap (λ b. if_not_full (refused_if b OutOfOrder (refused_if (is_some (find (λ (q : Packet). q.sequence == sequence) p.packets)) Repeat (refused_if (nat_le max_packets (length p.packets)) Full None))))
+        (lt-ltb sequence p.first lower))
+    | inr higher ↦
+        ap (λ b. if_not_full (refused_if b OutOfOrder (refused_if (is_some (find (λ (q : Packet). q.sequence == sequence) (drop n p.packets))) Repeat (refused_if (nat_le max_packets (length (drop n p.packets))) Full None))))
+        (le-ltb sequence (p.first + n) higher)
+        ∙ by (find (λ (q : Packet). q.sequence == sequence) (drop n p.packets)) (find (λ (q : Packet). q.sequence == sequence) p.packets) (packet_same p n le sequence (inr higher))
+        ∙ sym (ap (λ b. if_not_full (refused_if b OutOfOrder (refused_if (is_some (find (λ (q : Packet). q.sequence == sequence) p.packets)) Repeat (refused_if (nat_le max_packets (length p.packets)) Full None))))
+        (le-ltb sequence p.first (omega arith)))
+  ]
+    where
+      by_found : (b c d : Bool) → if_not_full (refused_if b Repeat (refused_if c Full None)) ≡ if_not_full (refused_if b Repeat (refused_if d Full None))
+      by_found true c d = refl
+      by_found false c d = no_limit c ∙ sym (no_limit d)
+
+      by : (o r : Option Packet) → o ≡ r → if_not_full (refused_if (is_some o) Repeat (refused_if (nat_le max_packets (length (drop n p.packets))) Full None)) ≡ if_not_full (refused_if (is_some r) Repeat (refused_if (nat_le max_packets (length p.packets)) Full None))
+      by o r same = ap (λ x. if_not_full (refused_if (is_some x) Repeat (refused_if (nat_le max_packets (length (drop n p.packets))) Full None))) same ∙ by_found (is_some r) (nat_le max_packets (length (drop n p.packets))) (nat_le max_packets (length p.packets))
+
+  early_same : (order : Order) → p.config.order ≡ order → (same_order p.config.order Ordered && nat_lt (next_sequence (view_of_path after (from_later n p)) Receive) sequence) ≡ (same_order p.config.order Ordered && nat_lt (next_sequence (view_of_path before p) Receive) sequence)
+  early_same Unordered is =
+      ap (λ (order : Order). same_order order Ordered && nat_lt (next_sequence (view_of_path after (from_later n p)) Receive) sequence) is
+      ∙ sym (ap (λ (order : Order). same_order order Ordered && nat_lt (next_sequence (view_of_path before p) Receive) sequence) is)
+  early_same Ordered is =
+      ap (λ k. same_order p.config.order Ordered && nat_lt k sequence) (sym (next_later (view_of_path before p) n (counted_over p.config.order p.first n p.packets le) is Receive))
+
+  received_same : if_not_full (received_refusal (view_of_path after (from_later n p)) sequence (packet_at (view_of_path after (from_later n p)) sequence))
+      ≡ if_not_full (received_refusal (view_of_path before p) sequence (packet_at (view_of_path before p) sequence))
+  received_same =
+      ap (λ o. if_not_full (received_refusal (view_of_path after (from_later n p)) sequence o)) (packet_same p n le sequence spared)
+      ∙ by (find (λ (q : Packet). q.sequence == sequence) p.packets)
+    where
+      by : (o : Option Packet) → if_not_full (received_refusal (view_of_path after (from_later n p)) sequence o) ≡ if_not_full (received_refusal (view_of_path before p) sequence o)
+      by None = refl
+      by (Some q) = ap (λ b. if_not_full (refused_if b OutOfOrder (refused_if (is_some q.received) Repeat None))) (early_same p.config.order refl)
+
 module _ (m : ℕ → ℕ) (s t : Standing) (left : IsLeftOf m s t) where
   pub tracked_same : (client : ℕ) → tracked t.clients client ≡ tracked s.clients client
   tracked_same client = go (pair_at (IsClientLeft m left.window s.books) s.clients t.clients client left.clients)
@@ -81,14 +144,27 @@ module _ (m : ℕ → ℕ) (s t : Standing) (left : IsLeftOf m s t) where
           ∙ ap (λ (c : ClientState). c.config.tracks) p.related.is
           ∙ sym (ap (λ (o : Option ClientState). option_map_or (λ (c : ClientState). c.config.tracks) o 0) p.in_first)
 
-  -- what doesn't look at a destination is the same of each path
-  on_path : {X : Type 0} (f : Path → Option X) → ((p : PathState) → f (view_of_path t.books p) ≡ f (view_of_path s.books p)) → (path : ℕ)
-      → option_and_then f (path_view t path) ≡ option_and_then f (path_view s path)
-  on_path {X} f same path = ap (λ (ps : List PathState). option_and_then f (option_map (view_of_path t.books) (slice_get ps path))) left.paths ∙ go (slice_get s.paths path)
+  -- what is asked of each path, where it is the same of what is left of it
+  on_path : (f : Path → Option Refusal) (path : ℕ)
+      → ((p : PathState) (n : ℕ) → n ≤ over_in p → slice_get s.paths path ≡ Some p → slice_get t.paths path ≡ Some (from_later n p)
+      → if_not_full (f (view_of_path t.books (from_later n p))) ≡ if_not_full (f (view_of_path s.books p)))
+      → if_not_full (option_and_then f (path_view t path)) ≡ if_not_full (option_and_then f (path_view s path))
+  on_path f path same = go (pair_at IsPathLeft s.paths t.paths path left.paths)
     where
-      go : (o : Option PathState) → option_and_then f (option_map (view_of_path t.books) o) ≡ option_and_then f (option_map (view_of_path s.books) o)
-      go None = refl
-      go (Some p) = same p
+      go : ((slice_get s.paths path ≡ None) × (slice_get t.paths path ≡ None)) ⊎ IsPair IsPathLeft s.paths t.paths path
+          → if_not_full (option_and_then f (path_view t path)) ≡ if_not_full (option_and_then f (path_view s path))
+      go (inl none) =
+          ap (λ o. if_not_full (option_and_then f (option_map (view_of_path t.books) o))) none.1
+          ∙ sym (ap (λ o. if_not_full (option_and_then f (option_map (view_of_path s.books) o))) none.0)
+      go (inr x) =
+          ap (λ o. if_not_full (option_and_then f (option_map (view_of_path t.books) o))) (x.in_second ∙ ap Some x.related.is)
+          ∙ same x.first x.related.went x.related.over x.in_first (x.in_second ∙ ap Some x.related.is)
+          ∙ sym (ap (λ o. if_not_full (option_and_then f (option_map (view_of_path s.books) o))) x.in_first)
+
+  -- no packet of this sequence went
+  spoken : (path sequence : ℕ) → SparesSequence s t path sequence → (p q : PathState) → slice_get s.paths path ≡ Some p → slice_get t.paths path ≡ Some q → (sequence < p.first) ⊎ (q.first ≤ sequence)
+  spoken path sequence (inl lower) p q at_p at_q = inl (if_some (λ (x : PathState). sequence < x.first) (slice_get s.paths path) p at_p lower)
+  spoken path sequence (inr higher) p q at_p at_q = inr (if_some (λ (x : PathState). x.first ≤ sequence) (slice_get t.paths path) q at_q higher)
 
   pub settled_same : (client number done : ℕ) → option_and_then (λ c. settled_refusal c number done) (slice_get t.clients client) ≡ option_and_then (λ c. settled_refusal c number done) (slice_get s.clients client)
   settled_same client number done = go (pair_at (IsClientLeft m left.window s.books) s.clients t.clients client left.clients)
@@ -115,11 +191,17 @@ module _ (m : ℕ → ℕ) (s t : Standing) (left : IsLeftOf m s t) where
       ∙ by_book (record_refusal (book_at t.books (tracked s.clients client)) height r) (record_refusal (book_at s.books (tracked s.clients client)) height r)
       (record_refused (m (tracked s.clients client)) (book_at s.books (tracked s.clients client)) (book_at t.books (tracked s.clients client)) (left.books (tracked s.clients client))
       (left.rises (tracked s.clients client)) height r spared.0)
-  judged_same (Sent path sequence block timeout_height timeout_time) spared = ap if_not_full (on_path (λ v. sent_refusal v sequence) (λ p. refl) path)
-  judged_same (Received path sequence block) spared = ap if_not_full (on_path (λ v. received_refusal v sequence (packet_at v sequence)) (λ p. refl) path)
-  judged_same (AckWritten path sequence block) spared = ap if_not_full (on_path (λ v. written_refusal block (packet_at v sequence)) (λ p. refl) path)
-  judged_same (Cleared path sequence) spared = ap if_not_full (on_path (λ v. cleared_refusal (packet_at v sequence)) (λ p. refl) path)
-  judged_same (Closed path) spared = ap if_not_full (on_path (λ (v : Path). refused_if v.closed Repeat None) (λ p. refl) path)
+  judged_same (Sent path sequence block timeout_height timeout_time) spared =
+      on_path (λ v. sent_refusal v sequence) path (λ p n le at_p at_q. sent_same s.books t.books p n le sequence (spoken path sequence spared.1 p (from_later n p) at_p at_q))
+  judged_same (Received path sequence block) spared =
+      on_path (λ v. received_refusal v sequence (packet_at v sequence)) path (λ p n le at_p at_q. received_same s.books t.books p n le sequence (spoken path sequence spared p (from_later n p) at_p at_q))
+  judged_same (AckWritten path sequence block) spared =
+      on_path (λ v. written_refusal block (packet_at v sequence)) path
+      (λ p n le at_p at_q. ap (λ o. if_not_full (written_refusal block o)) (packet_same p n le sequence (spoken path sequence spared.1 p (from_later n p) at_p at_q)))
+  judged_same (Cleared path sequence) spared =
+      on_path (λ v. cleared_refusal (packet_at v sequence)) path
+      (λ p n le at_p at_q. ap (λ o. if_not_full (cleared_refusal o)) (packet_same p n le sequence (spoken path sequence spared p (from_later n p) at_p at_q)))
+  judged_same (Closed path) spared = on_path (λ (v : Path). refused_if v.closed Repeat None) path (λ p n le at_p at_q. refl)
   judged_same (Scanned path scan) spared = refl
   judged_same (Planned d) spared = refl
   judged_same (Settled client number done) spared = ap if_not_full (settled_same client number done)

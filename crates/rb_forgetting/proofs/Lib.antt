@@ -12,6 +12,8 @@ pub mod Answers
 pub mod Owed
 pub mod Floors
 pub mod Zips
+pub mod Front
+pub mod Paths
 pub mod Named
 pub mod Rises
 pub mod Judged

@@ -18,7 +18,7 @@ use Rattle.rb_scan.specs.declared.path.Order.TheVariants.{Ordered, Unordered}
 use Rattle.rb_step.specs.LightClient.{Update}
 use Rattle.rb_core_model.specs.Standing.{OpenBatch, ClientState, PathState, Standing, book_at}
 use Rattle.rb_forgetting.specs.Laws.{FloorsAreFloors}
-use Rattle.rb_forgetting.specs.Needs.{is_live_in, needs_of_client, lowest_late, needs_there, needs_here, needs_of_path, needs, lowest_of, floor}
+use Rattle.rb_core_model.specs.Forgetting.{is_live_in, needs_of_client, lowest_late, needs_there, needs_here, needs_of_path, needs, lowest_of, floor}
 use Rattle.rb_forgetting.specs.Remains.{IsAfterGone, PacketFits, PathFits}
 use Rattle.rb_forgetting.specs.Rest.{IsAtRecord, NeedsNoLower, AreFloors}
 

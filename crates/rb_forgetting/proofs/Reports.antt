@@ -1,6 +1,6 @@
 -- What is reported of a client is the same over what is left.
 use Rattle.std.proofs.Common.{◌≡◌, ℕ, ◌+◌, ◌≤◌, ◌⊎◌, true, List, [], ◌∷◌, map, zero, suc, Option, Some, None, MatchOption, inl, inr, refl, sym, ap, ◌∙◌, subst, arith}
-use Rattle.std.specs.List.{All, AllByRecursion, cons_option, enumerate_from, filter_map, slice_get}
+use Rattle.std.specs.List.{All, AllByRecursion, AllZip, cons_option, enumerate_from, filter_map, slice_get}
 use Rattle.std.specs.Option.{IfSome, option_map, option_map_or}
 use Rattle.std.proofs.lemmas.List.Elements.{All-from_recursion, All-nil, recursion_from_All}
 use Rattle.std.proofs.lemmas.Option.{none-some, same_Some}
@@ -24,14 +24,17 @@ use Rattle.rb_core_model.specs.Standing.{ClientState, PathState, Standing, book_
 use Rattle.rb_super_turn.specs.Report.{PricedUpdate, PlanReport, PlannedReport, Outcome, held, idle, planned, ClientReport}
 use Rattle.rb_super_turn.specs.Turns.{priced, numbered, reported_plan, reported, IsPlanFor, IsOutcome, IsClientReport}
 use Rattle.rb_forgetting.specs.Left.{IsBookLeft, FitsFloor, HaveFloors}
-use Rattle.rb_forgetting.specs.Remains.{PacketFits, PathFits, IsClientLeft, IsLeftOf, AreRouted}
+use Rattle.rb_forgetting.specs.Remains.{PacketFits, PathFits, IsClientLeft, IsPathLeft, IsLeftOf, AreRouted}
+use Rattle.rb_core_model.proofs.Over.{counted_over}
 use Rattle.rb_forgetting.proofs.Answers.{idle_left, next_left, planned_left, sent_left}
 use Rattle.rb_forgetting.proofs.Books.{same_step}
 use Rattle.rb_forgetting.proofs.Floors.{side, floors_owed}
+use Rattle.rb_forgetting.proofs.Front.{part_later}
 use Rattle.rb_forgetting.proofs.Last.{map_same}
 use Rattle.rb_forgetting.proofs.Owed.{message_same, owed_same}
 use Rattle.rb_forgetting.proofs.Planning.{IsAbove, updates_above, same_cost}
 use Rattle.rb_forgetting.proofs.Tasks.{are_alike}
+use Rattle.rb_forgetting.proofs.Zips.{IsPair, pair_at}
 
 -- ---- paths
 
@@ -61,22 +64,28 @@ module _ (m : ℕ → ℕ) (s t : Standing) (left : IsLeftOf m s t) where
       part fits
 
   owed_at_same : (path : ℕ) (part : Part) → owed_at s path part ≡ owed_at t path part
-  owed_at_same path part =
-      go (slice_get s.paths path) refl
-      ∙ ap (λ (ps : List PathState). option_map_or (λ v. owed_part v part) (option_map (view_of_path t.books) (slice_get ps path)) []) (sym left.paths)
+  owed_at_same path part = go (pair_at IsPathLeft s.paths t.paths path left.paths)
     where
-      go : (o : Option PathState) → slice_get s.paths path ≡ o
-          → option_map_or (λ v. owed_part v part) (option_map (view_of_path s.books) (slice_get s.paths path)) [] ≡ option_map_or (λ v. owed_part v part) (option_map (view_of_path t.books) (slice_get s.paths path)) []
-      go None e =
-          ap (λ o. option_map_or (λ v. owed_part v part) (option_map (view_of_path s.books) o) []) e
-          ∙ sym (ap (λ o. option_map_or (λ v. owed_part v part) (option_map (view_of_path t.books) o) []) e)
-      go (Some p) e =
-          ap (λ o. option_map_or (λ v. owed_part v part) (option_map (view_of_path s.books) o) []) e
-          ∙ path_same p part (at_all (PathFits m s.books) s.paths path p (recursion_from_All (PathFits m s.books) s.paths left.fit) e)
-          ∙ sym (ap (λ o. option_map_or (λ v. owed_part v part) (option_map (view_of_path t.books) o) []) e)
+      go : ((slice_get s.paths path ≡ None) × (slice_get t.paths path ≡ None)) ⊎ IsPair IsPathLeft s.paths t.paths path → owed_at s path part ≡ owed_at t path part
+      go (inl none) =
+          ap (λ o. option_map_or (λ v. owed_part v part) (option_map (view_of_path s.books) o) []) none.0
+          ∙ sym (ap (λ o. option_map_or (λ v. owed_part v part) (option_map (view_of_path t.books) o) []) none.1)
+      go (inr x) =
+          let p = x.first in
+          ap (λ o. option_map_or (λ v. owed_part v part) (option_map (view_of_path s.books) o) []) x.in_first
+          ∙ path_same p part (at_all (PathFits m s.books) s.paths path p (recursion_from_All (PathFits m s.books) s.paths left.fit) x.in_first)
+          ∙ part_later (view_of_path t.books p) x.related.went (counted_over p.config.order p.first x.related.went p.packets x.related.over) part
+          ∙ sym (ap (λ o. option_map_or (λ v. owed_part v part) (option_map (view_of_path t.books) o) []) (x.in_second ∙ ap Some x.related.is))
+
+  paths_same : (owed : ℕ → Part → List PacketMsg) (client n : ℕ) (ps qs : List PathState) → AllZip IsPathLeft ps qs → filter_map (path_task owed client) (enumerate_from n ps) ≡ filter_map (path_task owed client) (enumerate_from n qs)
+  paths_same owed client n [] [] all = refl
+  paths_same owed client n [] (q ∷ qs) all = absurd all
+  paths_same owed client n (p ∷ ps) [] all = absurd all
+  paths_same owed client n (p ∷ ps) (q ∷ qs) all =
+      λ i. cons_option (path_task owed client (n, sym all.0.is i)) (paths_same owed client (n + 1) ps qs all.1 i)
 
   tasks_same : (client : ℕ) → path_tasks (owed_at s) s.paths client ≡ path_tasks (owed_at t) t.paths client
-  tasks_same client = λ i. path_tasks (λ path part. owed_at_same path part i) (sym left.paths i) client
+  tasks_same client = (λ i. path_tasks (λ path part. owed_at_same path part i) s.paths client) ∙ paths_same (owed_at t) client 0 s.paths t.paths left.paths
 
   -- ---- floors
 

@@ -1,32 +1,23 @@
--- What is left from heights on that are records' is left of all, and is light stores again.
-use Rattle.std.proofs.Common.{◌≡◌, ℕ, zero, suc, ◌<◌, ◌≤◌, ◌==◌, ◌⊎◌, Bool, true, false, cond, not, ◌||◌, nat_le, List, [], ◌∷◌, ◌++◌, length, map, Option, Some, None, inl, inr, refl, sym, ap, ◌∙◌, subst, arith}
-use Rattle.std.specs.List.{All, AllByRecursion, AllPairs, Contains, IsDistinct, filter, find, list_any, slice_get, slice_index_or}
-use Rattle.std.specs.List.Sorted.{IsStrictlyIncreasing}
-use Rattle.std.specs.Option.{IfSome, IsSome, IsSomeAnd, option_map}
+-- What is left from heights on that are records' is left of all.
+use Rattle.std.proofs.Common.{◌≡◌, ℕ, ◌<◌, ◌≤◌, ◌==◌, ◌⊎◌, Bool, true, false, cond, not, nat_le, List, [], ◌∷◌, ◌++◌, Option, Some, None, inl, inr, refl, sym, ap, ◌∙◌, subst, arith}
+use Rattle.std.specs.List.{All, AllByRecursion, AllPairs, filter, find, slice_get}
+use Rattle.std.specs.Option.{IfSome, IsSome, IsSomeAnd}
 use Rattle.std.specs.Cmp.Lexicographic.{slice_cmp, texts_ties}
 use Rattle.std.specs.Ordering.{is_eq, is_lt, nat_cmp}
-use Rattle.std.specs.Set.{unique_keys, is_member}
-use Rattle.std.specs.Str.{bytes_eq}
 use Rattle.std.proofs.lemmas.Bool.{eqb-true, le-leb, leb-true, leb-false, not-true, true≢false, false≢true}
-use Rattle.std.proofs.lemmas.Cmp.{nat_list_eq_equiv}
-use Rattle.std.proofs.lemmas.List.Elements.{All-contains_itself, All-filter, All-weaker, filter_passes, recursion_from_All}
-use Rattle.std.proofs.lemmas.List.Kept.{AllPairs-filter}
-use Rattle.std.proofs.lemmas.List.Sums.{length-filter, count_by-le-length}
-use Rattle.std.proofs.lemmas.Map.Made.{length-le_from_is_member}
-use Rattle.std.proofs.lemmas.Option.{none-some, same_Some}
+use Rattle.std.proofs.lemmas.List.Elements.{All-weaker, filter_passes, recursion_from_All}
+use Rattle.std.proofs.lemmas.Option.{none-some}
 use Rattle.std.proofs.lemmas.Slice.Eq.{bytes_eq-Decides}
-use Rattle.rb_valset.specs.Validator.{Member, has_address}
-use Rattle.rb_valset.specs.ValidatorSet.{IsValidatorSet, set_hash}
-use Rattle.rb_book.specs.Header.{Header}
-use Rattle.rb_book.specs.Book.{Book, RecordAt, height_of, time_of, header_height, is_at, has_hash, is_before, set_of, record_at, addresses_of, address_count}
-use Rattle.rb_book.specs.Invariant.{IsBook, IsBacked}
-use Rattle.rb_book.proofs.AddressCount.{absent_all, known-addresses, member-unique}
-use Rattle.rb_book.proofs.Lists.{found_passes}
+use Rattle.rb_valset.specs.Validator.{Member}
+use Rattle.rb_valset.specs.ValidatorSet.{set_hash}
+use Rattle.rb_book.specs.Book.{Book, RecordAt, height_of, header_height, is_at, has_hash, is_before, set_of, record_at}
+use Rattle.rb_book.specs.Invariant.{IsBook}
 use Rattle.rb_book.proofs.Places.{less_from_lt}
-use Rattle.rb_book.proofs.Rising.{Up, Up-from_increasing, Up-from_pairs, Up-weaker, increasing_from_up}
+use Rattle.rb_book.proofs.Resting.{mapped, next_stays, own_stays}
+use Rattle.rb_book.proofs.Rising.{Up, Up-from_increasing, Up-from_pairs, Up-weaker}
 use Rattle.rb_forgetting.specs.Left.{IsLeft, IsBookLeft}
-use Rattle.rb_forgetting.specs.Rest.{is_from, header_is_from, is_named, is_left, rest_of_book, IsAtRecord}
-use Rattle.rb_forgetting.proofs.Books.{record_here}
+use Rattle.rb_book.specs.Rest.{is_from, is_left, rest_of_book}
+use Rattle.rb_forgetting.specs.Rest.{IsAtRecord}
 
 -- ---- filters
 
@@ -88,26 +79,6 @@ first_is {X} f m (x ∷ xs) up k e = go (first_is f m xs up.1 k) (f x == m) refl
 
 -- ---- look-ups in a filter
 
--- what is found is found in the filter, if it passes
-found_kept : {X : Type 0} (p q : X → Bool) (xs : List X) (x : X) → find p xs ≡ Some x → q x ≡ true → find p (filter q xs) ≡ Some x
-found_kept p q [] x e t = absurd (none-some x e)
-found_kept {X} p q (y ∷ ys) x e t = go (found_kept p q ys x) (p y) refl e (q y) refl
-  where
-    go : (find p ys ≡ Some x → q x ≡ true → find p (filter q ys) ≡ Some x) → (b : Bool) → p y ≡ b → cond b (Some y) (find p ys) ≡ Some x → (c : Bool) → q y ≡ c → find p (cond c (y ∷ filter q ys) (filter q ys)) ≡ Some x
-    go rest true f e true g = ap (λ b. cond b (Some y) (find p (filter q ys))) f ∙ e
-    go rest true f e false g = absurd (true≢false (sym t ∙ sym (ap q (same_Some y x e)) ∙ g))
-    go rest false f e true g = ap (λ b. cond b (Some y) (find p (filter q ys))) f ∙ rest e t
-    go rest false f e false g = rest e t
-
-none_kept : {X : Type 0} (p q : X → Bool) (xs : List X) → find p xs ≡ None → find p (filter q xs) ≡ None
-none_kept p q [] e = refl
-none_kept {X} p q (y ∷ ys) e = go (none_kept p q ys) (p y) refl e (q y)
-  where
-    go : (find p ys ≡ None → find p (filter q ys) ≡ None) → (b : Bool) → p y ≡ b → cond b (Some y) (find p ys) ≡ None → (c : Bool) → find p (cond c (y ∷ filter q ys) (filter q ys)) ≡ None
-    go rest true f e c = absurd (none-some y (sym e))
-    go rest false f e true = ap (λ b. cond b (Some y) (find p (filter q ys))) f ∙ rest e
-    go rest false f e false = rest e
-
 -- where at most one passes, what is found in the filter is found in all
 only_found : {X : Type 0} (p q : X → Bool) (xs : List X) → Up (λ x y. p x ≡ true → p y ≡ true → ⊥) xs → (x : X) → find p (filter q xs) ≡ Some x → find p xs ≡ Some x
 only_found p q [] up x e = absurd (none-some x e)
@@ -128,80 +99,11 @@ only_found {X} p q (y ∷ ys) up x e = go (only_found p q ys up.1 x) (q y) refl 
     go rest false g e true f = absurd (none_later ys up.0 f e)
     go rest false g e false f = rest e
 
-any_in : {X : Type 0} (p : X → Bool) (xs : List X) (x : X) → Contains xs x → p x ≡ true → list_any p xs ≡ true
-any_in p [] x (k, lt, e) t = absurd (omega arith)
-any_in p (y ∷ ys) x (zero, lt, e) t = ap (λ b. b || list_any p ys) (ap p e ∙ t)
-any_in p (y ∷ ys) x (suc k, lt, e) t = ap (λ b. p y || b) (any_in p ys x (k, omega arith, e) t) ∙ or_true (p y)
-  where
-    or_true : (b : Bool) → (b || true) ≡ true
-    or_true true = refl
-    or_true false = refl
-
--- ---- fewer addresses
-
-any_filter : {X : Type 0} (p q : X → Bool) (xs : List X) → list_any p (filter q xs) ≡ true → list_any p xs ≡ true
-any_filter p q [] e = e
-any_filter {X} p q (x ∷ xs) e = go (any_filter p q xs) (q x) e (p x) refl
-  where
-    go : (list_any p (filter q xs) ≡ true → list_any p xs ≡ true) → (c : Bool) → list_any p (cond c (x ∷ filter q xs) (filter q xs)) ≡ true → (b : Bool) → p x ≡ b → (b || list_any p xs) ≡ true
-    go rest c e true f = refl
-    go rest true e false f = rest (sym (ap (λ b. b || list_any p (filter q xs)) f) ∙ e)
-    go rest false e false f = rest e
-
-pub distinct : (xs : List (List ℕ)) → IsDistinct bytes_eq (unique_keys bytes_eq xs)
-unfolding IsDistinct
-distinct [] = tt
-distinct (x ∷ xs) = by (is_member bytes_eq xs x) refl (distinct xs)
-  where
-    by : (b : Bool) → is_member bytes_eq xs x ≡ b → IsDistinct bytes_eq (unique_keys bytes_eq xs) → IsDistinct bytes_eq (cond b (unique_keys bytes_eq xs) (x ∷ unique_keys bytes_eq xs))
-    by true m r = r
-    by false m r = (absent_all x (unique_keys bytes_eq xs) (member-unique xs x ∙ m), r)
-
-fewer_addresses : (q : List Member → Bool) (ss : List (List Member)) → address_count (filter q ss) ≤ address_count ss
-fewer_addresses q ss =
-    length-le_from_is_member nat_list_eq_equiv (unique_keys bytes_eq (addresses_of (filter q ss))) (unique_keys bytes_eq (addresses_of ss)) (distinct (addresses_of (filter q ss)))
-    (λ a e. member-unique (addresses_of ss) a ∙ known-addresses ss a ∙ any_filter (list_any (has_address a)) q ss (sym (known-addresses (filter q ss) a) ∙ sym (member-unique (addresses_of (filter q ss)) a) ∙ e))
-
-fewer : {X : Type 0} (q : X → Bool) (xs : List X) → length (filter q xs) ≤ length xs
-fewer q xs = (let e = length-filter q xs in let le = count_by-le-length q xs in omega arith)
-
--- numbers that rise do so in a filter
-up_filter : {X : Type 0} (R : X → X → Type 0) (q : X → Bool) (xs : List X) → Up R xs → Up R (filter q xs)
-up_filter R q [] up = tt
-up_filter {X} R q (x ∷ xs) up = go (q x) (up_filter R q xs up.1)
-  where
-    all_filter : (ys : List X) → AllByRecursion (R x) ys → AllByRecursion (R x) (filter q ys)
-    all_filter [] all = tt
-    all_filter (y ∷ ys) all = step (q y) (all_filter ys all.1)
-      where
-        step : (b : Bool) → AllByRecursion (R x) (filter q ys) → AllByRecursion (R x) (cond b (y ∷ filter q ys) (filter q ys))
-        step true rest = (all.0, rest)
-        step false rest = rest
-
-    go : (b : Bool) → Up R (filter q xs) → Up R (cond b (x ∷ filter q xs) (filter q xs))
-    go true rest = (all_filter xs up.0, rest)
-    go false rest = rest
-
-increasing_filter : {X : Type 0} (f : X → ℕ) (q : X → Bool) (xs : List X) → IsStrictlyIncreasing (map f xs) → IsStrictlyIncreasing (map f (filter q xs))
-increasing_filter f q xs rising = increasing_from_up f (filter q xs) (up_filter (λ x y. f x < f y) q xs (Up-from_increasing f xs rising))
-
 -- ---- a light store
 
 some_is : {X : Type 0} (o : Option X) → IsSome o → (x : X) × (o ≡ Some x)
 some_is None p = absurd (false≢true p)
 some_is (Some x) p = (x, refl)
-
-mapped : {X Y : Type 0} (f : X → Y) (o : Option X) (y : Y) → option_map f o ≡ Some y → (x : X) × (o ≡ Some x)
-mapped f None y e = absurd (none-some y e)
-mapped f (Some x) y e = (x, refl)
-
-or_left : (a b : Bool) → a ≡ true → (a || b) ≡ true
-or_left true b e = refl
-or_left false b e = absurd (false≢true e)
-
-or_right : (a b : Bool) → b ≡ true → (a || b) ≡ true
-or_right true b e = refl
-or_right false b e = e
 
 if_all : {X : Type 0} (P : X → Type 0) (o : Option X) → ((x : X) → o ≡ Some x → P x) → IfSome o P
 if_all P None h = tt
@@ -239,63 +141,13 @@ module _ (m : ℕ) (b : Book) (book : IsBook b) (at : IsAtRecord m b) where
   one_hash : (hash : List ℕ) → Up (λ (x y : List Member). has_hash hash x ≡ true → has_hash hash y ≡ true → ⊥) b.sets
   one_hash hash = apart_hashes hash b.sets book.hashes
 
-  set_stays : (hash : List ℕ) → is_named (filter (is_from m) b.records) (filter (header_is_from m) b.headers) hash ≡ true → set_of b hash ≡ set_of (rest_of_book m b) hash
-  set_stays hash named = go (set_of b hash) refl
-    where
-      go : (o : Option (List Member)) → set_of b hash ≡ o → set_of b hash ≡ set_of (rest_of_book m b) hash
-      go None e = e ∙ sym (none_kept (has_hash hash) (is_left m b) b.sets e)
-      go (Some x) e =
-          let same : set_hash x ≡ hash = (bytes_eq-Decides (set_hash x) hash).0 (found_passes (has_hash hash) b.sets x e) in
-          let stays : is_left m b x ≡ true =
-          or_left (is_named (filter (is_from m) b.records) (filter (header_is_from m) b.headers) (set_hash x)) _
-          (ap (is_named (filter (is_from m) b.records) (filter (header_is_from m) b.headers)) same ∙ named) in
-          e ∙ sym (found_kept (has_hash hash) (is_left m b) b.sets x e stays)
-
   pub book_rest : IsBookLeft m b (rest_of_book m b)
   book_rest = record {
     limit = refl;
     records = left_filter height_of m b.records rises;
     headers = left_filter header_height m b.headers (Up-from_increasing header_height b.headers book.headers);
     first = first;
-    sets = λ hash. if_all (λ x. set_of b hash ≡ Some x) (set_of (rest_of_book m b) hash) (λ x e. only_found (has_hash hash) (is_left m b) b.sets (one_hash hash) x e);
-    next =
-        All-weaker (Contains (filter (is_from m) b.records)) (λ (k : RecordAt). set_of b k.record_of.next ≡ set_of (rest_of_book m b) k.record_of.next)
-        (λ k has. set_stays k.record_of.next
-        (or_left (list_any (λ (j : RecordAt). bytes_eq j.record_of.next k.record_of.next) (filter (is_from m) b.records)) _
-        (any_in (λ (j : RecordAt). bytes_eq j.record_of.next k.record_of.next) (filter (is_from m) b.records) k has ((bytes_eq-Decides k.record_of.next k.record_of.next).1 refl))))
-        (filter (is_from m) b.records) (All-contains_itself (filter (is_from m) b.records));
-    own =
-        All-weaker (Contains (filter (header_is_from m) b.headers)) (λ (h : Header). set_of b h.set_hash ≡ set_of (rest_of_book m b) h.set_hash)
-        (λ h has. set_stays h.set_hash
-        (or_right _ (list_any (λ (j : Header). bytes_eq j.set_hash h.set_hash) (filter (header_is_from m) b.headers))
-        (any_in (λ (j : Header). bytes_eq j.set_hash h.set_hash) (filter (header_is_from m) b.headers) h has ((bytes_eq-Decides h.set_hash h.set_hash).1 refl))))
-        (filter (header_is_from m) b.headers) (All-contains_itself (filter (header_is_from m) b.headers));
+    sets = λ hash. if_all (λ x. set_of b hash ≡ Some x) (set_of (rest_of_book m b) hash) (λ x e. only_found (has_hash hash) (is_left m b.records b.headers) b.sets (one_hash hash) x e);
+    next = next_stays m b book;
+    own = own_stays m b book;
   }
-
-  backed_rest : All (IsBacked (rest_of_book m b)) (filter (header_is_from m) b.headers)
-  backed_rest = λ k d lt.
-      let h = slice_index_or (filter (header_is_from m) b.headers) k d in
-      let was : IsBacked b h = All-filter (header_is_from m) (IsBacked b) b.headers book.backed k d lt in
-      let high : m ≤ h.height = book_rest.headers.above k d lt in
-      let own : set_of b h.set_hash ≡ set_of (rest_of_book m b) h.set_hash = book_rest.own k d lt in
-      record { recorded = sym (record_here m b (rest_of_book m b) book_rest h.height high) ∙ was.recorded; own = (was.own.0, sym own ∙ was.own.1, was.own.2); good = was.good }
-
-  pub rest_is_book : IsBook (rest_of_book m b)
-  rest_is_book =
-      let few_records = book.few_records in
-      let few_sets = book.few_sets in
-      let few_addresses = book.few_addresses in
-      let records = fewer (is_from m) b.records in
-      let sets = fewer (is_left m b) b.sets in
-      let addresses = fewer_addresses (is_left m b) b.sets in
-      record {
-        records = record { heights = increasing_filter height_of (is_from m) b.records book.records.heights; times = increasing_filter time_of (is_from m) b.records book.records.times };
-        headers = increasing_filter header_height (header_is_from m) b.headers book.headers;
-        hashes = AllPairs-filter (λ (x y : List Member). is_before (set_hash y) x ≡ true) (is_left m b) b.sets book.hashes;
-        sets = All-filter (is_left m b) IsValidatorSet b.sets book.sets;
-        backed = backed_rest;
-        limit = book.limit;
-        few_records = omega arith;
-        few_sets = omega arith;
-        few_addresses = omega arith;
-      }

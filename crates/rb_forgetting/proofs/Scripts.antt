@@ -1,18 +1,16 @@
 -- In a script, forgetting changes no report.
-use Rattle.std.proofs.Common.{◌≡◌, ℕ, zero, suc, ◌+◌, ◌<◌, ◌≤◌, ◌==◌, ◌⊎◌, nat_le, Bool, true, false, cond, List, [], ◌∷◌, length, map, set, Option, Some, None, is_some, inl, inr, refl, sym, ap, ◌∙◌, subst, arith}
-use Rattle.std.specs.List.{All, AllByRecursion, AllZip, filter, fold, slice_get}
+use Rattle.std.proofs.Common.{◌≡◌, ℕ, zero, suc, ◌+◌, ◌<◌, ◌≤◌, ◌==◌, ◌⊎◌, Bool, true, false, cond, List, [], ◌∷◌, length, map, set, Option, Some, None, is_some, inl, inr, refl, sym, ap, ◌∙◌, subst, arith}
+use Rattle.std.specs.List.{All, AllByRecursion, AllZip, fold, slice_get}
 use Rattle.std.proofs.lemmas.List.{length-map}
-use Rattle.std.proofs.lemmas.List.Kept.{IsStrictlyIncreasing-filter}
 use Rattle.std.specs.List.Sorted.{IsStrictlyIncreasing}
-use Rattle.std.specs.Option.{IfSome, IsSome, IsSomeAnd, option_map, option_map_or, option_and_then}
-use Rattle.std.proofs.lemmas.Bool.{eqb-true, leb-true}
+use Rattle.std.specs.Option.{IfSome, IsSomeAnd, option_map, option_map_or, option_and_then}
+use Rattle.std.proofs.lemmas.Bool.{eqb-true}
 use Rattle.std.proofs.lemmas.List.Elements.{All-from_recursion, All-nil, recursion_from_All}
 use Rattle.std.proofs.lemmas.Option.{none-some, same_Some, slice_get-map}
 use Rattle.rb_base.specs.Window.{Span}
 use Rattle.rb_base.specs.declared.gate.Part.{Part}
 use Rattle.rb_base.specs.declared.gate.Part.TheVariants.{Packets, Channel}
-use Rattle.rb_book.specs.Header.{Record}
-use Rattle.rb_book.specs.Book.{Book, RecordAt, height_of, header_height, set_of, record_at}
+use Rattle.rb_book.specs.Book.{Book, RecordAt, height_of, header_height, set_of}
 use Rattle.rb_book.specs.Invariant.{IsBook}
 use Rattle.rb_book.specs.Laws.{FindsWhatWasAdded, StaysABook}
 use Rattle.rb_book.proofs.Kept.{empty_is_book}
@@ -38,14 +36,16 @@ use Rattle.rb_super_turn.specs.Turns.{after_window, after_question, before_event
 use Rattle.rb_forgetting.specs.Free.{after_freely, turn_freely, AreFreeReports}
 use Rattle.rb_forgetting.specs.Laws.{HasRoom, AreSpared, forgotten, MayForget, raised, AreForgetful, AreSparedRuns, ForgettingIsUnseen, floors_if, floors_after, AreSparedTurns, ForgettingByFloorsIsUnseen}
 use Rattle.rb_forgetting.specs.Left.{IsLeft, IsBookLeft, AreStoredLeft}
-use Rattle.rb_forgetting.specs.Needs.{floor}
-use Rattle.rb_forgetting.specs.Rest.{rest, rest_of_books, rest_of_client, NeedsNoLower, AreFloors}
+use Rattle.rb_core_model.specs.Forgetting.{floor, rest, rest_of_client}
+use Rattle.rb_forgetting.specs.Rest.{NeedsNoLower, AreFloors}
 use Rattle.rb_forgetting.specs.Remains.{IsAfterGone, PacketFits, IsClientLeft, IsLeftOf, AreRouted}
 use Rattle.rb_forgetting.proofs.Fit.{IsFit, opening_fit, before_fit, turn_fit, seen_outside}
 use Rattle.rb_forgetting.proofs.Again.{left_of_left}
-use Rattle.rb_forgetting.proofs.Books.{record_here}
-use Rattle.rb_forgetting.proofs.Forgotten.{length-rest, rest_is_left}
+use Rattle.rb_core_model.specs.Over.{rest_of_path}
+use Rattle.rb_core_model.proofs.Left.{NeedNoLower, length-rest, path_configs_same, rest_sound as left_sound_from}
+use Rattle.rb_forgetting.proofs.Forgotten.{rest_is_left}
 use Rattle.rb_forgetting.proofs.Needed.{floors_are_floors}
+use Rattle.rb_forgetting.proofs.Paths.{all_there}
 use Rattle.rb_forgetting.proofs.Plannable.{IsPlannable}
 use Rattle.rb_forgetting.proofs.Room.{same_after, turn_same, with_limits}
 use Rattle.rb_forgetting.proofs.Turns.{turn_reported, turn_left}
@@ -298,7 +298,7 @@ self_left s w in_force books = record {
   window = w;
   in_force = in_force;
   still = in_force;
-  paths = refl;
+  paths = all_there s.paths;
   chains = refl;
   books = λ chain. book_left (book_at s.books chain);
   rises = λ chain. (books chain).records;
@@ -326,53 +326,21 @@ rising_clients : (books : List Book) (cs : List ClientState) → AllByRecursion 
 rising_clients books [] all = tt
 rising_clients books (c ∷ cs) all = (all.0.rising, rising_clients books cs all.1)
 
-from_height : (P Q : ℕ → Type 0) (m : ℕ) → ((h : ℕ) → m ≤ h → P h → Q h) → (xs : List ℕ) → AllByRecursion P xs → AllByRecursion Q (filter (λ h. nat_le m h) xs)
-from_height P Q m f [] all = tt
-from_height P Q m f (x ∷ xs) all = go (nat_le m x) refl (from_height P Q m f xs all.1)
-  where
-    go : (b : Bool) → nat_le m x ≡ b → AllByRecursion Q (filter (λ h. nat_le m h) xs) → AllByRecursion Q (cond b (x ∷ filter (λ h. nat_le m h) xs) (filter (λ h. nat_le m h) xs))
-    go true e rest = (f x (leb-true m x e) all.0, rest)
-    go false e rest = rest
-
-updates_from : (P Q : ℕ → Type 0) (m : ℕ) → ((h : ℕ) → m ≤ h → P h → Q h) → (us : List Update) → AllByRecursion (λ (u : Update). m ≤ u.height) us → AllByRecursion (λ (u : Update). P u.height) us
-    → AllByRecursion (λ (u : Update). Q u.height) us
-updates_from P Q m f [] high all = tt
-updates_from P Q m f (u ∷ us) high all = (f u.height high.0 all.0, updates_from P Q m f us high.1 all.1)
-
 module _ (m : ℕ → ℕ) (s : Standing) (are : AreFloors m s) (sound : IsSound s) where
   left : IsLeftOf m s (rest m s)
   left = rest_is_left m s are (book_all s.books sound.books) (All-from_recursion (λ (c : ClientState). IsStrictlyIncreasing c.stored) s.clients (rising_clients s.books s.clients sound.clients))
 
-  recorded : (chain h : ℕ) → m chain ≤ h → IsSome (record_at (book_at s.books chain) h) → IsSome (record_at (book_at (rest_of_books m 0 s.books) chain) h)
-  recorded chain h le is = subst (λ (o : Option Record). IsSome o) (record_here (m chain) (book_at s.books chain) (book_at (rest_of_books m 0 s.books) chain) (left.books chain) h le) is
-
-  client_sound : (c : ClientState) → NeedsNoLower (m c.config.tracks) are.window (book_at s.books c.config.tracks) c → IsSoundClient s.books c → IsSoundClient (rest_of_books m 0 s.books) (rest_of_client m c)
-  client_sound c needs is = record {
-    tracks = subst (λ n. c.config.tracks < n) (sym (length-rest m 0 s.books)) is.tracks;
-    fees = is.fees;
-    rising = IsStrictlyIncreasing-filter (λ h. nat_le (m c.config.tracks) h) c.stored is.rising;
-    recorded =
-        from_height (λ h. IsSome (record_at (book_at s.books c.config.tracks) h)) (λ h. IsSome (record_at (book_at (rest_of_books m 0 s.books) c.config.tracks) h)) (m c.config.tracks) (recorded c.config.tracks) c.stored is.recorded;
-    updates = λ b e.
-        updates_from (λ h. IsSome (record_at (book_at s.books c.config.tracks) h)) (λ h. IsSome (record_at (book_at (rest_of_books m 0 s.books) c.config.tracks) h)) (m c.config.tracks) (recorded c.config.tracks) b.updates
-        (recursion_from_All (λ (u : Update). m c.config.tracks ≤ u.height) b.updates (subst (λ (o : Option OpenBatch). IfSome o (λ (x : OpenBatch). All (λ (u : Update). m c.config.tracks ≤ u.height) x.updates)) e needs.batch))
-        (is.updates b e);
-    apart = is.apart;
-  }
-
-  clients_sound : (cs : List ClientState) → AllByRecursion (λ (c : ClientState). NeedsNoLower (m c.config.tracks) are.window (book_at s.books c.config.tracks) c) cs → AllByRecursion (IsSoundClient s.books) cs
-      → AllByRecursion (IsSoundClient (rest_of_books m 0 s.books)) (map (rest_of_client m) cs)
-  clients_sound [] needs all = tt
-  clients_sound (c ∷ cs) needs all = (client_sound c needs.0 all.0, clients_sound cs needs.1 all.1)
-
   rest_sound : IsSound (rest m s)
-  rest_sound = record {
-    window = sound.window;
-    books = all_places (rest_of_books m 0 s.books) left.rest;
-    clients =
-        clients_sound s.clients (recursion_from_All (λ (c : ClientState). NeedsNoLower (m c.config.tracks) are.window (book_at s.books c.config.tracks) c) s.clients are.clients) sound.clients;
-    paths = sound.paths;
-  }
+  rest_sound =
+      left_sound_from m s sound
+      (each_client s.clients (recursion_from_All (λ (c : ClientState). NeedsNoLower (m c.config.tracks) are.window (book_at s.books c.config.tracks) c) s.clients are.clients))
+    where
+      each_client : (cs : List ClientState) → AllByRecursion (λ (c : ClientState). NeedsNoLower (m c.config.tracks) are.window (book_at s.books c.config.tracks) c) cs → AllByRecursion (λ (c : ClientState). NeedNoLower (m c.config.tracks) c) cs
+      each_client [] all = tt
+      each_client (c ∷ cs) all = (
+        λ b e. recursion_from_All (λ (u : Update). m c.config.tracks ≤ u.height) b.updates (subst (λ (o : Option OpenBatch). IfSome o (λ (x : OpenBatch). All (λ (u : Update). m c.config.tracks ≤ u.height) x.updates)) e all.0.batch),
+        each_client cs all.1,
+      )
 
 rest_configs : (m : ℕ → ℕ) (cs : List ClientState) → map (λ (c : ClientState). c.config) (map (rest_of_client m) cs) ≡ map (λ (c : ClientState). c.config) cs
 rest_configs m [] = refl
@@ -384,12 +352,12 @@ forgotten_fit config (Some m) s may fit = record {
   sound = rest_sound m s may fit.sound;
   books = length-rest m 0 s.books ∙ fit.books;
   clients = length-map s.clients (rest_of_client m) ∙ fit.clients;
-  paths = fit.paths;
+  paths = length-map s.paths rest_of_path ∙ fit.paths;
 }
 
 forgotten_configs : (config : Config) (o : Option (ℕ → ℕ)) (s : Standing) → HasConfigs config s → HasConfigs config (forgotten o s)
 forgotten_configs config None s has = has
-forgotten_configs config (Some m) s has = record { clients = rest_configs m s.clients ∙ has.clients; paths = has.paths }
+forgotten_configs config (Some m) s has = record { clients = rest_configs m s.clients ∙ has.clients; paths = path_configs_same s.paths ∙ has.paths }
 
 forgotten_left : (s t : Standing) (k : ℕ → ℕ) → IsLeftOf k s t → IsSound t → (o : Option (ℕ → ℕ)) → MayForget o t → IsLeftOf (raised k o) s (forgotten o t)
 forgotten_left s t k is sound None may = is

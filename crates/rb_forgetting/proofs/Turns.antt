@@ -7,6 +7,7 @@ use Rattle.std.proofs.lemmas.Option.{none-some, same_Some}
 use Rattle.rb_base.specs.Window.{Span}
 use Rattle.rb_book.specs.Laws.{StaysABook}
 use Rattle.rb_script_types.specs.Config.{Config}
+use Rattle.rb_script_types.specs.declared.config.PathConfig.{PathConfig}
 use Rattle.rb_script_types.specs.declared.refusal.Refusal.{Refusal}
 use Rattle.rb_script_types.specs.declared.refusal.Refusal.TheVariants.{UnknownSet, WrongVerdictCount, BadVote, Conflict, TimeOrder, Full, HashClash, UnknownObject, Stale, Busy, Repeat, OutOfOrder, WindowBack, NotOwed, LogFull}
 use Rattle.rb_script_types.specs.declared.script.Asked.{Asked as Question}
@@ -23,7 +24,7 @@ use Rattle.rb_core_model.specs.Steps.{IsFromOutside}
 use Rattle.rb_super_turn.specs.Report.{PricedUpdate, SendingReport, nothing, too_big, batched, PlanReport, PlannedReport, Outcome, held, idle, planned, ClientReport, TurnReport}
 use Rattle.rb_super_turn.specs.Script.{Turn, IsSeen, IsTurn}
 use Rattle.rb_super_turn.specs.Turns.{after_window, after_question, refused_as, refusals, before_events, before_plans, IsClientReport, update_of, batch_sent, opened, after_outcome, after_reports, after_plans, settlement_event, after_settlement, id_of, settlement_report, settlement_reports, taking, after_taking, taking_reports, takers, after_all, reports_of_all, IsTurnReport, after_turn}
-use Rattle.rb_forgetting.specs.Remains.{IsClientLeft, IsLeftOf, AreRouted}
+use Rattle.rb_forgetting.specs.Remains.{IsClientLeft, IsPathLeft, IsLeftOf, AreRouted}
 use Rattle.rb_forgetting.specs.Spoken.{IsSpared}
 use Rattle.rb_forgetting.specs.Free.{if_not_full, freely, after_freely, refusals_freely, plans_freely, sent_freely, IsFreeReport, turn_freely}
 use Rattle.rb_forgetting.specs.Laws.{AreSpared}
@@ -52,14 +53,27 @@ module _ (m : ℕ → ℕ) (s t : Standing) (left : IsLeftOf m s t) (can : IsPla
   routed : AreRouted s
   routed client path c p at_c at_p = go (pair_at (IsClientLeft m left.window s.books) s.clients t.clients client left.clients)
     where
+      -- what is left of the path is configured as it is
+      there : (d : ClientState) → slice_get t.clients client ≡ Some d
+          → (part_for p.config client ≡ Some Packets → d.config.tracks ≡ p.config.source) × (part_for p.config client ≡ Some Channel → d.config.tracks ≡ p.config.destination)
+      there d at_d = by (pair_at IsPathLeft s.paths t.paths path left.paths)
+        where
+          by : ((slice_get s.paths path ≡ None) × (slice_get t.paths path ≡ None)) ⊎ IsPair IsPathLeft s.paths t.paths path
+              → (part_for p.config client ≡ Some Packets → d.config.tracks ≡ p.config.source) × (part_for p.config client ≡ Some Channel → d.config.tracks ≡ p.config.destination)
+          by (inl none) = absurd (none-some p (sym none.0 ∙ at_p))
+          by (inr x) =
+              let same : x.second.config ≡ p.config = ap (λ (y : PathState). y.config) x.related.is ∙ ap (λ (y : PathState). y.config) (same_Some x.first p (sym x.in_first ∙ at_p)) in
+              subst (λ (config : PathConfig). (part_for config client ≡ Some Packets → d.config.tracks ≡ config.source) × (part_for config client ≡ Some Channel → d.config.tracks ≡ config.destination)) same
+              (can.routed client path d x.second at_d x.in_second)
+
       go : ((slice_get s.clients client ≡ None) × (slice_get t.clients client ≡ None)) ⊎ IsPair (IsClientLeft m left.window s.books) s.clients t.clients client
           → (part_for p.config client ≡ Some Packets → c.config.tracks ≡ p.config.source) × (part_for p.config client ≡ Some Channel → c.config.tracks ≡ p.config.destination)
       go (inl none) = absurd (none-some c (sym none.0 ∙ at_c))
       go (inr pair) =
           let same : c ≡ pair.first = same_Some c pair.first (sym at_c ∙ pair.in_first) in
           let tracks : c.config.tracks ≡ pair.second.config.tracks = ap (λ (x : ClientState). x.config.tracks) same ∙ sym (ap (λ (x : ClientState). x.config.tracks) pair.related.is) in
-          let there = can.routed client path pair.second p pair.in_second (ap (λ (ps : List PathState). slice_get ps path) left.paths ∙ at_p) in
-          (λ e. tracks ∙ there.0 e, λ e. tracks ∙ there.1 e)
+          let routes = there pair.second pair.in_second in
+          (λ e. tracks ∙ routes.0 e, λ e. tracks ∙ routes.1 e)
 
   view_of_rest : (n : ℕ) (c d : ClientState) → IsClientLeft m left.window s.books c d → slice_get t.clients n ≡ Some d
       → IsView (view_of (record (task_in s left.window n c) { stored = d.stored; book = book_at t.books c.config.tracks }))

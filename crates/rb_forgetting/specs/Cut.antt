@@ -1,10 +1,11 @@
 -- A path without its first packets, where those are cleared.
-use Rattle.std.specs.Prelude.{◌≡◌, ℕ, ◌≤◌, true, All}
+use Rattle.std.specs.Prelude.{◌≡◌, ℕ, ◌+◌, ◌≤◌, true, All, drop}
 use Rattle.rb_base.specs.declared.gate.Part.{Part}
 use Rattle.rb_scan.specs.Owed.{packet_at, owed_part}
 use Rattle.rb_scan.specs.Packet.{Packet, is_cleared}
 use Rattle.rb_scan.specs.Path.{Path}
 use Rattle.rb_scan.specs.declared.path.Order.TheVariants.{Unordered}
+use Rattle.rb_core_model.specs.Over.{over_from}
 use Rattle.rb_forgetting.specs.Left.{IsLeft}
 
 -- the second path is the first, an UNORDERED one, without packets that are cleared, below another first sequence
@@ -22,3 +23,8 @@ pub record ActsTheSame (v w : Path) : Type 0 where
 
 abbrev pub CutPathsActTheSame : Type 0
 CutPathsActTheSame = (v w : Path) → IsCutPath v w → ActsTheSame v w
+
+-- so does a path without packets that are over at its front, whatever its order
+abbrev pub FrontsActTheSame : Type 0
+FrontsActTheSame =
+    (v : Path) (n : ℕ) → n ≤ over_from v.order v.first v.packets → ActsTheSame v (record v { first = v.first + n; packets = drop n v.packets })

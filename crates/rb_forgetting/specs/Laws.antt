@@ -16,9 +16,10 @@ use Rattle.rb_core_model.specs.Standing.{ClientState, Standing, opening_standing
 use Rattle.rb_super_turn.specs.Report.{Report}
 use Rattle.rb_super_turn.specs.Script.{Turn, Script, IsScript}
 use Rattle.rb_super_turn.specs.Turns.{before_events, IsTurnReport, after_turn, IsReportOf}
-use Rattle.rb_forgetting.specs.Needs.{floor}
+use Rattle.rb_core_model.specs.Forgetting.{floor}
 use Rattle.rb_forgetting.specs.Remains.{IsLeftOf}
-use Rattle.rb_forgetting.specs.Rest.{rest, AreFloors}
+use Rattle.rb_core_model.specs.Forgetting.{rest}
+use Rattle.rb_forgetting.specs.Rest.{AreFloors}
 use Rattle.rb_forgetting.specs.Spoken.{IsSpared}
 
 -- No event speaks of what was forgotten, and none is refused because a light store or a path is full. The first is how things would stand, were

@@ -3,7 +3,6 @@ pub mod Left
 pub mod Remains
 pub mod Spoken
 pub mod Rest
-pub mod Needs
 pub mod Free
 pub mod Laws
 pub mod Cut

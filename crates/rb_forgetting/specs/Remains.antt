@@ -1,4 +1,4 @@
--- What is left of how things stand, where light stores forgot what is below a height of each chain.
+-- What is left of how things stand, where light stores forgot what is below a height of each chain, and paths what was over.
 use Rattle.std.specs.Prelude.{◌≡◌, ℕ, ◌+◌, ◌<◌, ◌≤◌, ◌⊎◌, true, false, List, length, All, Some, IfSome, slice_get}
 use Rattle.std.specs.List.{AllZip}
 use Rattle.rb_base.specs.Window.{Span}
@@ -10,6 +10,7 @@ use Rattle.rb_scan.specs.declared.path.Order.TheVariants.{Unordered}
 use Rattle.rb_step.specs.LightClient.{Update}
 use Rattle.rb_base.specs.declared.gate.Part.TheVariants.{Packets, Channel}
 use Rattle.rb_core_model.specs.Config.{part_for}
+use Rattle.rb_core_model.specs.Over.{over_in, from_later}
 use Rattle.rb_core_model.specs.Standing.{OpenBatch, ClientState, PathState, Standing, book_at}
 use Rattle.rb_forgetting.specs.Left.{IsBookLeft, AreStoredLeft}
 
@@ -39,13 +40,21 @@ pub record IsClientLeft (m : ℕ → ℕ) (w : Span) (books : List Book) (c d : 
   pub stored : AreStoredLeft (m c.config.tracks) c.config.options.period w (book_at books c.config.tracks) c.stored d.stored
   pub batch : IfSome c.batch (λ (b : OpenBatch). All (λ (u : Update). m c.config.tracks ≤ u.height) b.updates)
 
+-- ---- of a path
+
+-- so many packets at its front, which are over, went: it goes on from a later sequence
+pub record IsPathLeft (p q : PathState) : Type 0 where
+  pub went : ℕ
+  pub over : went ≤ over_in p
+  pub is : q ≡ from_later went p
+
 -- ---- of how things stand
 
 pub record IsLeftOf (m : ℕ → ℕ) (s t : Standing) : Type 0 where
   pub window : Span
   pub in_force : s.window ≡ Some window
   pub still : t.window ≡ Some window
-  pub paths : t.paths ≡ s.paths
+  pub paths : AllZip IsPathLeft s.paths t.paths
   pub chains : length t.books ≡ length s.books
   pub books : (chain : ℕ) → IsBookLeft (m chain) (book_at s.books chain) (book_at t.books chain)
   pub rises : (chain : ℕ) → Rises (book_at s.books chain).records

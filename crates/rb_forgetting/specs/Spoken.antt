@@ -1,5 +1,5 @@
 -- What events may not speak of, where some of how things stand was forgotten.
-use Rattle.std.specs.Prelude.{◌≡◌, ℕ, ◌+◌, ◌≤◌, ◌⊎◌, List, Option, Some, None, IfSome, slice_get}
+use Rattle.std.specs.Prelude.{◌≡◌, ℕ, ◌+◌, ◌<◌, ◌≤◌, ◌⊎◌, List, Option, Some, None, IfSome, slice_get}
 use Rattle.rb_valset.specs.Validator.{Member}
 use Rattle.rb_valset.specs.ValidatorSet.{set_hash}
 use Rattle.rb_book.specs.Header.{Record, Header}
@@ -34,6 +34,10 @@ SparesPacket m s path sequence block timeout_height timeout_time =
 abbrev pub SparesAck : (ℕ → ℕ) → Standing → ℕ → ℕ → Type 0
 SparesAck m s path block = IfSome (slice_get s.paths path) (λ (p : PathState). (p.config.order ≡ Unordered) ⊎ (m p.config.destination ≤ block + 1))
 
+-- no packet with the sequence was forgotten of the path
+abbrev pub SparesSequence : Standing → Standing → ℕ → ℕ → Type 0
+SparesSequence s t path sequence = IfSome (slice_get s.paths path) (λ (p : PathState). sequence < p.first) ⊎ IfSome (slice_get t.paths path) (λ (p : PathState). p.first ≤ sequence)
+
 -- the event speaks of nothing that was forgotten: the first is how things would stand, the second how they do
 abbrev pub IsSpared : (ℕ → ℕ) → Standing → Standing → Event → Type 0
 IsSpared m s t (Window window) = Unit {0}
@@ -42,10 +46,11 @@ IsSpared m s t (SetSeen chain set) = IsSetAgain (book_at s.books chain) (book_at
 IsSpared m s t (HeaderSeen chain header) = SparesHeader (m chain) (book_at s.books chain) (book_at t.books chain) header
 IsSpared m s t (StoredSeen client height r) =
     SparesRecord (m (tracked s.clients client)) (book_at s.books (tracked s.clients client)) (book_at t.books (tracked s.clients client)) height r
-IsSpared m s t (Sent path sequence block timeout_height timeout_time) = SparesPacket m s path sequence block timeout_height timeout_time
-IsSpared m s t (Received path sequence block) = Unit {0}
-IsSpared m s t (AckWritten path sequence block) = SparesAck m s path block
-IsSpared m s t (Cleared path sequence) = Unit {0}
+IsSpared m s t (Sent path sequence block timeout_height timeout_time) =
+    SparesPacket m s path sequence block timeout_height timeout_time × SparesSequence s t path sequence
+IsSpared m s t (Received path sequence block) = SparesSequence s t path sequence
+IsSpared m s t (AckWritten path sequence block) = SparesAck m s path block × SparesSequence s t path sequence
+IsSpared m s t (Cleared path sequence) = SparesSequence s t path sequence
 IsSpared m s t (Closed path) = Unit {0}
 IsSpared m s t (Scanned path scan) = Unit {0}
 IsSpared m s t (Planned d) = Unit {0}

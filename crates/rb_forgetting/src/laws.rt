@@ -1,5 +1,5 @@
 //! Laws of forgetting, over the definitions alone.
-ghost use Rattle.rb_forgetting.specs.Cut.{CutPathsActTheSame};
+ghost use Rattle.rb_forgetting.specs.Cut.{CutPathsActTheSame, FrontsActTheSame};
 ghost use Rattle.rb_forgetting.specs.Laws.{ForgettingIsUnseen, ForgettingByFloorsIsUnseen, ReportsAreFree, RestIsLeft, FloorsAreFloors, KeptListsAreTaken};
 
 use rb_book::laws::{finds_what_was_added, stays_a_book};
@@ -57,4 +57,10 @@ pub fn kept_lists_are_taken()
 /// from there on.
 pub fn cut_paths_act_the_same()
     ensures { CutPathsActTheSame }
+{}
+
+/// A path of either order without packets that are over at its front owes the same, and finds the same packets from
+/// its first sequence on.
+pub fn fronts_act_the_same()
+    ensures { FrontsActTheSame }
 {}
