@@ -3,16 +3,17 @@ use Rattle.std.specs.Prelude.{◌≡◌, ◌⊎◌, List, [], Option, None}
 use mathlib.Core.List.{IsPrefix}
 use Rattle.rb_script_types.specs.Config.{Config}
 use Rattle.rb_core_model.specs.Entry.{Logged}
+use Rattle.rb_core_model.specs.Snapshot.{Snapshot}
 
--- how the board's core is configured, and the entries of a beginning of the board's log
+-- how the board's core is configured and what its log begins with, and the entries of a beginning of the board's log
 pub record Knowledge : Type 0 where
-  pub config : Option Config
+  pub origin : Option (Config × Snapshot)
   pub entries : List Logged
 
 -- what a newcomer knows
 abbrev pub nothing_yet : Knowledge
-nothing_yet = record { config = None; entries = [] }
+nothing_yet = record { origin = None; entries = [] }
 
 -- the second knows all that the first knows
 abbrev pub Begins : Knowledge → Knowledge → Type 0
-Begins a b = ((a.config ≡ None) ⊎ (a.config ≡ b.config)) × IsPrefix a.entries b.entries
+Begins a b = ((a.origin ≡ None) ⊎ (a.origin ≡ b.origin)) × IsPrefix a.entries b.entries

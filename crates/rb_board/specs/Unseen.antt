@@ -14,6 +14,6 @@ of_core core.NoMemory = NoMemory
 
 -- fewer events are published than the desk was told of, or the core's refusal is the one that is due
 abbrev pub IsUnseen : DeskError → Desk → Option Refusal → Type 0
-IsUnseen Behind desk due = length desk.seen < desk.told
+IsUnseen Behind desk due = length desk.seen.events < desk.told
 IsUnseen (Refused refusal) desk due = due ≡ Some refusal
 IsUnseen _ desk due = Unit {0}

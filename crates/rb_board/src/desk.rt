@@ -1,8 +1,8 @@
 //! The desks.
 ghost use Rattle.std.specs.Prelude.{◌≡◌, ◌≤◌, ◌<◌, length, max, Some, IsSome, IfOk, IfErr, IfNone, IfSome, OnOk};
-ghost use mathlib.Core.List.{IsPrefix};
-ghost use Rattle.rb_core.specs.Follower.{IsOfLog, events_in, state_after};
+ghost use Rattle.rb_core.specs.Follower.{IsOfLog, log_in, state_after};
 ghost use Rattle.rb_core_model.specs.Machine.{client_view, client_view_refusal, path_view_refusal, state_of};
+ghost use Rattle.rb_core_model.specs.Snapshot.{IsBeginning};
 ghost use Rattle.rb_core_model.specs.Standing.{path_view};
 ghost use Rattle.rb_board.specs.Rule.{Sees, known_by, known_of, past_of};
 ghost use Rattle.rb_board.specs.Unseen.{IsUnseen};
@@ -30,21 +30,21 @@ pub struct Desk<A: Allocator = Global> {
 impl<A: Allocator> Model for Desk<A> {
     ghost use Rattle.std.specs.Prelude.{IsSome};
     ghost use Rattle.rb_board.specs.Ends as ends;
-    ghost use Rattle.rb_core.specs.Follower.{events_in};
+    ghost use Rattle.rb_core.specs.Follower.{log_in};
     ghost use Rattle.rb_board.specs.Rule.{known_of, past_of};
 
     ghost Value = { ends.Desk };
 
-    ghost view = { λ d. record { config = (past_of (known_of d.reader)).config; seen = events_in (past_of (known_of d.reader)); told = d.told } };
+    ghost view = { λ d. record { config = (past_of (known_of d.reader)).config; seen = log_in (past_of (known_of d.reader)); told = d.told } };
 
-    ghost invariant = { λ d. IsSome d.reader × IsSome (known_of d.reader).config };
+    ghost invariant = { λ d. IsSome d.reader × IsSome (known_of d.reader).origin };
 }
 
 impl<A: Allocator + Copy> Desk<A> {
     /// The desk that reads so, and was told nothing.
     pub(crate) fn new(reader: Reader<Replica<A>, Knows, Published, A>) -> Desk<A>
-        requires { IsSome (known_by reader.place).config }
-        ensures { let p = past_of (known_by reader.place) in result ≡ record { config = p.config; seen = events_in p; told = 0 } }
+        requires { IsSome (known_by reader.place).origin }
+        ensures { let p = past_of (known_by reader.place) in result ≡ record { config = p.config; seen = log_in p; told = 0 } }
     {
         Desk {
             reader: Some(reader),
@@ -65,9 +65,9 @@ impl<A: Allocator + Copy> Desk<A> {
     pub fn front(&mut self) -> Result<usize, DeskError>
         ensures config { self.new.config ≡ self.old.config }
         ensures told { self.new.told ≡ self.old.told }
-        ensures begins { IsPrefix self.old.seen self.new.seen }
-        ensures front { IfOk result (λ front. front ≡ length self.new.seen) }
-        ensures enough { OnOk result (self.old.told ≤ length self.new.seen) }
+        ensures begins { IsBeginning self.old.seen self.new.seen }
+        ensures front { IfOk result (λ front. front ≡ length self.new.seen.events) }
+        ensures enough { OnOk result (self.old.told ≤ length self.new.seen.events) }
     {
         let Some(reading) = enter(&mut self.reader) else {
             return Err(DeskError::Closed);
@@ -83,8 +83,8 @@ impl<A: Allocator + Copy> Desk<A> {
     pub fn view_client(&mut self, client: usize) -> Result<JobView<A>, DeskError>
         ensures config { self.new.config ≡ self.old.config }
         ensures told { self.new.told ≡ self.old.told }
-        ensures begins { IsPrefix self.old.seen self.new.seen }
-        ensures enough { OnOk result (self.old.told ≤ length self.new.seen) }
+        ensures begins { IsBeginning self.old.seen self.new.seen }
+        ensures enough { OnOk result (self.old.told ≤ length self.new.seen.events) }
         ensures view { IfOk result (λ view. client_view (state_of self.new.config self.new.seen) client ≡ Some view) }
         ensures refused { IfErr result (λ e. IsUnseen e self.new (client_view_refusal (state_of self.new.config self.new.seen) client)) }
     {
@@ -102,8 +102,8 @@ impl<A: Allocator + Copy> Desk<A> {
     pub fn view_path(&mut self, path: usize) -> Result<PathView<A>, DeskError>
         ensures config { self.new.config ≡ self.old.config }
         ensures told { self.new.told ≡ self.old.told }
-        ensures begins { IsPrefix self.old.seen self.new.seen }
-        ensures enough { OnOk result (self.old.told ≤ length self.new.seen) }
+        ensures begins { IsBeginning self.old.seen self.new.seen }
+        ensures enough { OnOk result (self.old.told ≤ length self.new.seen.events) }
         ensures view { IfOk result (λ view. path_view (state_of self.new.config self.new.seen).standing path ≡ Some view) }
         ensures refused { IfErr result (λ e. IsUnseen e self.new (path_view_refusal (state_of self.new.config self.new.seen) path)) }
     {
@@ -139,9 +139,9 @@ fn enter<A: Allocator + Copy>(
 /// How many events there are, where they are at least so many.
 fn front_of<A: Allocator + Copy>(follower: &Follower<A>, told: usize) -> Result<usize, DeskError>
     requires { IsOfLog follower.now }
-    ensures front { IfOk result (λ front. front ≡ length (events_in follower.now.past)) }
-    ensures enough { OnOk result (told ≤ length (events_in follower.now.past)) }
-    ensures behind { IfErr result (λ e. length (events_in follower.now.past) < told) }
+    ensures front { IfOk result (λ front. front ≡ length (log_in follower.now.past).events) }
+    ensures enough { OnOk result (told ≤ length (log_in follower.now.past).events) }
+    ensures behind { IfErr result (λ e. length (log_in follower.now.past).events < told) }
 {
     if follower.front() < told {
         return Err(DeskError::Behind);
@@ -156,9 +156,9 @@ fn client_of<A: Allocator + Copy>(
     told: usize,
 ) -> Result<JobView<A>, DeskError>
     requires { IsOfLog follower.now }
-    ensures enough { OnOk result (told ≤ length (events_in follower.now.past)) }
+    ensures enough { OnOk result (told ≤ length (log_in follower.now.past).events) }
     ensures view { IfOk result (λ view. client_view (state_after follower.now.past) client ≡ Some view) }
-    ensures refused { IfErr result (λ e. IsUnseen e (record { config = follower.now.past.config; seen = events_in follower.now.past; told = told }) (client_view_refusal (state_after follower.now.past) client)) }
+    ensures refused { IfErr result (λ e. IsUnseen e (record { config = follower.now.past.config; seen = log_in follower.now.past; told = told }) (client_view_refusal (state_after follower.now.past) client)) }
 {
     if follower.front() < told {
         return Err(DeskError::Behind);
@@ -173,9 +173,9 @@ fn path_of<A: Allocator + Copy>(
     told: usize,
 ) -> Result<PathView<A>, DeskError>
     requires { IsOfLog follower.now }
-    ensures enough { OnOk result (told ≤ length (events_in follower.now.past)) }
+    ensures enough { OnOk result (told ≤ length (log_in follower.now.past).events) }
     ensures view { IfOk result (λ view. path_view (state_after follower.now.past).standing path ≡ Some view) }
-    ensures refused { IfErr result (λ e. IsUnseen e (record { config = follower.now.past.config; seen = events_in follower.now.past; told = told }) (path_view_refusal (state_after follower.now.past) path)) }
+    ensures refused { IfErr result (λ e. IsUnseen e (record { config = follower.now.past.config; seen = log_in follower.now.past; told = told }) (path_view_refusal (state_after follower.now.past) path)) }
 {
     if follower.front() < told {
         return Err(DeskError::Behind);

@@ -1,6 +1,6 @@
 //! The pen.
 ghost use Rattle.std.specs.Prelude.{◌≡◌, ◌++◌, ◌∷◌, [], ◌<◌, ◌^◌, length, All, None, IfOk, IfErr, OnOk, MatchResult};
-ghost use mathlib.Core.List.{IsPrefix};
+ghost use Rattle.rb_core_model.specs.Begun.{IsBegun};
 ghost use Rattle.rb_core_model.specs.Config.{IsSetUp};
 ghost use Rattle.rb_core_model.specs.Event.{IsEvent};
 ghost use Rattle.rb_core_model.specs.Log.{IsLog};
@@ -8,6 +8,7 @@ ghost use Rattle.rb_core_model.specs.Machine.{refusal_of, reply_of, state_of};
 ghost use Rattle.rb_core_model.specs.Refused.{IsRefusal};
 ghost use Rattle.rb_core_model.specs.Replied.{reply_view};
 ghost use Rattle.rb_core_model.specs.Seen.{event_view};
+ghost use Rattle.rb_core_model.specs.Snapshot.{followed_by, IsBeginning};
 ghost use Rattle.rb_board.specs.Rule.{pending};
 
 use crate::desk::Desk;
@@ -37,13 +38,13 @@ impl<A: Allocator + Copy> Model for Pen<A>
 where
     Replica<A>: Absorb<Told<A>, State = Follower<A>>,
 {
-    ghost use Rattle.rb_core.specs.Follower.{events_in};
+    ghost use Rattle.rb_core.specs.Follower.{log_in};
     ghost use Rattle.rb_board.specs.Ends as ends;
     ghost use Rattle.rb_board.specs.Rule.{IsKnown, known_by, pending};
 
     ghost Value = { ends.Pen };
 
-    ghost view = { λ p. record { config = p.head.config; log = p.head.log; published = events_in p.writer.desk.shown.value.follower.past } };
+    ghost view = { λ p. record { config = p.head.config; log = p.head.log; published = log_in p.writer.desk.shown.value.follower.past } };
 
     ghost invariant = { λ p. IsKnown p.writer.desk.shown.value (known_by p.writer.desk.place) (pending p.writer) p.head.config p.head.log };
 }
@@ -80,7 +81,7 @@ impl<A: Allocator + Copy> Pen<A> {
     pub fn append(&mut self, event: Event<A>) -> Result<Reply, CoreError>
         ensures config { self.new.config ≡ self.old.config }
         ensures published { self.new.published ≡ self.old.published }
-        ensures appended { OnOk result (self.new.log ≡ self.old.log ++ event_view event ∷ []) }
+        ensures appended { OnOk result (self.new.log ≡ followed_by self.old.log (event_view event ∷ [])) }
         ensures unchanged { IfErr result (λ _. self.new.log ≡ self.old.log) }
         ensures accepted { OnOk result (refusal_of (state_of self.old.config self.old.log) (event_view event) ≡ None) }
         ensures refused { IfErr result (λ e. IsRefusal e (refusal_of (state_of self.old.config self.old.log) (event_view event))) }
@@ -99,7 +100,7 @@ impl<A: Allocator + Copy> Pen<A> {
         requires accepted { refusal_of (state_of self.old.config self.old.log) (event_view event) ≡ None }
         ensures config { self.new.config ≡ self.old.config }
         ensures published { self.new.published ≡ self.old.published }
-        ensures appended { OnOk result (self.new.log ≡ self.old.log ++ event_view event ∷ []) }
+        ensures appended { OnOk result (self.new.log ≡ followed_by self.old.log (event_view event ∷ [])) }
         ensures unchanged { IfErr result (λ _. self.new.log ≡ self.old.log) }
         ensures reply { IfOk result (λ reply. reply_view reply ≡ reply_of (state_of self.old.config self.old.log) (event_view event)) }
     {
@@ -113,7 +114,7 @@ impl<A: Allocator + Copy> Pen<A> {
     pub fn head(&self) -> &Core<A>
         ensures config { result.now.config ≡ self.now.config }
         ensures log { result.now.log ≡ self.now.log }
-        ensures published { IsPrefix self.now.published self.now.log }
+        ensures published { IsBeginning self.now.published self.now.log }
     {
         &self.head
     }
@@ -136,7 +137,7 @@ impl<A: Allocator + Copy> Pen<A> {
 
     /// How many events are published, for desks to learn.
     pub fn tell(&self) -> Note
-        ensures { result.front ≡ length self.now.published }
+        ensures { result.front ≡ length self.now.published.events }
     {
         Note {
             front: self.writer.published().follower.front(),
@@ -167,7 +168,8 @@ impl<A: Allocator + Copy> Pen<A> {
 /// Tells that what a core has taken in is a log.
 fn know<A: Allocator + Copy>(core: &Core<A>)
     ensures set_up { IsSetUp core.now.config }
-    ensures events { All IsEvent core.now.log }
+    ensures begun { IsBegun core.now.config core.now.log.start }
+    ensures events { All IsEvent core.now.log.events }
     ensures accepted { IsLog core.now.config core.now.log }
 {
     core.config();

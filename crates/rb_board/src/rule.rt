@@ -5,27 +5,27 @@ ghost use Rattle.rb_board.specs.Rule.{HasBeginnings, Sees};
 use crate::replica::Replica;
 use atomic_table::{Join, Split};
 use crossbeam_utils::rule::{Outcome, Protocol};
+use rb_core::Follower;
 use rb_core_model::SharedEntry;
-use rb_script_types::Config;
 use std::alloc::Allocator;
 use std::collections::LinkedList;
 use std::marker::Model;
 
-/// What a seat at the board knows: how the board's core is configured, if that is known, and the
-/// entries of a beginning of the board's log. No value of it is made.
+/// What a seat at the board knows: how the board's core is configured and what its log begins with, if
+/// that is known, and the entries of a beginning of the board's log. No value of it is made.
 pub(crate) struct Knows {
-    config: Option<Config>,
+    origin: Option<Follower>,
     entries: LinkedList<SharedEntry>,
 }
 
 impl Model for Knows {
     ghost use Rattle.std.specs.Option.{option_map};
-    ghost use Rattle.rb_script_types.specs.Config.{config_view};
     ghost use Rattle.rb_board.specs.Knowledge.{Knowledge};
+    ghost use Rattle.rb_board.specs.Rule.{origin_of};
 
     ghost Value = { Knowledge };
 
-    ghost view = { λ k. record { config = option_map config_view k.config; entries = k.entries } };
+    ghost view = { λ k. record { origin = option_map (λ f. origin_of f.past) k.origin; entries = k.entries } };
 }
 
 /// The rule: a log is published, and what each seat knows is a beginning of it.

@@ -1,7 +1,7 @@
 use Rattle.std.proofs.Common.{◌≡◌, ◌∙◌, sym, subst}
 use Rattle.std.specs.Prelude.{length, IfOk}
 use Rattle.left_right.specs.Sides.{view}
-use Rattle.rb_core.specs.Follower.{Past, IsOfLog, events_in}
+use Rattle.rb_core.specs.Follower.{Past, IsOfLog, log_in}
 use Rattle.rb_board.specs.Rule.{known_of}
 use Rattle.rb_board.specs.declared.replica.Replica.{Replica}
 use Rattle.rb_board.proofs.Boarding.{looked, known_then, unlooked}
@@ -23,7 +23,7 @@ returns-clause-begins g c =
 
 pub returns-clause-front : goal.returns-clause-front
 returns-clause-front g c =
-    known_then (λ (f : Past). IfOk c.front_of-front.result (λ front. front ≡ length (events_in f)))
+    known_then (λ (f : Past). IfOk c.front_of-front.result (λ front. front ≡ length (log_in f).events))
     (view c.leave.result.place) c.in-Some.reading.part.value c.get.result.now (c.leave.ensures.1 ∙ c.in-Some.ensures.seen.1) c.get.ensures c.front_of-front.ensures.front
 
 pub front_of-front-requires : goal.front_of-front-requires

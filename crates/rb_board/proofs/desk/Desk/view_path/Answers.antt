@@ -3,7 +3,7 @@ use Rattle.std.specs.Prelude.{Some, IfOk, IfErr}
 use Rattle.rb_core_model.specs.Machine.{path_view_refusal}
 use Rattle.rb_core_model.specs.Standing.{path_view}
 use Rattle.left_right.specs.Sides.{view}
-use Rattle.rb_core.specs.Follower.{Past, IsOfLog, events_in, state_after}
+use Rattle.rb_core.specs.Follower.{Past, IsOfLog, log_in, state_after}
 use Rattle.rb_board.specs.Rule.{known_of}
 use Rattle.rb_board.specs.declared.replica.Replica.{Replica}
 use Rattle.rb_board.specs.Unseen.{IsUnseen}
@@ -31,7 +31,7 @@ returns-clause-view g c =
 
 pub returns-clause-refused : goal.returns-clause-refused
 returns-clause-refused g c =
-    known_then (λ (f : Past). IfErr c.path_of-view.result (λ e. IsUnseen e (record { config = f.config; seen = events_in f; told = c.self.inside.told }) (path_view_refusal (state_after f) c.args.path)))
+    known_then (λ (f : Past). IfErr c.path_of-view.result (λ e. IsUnseen e (record { config = f.config; seen = log_in f; told = c.self.inside.told }) (path_view_refusal (state_after f) c.args.path)))
     (view c.leave.result.place) c.in-Some.reading.part.value c.get.result.now (c.leave.ensures.1 ∙ c.in-Some.ensures.seen.1) c.get.ensures c.path_of-view.ensures.refused
 
 pub path_of-view-requires : goal.path_of-view-requires

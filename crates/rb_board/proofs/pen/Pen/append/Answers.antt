@@ -1,6 +1,6 @@
 use Rattle.std.proofs.Common.{◌≡◌, rules, sym, ◌∙◌, subst}
 use Rattle.left_right.specs.Sides.{view}
-use Rattle.rb_core.specs.Follower.{IsOfLog, events_in}
+use Rattle.rb_core.specs.Follower.{IsOfLog, log_in}
 use Rattle.rb_core_model.specs.Machine.{refusal_of, state_of}
 use Rattle.rb_board.specs.Rule.{followed_on, knowledge_of, pending}
 use Rattle.rb_core_model.proofs.Steps.{replies}
@@ -24,7 +24,7 @@ invariant_of-self-2 g c =
       all = (λ j. view (desk j).place) ∙ i.all ∙ (λ j. knowledge_of (sym desk j).shown.value);
       config_same = (λ j. (desk j).shown.value.follower.past.config) ∙ i.config_same ∙ sym after;
       published = subst (λ d. IsOfLog d.shown.value.follower) (sym desk) i.published;
-      leads = grown.0 ∙ (λ j. events_in (followed_on (sym desk j).shown.value.follower (pending new)).past);
+      leads = grown.0 ∙ (λ j. log_in (followed_on (sym desk j).shown.value.follower (pending new)).past);
       knows = (λ j. (followed_on (desk j).shown.value.follower (pending new)).state) ∙ grown.1 ∙ (λ j. state_of (sym after j) c.settle.new.self.log);
     }
 

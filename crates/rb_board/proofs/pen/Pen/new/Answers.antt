@@ -1,7 +1,6 @@
 use Rattle.std.proofs.Common.{◌≡◌, [], rules, sym, ap, ◌∙◌, subst}
-use Rattle.std.specs.Prelude.{List}
 use Rattle.left_right.specs.Sides.{view}
-use Rattle.rb_core_model.specs.Event.{Event}
+use Rattle.rb_core_model.specs.Snapshot.{Log}
 use Rattle.rb_core.specs.Follower.{IsOfLog}
 use Rattle.rb_board.specs.Rule.{followed_on, pending}
 use Rattle.rb_board.proofs.Boarding.{opens, shows, opened}
@@ -34,6 +33,6 @@ returns g c =
     let new = c.publish_as-writer.result.0 in
     let e = c.publish_as-writer.ensures in
     let is_first : old.desk.shown.value ≡ record { follower = c.in_ok-follower.field-0 } = search rules in
-    ap (λ (log : List Event). record { config = c.args.core.config; log = c.args.core.log; published = log })
+    ap (λ (log : Log). record { config = c.args.core.config; log = c.args.core.log; published = log })
     (opened c.publish_as-writer.result.1 old.desk.shown.value new.desk.shown.value (view old.desk.place) (view new.desk.place) (pending old) (pending new)
     c.args.core.config c.args.core.log (search rules) (search rules) (search rules) (subst (λ h. IsOfLog h.follower) (sym is_first) c.in_ok-follower.ensures.log) (search rules) e.values e.rule).1

@@ -1,7 +1,7 @@
 use Rattle.std.proofs.Common.{◌≡◌, sym, ap, ◌∙◌, subst}
 use Rattle.std.specs.Prelude.{IfErr, OnOk}
 use Rattle.left_right.specs.Sides.{view}
-use Rattle.rb_core.specs.Follower.{Follower, IsOfLog, events_in}
+use Rattle.rb_core.specs.Follower.{Follower, IsOfLog, log_in}
 use Rattle.rb_board.specs.Ends.{Pen}
 use Rattle.rb_board.specs.Rule.{pending}
 use Rattle.rb_board.proofs.Boarding.{of_log, same_config, shows, publishes}
@@ -13,8 +13,8 @@ publish_as-writer-requires g c next is =
     let i = c.self.invariant in
     let of : IsOfLog next.follower =
     of_log next.follower c.self.inside.head.config c.self.inside.head.log (ap (λ (f : Follower). f.past.config) is ∙ sym (same_config old.desk.shown.value.follower (pending old)) ∙ i.config_same)
-    (i.leads ∙ ap (λ (f : Follower). events_in f.past) (sym is)) (ap (λ (f : Follower). f.state) is ∙ i.knows)
-    c.know.ensures.set_up c.know.ensures.events c.know.ensures.accepted in
+    (i.leads ∙ ap (λ (f : Follower). log_in f.past) (sym is)) (ap (λ (f : Follower). f.state) is ∙ i.knows)
+    c.know.ensures.set_up c.know.ensures.begun c.know.ensures.events c.know.ensures.accepted in
     shows _ _ old.desk.shown.value next (pending old) of is
 
 pub invariant_of-pen : goal.invariant_of-pen
@@ -34,7 +34,7 @@ returns-clause-published g c =
     let i = c.self.invariant in
     let p = (publishes c.publish_as-writer.result.1 old.desk.shown.value new.desk.shown.value (view old.desk.place) (view new.desk.place)
     (pending old) (pending new) c.self.inside.head.config c.self.inside.head.log i e.values e.rule).1.0 in
-    subst (λ (s : Pen). OnOk c.publish_as-writer.result.1 (events_in new.desk.shown.value.follower.past ≡ s.log)) c.self.view_is p
+    subst (λ (s : Pen). OnOk c.publish_as-writer.result.1 (log_in new.desk.shown.value.follower.past ≡ s.log)) c.self.view_is p
 
 pub returns-clause-unchanged : goal.returns-clause-unchanged
 returns-clause-unchanged g c =
@@ -44,4 +44,4 @@ returns-clause-unchanged g c =
     let i = c.self.invariant in
     let p = (publishes c.publish_as-writer.result.1 old.desk.shown.value new.desk.shown.value (view old.desk.place) (view new.desk.place)
     (pending old) (pending new) c.self.inside.head.config c.self.inside.head.log i e.values e.rule).1.1 in
-    subst (λ (s : Pen). IfErr c.publish_as-writer.result.1 (λ _. events_in new.desk.shown.value.follower.past ≡ s.published)) c.self.view_is p
+    subst (λ (s : Pen). IfErr c.publish_as-writer.result.1 (λ _. log_in new.desk.shown.value.follower.past ≡ s.published)) c.self.view_is p
