@@ -37,13 +37,13 @@ told_after order.Stop told = told
 
 -- the desk has seen all that it was told of, and what it has seen shows the path so as it was scanned
 pub record IsScanOf (desk : Desk) (path : ℕ) (scan : Scan) : Type 0 where
-  pub enough : desk.told ≤ length desk.seen
+  pub enough : desk.told ≤ length desk.seen.events
   pub view : path_view (state_of desk.config desk.seen).standing path ≡ Some scan.view
 
 -- the desk has seen all that it was told of, what it has seen shows the client so as it was planned for, and the plan is
 -- right for that
 pub record IsDraftOf (desk : Desk) (client : ℕ) (draft : Draft) : Type 0 where
-  pub enough : desk.told ≤ length desk.seen
+  pub enough : desk.told ≤ length desk.seen.events
   pub view : client_view (state_of desk.config desk.seen) client ≡ Some draft.job
   pub right : IsDraft draft
 

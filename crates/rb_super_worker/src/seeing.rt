@@ -1,6 +1,6 @@
 //! What a worker does on what its desk shows.
 ghost use Rattle.std.specs.Prelude.{◌≡◌, IfOk, IfErr};
-ghost use mathlib.Core.List.{IsPrefix};
+ghost use Rattle.rb_core_model.specs.Snapshot.{IsBeginning};
 ghost use Rattle.rb_plan_client.specs.Draft.{IsDraft};
 ghost use Rattle.rb_core_model.specs.Machine.{client_view_refusal, path_view_refusal, state_of};
 ghost use Rattle.rb_board.specs.Unseen.{IsUnseen};
@@ -22,7 +22,7 @@ pub(crate) fn scan_seen<A: Allocator + Copy>(
 ) -> Result<Scan<A>, DeskError>
     ensures config { desk.new.config ≡ desk.old.config }
     ensures told { desk.new.told ≡ desk.old.told }
-    ensures begins { IsPrefix desk.old.seen desk.new.seen }
+    ensures begins { IsBeginning desk.old.seen desk.new.seen }
     ensures part { IfOk result (λ scan. scan.part ≡ part) }
     ensures right { IfOk result (IsScanOf desk.new path) }
     ensures refused { IfErr result (λ e. IsUnseen e desk.new (path_view_refusal (state_of desk.new.config desk.new.seen) path)) }
@@ -61,7 +61,7 @@ pub(crate) fn plan_seen<A: Allocator + Copy>(
 ) -> Result<Draft<A>, DeskError>
     ensures config { desk.new.config ≡ desk.old.config }
     ensures told { desk.new.told ≡ desk.old.told }
-    ensures begins { IsPrefix desk.old.seen desk.new.seen }
+    ensures begins { IsBeginning desk.old.seen desk.new.seen }
     ensures client { IfOk result (λ draft. draft.job.client ≡ client) }
     ensures right { IfOk result (IsDraftOf desk.new client) }
     ensures refused { IfErr result (λ e. IsUnseen e desk.new (client_view_refusal (state_of desk.new.config desk.new.seen) client)) }

@@ -1,7 +1,7 @@
 //! How workers work.
 ghost use Rattle.std.specs.Prelude.{◌≡◌, IfSome};
 ghost use Rattle.std.specs.Option.{option_map};
-ghost use mathlib.Core.List.{IsPrefix};
+ghost use Rattle.rb_core_model.specs.Snapshot.{IsBeginning};
 ghost use Rattle.rb_super_worker.specs.Found.{IsFoundOn, found_item, ordered_item, told_after};
 ghost use Rattle.rb_base.specs.declared.gate.WorkItem.TheVariants as item;
 
@@ -23,7 +23,7 @@ fn find_scan<G: Gate, A: Allocator + Copy>(
 ) -> Finding<A>
     ensures config { desk.new.config ≡ desk.old.config }
     ensures told { desk.new.told ≡ desk.old.told }
-    ensures begins { IsPrefix desk.old.seen desk.new.seen }
+    ensures begins { IsBeginning desk.old.seen desk.new.seen }
     ensures item { found_item result ≡ item.Scan path part }
     ensures right { IsFoundOn desk.new result }
 {
@@ -48,7 +48,7 @@ fn find_plan<G: Gate, A: Allocator + Copy>(
 ) -> Finding<A>
     ensures config { desk.new.config ≡ desk.old.config }
     ensures told { desk.new.told ≡ desk.old.told }
-    ensures begins { IsPrefix desk.old.seen desk.new.seen }
+    ensures begins { IsBeginning desk.old.seen desk.new.seen }
     ensures item { found_item result ≡ item.Plan client }
     ensures right { IsFoundOn desk.new result }
 {
@@ -74,7 +74,7 @@ pub fn work<G: Gate, A: Allocator + Copy>(
 ) -> Option<Finding<A>>
     ensures config { desk.new.config ≡ desk.old.config }
     ensures told { desk.new.told ≡ told_after order desk.old.told }
-    ensures begins { IsPrefix desk.old.seen desk.new.seen }
+    ensures begins { IsBeginning desk.old.seen desk.new.seen }
     ensures item { option_map found_item result ≡ ordered_item order }
     ensures right { IfSome result (IsFoundOn desk.new) }
 {
