@@ -1,5 +1,5 @@
 -- Tables that are kept stay those of their chains' books.
-use Rattle.std.proofs.Common.{◌≡◌, ℕ, zero, suc, ◌<◌, true, cond, not, ltb, List, [], ◌∷◌, ◌++◌, Option, Some, None, IfSome, is_some, length, get_or, set, replicate, refl, sym, ap, ◌∙◌, subst, inl, inr, arith}
+use Rattle.std.proofs.Common.{◌≡◌, ℕ, zero, suc, ◌<◌, true, cond, not, ltb, List, [], ◌∷◌, Option, Some, None, IfSome, is_some, length, get_or, set, replicate, refl, sym, ap, ◌∙◌, subst, inl, inr, arith}
 use Rattle.std.specs.List.{slice_get}
 use Rattle.std.specs.Option.{option_map, option_map_or, option_and_then}
 use Rattle.std.proofs.lemmas.Bool.{cases_eq, ltb-true, not-false}
@@ -14,11 +14,13 @@ use Rattle.rb_core_model.specs.Config.{IsSetUp}
 use Rattle.rb_core.specs.Core.{Core, state_in, refusal_in}
 use Rattle.rb_core_model.specs.Event.{Event, Window, Asked, SetSeen, HeaderSeen, StoredSeen, Sent, Received, AckWritten, Cleared, Closed, Scanned, Planned, Settled}
 use Rattle.rb_core_model.specs.Machine.{State, accepted, is_known}
+use Rattle.rb_core_model.specs.Snapshot.{followed_by}
 use Rattle.rb_core_model.specs.Standing.{OpenBatch, ClientState, Standing, after_settled, book_at, changed, empty_book, open_batch, tracked}
 use Rattle.rb_core_model.proofs.Options.{passes, get_set_other}
 use Rattle.rb_super_turn.specs.Phases.{standing_in}
 use Rattle.rb_super_turn.specs.Tables.{chain_of, with_addition, IsTableOf, AreTables}
-use Rattle.rb_super_turn.proofs.Configs.{config_of, configs_are}
+use Rattle.rb_core_model.proofs.Configs.{config_of}
+use Rattle.rb_super_turn.proofs.Configs.{configs_are}
 use Rattle.rb_super_turn.proofs.Sizes.{at_place}
 use Rattle.rb_super_turn.proofs.Steps.{one_more, same_state, sizes_in}
 
@@ -119,7 +121,7 @@ books_changed s (Settled client number done) = go (option_and_then (λ c. open_b
     go None = refl
     go (Some b) = refl
 
-module _ (old new : Core) (e : Event) (config : new.config ≡ old.config) (log : new.log ≡ old.log ++ e ∷ []) (ok : refusal_in old e ≡ None) where
+module _ (old new : Core) (e : Event) (config : new.config ≡ old.config) (log : new.log ≡ followed_by old.log (e ∷ [])) (ok : refusal_in old e ≡ None) where
   books_after : (standing_in new).books ≡ books_with (standing_in old).books e (chain_of old.config e)
   books_after =
       ap (λ (t : State). t.standing.books) (one_more old new e config log)
@@ -217,7 +219,7 @@ table_at core tables chain t lt at are =
 
 -- ---- what was taken in is added to them
 
-module _ (old new : Core) (e : Event) (config : new.config ≡ old.config) (log : new.log ≡ old.log ++ e ∷ []) (ok : refusal_in old e ≡ None) where
+module _ (old new : Core) (e : Event) (config : new.config ≡ old.config) (log : new.log ≡ followed_by old.log (e ∷ [])) (ok : refusal_in old e ≡ None) where
   pub tables_as_were : (tables : List (Option Book)) → chain_of old.config e ≡ None → AreTables old tables → AreTables new tables
   tables_as_were tables none are = tables_stay old new tables config (same_books old new e config log ok none) are
 

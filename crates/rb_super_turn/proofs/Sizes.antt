@@ -1,13 +1,17 @@
 -- As many chains, clients and paths as the script has.
-use Rattle.std.proofs.Common.{◌≡◌, ℕ, zero, suc, ◌<◌, true, ltb, List, [], ◌∷◌, length, Some, refl, sym, ◌∙◌, subst, arith}
+use Rattle.std.proofs.Common.{◌≡◌, ℕ, zero, suc, ◌<◌, true, ltb, List, [], ◌∷◌, length, Some, refl, sym, ap, ◌∙◌, subst, arith}
 use Rattle.std.specs.List.{slice_get}
 use Rattle.std.proofs.lemmas.Bool.{lt-ltb}
 use Rattle.std.proofs.lemmas.List.{length-replicate, length-map}
 use Rattle.rb_script_types.specs.Config.{Config}
+use Rattle.rb_script_types.specs.declared.config.ClientConfig.{ClientConfig}
+use Rattle.rb_script_types.specs.declared.config.PathConfig.{PathConfig}
 use Rattle.rb_core_model.specs.Event.{Event, Window, Asked, SetSeen, HeaderSeen, StoredSeen, Sent, Received, AckWritten, Cleared, Closed, Scanned, Planned, Settled}
-use Rattle.rb_core_model.specs.Machine.{State, no_scans, opening, is_known, refusal_beside, accepted}
+use Rattle.rb_core_model.specs.Machine.{State, no_scans, begun, opening, is_known, refusal_beside, accepted}
+use Rattle.rb_core_model.specs.Snapshot.{Snapshot, nothing}
 use Rattle.rb_core_model.specs.Standing.{judged}
 use Rattle.rb_super_turn.specs.Script.{IsSeen}
+use Rattle.rb_core_model.proofs.Configs.{config_of, path_config_of, configured_begun}
 use Rattle.rb_core_model.proofs.Keeping.{scans_long}
 use Rattle.rb_core_model.proofs.Lengths.{lengths_changed}
 
@@ -24,13 +28,19 @@ sizes_accepted config s e sizes =
     let same = lengths_changed s.standing e in
     record { books = same.books ∙ sizes.books; clients = same.clients ∙ sizes.clients; paths = same.paths ∙ sizes.paths; scans = scans_long s e ∙ sizes.scans }
 
+pub sizes_begun : (config : Config) (start : Snapshot) → HasSizes config (begun config start)
+sizes_begun config start =
+    let has = configured_begun config start in
+    let s = (begun config start).standing in
+    record {
+      books = has.books;
+      clients = sym (length-map s.clients config_of) ∙ ap (λ (cs : List ClientConfig). length cs) has.clients;
+      paths = sym (length-map s.paths path_config_of) ∙ ap (λ (ps : List PathConfig). length ps) has.paths;
+      scans = length-replicate (length config.paths) no_scans;
+    }
+
 pub sizes_opening : (config : Config) → HasSizes config (opening config)
-sizes_opening config = record {
-  books = length-replicate (length config.chains) _;
-  clients = length-map config.clients _;
-  paths = length-map config.paths _;
-  scans = length-replicate (length config.paths) no_scans;
-}
+sizes_opening config = sizes_begun config nothing
 
 under : (n m k : ℕ) → n < m → k ≡ m → ltb n k ≡ true
 under n m k lt e = lt-ltb n k (subst (λ x. n < x) (sym e) lt)

@@ -1,5 +1,5 @@
 -- What an event makes of a relayer.
-use Rattle.std.proofs.Common.{◌≡◌, ℕ, ◌+◌, ◌<◌, Bool, true, false, cond, not, ltb, List, [], ◌∷◌, ◌++◌, Option, Some, None, IfSome, is_some, is_none, length, refl, sym, ap, ◌∙◌, subst, arith}
+use Rattle.std.proofs.Common.{◌≡◌, ℕ, ◌+◌, ◌<◌, Bool, true, false, cond, not, ltb, List, [], ◌∷◌, Option, Some, None, IfSome, is_some, is_none, length, refl, sym, ap, ◌∙◌, subst, arith}
 use Rattle.std.specs.Prelude.{Result, Ok, Err}
 use Rattle.std.specs.List.{fold}
 use Rattle.std.proofs.lemmas.Bool.{lt-ltb, not_from_true}
@@ -8,9 +8,10 @@ use Rattle.std.proofs.lemmas.Option.{none-some}
 use Rattle.rb_base.specs.Window.{Span}
 use Rattle.rb_core.specs.Core.{Core, state_in, refusal_in}
 use Rattle.rb_core_model.specs.Event.{Event, Window, Scanned}
-use Rattle.rb_core_model.specs.Machine.{State, refusal_of, accepted, after, opening, is_known, is_scanned, knows_client, knows_path, client_view_refusal, path_view_refusal}
+use Rattle.rb_core_model.specs.Machine.{State, refusal_of, accepted, after, begun, state_of, is_known, is_scanned, knows_client, knows_path, client_view_refusal, path_view_refusal}
 use Rattle.rb_core_model.specs.Refusal.{refused_if}
 use Rattle.rb_core_model.specs.Seen.{observed}
+use Rattle.rb_core_model.specs.Snapshot.{Log, followed_by}
 use Rattle.rb_core_model.specs.Standing.{Standing, path_view, goes_back, judged, standing_after}
 use Rattle.rb_core_model.specs.Scan.{Scan}
 use Rattle.rb_core_model.specs.Steps.{IsFromOutside, IsAfterScan}
@@ -25,7 +26,7 @@ use Rattle.rb_script_types.specs.Script.{IsReadObservation}
 use Rattle.rb_script_types.specs.declared.observation.Observation.{Observation}
 use Rattle.rb_script_types.specs.declared.observation.Observation.TheVariants as seen
 use Rattle.rb_script_types.specs.declared.refusal.Refusal.TheVariants.{UnknownObject, OutOfOrder, WindowBack}
-use Rattle.rb_super_turn.proofs.Sizes.{HasSizes, sizes_accepted, sizes_opening}
+use Rattle.rb_super_turn.proofs.Sizes.{HasSizes, sizes_accepted, sizes_begun}
 use Rattle.rb_super_turn.specs.Phases.{standing_in, HasLogRoom, IsLater}
 
 -- ---- how much there is of everything
@@ -42,17 +43,19 @@ sizes_fold config [] s sizes = sizes
 sizes_fold config (e ∷ events) s sizes = sizes_fold config events (after s e) (sizes_after config s e sizes)
 
 pub sizes_in : (core : Core) → HasSizes core.config (state_in core)
-sizes_in core = sizes_fold core.config core.log (opening core.config) (sizes_opening core.config)
+sizes_in core = sizes_fold core.config core.log.events (begun core.config core.log.start) (sizes_begun core.config core.log.start)
+
+-- a core is its configuration and its log
+same_log : (old new : Core) → new.config ≡ old.config → (log : Log) → new.log ≡ log → state_in new ≡ state_of old.config log
+same_log old new config log is = λ i. state_of (config i) (is i)
 
 -- the core whose log has one more
-pub one_more : (old new : Core) (e : Event) → new.config ≡ old.config → new.log ≡ old.log ++ e ∷ [] → state_in new ≡ after (state_in old) e
+pub one_more : (old new : Core) (e : Event) → new.config ≡ old.config → new.log ≡ followed_by old.log (e ∷ []) → state_in new ≡ after (state_in old) e
 one_more old new e config log =
-    ap (λ c. fold after (opening c) new.log) config
-    ∙ ap (fold after (opening old.config)) log
-    ∙ fold-append after (opening old.config) old.log (e ∷ [])
+    same_log old new config (followed_by old.log (e ∷ [])) log ∙ fold-append after (begun old.config old.log.start) old.log.events (e ∷ [])
 
 pub same_state : (old new : Core) → new.config ≡ old.config → new.log ≡ old.log → state_in new ≡ state_in old
-same_state old new config log = ap (λ c. fold after (opening c) new.log) config ∙ ap (fold after (opening old.config)) log
+same_state old new config log = same_log old new config old.log log
 
 -- what is known of a core that has the configuration and the log of another, which is seen as a third
 pub state_seen : (k seen value : Core) → k.config ≡ seen.config → k.log ≡ seen.log → seen ≡ value → state_in k ≡ state_in value

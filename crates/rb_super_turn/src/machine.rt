@@ -1,11 +1,12 @@
 //! What takes events in: a core alone, or what has one.
-ghost use Rattle.std.specs.Prelude.{◌≡◌, ◌++◌, ◌∷◌, [], None, IfOk, IfErr, OnOk, OnErr};
+ghost use Rattle.std.specs.Prelude.{◌≡◌, ◌∷◌, [], None, IfOk, IfErr, OnOk, OnErr};
 ghost use Rattle.rb_core.specs.Core as cores;
 ghost use Rattle.rb_core.specs.Core.{refusal_in, state_in};
 ghost use Rattle.rb_core_model.specs.Machine.{reply_of};
 ghost use Rattle.rb_core_model.specs.Refused.{IsRefusal};
 ghost use Rattle.rb_core_model.specs.Replied.{reply_view};
 ghost use Rattle.rb_core_model.specs.Seen.{event_view};
+ghost use Rattle.rb_core_model.specs.Snapshot.{followed_by};
 ghost use Rattle.rb_super_turn.specs.Slots.{event_in};
 
 use rb_core::Core;
@@ -26,7 +27,7 @@ pub trait Machine<A: Allocator + Copy> {
     /// be seen. An error too where the slot was empty. (That the slot is empty after the call is in no clause.)
     fn take_from(&mut self, slot: &mut Option<Event<A>>) -> Result<Reply, CoreError>
         ensures config { (seen_as self.new).config ≡ (seen_as self.old).config }
-        ensures appended { OnOk result ((seen_as self.new).log ≡ (seen_as self.old).log ++ event_in slot.old ∷ []) }
+        ensures appended { OnOk result ((seen_as self.new).log ≡ followed_by (seen_as self.old).log (event_in slot.old ∷ [])) }
         ensures unchanged { OnErr result ((seen_as self.new).log ≡ (seen_as self.old).log) }
         ensures accepted { OnOk result (refusal_in (seen_as self.old) (event_in slot.old) ≡ None) }
         ensures refused { IfErr result (λ e. IsRefusal e (refusal_in (seen_as self.old) (event_in slot.old))) }
@@ -37,7 +38,7 @@ pub trait Machine<A: Allocator + Copy> {
     fn take_accepted(&mut self, slot: &mut Option<Event<A>>) -> Result<Reply, AllocError>
         requires accepted { refusal_in (seen_as self.old) (event_in slot.old) ≡ None }
         ensures config { (seen_as self.new).config ≡ (seen_as self.old).config }
-        ensures appended { OnOk result ((seen_as self.new).log ≡ (seen_as self.old).log ++ event_in slot.old ∷ []) }
+        ensures appended { OnOk result ((seen_as self.new).log ≡ followed_by (seen_as self.old).log (event_in slot.old ∷ [])) }
         ensures unchanged { OnErr result ((seen_as self.new).log ≡ (seen_as self.old).log) }
         ensures reply { IfOk result (λ reply. reply_view reply ≡ reply_of (state_in (seen_as self.old)) (event_in slot.old)) };
 }
@@ -45,7 +46,7 @@ pub trait Machine<A: Allocator + Copy> {
 /// Judges an event and takes it in. What is refused changes nothing that can be seen.
 fn append<A: Allocator + Copy>(core: &mut Core<A>, event: Event<A>) -> Result<Reply, CoreError>
     ensures config { core.new.config ≡ core.old.config }
-    ensures appended { OnOk result (core.new.log ≡ core.old.log ++ event_view event ∷ []) }
+    ensures appended { OnOk result (core.new.log ≡ followed_by core.old.log (event_view event ∷ [])) }
     ensures unchanged { OnErr result (core.new.log ≡ core.old.log) }
     ensures accepted { OnOk result (refusal_in core.old (event_view event) ≡ None) }
     ensures refused { IfErr result (λ e. IsRefusal e (refusal_in core.old (event_view event))) }
@@ -62,7 +63,7 @@ fn append_accepted<A: Allocator + Copy>(
 ) -> Result<Reply, AllocError>
     requires accepted { refusal_in core.old (event_view event) ≡ None }
     ensures config { core.new.config ≡ core.old.config }
-    ensures appended { OnOk result (core.new.log ≡ core.old.log ++ event_view event ∷ []) }
+    ensures appended { OnOk result (core.new.log ≡ followed_by core.old.log (event_view event ∷ [])) }
     ensures unchanged { OnErr result (core.new.log ≡ core.old.log) }
     ensures reply { IfOk result (λ reply. reply_view reply ≡ reply_of (state_in core.old) (event_view event)) }
 {
@@ -82,7 +83,7 @@ impl<A: Allocator + Copy> Machine<A> for Core<A> {
 
     fn take_from(&mut self, slot: &mut Option<Event<A>>) -> Result<Reply, CoreError>
         ensures config { self.new.config ≡ self.old.config }
-        ensures appended { OnOk result (self.new.log ≡ self.old.log ++ event_in slot.old ∷ []) }
+        ensures appended { OnOk result (self.new.log ≡ followed_by self.old.log (event_in slot.old ∷ [])) }
         ensures unchanged { OnErr result (self.new.log ≡ self.old.log) }
         ensures accepted { OnOk result (refusal_in self.old (event_in slot.old) ≡ None) }
         ensures refused { IfErr result (λ e. IsRefusal e (refusal_in self.old (event_in slot.old))) }
@@ -97,7 +98,7 @@ impl<A: Allocator + Copy> Machine<A> for Core<A> {
     fn take_accepted(&mut self, slot: &mut Option<Event<A>>) -> Result<Reply, AllocError>
         requires accepted { refusal_in self.old (event_in slot.old) ≡ None }
         ensures config { self.new.config ≡ self.old.config }
-        ensures appended { OnOk result (self.new.log ≡ self.old.log ++ event_in slot.old ∷ []) }
+        ensures appended { OnOk result (self.new.log ≡ followed_by self.old.log (event_in slot.old ∷ [])) }
         ensures unchanged { OnErr result (self.new.log ≡ self.old.log) }
         ensures reply { IfOk result (λ reply. reply_view reply ≡ reply_of (state_in self.old) (event_in slot.old)) }
     {

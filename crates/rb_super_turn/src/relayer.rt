@@ -1,14 +1,17 @@
 //! A relayer with the step tables of its chains.
-ghost use Rattle.std.specs.Prelude.{◌≡◌, ◌<◌, ◌++◌, ◌∷◌, [], Some, None, length, IfOk, IfErr, OnOk, OnErr};
+ghost use Rattle.std.specs.Prelude.{◌≡◌, ◌<◌, ◌∷◌, [], Some, None, length, IfOk, IfErr, OnOk, OnErr};
 ghost use Rattle.std.specs.Option.{option_copied};
 ghost use denote.Param.Send.{Frees};
 ghost use Rattle.rb_script_types.specs.Config.{config_view, IsConfig};
 ghost use Rattle.rb_core_model.specs.Config.{IsSetUp};
 ghost use Rattle.rb_core.specs.Core.{state_in, refusal_in};
+ghost use Rattle.rb_core_model.specs.Forgetting.{floors_of, has_many_to_forget};
+ghost use Rattle.rb_core_model.specs.Over.{firsts_of};
 ghost use Rattle.rb_core_model.specs.Machine.{client_view, client_view_refusal, is_scanned, path_view_refusal, reply_of};
 ghost use Rattle.rb_core_model.specs.Refused.{IsRefusal};
 ghost use Rattle.rb_core_model.specs.Replied.{reply_view};
 ghost use Rattle.rb_core_model.specs.Seen.{event_view};
+ghost use Rattle.rb_core_model.specs.Snapshot.{followed_by, from_nothing};
 ghost use Rattle.rb_core_model.specs.Standing.{book_at, path_view, batch_open};
 ghost use Rattle.rb_super_turn.specs.Phases.{standing_in};
 ghost use Rattle.rb_super_turn.specs.Tables.{chain_of, AreTables};
@@ -54,11 +57,22 @@ impl<A: Allocator + Copy> Relayer<A> {
     pub fn new(alloc: A, config: Config<A>) -> Result<Relayer<A>, AllocError>
         requires { IsConfig (config_view config) }
         ensures config { IfOk result (λ relayer. relayer.config ≡ config_view config) }
-        ensures log { IfOk result (λ relayer. relayer.log ≡ []) }
+        ensures log { IfOk result (λ relayer. relayer.log ≡ from_nothing []) }
     {
-        let tables = no_tables(alloc, config.chains.len())?;
-        let machine = Core::new(alloc, config)?;
-        Ok(Relayer { machine, tables })
+        let core = Core::new(alloc, config)?;
+        Relayer::from_core(alloc, core)
+    }
+
+    /// A relayer that has taken in what a core has, with no table yet. The core is given up where a growth is
+    /// refused.
+    pub fn from_core(alloc: A, core: Core<A>) -> Result<Relayer<A>, AllocError>
+        ensures { IfOk result (λ relayer. relayer ≡ core) }
+    {
+        let tables = no_tables(alloc, core.config().chains.len())?;
+        Ok(Relayer {
+            machine: core,
+            tables,
+        })
     }
 
     /// What it has taken in.
@@ -102,7 +116,7 @@ impl<A: Allocator + Copy, M: Machine<A>> Relayer<A, M> {
     /// for. After an error nothing has changed.
     pub fn take_in(&mut self, event: Event<A>) -> Result<Reply, CoreError>
         ensures config { self.new.config ≡ self.old.config }
-        ensures appended { OnOk result (self.new.log ≡ self.old.log ++ event_view event ∷ []) }
+        ensures appended { OnOk result (self.new.log ≡ followed_by self.old.log (event_view event ∷ [])) }
         ensures unchanged { OnErr result (self.new.log ≡ self.old.log) }
         ensures accepted { OnOk result (refusal_in self.old (event_view event) ≡ None) }
         ensures refused { IfErr result (λ e. IsRefusal e (refusal_in self.old (event_view event))) }
@@ -117,7 +131,7 @@ impl<A: Allocator + Copy, M: Machine<A>> Relayer<A, M> {
         requires accepted { refusal_in self.old (event_view event) ≡ None }
         requires no_addition { chain_of self.old.config (event_view event) ≡ None }
         ensures config { self.new.config ≡ self.old.config }
-        ensures appended { OnOk result (self.new.log ≡ self.old.log ++ event_view event ∷ []) }
+        ensures appended { OnOk result (self.new.log ≡ followed_by self.old.log (event_view event ∷ [])) }
         ensures unchanged { OnErr result (self.new.log ≡ self.old.log) }
         ensures reply { IfOk result (λ reply. reply_view reply ≡ reply_of (state_in self.old) (event_view event)) }
     {
@@ -156,9 +170,30 @@ impl<A: Allocator + Copy, M: Machine<A>> Relayer<A, M> {
         self.machine.core().config()
     }
 
+    /// The floors of all chains, as `Core::floors`.
+    pub fn floors(&self) -> Result<Vec<u64, A>, AllocError>
+        ensures { IfOk result (λ floors. floors.items ≡ floors_of (standing_in self.now)) }
+    {
+        self.machine.core().floors()
+    }
+
+    /// The first sequences of the paths, as `Core::firsts`.
+    pub fn firsts(&self) -> Result<Vec<u64, A>, AllocError>
+        ensures { IfOk result (λ firsts. firsts.items ≡ firsts_of (standing_in self.now)) }
+    {
+        self.machine.core().firsts()
+    }
+
+    /// Whether so much is to be forgotten of some chain or path, as `Core::has_many_to_forget`.
+    pub fn has_many_to_forget(&self, least: usize) -> bool
+        ensures { result ≡ has_many_to_forget least (standing_in self.now) }
+    {
+        self.machine.core().has_many_to_forget(least)
+    }
+
     /// How many events it has taken in.
     pub fn front(&self) -> usize
-        ensures { result ≡ length self.now.log }
+        ensures { result ≡ length self.now.log.events }
     {
         self.machine.core().front()
     }

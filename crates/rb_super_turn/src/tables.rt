@@ -1,5 +1,5 @@
 //! Step tables that are kept beside a core.
-ghost use Rattle.std.specs.Prelude.{◌≡◌, ◌<◌, ◌++◌, ◌∷◌, [], None, Some, length, replicate, slice_get, IfOk, IfErr, IfSome, OnOk, OnErr, MatchOption};
+ghost use Rattle.std.specs.Prelude.{◌≡◌, ◌<◌, ◌∷◌, [], None, Some, length, replicate, slice_get, IfOk, IfErr, IfSome, OnOk, OnErr, MatchOption};
 ghost use Rattle.std.specs.Option.{option_map};
 ghost use denote.Param.Send.{Frees};
 ghost use Rattle.rb_book.specs.Book.{Book};
@@ -11,6 +11,7 @@ ghost use Rattle.rb_core_model.specs.Machine.{reply_of};
 ghost use Rattle.rb_core_model.specs.Refused.{IsRefusal};
 ghost use Rattle.rb_core_model.specs.Replied.{reply_view};
 ghost use Rattle.rb_core_model.specs.Seen.{event_view, observed};
+ghost use Rattle.rb_core_model.specs.Snapshot.{followed_by};
 ghost use Rattle.rb_core_model.specs.Standing.{book_at};
 ghost use Rattle.rb_super_turn.specs.Phases.{standing_in};
 ghost use Rattle.rb_super_turn.specs.Tables.{chain_of, with_addition, IsTableOf, AreTables};
@@ -225,7 +226,7 @@ pub(crate) fn take_in<A: Allocator + Copy, M: Machine<A>>(
 ) -> Result<Reply, CoreError>
     requires { AreTables (M.seen_as machine.old) tables.old.items }
     ensures config { (M.seen_as machine.new).config ≡ (M.seen_as machine.old).config }
-    ensures appended { OnOk result ((M.seen_as machine.new).log ≡ (M.seen_as machine.old).log ++ event_view event ∷ []) }
+    ensures appended { OnOk result ((M.seen_as machine.new).log ≡ followed_by (M.seen_as machine.old).log (event_view event ∷ [])) }
     ensures unchanged { OnErr result ((M.seen_as machine.new).log ≡ (M.seen_as machine.old).log) }
     ensures accepted { OnOk result (refusal_in (M.seen_as machine.old) (event_view event) ≡ None) }
     ensures refused { IfErr result (λ e. IsRefusal e (refusal_in (M.seen_as machine.old) (event_view event))) }
