@@ -6,6 +6,7 @@ use Rattle.std.proofs.lemmas.List.Elements.{All-take, All-get_or}
 use Rattle.std.proofs.lemmas.List.Sums.{sum_by-take-le, sum_by_more_le}
 use Rattle.std.proofs.lemmas.Option.{slice_get-get_or, same_Some}
 use Rattle.rb_core.specs.Core.{Core}
+use Rattle.rb_core_model.specs.Snapshot.{from_nothing}
 use Rattle.rb_core_model.specs.Standing.{Standing}
 use Rattle.rb_core_state.proofs.Places.{found_seen}
 use Rattle.rb_script_types.specs.Config.{Config}
@@ -22,7 +23,7 @@ use Rattle.rb_super.proofs.Runs.{opened_standing, turns_fit, turns_for, turns_as
 there : {X : Type 0} (xs : List X) (i : ℕ) (x : X) → i < length xs → slice_get xs i ≡ Some x → x ≡ get_or xs i x
 there xs i x lt at = same_Some x (get_or xs i x) (sym at ∙ slice_get-get_or xs i x lt)
 
-module _ {A : Type 0} (script : Script A) (core : Core) (turns : List (CodeTurn A)) (config : core.config ≡ script.config) (log : core.log ≡ []) (are : script.turns ≡ map turn_view turns)
+module _ {A : Type 0} (script : Script A) (core : Core) (turns : List (CodeTurn A)) (config : core.config ≡ script.config) (log : core.log ≡ from_nothing []) (are : script.turns ≡ map turn_view turns)
     (is : IsReadScript script) (place : ℕ) (lt : place < length turns) (earlier : List (CodeTurn A)) (before : earlier ≡ take place turns)
     (this : CodeTurn A) (at : slice_get turns place ≡ Some this) where
   pub earlier_for : All (IsTurnFor core.config) earlier

@@ -1,10 +1,11 @@
 -- Turn after turn gives the report of a script.
 use Rattle.std.proofs.Common.{◌≡◌, ◌+◌, ◌*◌, ◌<◌, ◌≤◌, List, [], ◌∷◌, ◌++◌, length, map, get_or, All, refl, sym, ap, ◌∙◌, subst, arith}
-use Rattle.std.specs.List.{sum_by, fold}
+use Rattle.std.specs.List.{sum_by}
 use Rattle.std.proofs.lemmas.List.{length-map, get_or-map}
 use Rattle.std.proofs.lemmas.List.Sums.{sum_by-cons}
 use Rattle.rb_core.specs.Core.{Core, state_in}
-use Rattle.rb_core_model.specs.Machine.{opening, after}
+use Rattle.rb_core_model.specs.Machine.{state_of}
+use Rattle.rb_core_model.specs.Snapshot.{Log, from_nothing}
 use Rattle.rb_core_model.specs.Standing.{Standing, opening_standing}
 use Rattle.rb_script_types.specs.Config.{Config}
 use Rattle.rb_script_types.specs.Script.{Script, turn_view, entry_count, IsReadTurn, IsReadScript}
@@ -51,13 +52,13 @@ turns_give c clients paths (t ∷ ts) =
     let rest = turns_give c clients paths ts in
     omega (arith, rest, sum_by-cons (most_events c) t ts, sum_by-cons entry_count (turn_view t) (map turn_view ts), clients, paths)
 
-pub opened_front : (core : Core) → core.log ≡ [] → (state_in core).front ≡ 0
-opened_front core log = ap (λ events. (fold after (opening core.config) events).front) log
+pub opened_front : (core : Core) → core.log ≡ from_nothing [] → (state_in core).front ≡ 0
+opened_front core log = ap (λ (l : Log). (state_of core.config l).front) log
 
-pub opened_standing : (core : Core) (c : Config) → core.config ≡ c → core.log ≡ [] → standing_in core ≡ opening_standing c
-opened_standing core c config log = ap (λ events. (fold after (opening core.config) events).standing) log ∙ ap opening_standing config
+pub opened_standing : (core : Core) (c : Config) → core.config ≡ c → core.log ≡ from_nothing [] → standing_in core ≡ opening_standing c
+opened_standing core c config log = ap (λ (l : Log). (state_of core.config l).standing) log ∙ ap opening_standing config
 
-pub turns_fit : {A : Type 0} (core : Core) (script : Script A) (ts : List (CodeTurn A)) → core.config ≡ script.config → core.log ≡ [] → script.turns ≡ map turn_view ts → IsReadScript script
+pub turns_fit : {A : Type 0} (core : Core) (script : Script A) (ts : List (CodeTurn A)) → core.config ≡ script.config → core.log ≡ from_nothing [] → script.turns ≡ map turn_view ts → IsReadScript script
     → HasLogRoom core (sum_by (most_events core.config) ts)
 turns_fit core script ts config log turns is =
     let clients : length core.config.clients ≤ 256 = subst (λ (c : Config). length c.clients ≤ 256) (sym config) is.config.few_clients in

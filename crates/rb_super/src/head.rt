@@ -1,9 +1,10 @@
 //! The pen of a board, as a machine that takes events in.
-ghost use Rattle.std.specs.Prelude.{◌≡◌, ◌++◌, ◌∷◌, [], None, IfOk, IfErr, OnOk, OnErr, length, replicate};
+ghost use Rattle.std.specs.Prelude.{◌≡◌, ◌∷◌, [], None, IfOk, IfErr, OnOk, OnErr, length, replicate};
 ghost use Rattle.rb_core.specs.Core.{refusal_in, state_in};
 ghost use Rattle.rb_core_model.specs.Machine.{reply_of};
 ghost use Rattle.rb_core_model.specs.Refused.{IsRefusal};
 ghost use Rattle.rb_core_model.specs.Replied.{reply_view};
+ghost use Rattle.rb_core_model.specs.Snapshot.{followed_by};
 ghost use Rattle.rb_super_turn.specs.Slots.{event_in};
 ghost use Rattle.rb_super.specs.Heads.{head_of};
 
@@ -43,7 +44,7 @@ impl Machine<Global> for Head {
 
     fn take_from(&mut self, slot: &mut Option<Event>) -> Result<Reply, CoreError>
         ensures config { self.new.config ≡ self.old.config }
-        ensures appended { OnOk result (self.new.log ≡ self.old.log ++ event_in slot.old ∷ []) }
+        ensures appended { OnOk result (self.new.log ≡ followed_by self.old.log (event_in slot.old ∷ [])) }
         ensures unchanged { OnErr result (self.new.log ≡ self.old.log) }
         ensures accepted { OnOk result (refusal_in self.old (event_in slot.old) ≡ None) }
         ensures refused { IfErr result (λ e. IsRefusal e (refusal_in self.old (event_in slot.old))) }
@@ -58,7 +59,7 @@ impl Machine<Global> for Head {
     fn take_accepted(&mut self, slot: &mut Option<Event>) -> Result<Reply, AllocError>
         requires accepted { refusal_in self.old (event_in slot.old) ≡ None }
         ensures config { self.new.config ≡ self.old.config }
-        ensures appended { OnOk result (self.new.log ≡ self.old.log ++ event_in slot.old ∷ []) }
+        ensures appended { OnOk result (self.new.log ≡ followed_by self.old.log (event_in slot.old ∷ [])) }
         ensures unchanged { OnErr result (self.new.log ≡ self.old.log) }
         ensures reply { IfOk result (λ reply. reply_view reply ≡ reply_of (state_in self.old) (event_in slot.old)) }
     {
@@ -91,9 +92,12 @@ pub(crate) fn publish<R: Wait>(
     (Relayer::from_parts(Head { pen }, tables), published)
 }
 
-/// Ends the board.
-pub(crate) fn close<R: Wait>(rt: &R, relayer: Relayer<Global, Head>) {
+/// Ends the board; tells what the relayer has taken in.
+pub(crate) fn close<R: Wait>(rt: &R, relayer: Relayer<Global, Head>) -> Core
+    ensures config { result.config ≡ relayer.config }
+    ensures log { result.log ≡ relayer.log }
+{
     let (head, _tables) = relayer.into_parts();
     let Head { pen } = head;
-    pen.close(rt);
+    pen.close(rt)
 }

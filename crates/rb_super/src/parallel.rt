@@ -2,6 +2,10 @@
 ghost use Rattle.std.specs.Prelude.{◌≡◌, ◌<◌, ◌≤◌, ◌+◌, ◌*◌, [], Ok, length, IfOk, OnOk, All, map};
 ghost use Rattle.rb_script_types.specs.Config.{config_view, IsConfig};
 ghost use Rattle.rb_script_types.specs.Script.{IsReadObservation};
+ghost use Rattle.rb_core.specs.Core.{state_in};
+ghost use Rattle.rb_core_model.specs.Forgetting.{floors_of, has_many_to_forget, rest_at_floors};
+ghost use Rattle.rb_core_model.specs.Over.{firsts_of};
+ghost use Rattle.rb_core_model.specs.Snapshot.{from_nothing};
 ghost use Rattle.rb_core_model.specs.Standing.{goes_back};
 ghost use Rattle.rb_super_turn.specs.Turns.{before_plans, refusals_in, IsTurnReport, after_turn};
 ghost use Rattle.rb_super_turn.specs.Phases.{standing_in, HasLogRoom, IsLater, turn_heard, IsAllScanned, IsPlannable, AreReported};
@@ -217,10 +221,30 @@ impl<G: Gate + Send + Sync + Drop + 'static> ParallelSupervisor<G> {
         requires desks { desks ≤ 64 }
         requires start { F.IsAlwaysCallable start }
         ensures config { IfOk result (λ w. w.config ≡ config_view config) }
-        ensures log { IfOk result (λ w. w.log ≡ []) }
+        ensures log { IfOk result (λ w. w.log ≡ from_nothing []) }
     {
-        let tables = no_tables(alloc, config.chains.len())?;
         let core = Core::new(alloc, config)?;
+        ParallelSupervisor::over(rt, alloc, core, desks, start)
+    }
+
+    /// A supervisor whose relayer has taken in what a core has, with the team that is started for so many
+    /// desks of its board. The core is given up where a growth is refused.
+    fn over<R, F>(
+        rt: &R,
+        alloc: Global,
+        core: Core,
+        desks: usize,
+        start: F,
+    ) -> Result<ParallelSupervisor<G>, AllocError>
+    where
+        R: Wait,
+        F: FnOnce(Vec<Desk>) -> Result<Team<G>, AllocError> + Drop,
+        requires desks { desks ≤ 64 }
+        requires start { F.IsAlwaysCallable start }
+        ensures config { IfOk result (λ w. w.config ≡ core.config) }
+        ensures log { IfOk result (λ w. w.log ≡ core.log) }
+    {
+        let tables = no_tables(alloc, core.config().chains.len())?;
         let (pen, desks) = open(rt, alloc, core, desks)?;
         let relayer = relayer_over(pen, tables);
         match start(desks) {
@@ -289,6 +313,55 @@ impl<G: Gate + Send + Sync + Drop + 'static> ParallelSupervisor<G> {
             team,
         };
         Ok((next, report))
+    }
+
+    /// The floors of all chains, as `Core::floors`.
+    pub fn floors(&self) -> Result<Vec<u64>, AllocError>
+        ensures { IfOk result (λ floors. floors.items ≡ floors_of (standing_in self.now)) }
+    {
+        self.relayer.floors()
+    }
+
+    /// The first sequences of the paths, as `Core::firsts`.
+    pub fn firsts(&self) -> Result<Vec<u64>, AllocError>
+        ensures { IfOk result (λ firsts. firsts.items ≡ firsts_of (standing_in self.now)) }
+    {
+        self.relayer.firsts()
+    }
+
+    /// Whether so much is to be forgotten of some chain or path, as `Core::has_many_to_forget`.
+    pub fn has_many_to_forget(&self, least: usize) -> bool
+        ensures { result ≡ has_many_to_forget least (standing_in self.now) }
+    {
+        self.relayer.has_many_to_forget(least)
+    }
+
+    /// This supervisor, whose relayer begins anew: it forgets what lies below the floors of its chains, and
+    /// its log has no events. The workers end, and the team is started that goes on for so many desks of a new
+    /// board. `AllocError` as for `Core::begin_anew`; all is given up then.
+    pub fn begin_anew<R, F>(
+        self,
+        rt: &R,
+        desks: usize,
+        start: F,
+    ) -> Result<ParallelSupervisor<G>, AllocError>
+    where
+        R: Threads + Wait,
+        F: FnOnce(Vec<Desk>) -> Result<Team<G>, AllocError> + Drop,
+        requires desks { desks ≤ 64 }
+        requires start { F.IsAlwaysCallable start }
+        ensures config { IfOk result (λ w. w.config ≡ self.config) }
+        ensures standing { IfOk result (λ w. standing_in w ≡ rest_at_floors (standing_in self)) }
+        ensures front { IfOk result (λ w. (state_in w).front ≡ 0) }
+    {
+        let ParallelSupervisor {
+            alloc,
+            relayer,
+            team,
+        } = self;
+        team.stop(rt);
+        let core = close(rt, relayer).begin_anew()?;
+        ParallelSupervisor::over(rt, alloc, core, desks, start)
     }
 
     /// Ends the workers, and then the supervisor.

@@ -1,13 +1,16 @@
 //! The supervisor: a relayer that is led through turns.
-ghost use Rattle.std.specs.Prelude.{◌≡◌, ◌<◌, ◌+◌, ◌*◌, ◌++◌, ◌∷◌, [], true, length, None, is_some, IfOk, IfErr, OnOk, OnErr, All, map};
+ghost use Rattle.std.specs.Prelude.{◌≡◌, ◌<◌, ◌+◌, ◌*◌, ◌∷◌, [], true, length, None, is_some, IfOk, IfErr, OnOk, OnErr, All, map};
 ghost use denote.Param.Send.{Frees};
 ghost use Rattle.rb_script_types.specs.Config.{config_view, IsConfig};
 ghost use Rattle.rb_script_types.specs.Script.{IsReadObservation};
 ghost use Rattle.rb_core.specs.Core.{refusal_in, state_in};
+ghost use Rattle.rb_core_model.specs.Forgetting.{floors_of, has_many_to_forget, rest_at_floors};
+ghost use Rattle.rb_core_model.specs.Over.{firsts_of};
 ghost use Rattle.rb_core_model.specs.Machine.{reply_of};
 ghost use Rattle.rb_core_model.specs.Refused.{IsRefusal};
 ghost use Rattle.rb_core_model.specs.Replied.{reply_view};
 ghost use Rattle.rb_core_model.specs.Seen.{event_view};
+ghost use Rattle.rb_core_model.specs.Snapshot.{followed_by, from_nothing};
 ghost use Rattle.rb_core_model.specs.Standing.{goes_back};
 ghost use Rattle.rb_super_turn.specs.Drafts.{AreDrafts};
 ghost use Rattle.rb_super_turn.specs.Turns.{before_plans, refusals_in, IsTurnReport, after_turn};
@@ -74,7 +77,7 @@ impl<A: Allocator + Copy> Supervisor<A> {
     pub fn new(alloc: A, config: Config<A>) -> Result<Supervisor<A>, AllocError>
         requires { IsConfig (config_view config) }
         ensures config { IfOk result (λ s. s.config ≡ config_view config) }
-        ensures log { IfOk result (λ s. s.log ≡ []) }
+        ensures log { IfOk result (λ s. s.log ≡ from_nothing []) }
     {
         let relayer = Relayer::new(alloc, config)?;
         Ok(Supervisor { alloc, relayer })
@@ -92,13 +95,47 @@ impl<A: Allocator + Copy> Supervisor<A> {
     /// nothing has changed.
     pub fn take_in(&mut self, event: Event<A>) -> Result<Reply, CoreError>
         ensures config { self.new.config ≡ self.old.config }
-        ensures appended { OnOk result (self.new.log ≡ self.old.log ++ event_view event ∷ []) }
+        ensures appended { OnOk result (self.new.log ≡ followed_by self.old.log (event_view event ∷ [])) }
         ensures unchanged { OnErr result (self.new.log ≡ self.old.log) }
         ensures accepted { OnOk result (refusal_in self.old (event_view event) ≡ None) }
         ensures refused { IfErr result (λ e. IsRefusal e (refusal_in self.old (event_view event))) }
         ensures reply { IfOk result (λ reply. reply_view reply ≡ reply_of (state_in self.old) (event_view event)) }
     {
         self.relayer.take_in(event)
+    }
+
+    /// The floors of all chains, as `Core::floors`.
+    pub fn floors(&self) -> Result<Vec<u64, A>, AllocError>
+        ensures { IfOk result (λ floors. floors.items ≡ floors_of (standing_in self.now)) }
+    {
+        self.relayer.floors()
+    }
+
+    /// The first sequences of the paths, as `Core::firsts`.
+    pub fn firsts(&self) -> Result<Vec<u64, A>, AllocError>
+        ensures { IfOk result (λ firsts. firsts.items ≡ firsts_of (standing_in self.now)) }
+    {
+        self.relayer.firsts()
+    }
+
+    /// Whether so much is to be forgotten of some chain or path, as `Core::has_many_to_forget`.
+    pub fn has_many_to_forget(&self, least: usize) -> bool
+        ensures { result ≡ has_many_to_forget least (standing_in self.now) }
+    {
+        self.relayer.has_many_to_forget(least)
+    }
+
+    /// This supervisor, whose relayer begins anew: it forgets what lies below the floors of its chains, and
+    /// its log has no events. `AllocError` as for `Core::begin_anew`; it is given up then.
+    pub fn begin_anew(self) -> Result<Supervisor<A>, AllocError>
+        ensures config { IfOk result (λ s. s.config ≡ self.config) }
+        ensures standing { IfOk result (λ s. standing_in s ≡ rest_at_floors (standing_in self)) }
+        ensures front { IfOk result (λ s. (state_in s).front ≡ 0) }
+    {
+        let Supervisor { alloc, relayer } = self;
+        let core = relayer.into_core().begin_anew()?;
+        let relayer = Relayer::from_core(alloc, core)?;
+        Ok(Supervisor { alloc, relayer })
     }
 
     /// Ends it: what it has taken in is given back.

@@ -1,10 +1,11 @@
-use Rattle.std.proofs.Common.{◌≡◌, ◌++◌, ◌∷◌, [], None, IfOk, IfErr, ap, ◌∙◌, subst}
+use Rattle.std.proofs.Common.{◌≡◌, ◌∷◌, [], None, IfOk, IfErr, ap, ◌∙◌, subst}
 use Rattle.std.specs.Result.{OnOk, OnErr}
 use Rattle.rb_core.specs.Core.{Core, state_in, refusal_in}
 use Rattle.rb_core_model.specs.Machine.{reply_of}
 use Rattle.rb_core_model.specs.Refused.{IsRefusal}
 use Rattle.rb_core_model.specs.Replied.{reply_view}
 use Rattle.rb_core_model.specs.Seen.{event_view}
+use Rattle.rb_core_model.specs.Snapshot.{followed_by}
 use Rattle.rb_super.proofs.supervisor.Supervisor.take_in.Goals as goal
 
 pub returns-clause-config : goal.returns-clause-config
@@ -12,7 +13,7 @@ returns-clause-config g c = c.take_in.ensures.config ∙ ap (λ (k : Core). k.co
 
 pub returns-clause-appended : goal.returns-clause-appended
 returns-clause-appended g c =
-    subst (λ (k : Core). OnOk c.take_in.result (c.take_in.new.self.log ≡ k.log ++ event_view c.args.event ∷ [])) c.self.view_is c.take_in.ensures.appended
+    subst (λ (k : Core). OnOk c.take_in.result (c.take_in.new.self.log ≡ followed_by k.log (event_view c.args.event ∷ []))) c.self.view_is c.take_in.ensures.appended
 
 pub returns-clause-unchanged : goal.returns-clause-unchanged
 returns-clause-unchanged g c = subst (λ (k : Core). OnErr c.take_in.result (c.take_in.new.self.log ≡ k.log)) c.self.view_is c.take_in.ensures.unchanged
