@@ -13,6 +13,7 @@ use Rattle.rb_base.specs.declared.gate.Part.TheVariants.{Packets, Channel}
 use Rattle.rb_plan_client.specs.Draft.{Draft, IsDraft}
 use Rattle.rb_core_model.specs.Event.{Event, IsEvent, Window, Asked, Scanned, Planned}
 use Rattle.rb_core_model.specs.Scan.{Scan}
+use Rattle.rb_core_model.specs.Snapshot.{from_nothing}
 use Rattle.rb_core_model.specs.Machine.{State, opening, is_scanned, job_of, client_view, max_events, refusal_of, accepted, after, state_of}
 use Rattle.rb_script_types.specs.declared.refusal.Refusal.{Refusal}
 use Rattle.rb_script_types.specs.declared.refusal.Refusal.TheVariants.{WindowBack}
@@ -85,7 +86,7 @@ module _ (script : Script) where
   IsScannedIn s p part = is_scanned s p part ≡ true
 
   record IsCore (s : State) (log : List Event) : Type 0 where
-    core : s ≡ state_of script.config log
+    core : s ≡ state_of script.config (from_nothing log)
     events : AllByRecursion IsEvent log
     sizes : HasSizes script.config s
 

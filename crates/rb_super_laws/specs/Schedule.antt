@@ -9,6 +9,7 @@ use Rattle.rb_script_types.specs.Config.{Config}
 use Rattle.rb_plan_client.specs.Draft.{Draft, IsDraft}
 use Rattle.rb_core_model.specs.Event.{Event, Window, Asked, Scanned, Planned}
 use Rattle.rb_core_model.specs.Scan.{Scan}
+use Rattle.rb_core_model.specs.Snapshot.{from_nothing}
 use Rattle.rb_core_model.specs.Machine.{State, opening, is_scanned, is_job, client_view, max_events, refusal_of, after, state_of}
 use Rattle.rb_core_model.specs.Standing.{OpenBatch, ClientState, opening_standing, path_view}
 use Rattle.rb_script_types.specs.declared.script.Settlement.{Settlement}
@@ -168,7 +169,7 @@ module _ (config : Config) where
 
   -- what a worker makes of the relayer after so many events
   abbrev pub seen : ℕ → World → State
-  seen events w = state_of config (take events w.log)
+  seen events w = state_of config (from_nothing (take events w.log))
 
   -- it plans for the client as it sees it
   abbrev pub may_plan : World → ℕ → ℕ → ℕ → Draft → Bool
