@@ -1,8 +1,11 @@
 -- A follower's steps, over what it is made of.
-use Rattle.std.proofs.Common.{◌≡◌, ℕ, ◌+◌, ◌<◌, ◌≤◌, List, [], Result, Ok, Err, IfOk, OnOk, refl, sym, ap, subst, ◌∙◌, arith}
+use Rattle.std.proofs.Common.{◌≡◌, ℕ, ◌+◌, ◌<◌, ◌≤◌, true, false, List, [], Result, Ok, Err, IfOk, OnOk, refl, sym, ap, subst, ◌∙◌, arith}
 use Rattle.std.specs.declared.alloc.Global.{Global}
 use Rattle.rb_core.specs.Core.{Core, state_in}
+use Rattle.rb_core_model.specs.Forgetting.{floors_of, rest_at_floors}
 use Rattle.rb_core_model.specs.Machine.{max_events}
+use Rattle.rb_core_model.specs.Snapshot.{from_nothing}
+use Rattle.rb_core_model.specs.Standing.{Standing}
 use Rattle.rb_script_types.specs.Config.{Config}
 use Rattle.rb_script_types.specs.Script.{Turn, turn_view}
 use Rattle.rb_script_types.specs.declared.script.Turn.{Turn as CodeTurn}
@@ -17,8 +20,14 @@ use Rattle.rb_super_turn.specs.Phases.{standing_in, HasLogRoom, IsLater}
 use Rattle.rb_super_turn.specs.Report.{TurnReport}
 use Rattle.rb_super_turn.specs.Turns.{IsTurnReport, after_turn}
 use Rattle.rb_follow.specs.Setups.{setup_of}
-use Rattle.rb_follow.specs.Followers.{Following, begun_with, beginning, max_turns, most_events, next_turn, Answer, planned, refused, IsRight, IsAnswerFor, IsAnswer}
+use Rattle.rb_follow.specs.Followers.{Following, begun_with, beginning, max_turns, most_events, next_turn, Answer, planned, refused, IsRight, IsAnswerFor, IsAnswer, tidied}
+use Rattle.rb_follow.specs.Tidying.{forgets, raised}
 use Rattle.rb_follow.specs.Seen.{IsInOrder}
+
+-- a follower that is made of these
+abbrev pub made_of : Config → Core → Reading → ℕ → ℕ → List ℕ → Following
+made_of c core reading turns events forgotten =
+    record { config = c; turns = turns; reading = reading; events = events; standing = standing_in core; forgotten = forgotten }
 
 -- ---- the beginning
 
@@ -26,17 +35,17 @@ begun_from : (setup : List ℕ) (c : Config) (f : Following) → setup_of setup 
 unfolding beginning
 begun_from setup c f read is = ap (λ (r : Result Config Fault). r >>= (λ x. Ok (begun_with x))) read ∙ ap Ok (sym is)
 
-pub begun : (setup : List ℕ) (c : Config) (core : Core) (reading : Reading) → setup_of setup ≡ Ok c → core.config ≡ c → core.log ≡ [] → reading ≡ opening
-    → beginning setup ≡ Ok (record { config = c; turns = 0; reading = reading; events = 0; standing = standing_in core })
-begun setup c core reading read config log opened =
-    begun_from setup c (record { config = c; turns = 0; reading = reading; events = 0; standing = standing_in core }) read
-    (λ i. record { config = c; turns = 0; reading = opened i; events = 0; standing = opened_standing core c config log i })
+pub begun : (setup : List ℕ) (c : Config) (core : Core) (reading : Reading) (forgotten : List ℕ) → setup_of setup ≡ Ok c → core.config ≡ c
+    → core.log ≡ from_nothing [] → reading ≡ opening → forgotten ≡ [] → beginning setup ≡ Ok (made_of c core reading 0 0 forgotten)
+begun setup c core reading forgotten read config log opened none =
+    begun_from setup c (made_of c core reading 0 0 forgotten) read
+    (λ i. record { config = c; turns = 0; reading = opened i; events = 0; standing = opened_standing core c config log i; forgotten = none i })
 
 pub begins-refused : (setup : List ℕ) (e : RunError) → Fails e (setup_of setup) → Fails e (beginning setup)
 unfolding beginning
 begins-refused setup e h = fails-first e (setup_of setup) (λ c. Ok (begun_with c)) h
 
-pub begins_in_order : (c : Config) (core : Core) (paths : List (List ℕ)) → core.config ≡ c → core.log ≡ [] → paths ≡ path_ids c.paths → IsInOrder c core paths 0 0
+pub begins_in_order : (c : Config) (core : Core) (paths : List (List ℕ)) → core.config ≡ c → core.log ≡ from_nothing [] → paths ≡ path_ids c.paths → IsInOrder c core paths 0 0
 begins_in_order c core paths config log are =
     let opened = opened_front core log in
     record { config = config; paths_are = are; few_turns = omega arith; front = omega arith; few_events = omega arith }
@@ -87,21 +96,29 @@ stays_in_order c core same next paths turns events count t e order few room is l
 
 -- ---- an answer
 
--- a follower that is made of these
-abbrev pub made_of : Config → Core → Reading → ℕ → ℕ → Following
-made_of c core reading turns events = record { config = c; turns = turns; reading = reading; events = events; standing = standing_in core }
+-- what is left of a follower
+pub tidies : (f : Following) (standing : Standing) (before floors forgotten : List ℕ) → forgets f.config.version f.standing ≡ true → standing ≡ rest_at_floors f.standing
+    → before ≡ f.forgotten → floors ≡ floors_of f.standing → forgotten ≡ raised before floors
+    → record f { events = 0; standing = standing; forgotten = forgotten } ≡ tidied f
+tidies f standing before floors forgotten does left same lowest are =
+    let raise : forgotten ≡ raised f.forgotten (floors_of f.standing) = are ∙ (λ i. raised (same i) (lowest i)) in
+    rw does (λ i. record f { events = 0; standing = left i; forgotten = raise i })
+
+pub stays : (f : Following) → forgets f.config.version f.standing ≡ false → f ≡ tidied f
+stays f not_now = rw not_now refl
 
 -- the answer to a turn
-pub answers : (c : Config) (core same next : Core) (turns events count : ℕ) (reading read left : Reading) (t : CodeTurn Global) (r : TurnReport)
-    → same ≡ core → left ≡ read → count ≡ events + most_events c (turn_view t)
+pub answers : (c : Config) (core same next : Core) (turns events count : ℕ) (forgotten : List ℕ) (reading read left : Reading) (t : CodeTurn Global) (r : TurnReport)
+    (g : Following) → same ≡ core → left ≡ read → count ≡ events + most_events c (turn_view t)
     → IsTurnReport (standing_in same) (code_turn_as_events t) r → standing_in next ≡ after_turn (standing_in same) (code_turn_as_events t) r
-    → IsAnswerFor (made_of c core reading turns events) (Ok (turn_view t, read)) (planned (turns + 1) r) (made_of c next left (turns + 1) count)
-answers c core same next turns events count reading read left t r e l n report standing =
+    → g ≡ tidied (made_of c next left (turns + 1) count forgotten)
+    → IsAnswerFor (made_of c core reading turns events forgotten) (Ok (turn_view t, read)) (planned (turns + 1) r) g
+answers c core same next turns events count forgotten reading read left t r g e l n report standing tidy =
     let after : standing_in next ≡ after_turn (standing_in core) (code_turn_as_events t) r =
     subst (λ (k : Core). standing_in next ≡ after_turn (standing_in k) (code_turn_as_events t) r) e standing in (
       refl,
       subst (λ (k : Core). IsTurnReport (standing_in k) (code_turn_as_events t) r) e report,
-      (λ i. record { config = c; turns = turns + 1; reading = l i; events = n i; standing = after i }),
+      (tidy ∙ (λ i. tidied (record { config = c; turns = turns + 1; reading = l i; events = n i; standing = after i; forgotten = forgotten }))),
     )
 
 -- the answer to a document that was read so

@@ -1,20 +1,24 @@
 -- Answers to documents, one after the other.
-use Rattle.std.proofs.Common.{◌≡◌, ℕ, List, [], ◌∷◌, ◌++◌, map, All, Option, Some, None, Result, Ok, Err, IfOk, OnOk, OnErr, refl, sym, ap, subst, ◌∙◌, append_assoc, arith}
+use Rattle.std.proofs.Common.{◌≡◌, ℕ, ◌+◌, Bool, true, false, List, [], ◌∷◌, ◌++◌, map, All, Option, Some, None, Result, Ok, Err, IfOk, OnOk, OnErr, refl, sym, ap, subst, ◌∙◌, append_assoc, arith, if◌then◌else◌}
 use Rattle.std.proofs.lemmas.List.{append-nil}
 use Rattle.std.proofs.lemmas.List.Elements.{All-cons, All-append}
 use Rattle.std.specs.declared.alloc.Global.{Global}
+use Rattle.rb_core_model.specs.Forgetting.{floors_of, rest_at_floors}
 use Rattle.rb_script_types.specs.Config.{Config}
 use Rattle.rb_script_types.specs.Script.{Turn}
 use Rattle.rb_script_config.specs.Paths.{path_ids}
 use Rattle.rb_script_read.specs.Turns.{Reading}
 use Rattle.rb_script_toml.specs.Faults.{Fault}
 use Rattle.rb_super.specs.AsEvents.{turn_as_events}
+use Rattle.rb_super_turn.specs.Report.{TurnReport}
 use Rattle.rb_super_turn.specs.Script.{IsTurn}
+use Rattle.rb_super_turn.specs.Turns.{after_turn}
 use Rattle.rb_text.proofs.Beginnings.{appends-then, appends-none, beginning-none, beginning-first, beginning-then}
 use Rattle.rb_follow.specs.declared.told.Form.{Form}
 use Rattle.rb_follow.specs.declared.told.Form.TheVariants.{Text, Json}
 use Rattle.rb_follow.specs.Documents.{Document}
-use Rattle.rb_follow.specs.Followers.{Following, Answer, planned, refused, after_report, turn_in, IsAnswerFor, IsRight}
+use Rattle.rb_follow.specs.Followers.{Following, Answer, planned, refused, most_events, tidied, after_report, turn_in, IsAnswerFor, IsRight}
+use Rattle.rb_follow.specs.Tidying.{forgets, raised}
 use Rattle.rb_follow.specs.Answers.{answer_text, Takes, TakesBeginning}
 use Rattle.rb_follow.specs.Journals.{Outs, StoresAll, whole_of, accepted}
 use Rattle.rb_follow.specs.Headline.{AreAnswers, Answered, answers_text, Told, BeginsTelling}
@@ -45,6 +49,17 @@ begins-then Json old mid new a b p h = tt
 -- ---- answers
 
 -- a follower keeps what it is set up with
+tidied-config : (f : Following) → (tidied f).config ≡ f.config
+tidied-config f = go (forgets f.config.version f.standing)
+  where
+    go : (b : Bool) → (if b then record f { events = 0; standing = rest_at_floors f.standing; forgotten = raised f.forgotten (floors_of f.standing) } else f).config ≡ f.config
+    go true = refl
+    go false = refl
+
+after-config : (f : Following) (x : Turn Global × Reading) (r : TurnReport) → (after_report f x r).config ≡ f.config
+after-config f x r =
+    tidied-config (record f { turns = f.turns + 1; reading = x.1; events = f.events + most_events f.config x.0; standing = after_turn f.standing (turn_as_events x.0) r })
+
 pub answers-config : (f : Following) (ds : List Document) (answers : List Answer) (ts : List (Turn Global)) (g : Following)
     → AreAnswers f ds answers ts g → g.config ≡ f.config
 answers-config f [] [] [] g h = ap (λ (x : Following). x.config) (sym h)
@@ -52,7 +67,7 @@ answers-config f [] [] (t ∷ ts) g h = absurd h
 answers-config f [] (a ∷ rest) ts g h = absurd h
 answers-config f (d ∷ ds) [] ts g h = absurd h
 answers-config f (d ∷ ds) (planned number r ∷ rest) [] g h = absurd h
-answers-config f (d ∷ ds) (planned number r ∷ rest) (t ∷ ts) g h = answers-config (after_report f (t, h.0) r) ds rest ts g h.4
+answers-config f (d ∷ ds) (planned number r ∷ rest) (t ∷ ts) g h = answers-config (after_report f (t, h.0) r) ds rest ts g h.4 ∙ after-config f (t, h.0) r
 answers-config f (d ∷ ds) (refused fault ∷ rest) ts g h = answers-config f ds rest ts g h.1
 
 -- answers to more documents
@@ -133,7 +148,9 @@ one_by f d (Ok x) (planned number report) g e h right = record {
     right = All-cons (IsTurn f.config) (turn_as_events x.0) [] right (none_right f.config);
   };
   one = refl;
-  text = append-nil _ ∙ ap (λ (y : Following). answer_text y.config.version (path_ids y.config.paths) (planned number report)) (sym h.2);
+  text =
+      append-nil _
+      ∙ ap (λ (c : Config). answer_text c.version (path_ids c.paths) (planned number report)) (sym (after-config f x report) ∙ ap (λ (y : Following). y.config) (sym h.2));
 }
 one_by f d (Ok x) (refused fault) g e h right = absurd h
 one_by f d (Err x) (planned number report) g e h right = absurd h

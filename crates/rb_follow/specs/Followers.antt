@@ -1,7 +1,9 @@
 -- A follower as contracts see it, and what a document does to it.
-use Rattle.std.specs.Prelude.{◌≡◌, ℕ, ◌+◌, ◌*◌, nat_le, nat_lt, List, length, codes, Result, Ok, Err}
+use Rattle.std.specs.Prelude.{◌≡◌, ℕ, ◌+◌, ◌*◌, nat_le, nat_lt, List, [], length, codes, Result, Ok, Err, if◌then◌else◌}
 use Rattle.std.specs.declared.alloc.Global.{Global}
+use Rattle.rb_core_model.specs.Forgetting.{floors_of, rest_at_floors}
 use Rattle.rb_core_model.specs.Machine.{max_events}
+use Rattle.rb_core_model.specs.Over.{firsts_of}
 use Rattle.rb_core_model.specs.Standing.{Standing, opening_standing}
 use Rattle.rb_script_types.specs.Config.{Config}
 use Rattle.rb_script_types.specs.Limits.{max_turns as most_of_old}
@@ -18,19 +20,21 @@ use Rattle.rb_super_turn.specs.Script.{IsTurn}
 use Rattle.rb_super_turn.specs.Turns.{IsTurnReport, after_turn}
 use Rattle.rb_follow.specs.Setups.{setup_of}
 use Rattle.rb_follow.specs.Documents.{Document, document, cut}
+use Rattle.rb_follow.specs.Tidying.{forgets, raised, first_spoken, check_spoken}
 
--- what it is set up with, how many turns were taken, what reading them left to the next, how many events they can have given, and how
--- things stand
+-- what it is set up with, how many turns were taken, what reading them left to the next, how many events its log can have, how things
+-- stand, and up to which height of each chain was forgotten
 pub record Following : Type 0 where
   pub config : Config
   pub turns : ℕ
   pub reading : Reading
   pub events : ℕ
   pub standing : Standing
+  pub forgotten : List ℕ
 
 -- before the first turn
 abbrev pub begun_with : Config → Following
-begun_with c = record { config = c; turns = 0; reading = opening; events = 0; standing = opening_standing c }
+begun_with c = record { config = c; turns = 0; reading = opening; events = 0; standing = opening_standing c; forgotten = [] }
 
 -- the follower that a setup begins, or the setup's first fault
 unfoldable pub beginning : List ℕ → Result Following Fault
@@ -51,18 +55,19 @@ max_turns Three = 10000
 abbrev pub most_events : Config → Turn Global → ℕ
 most_events c t = 1 + entry_count t + 2 * length c.paths + 2 * length c.clients
 
--- the turn that a document holds, after so many turns, which can have given so many events, and what reading it leaves to the next, where
--- there is room for it
-unfoldable pub turn_after : Config → ℕ → ℕ → Reading → List ℕ → Result (Turn Global × Reading) Fault
-turn_after c turns events reading bytes = do
+-- the turn that a document holds, after so many turns, where the log can have so many events, and what reading it leaves to the next,
+-- where there is room for it, and no event speaks of what was forgotten
+unfoldable pub turn_after : Config → ℕ → ℕ → List ℕ → List ℕ → Reading → List ℕ → Result (Turn Global × Reading) Fault
+turn_after c turns events forgotten firsts reading bytes = do
   _ ← check (nat_lt turns (max_turns c.version)) TooManyObjects (codes "-")
   x ← turn_of_document c reading bytes
   _ ← check (nat_le (events + most_events c x.0) max_events) TooManyEvents (codes "-")
+  _ ← check_spoken (first_spoken c forgotten firsts x.0)
   Ok x
 
 -- the same of a follower
 abbrev pub next_turn : Following → List ℕ → Result (Turn Global × Reading) Fault
-next_turn f bytes = turn_after f.config f.turns f.events f.reading bytes
+next_turn f bytes = turn_after f.config f.turns f.events f.forgotten (firsts_of f.standing) f.reading bytes
 
 -- the turn that a document of an input holds: the beginning of one is no TOML
 abbrev pub turn_in : Following → Document → Result (Turn Global × Reading) Fault
@@ -79,15 +84,21 @@ pub data Answer : Type 0 where
   planned : ℕ → TurnReport → Answer
   refused : Fault → Answer
 
+-- what lies below the floors is forgotten, where that is worth while; the log begins anew then
+abbrev pub tidied : Following → Following
+tidied f =
+    if forgets f.config.version f.standing
+    then record f { events = 0; standing = rest_at_floors f.standing; forgotten = raised f.forgotten (floors_of f.standing) }
+    else f
+
 -- the follower after a turn that was reported so
 abbrev pub after_report : Following → Turn Global × Reading → TurnReport → Following
-after_report f x r = record {
-  config = f.config;
+after_report f x r = tidied (record f {
   turns = f.turns + 1;
   reading = x.1;
   events = f.events + most_events f.config x.0;
   standing = after_turn f.standing (turn_as_events x.0) r;
-}
+})
 
 abbrev pub IsAnswerFor : Following → Result (Turn Global × Reading) Fault → Answer → Following → Type 0
 IsAnswerFor f (Ok x) (planned number r) g = (number ≡ f.turns + 1) × IsTurnReport f.standing (turn_as_events x.0) r × (g ≡ after_report f x r)

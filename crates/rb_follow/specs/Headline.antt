@@ -2,13 +2,14 @@
 use Rattle.std.specs.Prelude.{◌≡◌, ℕ, ◌+◌, Bool, false, List, [], ◌∷◌, ◌++◌, codes, map, All, Ok, Err}
 use Rattle.std.specs.List.{flat_map}
 use Rattle.std.specs.declared.alloc.Global.{Global}
+use Rattle.rb_core_model.specs.Standing.{opening_standing}
 use Rattle.rb_script_types.specs.Config.{Config}
 use Rattle.rb_script_types.specs.Script.{Script, Turn}
 use Rattle.rb_script_config.specs.Paths.{path_ids}
 use Rattle.rb_script_read.specs.Turns.{Reading}
 use Rattle.rb_super.specs.AsEvents.{turn_as_events, as_events}
 use Rattle.rb_super_turn.specs.Script.{IsTurn, IsScript}
-use Rattle.rb_super_turn.specs.Turns.{IsTurnReport, IsReportOf}
+use Rattle.rb_super_turn.specs.Turns.{IsTurnReport}
 use Rattle.rb_text.specs.Report.{first_line}
 use Rattle.rb_text.specs.Written.{IsWriteError}
 use Rattle.rb_follow.specs.declared.error.FollowError.{FollowError}
@@ -16,6 +17,7 @@ use Rattle.rb_follow.specs.declared.error.FollowError.TheVariants.{Run, Input, J
 use Rattle.rb_follow.specs.Setups.{setup_of}
 use Rattle.rb_follow.specs.Documents.{Gathered, Document, documents_from, left_from, documents}
 use Rattle.rb_follow.specs.Followers.{Following, Answer, planned, refused, begun_with, turn_in, after_report}
+use Rattle.rb_follow.specs.Reports.{AreReportsIn}
 use Rattle.rb_follow.specs.Journals.{Outs, StoresAll, accepted}
 use Rattle.rb_follow.specs.declared.told.Form.{Form}
 use Rattle.rb_follow.specs.Answers.{answer_text, reports_in, Takes, TakesBeginning}
@@ -85,14 +87,14 @@ abbrev pub script_with : Config → List (Turn Global) → Script Global
 script_with c turns = record { config = c; turns = turns }
 
 -- answers to documents, whose reports are the report of the script of the setup and the turns that were taken: for each client and turn
--- the least list of updates, with the exact labelling, and the least cut of its messages
+-- the least list of updates, with the exact labelling, and the least cut of its messages; from version 3 on each report is of what is left then
 pub record IsFollowed (setup : List ℕ) (documents : List Document) (config : Config) (answers : List Answer) : Type 0 where
   pub read : setup_of setup ≡ Ok config
   pub turns : List (Turn Global)
   pub last : Following
   pub answered : AreAnswers (begun_with config) documents answers turns last
   pub kept : IsScript (as_events (script_with config turns))
-  pub reported : IsReportOf (as_events (script_with config turns)) (reports_in answers)
+  pub reported : AreReportsIn config.version (opening_standing config) (map turn_as_events turns) (reports_in answers)
 
 -- the writer took the text of answers to all documents of an input, where its bytes are known before and after, and the journal has stored
 -- those that were accepted

@@ -4,6 +4,8 @@ pub use Rattle.rb_script_read.specs.NextTurns
 pub mod Setups
 pub mod Drivers
 pub mod Documents
+pub mod Tidying
+pub mod Reports
 pub mod Followers
 pub mod Journals
 pub mod Seen

@@ -13,4 +13,5 @@ following f = record {
   reading = reading_view f.reading;
   events = f.events;
   standing = standing_in (core_of f.driver);
+  forgotten = f.forgotten.items;
 }

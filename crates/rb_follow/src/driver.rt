@@ -1,5 +1,9 @@
 //! Who leads a relayer through turns.
 ghost use Rattle.std.specs.Prelude.{◌≡◌, ◌≤◌, [], IfOk};
+ghost use Rattle.rb_core.specs.Core.{state_in};
+ghost use Rattle.rb_core_model.specs.Forgetting.{floors_of, has_many_to_forget, rest_at_floors};
+ghost use Rattle.rb_core_model.specs.Over.{firsts_of};
+ghost use Rattle.rb_core_model.specs.Snapshot.{from_nothing};
 ghost use Rattle.rb_script_types.specs.Config.{config_view, IsConfig};
 ghost use Rattle.rb_super_turn.specs.Turns.{IsTurnReport, after_turn};
 ghost use Rattle.rb_super_turn.specs.Phases.{standing_in, HasLogRoom, IsLater};
@@ -36,7 +40,7 @@ impl<G: Gate + Send + Sync + Drop + 'static> Driver<G> {
         requires config { IsConfig (config_view config) }
         requires workers { workers ≤ 64 }
         ensures config { IfOk result (λ d. (core_of d).config ≡ config_view config) }
-        ensures log { IfOk result (λ d. (core_of d).log ≡ []) }
+        ensures log { IfOk result (λ d. (core_of d).log ≡ from_nothing []) }
     {
         if workers == 0 {
             let supervisor = Supervisor::new(alloc, config)?;
@@ -69,6 +73,62 @@ impl<G: Gate + Send + Sync + Drop + 'static> Driver<G> {
             Driver::WithWorkers(supervisor) => {
                 let (next, report) = supervisor.turn(crew, turn)?;
                 Ok((Driver::WithWorkers(next), report))
+            }
+        }
+    }
+
+    /// The floors of all chains, as `Core::floors`.
+    pub fn floors(&self) -> Result<Vec<u64>, AllocError>
+        ensures { IfOk result (λ floors. floors.items ≡ floors_of (standing_in (core_of self.now))) }
+    {
+        match self {
+            Driver::Alone(supervisor) => supervisor.floors(),
+            Driver::WithWorkers(supervisor) => supervisor.floors(),
+        }
+    }
+
+    /// The first sequences of the paths, as `Core::firsts`.
+    pub fn firsts(&self) -> Result<Vec<u64>, AllocError>
+        ensures { IfOk result (λ firsts. firsts.items ≡ firsts_of (standing_in (core_of self.now))) }
+    {
+        match self {
+            Driver::Alone(supervisor) => supervisor.firsts(),
+            Driver::WithWorkers(supervisor) => supervisor.firsts(),
+        }
+    }
+
+    /// Whether so much is to be forgotten of some chain or path, as `Core::has_many_to_forget`.
+    pub fn has_many_to_forget(&self, least: usize) -> bool
+        ensures { result ≡ has_many_to_forget least (standing_in (core_of self.now)) }
+    {
+        match self {
+            Driver::Alone(supervisor) => supervisor.has_many_to_forget(least),
+            Driver::WithWorkers(supervisor) => supervisor.has_many_to_forget(least),
+        }
+    }
+
+    /// This one, whose relayer begins anew: it forgets what lies below the floors of its chains, and its log has
+    /// no events. So many workers are started. An error comes only where a growth is refused, or as for
+    /// `Core::begin_anew`; all workers have then ended.
+    pub fn begin_anew<R: Threads + Wait + Copy + Send + Sync + 'static>(
+        self,
+        rt: &R,
+        alloc: Global,
+        workers: usize,
+        gate: &Arc<G, Global>,
+    ) -> Result<Driver<G>, AllocError>
+        requires workers { workers ≤ 64 }
+        ensures config { IfOk result (λ d. (core_of d).config ≡ (core_of self).config) }
+        ensures standing { IfOk result (λ d. standing_in (core_of d) ≡ rest_at_floors (standing_in (core_of self))) }
+        ensures front { IfOk result (λ d. (state_in (core_of d)).front ≡ 0) }
+    {
+        match self {
+            Driver::Alone(supervisor) => Ok(Driver::Alone(supervisor.begin_anew()?)),
+            Driver::WithWorkers(supervisor) => {
+                let next = supervisor.begin_anew(rt, workers, |desks| {
+                    Team::start(rt, alloc, desks, gate)
+                })?;
+                Ok(Driver::WithWorkers(next))
             }
         }
     }

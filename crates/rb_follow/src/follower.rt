@@ -2,6 +2,7 @@
 ghost use Rattle.std.specs.Prelude.{◌≡◌, ◌<◌, ◌≤◌, ◌+◌, Ok, IfOk, IfErr, OnOk};
 ghost use Rattle.rb_script_types.specs.Script.{turn_view};
 ghost use Rattle.rb_core_model.specs.Config.{IsSetUp};
+ghost use Rattle.rb_core_model.specs.Forgetting.{floors_of};
 ghost use Rattle.rb_core_model.specs.Machine.{max_events};
 ghost use Rattle.rb_script_toml.specs.Faults.{Gives};
 ghost use Rattle.rb_script_read.specs.Turns.{reading_view};
@@ -9,7 +10,8 @@ ghost use Rattle.rb_script_read.specs.NextTurns.{next_turn_view, reading_after};
 ghost use Rattle.rb_script_config.specs.Setups.{setup_view};
 ghost use Rattle.rb_script_config.specs.Paths.{path_ids};
 ghost use Rattle.rb_super.specs.AsEvents.{IsTurnFor};
-ghost use Rattle.rb_follow.specs.Followers.{beginning, turn_after, next_turn, max_turns, most_events, IsAnswerFor, IsAnswer, IsRight};
+ghost use Rattle.rb_super_turn.specs.Phases.{standing_in};
+ghost use Rattle.rb_follow.specs.Followers.{beginning, turn_after, next_turn, max_turns, most_events, IsAnswerFor, IsAnswer, IsRight, tidied};
 ghost use Rattle.rb_core.specs.Core.{state_in};
 ghost use Rattle.rb_follow.specs.Drivers.{core_of};
 ghost use Rattle.rb_follow.specs.Answers.{answer_view};
@@ -17,6 +19,7 @@ ghost use Rattle.rb_follow.specs.Answers.{answer_view};
 use crate::answer::Answer;
 use crate::driver::Driver;
 use crate::setup::{path_ids, read_setup_text};
+use crate::tidying::{check_spoken, forgets, raise};
 use crate::turns::read_turn_is_turn;
 use rb_base::{Gate, PathId};
 use rb_core_model::rules::fee_tables;
@@ -36,9 +39,10 @@ const MOST_TURNS: usize = 10_000;
 const MAX_EVENTS: usize = 1_000_000;
 
 /// A relayer that is led through turns, each read from a document of its own. A contract sees what it is set
-/// up with, the turns' number, what reading them left to the next, how many events they can have given, and
-/// how things stand (`following` in specs/Views.antt). It keeps the turns' names, books and step tables, and
-/// not the turns or their reports. It is not `Drop`, as workers aren't: end it by `stop`.
+/// up with, the turns' number, what reading them left to the next, how many events its log can have, how
+/// things stand, and up to which height of each chain was forgotten (`following` in specs/Views.antt). It
+/// keeps the turns' names, books and step tables, and not the turns or their reports. It is not `Drop`, as
+/// workers aren't: end it by `stop`.
 pub struct Follower<G: Gate> {
     pub alloc: Global,
     pub setup: Setup,
@@ -47,11 +51,15 @@ pub struct Follower<G: Gate> {
     pub driver: Driver<G>,
     pub turns: usize,
     pub events: usize,
+    pub forgotten: Vec<u64>,
+    pub workers: usize,
+    pub gate: Arc<G, Global>,
     pub ghost config: { (core_of driver).config ≡ setup_view setup },
     pub ghost ids: { paths.items ≡ path_ids (setup_view setup).paths },
     pub ghost few_turns: { turns ≤ max_turns setup.version },
     pub ghost front: { (state_in (core_of driver)).front ≤ events },
     pub ghost few_events: { events ≤ max_events },
+    pub ghost few_workers: { workers ≤ 64 },
 }
 
 /// The most turns of this version.
@@ -86,8 +94,8 @@ fn events_after(setup: &Setup, events: usize, turn: &Turn) -> usize
     events + most_events(setup, turn) as usize
 }
 
-/// Reads the turn that a document holds, after so many turns, which can have given so many events, if there is
-/// room for one more.
+/// Reads the turn that a document holds, after so many turns, where the log can have so many events, if there is
+/// room for one more, and no event of it speaks of what was forgotten.
 #[tactic(auto, using(rb_script_toml::proofs::Steps::steps), unfolding(crate::specs::Followers::turn_after))]
 fn read_next(
     alloc: Global,
@@ -95,10 +103,12 @@ fn read_next(
     reading: &Reading,
     turns: usize,
     events: usize,
+    forgotten: &[u64],
+    firsts: &[u64],
     document: &[u8],
 ) -> Result<NextTurn, RunError>
     requires { events ≤ max_events }
-    ensures read { Gives (next_turn_view (reading_view reading.now)) result (turn_after (setup_view setup.now) turns events (reading_view reading.now) document.now) }
+    ensures read { Gives (next_turn_view (reading_view reading.now)) result (turn_after (setup_view setup.now) turns events forgotten.now firsts.now (reading_view reading.now) document.now) }
     ensures form { IfOk result (λ n. IsTurnFor (setup_view setup.now) n.turn) }
     ensures turns { OnOk result (turns < max_turns setup.now.version) }
     ensures room { IfOk result (λ n. events + most_events (setup_view setup.now) (turn_view n.turn) ≤ max_events) }
@@ -110,6 +120,7 @@ fn read_next(
     if events as u128 + most_events(setup, &next.turn) > MAX_EVENTS as u128 {
         return Err(fault_at(alloc, "-", FaultName::TooManyEvents));
     }
+    check_spoken(alloc, setup, forgotten, firsts, &next.turn)?;
     Ok(next)
 }
 
@@ -126,6 +137,23 @@ fn read_on<R: Threads + Wait, G: Gate + Send + Sync + Drop + 'static>(
     let mut reading = reading;
     match reading.take(change) {
         Ok(()) => Ok((driver, reading)),
+        Err(error) => {
+            driver.stop(rt);
+            Err(error)
+        }
+    }
+}
+
+/// The floors of all chains, or the workers are ended.
+fn floors_of<R: Threads + Wait, G: Gate + Send + Sync + Drop + 'static>(
+    rt: &R,
+    driver: Driver<G>,
+) -> Result<(Driver<G>, Vec<u64>), AllocError>
+    ensures same { IfOk result (λ r. r.0 ≡ driver) }
+    ensures floors { IfOk result (λ r. r.1.items ≡ floors_of (standing_in (core_of driver))) }
+{
+    match driver.floors() {
+        Ok(floors) => Ok((driver, floors)),
         Err(error) => {
             driver.stop(rt);
             Err(error)
@@ -153,6 +181,7 @@ impl<G: Gate + Send + Sync + Drop + 'static> Follower<G> {
         let (setup, config) = read_setup_text(alloc, setup)?;
         fee_tables(config.clients.as_slice());
         let paths = path_ids(alloc, config.paths.as_slice())?;
+        let owner = Arc::try_clone(gate)?;
         let driver = Driver::new(rt, alloc, config, workers, gate)?;
         Ok(Follower {
             alloc,
@@ -162,6 +191,9 @@ impl<G: Gate + Send + Sync + Drop + 'static> Follower<G> {
             driver,
             turns: 0,
             events: 0,
+            forgotten: Vec::new(alloc),
+            workers,
+            gate: owner,
         })
     }
 
@@ -179,25 +211,69 @@ impl<G: Gate + Send + Sync + Drop + 'static> Follower<G> {
         self.paths.as_slice()
     }
 
-    /// Reads the turn that a document holds, if there is room for one more.
+    /// Reads the turn that a document holds, if there is room for one more, and no event of it speaks of what was
+    /// forgotten.
     fn read(&self, document: &[u8]) -> Result<NextTurn, RunError>
         ensures read { Gives (next_turn_view (reading_view self.now.reading)) result (next_turn (following self.now) document.now) }
         ensures form { IfOk result (λ n. IsTurnFor (setup_view self.now.setup) n.turn) }
         ensures turns { OnOk result (self.now.turns < max_turns self.now.setup.version) }
         ensures room { IfOk result (λ n. self.now.events + most_events (setup_view self.now.setup) (turn_view n.turn) ≤ max_events) }
     {
+        let firsts = self.driver.firsts()?;
         read_next(
             self.alloc,
             &self.setup,
             &self.reading,
             self.turns,
             self.events,
+            self.forgotten.as_slice(),
+            firsts.as_slice(),
             document,
         )
     }
 
+    /// This follower, where what lies below the floors is forgotten, if that is worth while. An error comes
+    /// only where a growth is refused, or as for `Core::begin_anew`; all workers have then ended.
+    fn tidied<R: Threads + Wait + Copy + Send + Sync + 'static>(
+        self,
+        rt: &R,
+    ) -> Result<Follower<G>, AllocError>
+        ensures { IfOk result (λ f. following f ≡ tidied (following self)) }
+    {
+        if !forgets(self.setup.version, &self.driver) {
+            return Ok(self);
+        }
+        let Follower {
+            alloc,
+            setup,
+            paths,
+            reading,
+            driver,
+            turns,
+            events: _,
+            forgotten,
+            workers,
+            gate,
+        } = self;
+        let (driver, mut floors) = floors_of(rt, driver)?;
+        raise(forgotten.as_slice(), &mut floors);
+        let driver = driver.begin_anew(rt, alloc, workers, &gate)?;
+        Ok(Follower {
+            alloc,
+            setup,
+            paths,
+            reading,
+            driver,
+            turns,
+            events: 0,
+            forgotten: floors,
+            workers,
+            gate,
+        })
+    }
+
     /// Leads the relayer through a turn that was read.
-    fn take<R: Threads + Sync + Wait>(
+    fn take<R: Threads + Wait + Copy + Send + Sync + 'static>(
         self,
         crew: &Crew<R, G>,
         next: NextTurn,
@@ -217,6 +293,9 @@ impl<G: Gate + Send + Sync + Drop + 'static> Follower<G> {
             driver,
             turns,
             events,
+            forgotten,
+            workers,
+            gate,
         } = self;
         let NextTurn { turn, change } = next;
         let events = events_after(&setup, events, &turn);
@@ -232,18 +311,22 @@ impl<G: Gate + Send + Sync + Drop + 'static> Follower<G> {
             driver,
             turns,
             events,
+            forgotten,
+            workers,
+            gate,
         };
+        let follower = follower.tidied(crew.rt())?;
         let number = turns as u64;
         Ok((follower, Answer::Planned { number, report }))
     }
 
     /// Answers a document: by the report of the turn that it holds, or by the fault for which it holds none, and
     /// then all stays as it was. A fault is the first of: `TooManyObjects` at `-` where there are as many turns as
-    /// are allowed, those of a turn's text (`rb_script_read::read_turn_document`), and `TooManyEvents` at `-` where
-    /// the log has no room for all that the turn may give. An error is `NoMemory`, where a growth is refused, also
-    /// to a worker; all workers have then ended. It may wait for workers and for the gate; what is said holds if it
-    /// returns.
-    pub fn answer<R: Threads + Sync + Wait>(
+    /// are allowed, those of a turn's text (`rb_script_read::read_turn_document`), `TooManyEvents` at `-` where the
+    /// log has no room for all that the turn may give, and `Forgotten` at the first event that speaks of what was
+    /// forgotten. An error is `NoMemory`, where a growth is refused, also to a worker, or as for `Core::begin_anew`;
+    /// all workers have then ended. It may wait for workers and for the gate; what is said holds if it returns.
+    pub fn answer<R: Threads + Wait + Copy + Send + Sync + 'static>(
         self,
         crew: &Crew<R, G>,
         document: &[u8],
@@ -272,6 +355,9 @@ impl<G: Gate + Send + Sync + Drop + 'static> Follower<G> {
             driver,
             turns: _,
             events: _,
+            forgotten: _forgotten,
+            workers: _,
+            gate: _gate,
         } = self;
         driver.stop(rt);
     }

@@ -84,7 +84,7 @@ fn tell<R, G, W, N>(
     writer: &mut W,
 ) -> Result<Follower<G>, FollowError>
 where
-    R: Threads + Sync + Wait,
+    R: Threads + Wait + Copy + Send + Sync + 'static,
     G: Gate + Send + Sync + Drop + 'static,
     W: Sink,
     N: Watcher,
@@ -114,7 +114,7 @@ fn store<R, G, J>(
     journal: &mut J,
 ) -> Result<Follower<G>, FollowError>
 where
-    R: Threads + Sync + Wait,
+    R: Threads + Wait + Copy + Send + Sync + 'static,
     G: Gate + Send + Sync + Drop + 'static,
     J: Journal,
     ensures same { IfOk result (λ g. g ≡ follower) }
@@ -144,7 +144,7 @@ fn answer_document<R, G, W, N, J>(
     writer: &mut W,
 ) -> Result<Follower<G>, FollowError>
 where
-    R: Threads + Sync + Wait,
+    R: Threads + Wait + Copy + Send + Sync + 'static,
     G: Gate + Send + Sync + Drop + 'static,
     W: Sink,
     N: Watcher,
@@ -174,7 +174,7 @@ fn answer_piece<R, G, W, N, J>(
     writer: &mut W,
 ) -> Result<Follower<G>, FollowError>
 where
-    R: Threads + Sync + Wait,
+    R: Threads + Wait + Copy + Send + Sync + 'static,
     G: Gate + Send + Sync + Drop + 'static,
     W: Sink,
     N: Watcher,
@@ -213,7 +213,7 @@ fn answer_rest<R, G, W, N, J>(
     writer: &mut W,
 ) -> Result<Follower<G>, FollowError>
 where
-    R: Threads + Sync + Wait,
+    R: Threads + Wait + Copy + Send + Sync + 'static,
     G: Gate + Send + Sync + Drop + 'static,
     W: Sink,
     N: Watcher,
@@ -249,7 +249,7 @@ fn answer_all<R, G, I, W, N, J>(
     writer: &mut W,
 ) -> Result<Follower<G>, FollowError>
 where
-    R: Threads + Sync + Wait,
+    R: Threads + Wait + Copy + Send + Sync + 'static,
     G: Gate + Send + Sync + Drop + 'static,
     I: Read,
     W: Sink,

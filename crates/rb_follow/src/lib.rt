@@ -12,6 +12,7 @@ mod gathering;
 mod journal;
 pub mod laws;
 mod setup;
+mod tidying;
 mod told;
 mod turns;
 

@@ -20,7 +20,7 @@ invariant_of-result g c =
     let same = c.in_ok-setup.ensures.same in
     let ids = c.in_ok-paths.ensures ∙ ap (map (λ (p : PathConfig). p.id)) c.as_slice-2.ensures.value ∙ ap (λ (k : Config). path_ids k.paths) same in
     let order = begins_in_order (setup_view c.in_ok-setup.setup) (core_of c.in_ok-driver.driver) c.in_ok-paths.paths.items (c.in_ok-driver.ensures.config ∙ same) c.in_ok-driver.ensures.log ids in
-    record { config = order.config; ids = order.paths_are; few_turns = order.few_turns; front = order.front; few_events = order.few_events }
+    record { config = order.config; ids = order.paths_are; few_turns = order.few_turns; front = order.front; few_events = order.few_events; few_workers = c.requires.workers }
 
 -- the setup was refused
 pub returns-in_err-setup-clause-begun : goal.returns-in_err-setup-clause-begun
@@ -30,8 +30,8 @@ returns-in_err-setup-clause-begun g c =
 
 pub returns-clause-begun : goal.returns-clause-begun
 returns-clause-begun g c =
-    begun c.args.setup.now (setup_view c.in_ok-setup.setup) (core_of c.in_ok-driver.driver) (reading_view c.opening.result) c.in_ok-setup.ensures.setup
-    (c.in_ok-driver.ensures.config ∙ c.in_ok-setup.ensures.same) c.in_ok-driver.ensures.log c.opening.ensures
+    begun c.args.setup.now (setup_view c.in_ok-setup.setup) (core_of c.in_ok-driver.driver) (reading_view c.opening.result) c.new-2.result.items c.in_ok-setup.ensures.setup
+    (c.in_ok-driver.ensures.config ∙ c.in_ok-setup.ensures.same) c.in_ok-driver.ensures.log c.opening.ensures c.new-2.ensures.items
 
 pub returns-clause-set_up : goal.returns-clause-set_up
 returns-clause-set_up g c =
