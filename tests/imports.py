@@ -251,6 +251,10 @@ DAMAGES = [
     (STORED_FILE, put(f"{CONSENSUS}.consensus_state", True), f"MissingField at {CONSENSUS}.timestamp"),
     (STORED_FILE, gone(f"{CONSENSUS}.consensus_state.root"), f"MissingField at {CONSENSUS}.root"),
     (STORED_FILE, put(f"{CONSENSUS}.consensus_state.root", True), f"MissingField at {CONSENSUS}.hash"),
+    # roots of no byte and of 65 bytes
+    (STORED_FILE, put(f"{CONSENSUS}.consensus_state.root.hash", ""), f"BadBase64 at {CONSENSUS}.hash"),
+    (STORED_FILE, put(f"{CONSENSUS}.consensus_state.root.hash", "A" * 87 + "="), f"BadBase64 at {CONSENSUS}.hash"),
+    (COMMIT_FILE, put(f"{HEADER}.app_hash", "00" * 65), f"BadHex at {HEADER}.app_hash"),
     (RECEIVED_FILE, gone("result.txs"), "UnknownShape at -"),
     (RECEIVED_FILE, put("result.txs", True), "WrongType at result.txs"),
     (RECEIVED_FILE, gone(f"{TX}.tx_result"), f"MissingField at {TX}.tx_result"),
