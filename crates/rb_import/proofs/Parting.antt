@@ -22,7 +22,7 @@ use Rattle.rb_import_merge.specs.Seen.{IsKeptSet}
 use Rattle.rb_import_notices.specs.Unusable.{last_turn}
 use Rattle.rb_import.specs.declared.steps.Judging.{Judging}
 use Rattle.rb_import.specs.declared.steps.Target.{Target}
-use Rattle.rb_import.specs.Parts.{AreAllUnlessOrderly, AreJudged, AreNeeded, IsNeededOf, IsOrderly, IsPartOf, KeepsHeaders, ServesClients}
+use Rattle.rb_import.specs.Parts.{AreAllUnlessJudged, AreJudged, AreNeeded, IsJudged, IsNeededOf, IsOrderly, IsPartOf, KeepsHeaders, ServesClients}
 use Rattle.rb_import.specs.Starts.{Serves, is_charged}
 use Rattle.rb_import.specs.Finding.{AreTargets, HaveOwn, IsAmong, IsCase, IsPartAt, Need, NeedOnly, Stay, is_one_of}
 use Rattle.rb_import.specs.Steps.{IsWrittenAt, judging_of}
@@ -107,6 +107,46 @@ unfolding ServesClients ServesBefore
 clients_all setup seen place chain whole n places whole_list before number c client records turn at tracks there written last =
     before number c client records turn (omega (arith, whole_list, slice_get_within setup.clients.items number c at)) at tracks there written last
 
+-- ---- the first so many of them can judge headers
+
+unfoldable pub JudgedBefore : ℕ → Setup → Seen → ℕ → Type 0
+JudgedBefore n setup seen place = (number : ℕ) → (c : ClientSetup) → number < n → slice_get setup.clients.items number ≡ Some c → c.tracks ≡ place → IsJudged setup seen number
+
+pub judged_none : (setup : Setup) (seen : Seen) (place : ℕ) → JudgedBefore 0 setup seen place
+unfolding JudgedBefore
+judged_none setup seen place number c low at tracks = absurd (omega (arith, low))
+
+-- one that can
+pub judged_more : (setup : Setup) (seen : Seen) (place n : ℕ) → IsJudged setup seen n → JudgedBefore n setup seen place → JudgedBefore (n + 1) setup seen place
+unfolding JudgedBefore
+judged_more setup seen place n can before number c low at tracks = by (cases_lt number n)
+  where
+    by : (number < n) ⊎ (n ≤ number) → IsJudged setup seen number
+    by (inl earlier) = before number c earlier at tracks
+    by (inr later) =
+        let same : n ≡ number = omega (arith, low, later) in
+        subst (IsJudged setup seen) same can
+
+-- one that tracks another chain
+pub judged_same : (setup : Setup) (seen : Seen) (place n : ℕ) (c : ClientSetup) → n < length setup.clients.items → c ≡ get_or setup.clients.items n c → (c.tracks ≡ place → ⊥) → JudgedBefore n setup seen place
+    → JudgedBefore (n + 1) setup seen place
+unfolding JudgedBefore
+judged_same setup seen place n c small is other before number x low at tracks = by (cases_lt number n)
+  where
+    here : slice_get setup.clients.items n ≡ Some c
+    here = slice_get_read setup.clients.items (length setup.clients.items) n c refl small is
+
+    by : (number < n) ⊎ (n ≤ number) → IsJudged setup seen number
+    by (inl earlier) = before number x earlier at tracks
+    by (inr later) =
+        let same : number ≡ n = omega (arith, low, later) in
+        let same_c : c ≡ x = same_Some c x (sym here ∙ ap (slice_get setup.clients.items) (sym same) ∙ at) in
+        absurd (other (ap (λ (y : ClientSetup). y.tracks) same_c ∙ tracks))
+
+pub judged_all : (setup : Setup) (seen : Seen) (place n : ℕ) → length setup.clients.items ≤ n → JudgedBefore n setup seen place → AreJudged setup seen place
+unfolding AreJudged JudgedBefore
+judged_all setup seen place n whole_list before number c at tracks = before number c (omega (arith, whole_list, slice_get_within setup.clients.items number c at)) at tracks
+
 -- ---- all sets, and a part of them
 
 whole_is : (setup : Setup) (seen : Seen) (place : ℕ) (whole : KeptSets) (chain : SeenChain) (places : List ℕ) → places ≡ whole.places.items → Need setup seen place whole chain places
@@ -177,41 +217,42 @@ serves_part setup seen place chain places whole part its serves number c client 
 -- where all sets are needed, the part has all
 
 pub all_whole : (setup : Setup) (seen : Seen) (place : ℕ) (whole : KeptSets) (places : List ℕ) (o : Option SeenChain) → places ≡ whole.places.items
-    → IfSome o (λ chain. AreAllUnlessOrderly setup seen place chain whole places)
-unfolding AreAllUnlessOrderly
+    → IfSome o (λ chain. AreAllUnlessJudged setup seen place chain whole places)
+unfolding AreAllUnlessJudged
 all_whole setup seen place whole places None is = tt
 all_whole setup seen place whole places (Some chain) is = λ not. is
 
-all_orderly : (setup : Setup) (seen : Seen) (place : ℕ) (chain : SeenChain) (whole : KeptSets) (places : List ℕ) → IsOrderly setup seen place chain → AreAllUnlessOrderly setup seen place chain whole places
-unfolding AreAllUnlessOrderly
-all_orderly setup seen place chain whole places orderly = λ not. absurd (not orderly)
+all_judged : (setup : Setup) (seen : Seen) (place : ℕ) (chain : SeenChain) (whole : KeptSets) (places : List ℕ) → IsOrderly setup seen place chain → AreJudged setup seen place
+    → AreAllUnlessJudged setup seen place chain whole places
+unfolding AreAllUnlessJudged
+all_judged setup seen place chain whole places orderly judged = λ not. absurd (not (orderly, judged))
 
 pub all_found : (setup : Setup) (seen : Seen) (place : ℕ) (chain : SeenChain) (whole : KeptSets) (places : List ℕ) → slice_get seen.chains.items place ≡ Some chain → IsOrderly setup seen place chain
-    → IfSome (slice_get seen.chains.items place) (λ x. AreAllUnlessOrderly setup seen place x whole places)
-all_found setup seen place chain whole places at orderly =
-    seen_as (slice_get seen.chains.items place) chain (λ (x : SeenChain). AreAllUnlessOrderly setup seen place x whole places) at (all_orderly setup seen place chain whole places orderly)
+    → AreJudged setup seen place → IfSome (slice_get seen.chains.items place) (λ x. AreAllUnlessJudged setup seen place x whole places)
+all_found setup seen place chain whole places at orderly judged =
+    seen_as (slice_get seen.chains.items place) chain (λ (x : SeenChain). AreAllUnlessJudged setup seen place x whole places) at (all_judged setup seen place chain whole places orderly judged)
 
 filter_all : (p : ℕ → Bool) (xs : List ℕ) → All (λ x. p x ≡ true) xs → filter p xs ≡ xs
 filter_all p [] all = refl
 filter_all p (x ∷ xs) all =
     ap (λ b. cond b (x ∷ filter p xs) (filter p xs)) (All-head (λ y. p y ≡ true) x xs all) ∙ ap (λ l. x ∷ l) (filter_all p xs (All-tail (λ y. p y ≡ true) x xs all))
 
-part_all : (setup : Setup) (seen : Seen) (place : ℕ) (chain : SeenChain) (places : List ℕ) (whole part : KeptSets) → IsPartAt places whole part → AreAllUnlessOrderly setup seen place chain whole places
-    → AreAllUnlessOrderly setup seen place chain whole part.places.items
-unfolding AreAllUnlessOrderly
+part_all : (setup : Setup) (seen : Seen) (place : ℕ) (chain : SeenChain) (places : List ℕ) (whole part : KeptSets) → IsPartAt places whole part → AreAllUnlessJudged setup seen place chain whole places
+    → AreAllUnlessJudged setup seen place chain whole part.places.items
+unfolding AreAllUnlessJudged
 part_all setup seen place chain places whole part (same, left) all = λ not.
     let ws = whole.places.items in
     let each : All (λ x. is_one_of ws x ≡ true) ws = All-weaker (Contains ws) (λ x. is_one_of ws x ≡ true) (λ x (k, small, at). list_any-from_Any (λ (q : ℕ). q == x) ws (k, x, small, at, eq-eqb x x refl)) ws (All-contains_itself ws) in
     same ∙ ap (λ l. filter (is_one_of l) ws) (all not) ∙ filter_all (is_one_of ws) ws each
 
 pub needed : (setup : Setup) (seen : Seen) (place : ℕ) (places : List ℕ) (whole part : KeptSets) → IfSome (slice_get seen.chains.items place) (λ chain. NeedOnly setup seen place whole chain places)
-    → IfSome (slice_get seen.chains.items place) (λ chain. AreAllUnlessOrderly setup seen place chain whole places) → IsPartAt places whole part → IsNeededOf setup seen place whole part
+    → IfSome (slice_get seen.chains.items place) (λ chain. AreAllUnlessJudged setup seen place chain whole places) → IsPartAt places whole part → IsNeededOf setup seen place whole part
 needed setup seen place places whole part need all its = (is_part places whole part its, each (slice_get seen.chains.items place) need all)
   where
-    each : (o : Option SeenChain) → IfSome o (λ chain. NeedOnly setup seen place whole chain places) → IfSome o (λ chain. AreAllUnlessOrderly setup seen place chain whole places)
+    each : (o : Option SeenChain) → IfSome o (λ chain. NeedOnly setup seen place whole chain places) → IfSome o (λ chain. AreAllUnlessJudged setup seen place chain whole places)
         → IfSome o (λ chain.
         KeepsHeaders chain whole part × ServesClients setup seen place chain whole part.places.items × AreNeeded setup seen place chain whole part.places.items
-        × AreAllUnlessOrderly setup seen place chain whole part.places.items)
+        × AreAllUnlessJudged setup seen place chain whole part.places.items)
     each None w v = tt
     each (Some chain) ((own, serves), only) unless = (
       keeps_headers chain places whole part its own,

@@ -80,12 +80,12 @@ AreJudged setup seen place = (number : ℕ) → (c : ClientSetup) → slice_get 
 unfoldable pub AreNeeded : Setup → Seen → ℕ → SeenChain → KeptSets → List ℕ → Type 0
 AreNeeded setup seen place chain whole places = IsOrderly setup seen place chain → AreJudged setup seen place → All (IsNeeded setup seen place chain whole) places
 
--- unless a light store takes all of the chain's records, these are the places of all sets that are written
-unfoldable pub AreAllUnlessOrderly : Setup → Seen → ℕ → SeenChain → KeptSets → List ℕ → Type 0
-AreAllUnlessOrderly setup seen place chain whole places = ¬ IsOrderly setup seen place chain → places ≡ whole.places.items
+-- unless a light store takes all of the chain's records, and each client of it can judge headers, these are the places of all sets that are written
+unfoldable pub AreAllUnlessJudged : Setup → Seen → ℕ → SeenChain → KeptSets → List ℕ → Type 0
+AreAllUnlessJudged setup seen place chain whole places = ¬ (IsOrderly setup seen place chain × AreJudged setup seen place) → places ≡ whole.places.items
 
 -- these are the sets of the chain at a place that are needed: no header is lost, and no client's cheapest update; and no others, but all where a
--- light store refuses some of the chain's records
+-- light store refuses some of the chain's records, or a client of it can't judge headers
 abbrev pub IsNeededOf : Setup → Seen → ℕ → KeptSets → KeptSets → Type 0
 IsNeededOf setup seen place whole part =
     IsPartOf whole part
@@ -93,4 +93,4 @@ IsNeededOf setup seen place whole part =
     KeepsHeaders chain whole part
     × ServesClients setup seen place chain whole part.places.items
     × AreNeeded setup seen place chain whole part.places.items
-    × AreAllUnlessOrderly setup seen place chain whole part.places.items)
+    × AreAllUnlessJudged setup seen place chain whole part.places.items)

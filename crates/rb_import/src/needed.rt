@@ -1,7 +1,7 @@
 //! Which of a chain's sets are needed.
 ghost use Rattle.std.specs.Prelude.{◌≡◌, All, IfOk, IfSome, IsSome, OnOk, slice_get};
 ghost use Rattle.rb_import_merge.specs.Room.{AtEachPlace};
-ghost use Rattle.rb_import.specs.Parts.{AreAllUnlessOrderly, AreJudged, IsJudged, IsNeeded, IsNeededOf, IsOrderly};
+ghost use Rattle.rb_import.specs.Parts.{AreAllUnlessJudged, AreJudged, IsJudged, IsNeeded, IsNeededOf, IsOrderly};
 ghost use Rattle.rb_import.specs.Starts.{IsUsed, Serves, is_charged};
 ghost use Rattle.rb_import.specs.Finding.{AddsOnly, AreTargets, AreTargetsIn, IsCase, IsPartAt, Need, NeedOnly, Stay};
 
@@ -15,7 +15,7 @@ use std::alloc::{AllocError, Global};
 
 /// Of the sets that are written of each chain those that the plans of the last turn need: the headers' own sets, and
 /// those from which the cheapest updates of its clients start. All are needed of a chain whose times don't rise with
-/// its heights, since a light store refuses some of its records.
+/// its heights, since a light store refuses some of its records, and of one of which a client can't judge headers.
 pub fn needed_sets(
     alloc: Global,
     setup: &Setup,
@@ -65,7 +65,7 @@ fn places_of(
     kept: &KeptSets,
 ) -> Result<Vec<usize>, AllocError>
     ensures need { IfOk result (λ places. IfSome (slice_get seen.now.chains.items place) (λ chain. NeedOnly setup.now seen.now place kept.now chain places.items)) }
-    ensures all { IfOk result (λ places. IfSome (slice_get seen.now.chains.items place) (λ chain. AreAllUnlessOrderly setup.now seen.now place chain kept.now places.items)) }
+    ensures all { IfOk result (λ places. IfSome (slice_get seen.now.chains.items place) (λ chain. AreAllUnlessJudged setup.now seen.now place chain kept.now places.items)) }
 {
     let Some(chain) = seen.chains.get(place) else {
         return Vec::from_slice(alloc, kept.places.as_slice());
@@ -90,6 +90,7 @@ fn places_in(
     ensures only { IfOk result (λ found. IfSome found (λ places. All (IsNeeded setup.now seen.now place chain.now kept.now) places.items)) }
     ensures judged { IfOk result (λ found. IsOrderly setup.now seen.now place chain.now → AreJudged setup.now seen.now place → IsSome found) }
     ensures orderly { IfOk result (λ found. IsSome found → IsOrderly setup.now seen.now place chain.now) }
+    ensures clients { IfOk result (λ found. IsSome found → AreJudged setup.now seen.now place) }
 {
     if !is_orderly(alloc, setup, seen, place, chain)? {
         return Ok(None);
@@ -127,6 +128,7 @@ struct Case<'s, 'a> {
 fn case_of<'s, 'a>(setup: &Setup, seen: &'s Seen<'a>, number: usize) -> Option<Case<'s, 'a>>
     ensures case { IfSome result (λ case. IsCase setup.now seen.now number case.judging case.stored.now) }
     ensures judged { IsJudged setup.now seen.now number → IsSome result }
+    ensures only { IfSome result (λ case. IsJudged setup.now seen.now number) }
 {
     let turn = setup.turns.last()?;
     let client = seen.clients.get(number)?;

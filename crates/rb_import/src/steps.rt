@@ -26,6 +26,7 @@ impl Judging {
     pub fn of(client: &SeenClient<'_>, window: Window) -> Option<Judging>
         ensures judging { IfSome result (λ judging. judging ≡ judging_of client.now window) }
         ensures only { CanJudge client.now → IsSome result }
+        ensures can { IfSome result (λ judging. CanJudge client.now) }
     {
         let trust = Fraction::new(client.trust.numerator, client.trust.denominator).ok()?;
         if client.drift >= DRIFT_LIMIT {

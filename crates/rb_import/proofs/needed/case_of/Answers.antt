@@ -14,3 +14,14 @@ returns-clause-case c = (
   c.in_ok-judging.ensures.judging,
   search rules,
 )
+
+pub returns-clause-only : goal.returns-clause-only
+returns-clause-only c = (
+  c.in_ok-client.client.now,
+  c.in_ok-records.records.now,
+  c.in_ok-turn.turn.now,
+  grind (arith, common_steps, gets),
+  grind (arith, common_steps, gets),
+  search rules,
+  c.in_ok-judging.ensures.can,
+)

@@ -5,7 +5,7 @@ use Rattle.rb_import.specs.Parts.{IsJudged, IsNeeded}
 use Rattle.rb_import.specs.Starts.{IsUsed, Serves}
 use Rattle.rb_import.specs.Finding.{AddsOnly, AreTargets, AreTargetsIn, HaveOwn}
 use Rattle.rb_import.specs.declared.steps.Target.{Target}
-use Rattle.rb_import.proofs.Parting.{ServesBefore, clients_all, clients_more, clients_none, clients_same, own_of, own_on}
+use Rattle.rb_import.proofs.Parting.{JudgedBefore, ServesBefore, clients_all, clients_more, clients_none, clients_same, judged_all, judged_more, judged_none, judged_same, own_of, own_on}
 use Rattle.rb_import.proofs.Using.{client_needed, not_judged, own_needed}
 use Rattle.rb_import.proofs.needed.places_in.Goals as goal
 use Rattle.rb_import.proofs.needed.places_in.Goals.{then-client-place+in-Some+in_ok-add_client, else-client-place}
@@ -18,6 +18,7 @@ loop-number-init c =
       own_of chain c.args.kept.now c.in_ok-targets.targets.items c.in_ok-places.places.items c.in_ok-targets.ensures.all there,
       clients_none c.args.setup.now c.args.seen.now c.args.place chain c.args.kept.now c.in_ok-places.places.items,
       own_needed c.args.setup.now c.args.seen.now c.args.place chain c.args.kept.now c.in_ok-targets.targets.items c.in_ok-places.places.items c.in_ok-targets.ensures.only only,
+      judged_none c.args.setup.now c.args.seen.now c.args.place,
     )
 
 pub add_client-requires-clause-all : goal.add_client-requires-clause-all
@@ -41,17 +42,19 @@ loop-number-preserved c =
           let stay = w.in_ok-add_client.ensures.stay in
           let serves = subst (λ b. Serves judging b chain kept stored after) w.is_charged-charged.ensures w.in_ok-add_client.ensures.serves in
           let only = subst (λ b. AddsOnly (IsUsed judging b chain kept stored) before after) w.is_charged-charged.ensures w.in_ok-add_client.ensures.only in
-          subst (λ h. HaveOwn chain kept h.items × ServesBefore (c.loop-number.number + 1) setup seen c.args.place chain kept h.items × All (IsNeeded setup seen c.args.place chain kept) h.items) (sym w.places-is) (
+          subst (λ h. HaveOwn chain kept h.items × ServesBefore (c.loop-number.number + 1) setup seen c.args.place chain kept h.items × All (IsNeeded setup seen c.args.place chain kept) h.items × JudgedBefore (c.loop-number.number + 1) setup seen c.args.place) (sym w.places-is) (
             own_on chain kept before after stay c.loop-number.invariant.0,
             clients_more setup seen c.args.place chain kept c.loop-number.number c.client-item.result judging stored before after (search rules) (search rules) w.in-Some.ensures.case serves stay c.loop-number.invariant.1,
             client_needed setup seen c.args.place chain kept c.loop-number.number c.client-item.result judging stored before after (search rules) (search rules) (search rules) w.in-Some.ensures.case only
                 c.loop-number.invariant.2,
+            judged_more setup seen c.args.place c.loop-number.number w.in-Some.ensures.only c.loop-number.invariant.3,
           )
       | else-client-place w ↦
-          subst (λ h. HaveOwn chain kept h.items × ServesBefore (c.loop-number.number + 1) setup seen c.args.place chain kept h.items × All (IsNeeded setup seen c.args.place chain kept) h.items) (sym w.places-is) (
+          subst (λ h. HaveOwn chain kept h.items × ServesBefore (c.loop-number.number + 1) setup seen c.args.place chain kept h.items × All (IsNeeded setup seen c.args.place chain kept) h.items × JudgedBefore (c.loop-number.number + 1) setup seen c.args.place) (sym w.places-is) (
             c.loop-number.invariant.0,
             clients_same setup seen c.args.place chain kept c.loop-number.number c.client-item.result before (search rules) (search rules) (λ follows. search rules) c.loop-number.invariant.1,
             c.loop-number.invariant.2,
+            judged_same setup seen c.args.place c.loop-number.number c.client-item.result (search rules) (search rules) (λ follows. search rules) c.loop-number.invariant.3,
           )
     ]
 
@@ -69,3 +72,6 @@ returns-clause-need c =
 
 pub returns-clause-only : goal.returns-clause-only
 returns-clause-only c = c.loop-number.invariant.2
+
+pub returns-clause-clients : goal.returns-clause-clients
+returns-clause-clients c = λ is. judged_all c.args.setup.now c.args.seen.now c.args.place c.loop-number.number (search rules) c.loop-number.invariant.3

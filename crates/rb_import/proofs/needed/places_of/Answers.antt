@@ -6,7 +6,7 @@ use Rattle.std.proofs.lemmas.Grind.{common_steps}
 use Rattle.std.proofs.lemmas.Option.{gets}
 use Rattle.std.proofs.lemmas.Result.{IfOk-weaker}
 use Rattle.rb_import_check.specs.declared.chain.SeenChain.{SeenChain}
-use Rattle.rb_import.specs.Parts.{AreAllUnlessOrderly, AreJudged, IsOrderly}
+use Rattle.rb_import.specs.Parts.{AreAllUnlessJudged, AreJudged, IsOrderly}
 use Rattle.rb_import.specs.Finding.{NeedOnly}
 use Rattle.rb_import.proofs.Parting.{all_found, all_whole, need_whole, seen_as}
 use Rattle.rb_import.proofs.Using.{needed_where}
@@ -30,6 +30,7 @@ returns-in-Some-2-clause-all c =
     let chain = c.in-Some.chain.now in
     let at : slice_get seen.chains.items c.args.place ≡ Some chain = grind (arith, common_steps, gets) in
     all_found setup seen c.args.place chain c.args.kept.now c.in-Some-2.places.items at ((rw c.in-Some-2.is at c.in_ok-places.ensures.orderly) refl)
+    ((rw c.in-Some-2.is at c.in_ok-places.ensures.clients) refl)
 
 pub returns-in-None-clause-all : goal.returns-in-None-clause-all
 returns-in-None-clause-all c =
@@ -38,7 +39,7 @@ returns-in-None-clause-all c =
     let kept = c.args.kept.now in
     let found = slice_get seen.chains.items c.args.place in
     IfOk-weaker c.from_slice-in-None.result (λ (places : Vec ℕ Global). places.items ≡ c.as_slice-in-None.result.now)
-    (λ (places : Vec ℕ Global). IfSome found (λ (x : SeenChain). AreAllUnlessOrderly setup seen c.args.place x kept places.items))
+    (λ (places : Vec ℕ Global). IfSome found (λ (x : SeenChain). AreAllUnlessJudged setup seen c.args.place x kept places.items))
     (λ places is. all_whole setup seen c.args.place kept places.items found (is ∙ c.as_slice-in-None.ensures.value)) c.from_slice-in-None.ensures.items
 
 pub returns-in-None-clause-need : goal.returns-in-None-clause-need
