@@ -160,13 +160,14 @@ def height_runs(program, folder):
 
 def needed_setup(what):
     clients = (("on-zone", "zone", "hub"), ("on-hub", "hub", "zone"))
-    path = PATH % ("ordered" if what == "ordered" else "unordered", FIRST)
+    path = PATH % ("unordered" if what == "unordered" else "ordered", FIRST) + "wait_ns = [0, 5_000_000_000_000, 0]\n"
     return CHAINS % 3 + "".join(CLIENT % (*client, 4500) for client in clients) + ("" if what == "batch" else path)
 
 
 def needed_turns(what):
     """Ninety turns with ten headers each. A client trusts 450 heights, and has stored 1, 300 and at last 880. A batch with an update to 500 is open from
-    turn 50 to 89; or a packet has expired at height 600, and no timeout of it is taken."""
+    turn 50 to 89; or a packet has expired at height 600, and no timeout of it is taken; or the second packet of an ORDERED path was acknowledged in block 400,
+    and the first one only in block 895, so that both acknowledgements wait."""
     for turn in range(1, 91):
         events = [a_set("zone", "only")] if turn == 1 else []
         events += [header("zone", height) for height in range(10 * turn - 9, 10 * turn + 1)]
@@ -176,6 +177,11 @@ def needed_turns(what):
         if what == "batch":
             keys = f'goal = [{{ client = "on-hub", at_least = {10 * turn} }}]\n' if turn in (50, 90) else ""
             keys += 'settle = [{ client = "on-hub", batch = 1, done = 1 }]\n' if turn == 89 else ""
+        elif what == "acks":
+            if turn == 40:
+                events += [packet(kind, sequence, ", height = 390") for kind in ("sent", "received") for sequence in (FIRST, FIRST + 1)]
+                events.append(packet("ack", FIRST + 1, ", height = 400"))
+            events += [packet("ack", FIRST, ", height = 895")] if turn == 90 else []
         else:
             expiry = f'timeout_time = "{time_of(600)}"' if what == "unordered" else "timeout_height = 600"
             events += [packet("sent", FIRST, f", height = 5, {expiry}")] if turn == 1 else []
@@ -184,16 +190,35 @@ def needed_turns(what):
         yield turn_at(10 * turn, events, keys)
 
 
+def lost_turns():
+    """Turns with ten headers of both chains each, of which clients trust a hundred and store each tenth. Both chains have forgotten heights when a packet is
+    sent at a height below, so that nothing more of its source can go, and then the destination forgets more."""
+    for turn in range(1, 66):
+        events = [a_set("hub", "only"), a_set("zone", "only")] if turn == 1 else []
+        events += [header(chain, height) for height in range(10 * turn - 9, 10 * turn + 1) for chain in ("hub", "zone")]
+        events += [stored("on-zone", 10 * turn), stored("on-hub", 10 * turn)]
+        events += [packet("sent", FIRST, ", height = 5")] if turn == 46 else []
+        yield turn_at(10 * turn, events)
+
+
 def needed_runs(program, folder):
-    """Heights of an open batch, and of a packet that has expired, stay: `follow` writes what `plan` does, and has forgotten the heights below."""
+    """Heights of an open batch, of a packet that has expired, and of acknowledgements that wait stay: `follow` writes what `plan` does, and has forgotten the
+    heights below. Heights that a chain has forgotten stay so, whatever it needs later."""
     path, wrong = folder / "setup.toml", 0
-    for what in "batch", "unordered", "ordered":
-        setup, turns, late = needed_setup(what), list(needed_turns(what)), turn_at(900, [header("zone", 99 if what == "batch" else 599)])
+    lost = CHAINS % 3 + CLIENT % ("on-zone", "zone", "hub", 1000) + CLIENT % ("on-hub", "hub", "zone", 1000) + PATH % ("ordered", FIRST)
+    for what, seen, chain, below in (
+        ("batch", "label 500 0 0\n", "zone", 299),
+        ("unordered", "goal at_least 600\n", "zone", 599),
+        ("ordered", "goal at_least 600\n", "zone", 599),
+        ("acks", f"next {time_of(901)}\n", "zone", 299),
+        ("lost", "client on-zone held 1\n", "hub", 259),
+    ):
+        setup, turns = (lost, list(lost_turns())) if what == "lost" else (needed_setup(what), list(needed_turns(what)))
         head, answers, end = planned(program, setup, turns)
-        seen = "label 500 0 0\n" if what == "batch" else "goal at_least 600\n"
         wrong += check(f"a height that is needed ({what}), by `plan`", seen in answers[-1], True)
-        wrong += check_told(f"a height that is needed ({what})", told(program, path, setup, [*turns, late]), head + "".join([*answers, FORGOTTEN % 0]) + end)
-    return 6, wrong
+        given = [*turns, turn_at(10 * len(turns), [header(chain, below)])]
+        wrong += check_told(f"a height that is needed ({what})", told(program, path, setup, given), head + "".join([*answers, FORGOTTEN % 0]) + end)
+    return 10, wrong
 
 
 # ---- more heights, and more validator sets, than a light store holds
@@ -275,8 +300,10 @@ def sent(order, turn, sequence):
 
 def outcomes(order, turn):
     """What is seen of the packets of the turn before: they were received and acknowledged, and those of each third turn were cleared, too. Those that
-    expired are cleared already, since their timeouts were taken."""
+    expired are cleared already, since their timeouts were taken. Late comes the clearing of the first of the packets that are over and stay."""
     block = f", height = {10 * turn - 7}"
+    if turn > 4 and LEFT:
+        yield packet("cleared", sequences_of(turn - 1).start - LEFT)
     for sequence in sequences_of(turn - 1):
         if not expires(order, sequence):
             yield packet("received", sequence, block)
@@ -367,6 +394,30 @@ def packet_runs(program, folder):
     return 3 * len(cases), wrong
 
 
+def front_turns(order):
+    """Two turns of 701 packets, all but the last of which are cleared. The hundred and first isn't sent before the second turn; on an ORDERED path it expires
+    in the first one, and its timeout is taken. So it ends the front of the path, and nothing goes."""
+    gap, sequences = FIRST + 100, range(FIRST, FIRST + 701)
+    events = [a_set("zone", "only"), header("zone", 10), stored("on-hub", 10)]
+    events += [packet("sent", sequence, ", height = 5" + (", timeout_height = 10" if sequence == gap else "")) for sequence in sequences if order == "ordered" or sequence != gap]
+    events += [packet("cleared", sequence) for sequence in sequences[:-1] if sequence != gap]
+    yield turn_at(10, events, "taken = true\n")
+    again = [packet("sent", gap, ", height = 6"), packet("cleared", gap), packet("sent", FIRST, ", height = 5"), packet("received", sequences[-1], ", height = 9")]
+    yield turn_at(10, again, "taken = true\n")
+
+
+def front_runs(program, folder):
+    """Packets behind a gap, or behind one whose timeout closed the path, don't go: `follow` writes what `plan` does."""
+    path, wrong = folder / "setup.toml", 0
+    for order, refused in ("unordered", (2,)), ("ordered", (0, 1, 2, 3)):
+        setup, turns = packet_setup(3, order), list(front_turns(order))
+        head, answers, end = planned(program, setup, turns)
+        found = tuple(place for place in range(4) if f"refused event {place} " in answers[1])
+        wrong += check(f"packets behind a gap {order}, by `plan`", found, refused)
+        wrong += check_told(f"packets behind a gap {order}", told(program, path, setup, turns), head + "".join(answers) + end)
+    return 4, wrong
+
+
 # ---- journals of such turns
 
 def journal_runs(program, folder):
@@ -406,7 +457,7 @@ def forget_runs(program, folder):
     """All runs of what is forgotten: how many there were, and how many weren't as they have to be."""
     signal.signal(signal.SIGPIPE, signal.SIG_IGN)
     runs = wrong = 0
-    for case in (height_runs, needed_runs, store_runs, packet_runs, journal_runs):
+    for case in (height_runs, needed_runs, store_runs, packet_runs, front_runs, journal_runs):
         more, bad = case(program, folder)
         runs, wrong = runs + more, wrong + bad
     return runs, wrong
