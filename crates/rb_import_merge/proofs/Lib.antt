@@ -4,6 +4,8 @@ pub mod Found
 pub mod Highest
 pub mod Lowering
 pub mod Naming
+pub mod Reasoning
+pub mod Refusing
 pub mod Rooms
 pub mod Seeing
 pub mod Sendings

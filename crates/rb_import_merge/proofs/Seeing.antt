@@ -54,7 +54,7 @@ filter_at p true x xs es e = ap (λ l. event_of x ∷ l) e
 filter_at p false x xs es e = e
 
 -- the events of those that pass a test are the events that pass it
-filter_events : (p : PacketEvent → Bool) (xs : List SeenPacket) → map event_of (filter (λ s. p (event_of s)) xs) ≡ filter p (map event_of xs)
+pub filter_events : (p : PacketEvent → Bool) (xs : List SeenPacket) → map event_of (filter (λ s. p (event_of s)) xs) ≡ filter p (map event_of xs)
 filter_events p [] = refl
 filter_events p (x ∷ xs) = filter_at p (p (event_of x)) x (filter (λ s. p (event_of s)) xs) (filter p (map event_of xs)) (filter_events p xs)
 

@@ -6,7 +6,9 @@ pub mod Lowest
 pub mod Committed
 pub mod Ways
 pub mod Totals
+pub mod Refusals
 pub mod Errors
 pub mod Room
 pub mod Sets
 pub mod Seen
+pub mod Reasons

@@ -17,9 +17,11 @@ packet_cmp p q = ordering_then (nat_cmp (place_of p.event.now.kind) (place_of q.
 abbrev pub block_cmp : SeenPacket → SeenPacket → Ordering
 block_cmp p q = ordering_then (packet_cmp p q) (nat_cmp p.event.now.block q.event.now.block)
 
--- by kind, then by block
+-- by kind, then by block, then by sequence
 abbrev pub kind_cmp : SeenPacket → SeenPacket → Ordering
-kind_cmp p q = ordering_then (nat_cmp (place_of p.event.now.kind) (place_of q.event.now.kind)) (nat_cmp p.event.now.block q.event.now.block)
+kind_cmp p q =
+    ordering_then (ordering_then (nat_cmp (place_of p.event.now.kind) (place_of q.event.now.kind)) (nat_cmp p.event.now.block q.event.now.block))
+    (nat_cmp p.event.now.sequence q.event.now.sequence)
 
 -- where two events tell of one sending, they are equal
 abbrev pub AreEqualSendings : SeenPacket → SeenPacket → Type 0

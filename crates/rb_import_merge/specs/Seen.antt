@@ -1,5 +1,5 @@
 -- What was seen in the answers that a script is made of.
-use Rattle.std.specs.Prelude.{◌≡◌, ◌<◌, ◌-◌, ℕ, Bool, false, List, [], Vec, Option, Some, None, IfSome, IsSomeAnd, All, Any, length, map, slice_get}
+use Rattle.std.specs.Prelude.{◌≡◌, ◌-◌, ℕ, Bool, false, List, [], Vec, Option, Some, None, IfSome, IsSomeAnd, All, Any, length, map, slice_get}
 use Rattle.std.specs.Global.{Global}
 use Rattle.std.specs.List.{list_any}
 use Rattle.std.specs.List.Sorted.{IsSorted, IsStrictlyIncreasing}
@@ -71,7 +71,7 @@ abbrev pub surplus_of : List Saved → ℕ
 surplus_of saved = length (headers_of saved) - 4096
 
 -- these are the path's packets that its answers tell of, each with the height of its destination, a chain of the setup, from which on it isn't
--- received, and with the event before it; each packet with a commitment has its events; and they stand by kind and block
+-- received, and with the event before it; each packet with a commitment has its events; and they stand by kind, block and sequence
 abbrev pub IsSeenPath : List (List ℕ) → PathSetup → List Saved → List SeenPacket → Type 0
 IsSeenPath chains path saved packets =
     HaveEvents path saved packets × IsSomeAnd (slice_get chains path.config.destination) (λ dest. All (Expires dest) packets)

@@ -1,5 +1,5 @@
 -- Whether the pages of searches for transactions are all there (CometBFT, `/tx_search`: each page tells how many transactions the search finds).
-use Rattle.std.specs.Prelude.{◌≡◌, ℕ, ◌-◌, ◌%◌, ◌^◌, ◌==◌, min, Bool, true, false, if◌then◌else◌, List, [], ◌∷◌, Some, IsSomeAnd, Any, map, sum_by}
+use Rattle.std.specs.Prelude.{◌≡◌, ℕ, ◌-◌, ◌%◌, ◌^◌, ◌==◌, min, Bool, false, if◌then◌else◌, List, [], ◌∷◌, Some, IsSomeAnd, Any, map, sum_by}
 use Rattle.std.specs.List.{flat_map}
 use Rattle.rb_import_answers.specs.declared.answer.NodeAnswer.{NodeAnswer}
 use Rattle.rb_import_answers.specs.declared.answer.NodeAnswer.TheVariants as answers

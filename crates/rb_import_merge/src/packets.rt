@@ -1,12 +1,13 @@
 //! What was seen of a path's packets.
-ghost use Rattle.std.specs.Prelude.{◌≡◌, [], ◌∷◌, ◌++◌, if◌then◌else◌, true, None, All, IfOk, IfErr, IfSome, OnOk, count_by, filter, map, option_map, string_bytes};
+ghost use Rattle.std.specs.Prelude.{◌≡◌, [], ◌∷◌, ◌++◌, if◌then◌else◌, true, None, All, Any, IfOk, IfErr, IfSome, IsSomeAnd, OnOk, count_by, filter, map, option_map, string_bytes};
 ghost use Rattle.std.specs.List.{flat_map, list_any};
 ghost use Rattle.std.specs.List.Sorted.{IsPermutation, IsSorted};
-ghost use Rattle.rb_import_check.specs.Errors.{IsToldOf};
+ghost use Rattle.rb_import_check.specs.Errors.{IsTold, IsToldOf};
 ghost use Rattle.rb_import_merge.specs.Committed.{HaveCommitted, was};
 ghost use Rattle.rb_import_merge.specs.Lowest.{kind_cmp, packet_cmp};
 ghost use Rattle.rb_import_merge.specs.Packets.{AreFromOne, IsOfPath, IsOfOtherFolder, HaveEvents, Expires, ExpiresAt, expiry_at, within_heights, is_on_packets, is_source, is_dest, is_wanted, counts_as, is_silent, lacks, one_if, some_timed_out, tells_of, events_of, seen_events};
 ghost use Rattle.rb_import_merge.specs.Pending.{tells_done};
+ghost use Rattle.rb_import_merge.specs.Refusals.{HasReasonOfPath, IsFromOther};
 ghost use Rattle.rb_import_merge.specs.Totals.{IsCutShort, count_in, count_with, is_whole, pages_of};
 ghost use Rattle.rb_import_merge.specs.Ways.{HasBefore, IsFlawIn, flaw_of, unless};
 
@@ -89,6 +90,7 @@ pub fn seen_packets<'a>(
     ensures order { IfOk result (λ packets. IsSorted kind_cmp packets.items) }
     ensures answers { OnOk result (All (λ s. is_on_packets s.answer ≡ true) answers.entry.now) }
     ensures whole { OnOk result (All (λ p. is_whole p.total (pages_of answers.entry.now) ≡ true) (pages_of answers.entry.now)) }
+    ensures reason { IfErr result (HasReasonOfPath setup.entry.now answers.entry.now) }
     ensures told { IfErr result (IsToldOf setup.entry.now.config.id) }
 {
     let id = setup.config.id.as_str();
@@ -104,13 +106,19 @@ pub fn seen_packets<'a>(
     Ok(by_block(lowest)?)
 }
 
-/// These packets by kind and block.
+/// These packets by kind, block and sequence.
 fn by_block<'a>(packets: Vec<SeenPacket<'a>>) -> Result<Vec<SeenPacket<'a>>, AllocError>
     ensures same { IfOk result (λ sorted. IsPermutation packets.entry.items sorted.items) }
     ensures order { IfOk result (λ sorted. IsSorted kind_cmp sorted.items) }
 {
     let mut sorted = packets;
-    sorted.sort_by_key(|seen: &SeenPacket| (place_of(seen.event.kind), seen.event.block.get()))?;
+    sorted.sort_by_key(|seen: &SeenPacket| {
+        (
+            place_of(seen.event.kind),
+            seen.event.block.get(),
+            seen.event.sequence,
+        )
+    })?;
     Ok(sorted)
 }
 
@@ -410,6 +418,7 @@ fn wanted_of<'a>(
 ) -> Result<Vec<SeenPacket<'a>>, ImportError<'a>>
     ensures source { IfOk result (λ wanted. setup.entry.now.source_channel ≡ None → AreFromOne wanted.items) }
     ensures wanted { IfOk result (λ wanted. wanted.items ≡ filter (λ s. is_wanted setup.entry.now (option_map (λ e. e.now) end.entry) answers.now s.event.now) all.now) }
+    ensures other { IfErr result (IsTold CheckErrorName.TwoChannels ((setup.entry.now.source_channel ≡ None) × Any (λ p. Any (IsFromOther p) all.now) (filter (λ s. is_wanted setup.entry.now (option_map (λ e. e.now) end.entry) answers.now s.event.now) all.now))) }
     ensures told { IfErr result (IsToldOf setup.entry.now.config.id) }
 {
     let mut wanted = Vec::new(alloc);
@@ -429,6 +438,7 @@ fn add_wanted<'a>(
 ) -> Result<(), ImportError<'a>>
     ensures source { OnOk result (setup.entry.now.source_channel ≡ None → AreFromOne wanted.old.items → AreFromOne wanted.new.items) }
     ensures wanted { OnOk result (wanted.new.items ≡ wanted.old.items ++ (if is_wanted setup.entry.now (option_map (λ e. e.now) end.entry) answers.now seen.entry.event.now then seen.entry ∷ [] else [])) }
+    ensures other { IfErr result (IsTold CheckErrorName.TwoChannels ((setup.entry.now.source_channel ≡ None) × Any (λ p. IsFromOther p seen.entry) wanted.old.items)) }
     ensures told { IfErr result (IsToldOf setup.entry.now.config.id) }
 {
     if is_wanted(setup, end, answers, wanted.first(), &seen)? {
@@ -448,6 +458,7 @@ fn is_wanted<'a>(
 ) -> Result<bool, ImportError<'a>>
     ensures source { OnOk result (setup.entry.now.source_channel ≡ None → IfSome first.entry (λ first. string_bytes first.now.event.now.source ≡ string_bytes seen.now.event.now.source)) }
     ensures wanted { IfOk result (λ is. is ≡ is_wanted setup.entry.now (option_map (λ e. e.now) end.entry) answers.now seen.now.event.now) }
+    ensures other { IfErr result (IsTold CheckErrorName.TwoChannels ((setup.entry.now.source_channel ≡ None) × IsSomeAnd first.entry (λ first. IsFromOther first.now seen.now))) }
     ensures told { IfErr result (IsToldOf setup.entry.now.config.id) }
 {
     let source = seen.event.source.as_str();

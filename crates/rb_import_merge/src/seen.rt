@@ -1,7 +1,8 @@
 //! What was seen of a setup's chains, clients and paths, as much of it as books have room for.
 ghost use Rattle.std.specs.Prelude.{◌≡◌, ◌<◌, ◌≤◌, ◌↔◌, Some, length, slice_get, All, IsTrue, IfOk, IfErr, OnOk};
-ghost use Rattle.rb_import_check.specs.Errors.{IsToldOf};
+ghost use Rattle.rb_import_check.specs.Errors.{IsToldOf, IsTooBig};
 ghost use Rattle.rb_import_merge.specs.Errors.{IsToldIn};
+ghost use Rattle.rb_import_merge.specs.Reasons.{HasReasonIn, IsOfOtherRecord};
 ghost use Rattle.rb_import_merge.specs.Room.{AtEachPlace};
 ghost use Rattle.rb_import_merge.specs.Seen.{AgreesWithChain, AreSeenClients, AreSeenPaths, IsKeptSet, IsSeenChain, IsSeenIn, IsWrittenOf, answers_at, surplus_of};
 
@@ -113,12 +114,15 @@ fn has_kept(chain: &SeenChain<'_>, kept: &KeptSets, hash: &[u8; 32]) -> bool
 /// What was seen of a setup's chains, clients and paths in their answers, as much of it as books have room for. The first
 /// problem is answered: of the chains, of the clients, then of the paths, each in order. `NoMemory` comes where a growth
 /// is refused.
+#[tactic(auto, using(crate::proofs::Reasoning::not_too_big))]
 pub fn seen_in<'a>(
     alloc: Global,
     setup: &'a Setup,
     answers: &'a SavedAnswers,
 ) -> Result<Seen<'a>, ImportError<'a>>
     ensures seen { IfOk result (IsSeenIn setup.entry.now answers.entry.now) }
+    ensures reason { IfErr result (HasReasonIn setup.entry.now answers.entry.now) }
+    ensures names { IfErr result (λ e. ¬ IsTooBig e) }
     ensures told { IfErr result (IsToldIn setup.entry.now) }
 {
     let fitting = seen_chains(alloc, setup, answers)?;
@@ -138,7 +142,7 @@ pub fn seen_in<'a>(
 }
 
 /// What was seen of each chain, with the headers that its book has room for; and how many of each it hasn't.
-#[tactic(auto, using(crate::proofs::Told::naming))]
+#[tactic(auto, using(crate::proofs::Told::naming, crate::proofs::Reasoning::reasoning))]
 fn seen_chains<'a>(
     alloc: Global,
     setup: &'a Setup,
@@ -147,6 +151,7 @@ fn seen_chains<'a>(
     ensures fit { IfOk result (λ seen. All (λ c. length c.commits.items ≤ 4096) seen.0.items) }
     ensures seen { IfOk result (λ seen. AtEachPlace (λ i id chain. IsSeenChain (answers_at answers.entry.now.chains.items i) chain) setup.entry.now.chains.items seen.0.items) }
     ensures surplus { IfOk result (λ seen. AtEachPlace (λ i id surplus. surplus ≡ surplus_of (answers_at answers.entry.now.chains.items i)) setup.entry.now.chains.items seen.1.items) }
+    ensures reason { IfErr result (HasReasonIn setup.entry.now answers.entry.now) }
     ensures told { IfErr result (IsToldIn setup.entry.now) }
 {
     let mut chains = Vec::with_capacity(alloc, setup.chains.len())?;
@@ -169,14 +174,16 @@ fn chain_at(setup: &Setup, place: usize) -> &ChainId
 }
 
 /// What was seen of each client, by its place.
-#[tactic(auto, using(crate::proofs::Told::naming))]
+#[tactic(auto, using(crate::proofs::Told::naming, crate::proofs::Reasoning::reasoning))]
 fn seen_clients<'a>(
     alloc: Global,
     setup: &'a Setup,
     answers: &'a SavedAnswers,
     chains: &[SeenChain<'a>],
 ) -> Result<Vec<SeenClient<'a>>, ImportError<'a>>
+    requires { AtEachPlace (λ i id chain. IsSeenChain (answers_at answers.now.chains.items i) chain) setup.now.chains.items chains.now }
     ensures seen { IfOk result (λ clients. AreSeenClients setup.entry.now answers.entry.now.clients.items chains.now clients.items) }
+    ensures reason { IfErr result (HasReasonIn setup.entry.now answers.entry.now) }
     ensures told { IfErr result (IsToldIn setup.entry.now) }
 {
     let mut clients = Vec::with_capacity(alloc, setup.clients.len())?;
@@ -198,6 +205,7 @@ fn judge_client<'a>(
     stored: &[Stored<'a>],
 ) -> Result<(), ImportError<'a>>
     ensures accord { OnOk result (AgreesWithChain chains.now client.entry.now stored.now) }
+    ensures other { IfErr result (IsOfOtherRecord chains.now client.entry.now stored.now) }
     ensures told { IfErr result (IsToldOf client.entry.now.id) }
 {
     match chains.get(client.tracks) {
@@ -207,13 +215,14 @@ fn judge_client<'a>(
 }
 
 /// What was seen of each path, by its place.
-#[tactic(auto, using(crate::proofs::Told::naming))]
+#[tactic(auto, using(crate::proofs::Told::naming, crate::proofs::Reasoning::reasoning))]
 fn seen_paths<'a>(
     alloc: Global,
     setup: &'a Setup,
     answers: &'a SavedAnswers,
 ) -> Result<Vec<Vec<SeenPacket<'a>>>, ImportError<'a>>
     ensures seen { IfOk result (λ paths. AreSeenPaths setup.entry.now answers.entry.now.paths.items paths.items) }
+    ensures reason { IfErr result (HasReasonIn setup.entry.now answers.entry.now) }
     ensures told { IfErr result (IsToldIn setup.entry.now) }
 {
     let mut paths = Vec::with_capacity(alloc, setup.paths.len())?;

@@ -6,5 +6,5 @@ use Rattle.rb_import_merge.proofs.packets.by_block.Goals as goal
 
 pub returns-clause-order : goal.returns-clause-order
 returns-clause-order c =
-    c.in_ok-sort_by_key.ensures.sorted (λ (s : SeenPacket). (place_of s.event.now.kind, s.event.now.block))
-    (always_returns_same _ (λ a r. r ≡ (place_of a.0.now.event.now.kind, a.0.now.event.now.block)) _ (λ a r q k. search rules))
+    c.in_ok-sort_by_key.ensures.sorted (λ (s : SeenPacket). (place_of s.event.now.kind, s.event.now.block, s.event.now.sequence))
+    (always_returns_same _ (λ a r. r ≡ (place_of a.0.now.event.now.kind, a.0.now.event.now.block, a.0.now.event.now.sequence)) _ (λ a r q k. search rules))

@@ -1,6 +1,11 @@
-use Rattle.std.specs.Prelude.{option_map}
+use Rattle.std.proofs.Common.{◌≡◌, None, Bool, filter, rules}
+use Rattle.std.specs.Prelude.{Any, option_map}
+use Rattle.rb_import_check.specs.declared.error.CheckErrorName.{CheckErrorName}
+use Rattle.rb_import_check.specs.Errors.{IsTold}
 use Rattle.rb_import_merge.specs.declared.packets.SeenPacket.{SeenPacket}
 use Rattle.rb_import_merge.specs.Packets.{is_wanted}
+use Rattle.rb_import_merge.specs.Refusals.{IsFromOther}
+use Rattle.rb_import_merge.proofs.Refusing.{two_sources}
 use Rattle.rb_import_merge.proofs.Seeing.{wanted_more}
 use Rattle.rb_import_merge.proofs.packets.wanted_of.Goals as goal
 
@@ -11,3 +16,11 @@ loop-seen-preserved c = record {
       c.loop-seen.seen-index c.seen-item.result c.loop-seen-test.true c.seen-item.is c.loop-seen.invariant.wanted c.in_ok-add_wanted.ensures.wanted;
   source = λ none. c.in_ok-add_wanted.ensures.source none (c.loop-seen.invariant.source none);
 }
+
+pub returns-in_err-add_wanted-clause-other : goal.returns-in_err-add_wanted-clause-other
+returns-in_err-add_wanted-clause-other c =
+    let test : SeenPacket → Bool = λ s. is_wanted c.args.setup.now (option_map (λ e. e.now) c.args.end) c.args.answers.now s.event.now in
+    let two : IsTold CheckErrorName.TwoChannels ((c.args.setup.now.source_channel ≡ None) × Any (λ (p : SeenPacket). Any (IsFromOther p) c.args.all.now) (filter test c.args.all.now)) c.in_err-add_wanted.field-0.0 =
+    two_sources c.args.setup.now test c.args.all.now c.loop-seen.wanted.items
+    c.loop-seen.seen-index c.seen-item.result c.in_err-add_wanted.field-0.0 c.loop-seen-test.true c.seen-item.is c.loop-seen.invariant.wanted c.in_err-add_wanted.ensures.other in
+    search rules

@@ -1,6 +1,7 @@
-use Rattle.std.proofs.Common.{subst}
+use Rattle.std.proofs.Common.{ℕ, List, subst, sym}
+use Rattle.rb_import_check.specs.declared.chain.SeenChain.{SeenChain}
 use Rattle.rb_import_merge.specs.Room.{AtEachPlace, FitBooks}
-use Rattle.rb_import_merge.specs.Seen.{AreSeenClients}
+use Rattle.rb_import_merge.specs.Seen.{AreSeenClients, IsSeenChain, answers_at}
 use Rattle.rb_import_merge.specs.Sets.{AreKeptSets}
 use Rattle.rb_import_merge.proofs.Watched.{seen_in}
 use Rattle.rb_import_merge.proofs.seen.seen_in.Goals as goal
@@ -13,3 +14,8 @@ returns-clause-seen c =
     (subst (λ l. AtEachPlace (AreKeptSets c.args.setup.now c.in_ok-records.records.items) l c.in_ok-sets.sets.items) c.as_slice-4.ensures.value
     (subst (λ l. AtEachPlace (AreKeptSets c.args.setup.now l) c.as_slice-4.result.now c.in_ok-sets.sets.items) c.as_slice-5.ensures.value c.in_ok-sets.ensures))
     c.in_ok-paths.ensures.seen
+
+pub seen_clients-requires : goal.seen_clients-requires
+seen_clients-requires c =
+    subst (λ (l : List SeenChain). AtEachPlace (λ (i : ℕ) (id : List ℕ) (chain : SeenChain). IsSeenChain (answers_at c.args.answers.now.chains.items i) chain) c.args.setup.now.chains.items l)
+    (sym c.as_slice.ensures.value) c.in_ok-fitting.ensures.seen
