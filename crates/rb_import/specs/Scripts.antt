@@ -36,3 +36,7 @@ IsTextOfNeeded setup answers seen text =
 -- the text with all sets, or where that is too big the one with those sets alone that are needed
 unfoldable pub IsFitting : Setup → SavedAnswers → Seen → List ℕ → Type 0
 IsFitting setup answers seen text = (IsText setup answers seen text × (length text ≤ max_bytes)) ⊎ IsTextOfNeeded setup answers seen text
+
+-- even the text that fits best is too big
+abbrev pub IsTooLong : Setup → SavedAnswers → Seen → Type 0
+IsTooLong setup answers seen = (text : List ℕ) × IsFitting setup answers seen text × (max_bytes < length text)

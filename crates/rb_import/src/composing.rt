@@ -1,11 +1,12 @@
 //! The script of a setup and of answers.
 ghost use Rattle.std.specs.Prelude.{◌≡◌, ◌≤◌, ◌++◌, length, IfOk, IfErr, string_bytes};
 ghost use Rattle.rb_import_setup.specs.Documents.{max_bytes};
+ghost use Rattle.rb_import_check.specs.Errors.{IsTooBig};
 ghost use Rattle.rb_import_merge.specs.Errors.{IsToldIn};
 ghost use Rattle.rb_import_merge.specs.Seen.{HoldsOfSeen};
 ghost use Rattle.rb_import_notices.specs.Whole.{AreNoticesOf};
 ghost use Rattle.rb_import.specs.Openings.{Opens, hold_verdicts};
-ghost use Rattle.rb_import.specs.Scripts.{IsFitting, IsText};
+ghost use Rattle.rb_import.specs.Scripts.{IsFitting, IsText, IsTooLong};
 ghost use Rattle.rb_import.specs.Texts.{heading};
 
 use crate::needed::needed_sets;
@@ -29,7 +30,8 @@ pub struct Composed<'a> {
 /// which begins with a line that says who verified signatures, or that nobody did; and what isn't among the
 /// answers, though the script stands without it, or isn't written, since no book has room for it. A script that
 /// would be too big has the validator sets alone that its plans need. The first problem is answered: of the chains,
-/// of the clients, then of the paths, each in order. `NoMemory` comes where a growth is refused.
+/// of the clients, then of the paths, each in order, then `ScriptTooBig`, where those sets alone are too many. `NoMemory`
+/// comes where a growth is refused.
 pub fn compose<'a>(
     alloc: Global,
     setup: &'a Setup,
@@ -41,6 +43,7 @@ pub fn compose<'a>(
     ensures script { IfOk result (λ script. HoldsOfSeen setup.entry.now answers.entry.now (λ seen.
         AreNoticesOf setup.entry.now answers.entry.now seen script.notices × IsFitting setup.entry.now answers.entry.now seen (string_bytes script.text))) }
     ensures told { IfErr result (IsToldIn setup.entry.now) }
+    ensures big { IfErr result (λ e. IsTooBig e → HoldsOfSeen setup.entry.now answers.entry.now (λ seen. IsTooLong setup.entry.now answers.entry.now seen)) }
 {
     let seen = seen_in(alloc, setup, answers)?;
     let notices = notices_of(alloc, setup, answers, &seen)?;

@@ -1,3 +1,5 @@
+use Rattle.std.proofs.Common.{◌<◌, length, rules, string_bytes}
+use Rattle.rb_import_setup.specs.Documents.{max_bytes}
 use Rattle.rb_import.proofs.Fitting.{opens_fitting}
 use Rattle.rb_import.proofs.composing.compose.Goals as goal
 
@@ -17,3 +19,9 @@ returns-clause-script c = (
   c.in_ok-seen.ensures.seen,
   ((c.in_ok-notices.ensures.missing, c.in_ok-notices.ensures.excess, c.in_ok-notices.ensures.unusable, c.in_ok-notices.ensures.unsure, c.in_ok-notices.ensures.passed, c.in_ok-notices.ensures.unverified, c.in_ok-notices.ensures.canonical), c.in_ok-text.ensures),
 )
+
+pub returns-then-len-gt-MAX_BYTES-clause-big : goal.returns-then-len-gt-MAX_BYTES-clause-big
+returns-then-len-gt-MAX_BYTES-clause-big c =
+    λ is.
+    let big : max_bytes < length (string_bytes c.in_ok-text.text) = search rules in
+    (c.in_ok-seen.seen, c.in_ok-seen.ensures.seen, (string_bytes c.in_ok-text.text, c.in_ok-text.ensures, big))
