@@ -192,7 +192,8 @@ const AFTER_IMPORT: &str = "Examples (in the folder of the repository):
   ./ibcplan import --all-or-nothing setup.toml answers > script.toml
 
 FOLDER has a folder for each client, each path and each chain that is tracked, by
-its identifier, with saved answers in files *.json. Signatures aren't verified.
+its identifier, with saved answers in files *.json. To have signatures verified, run
+tools/verify_commits FOLDER before.
 
 Where answers of a client or a path are refused, it is left out, and the others
 are written (exit status 7). With a chain go all clients that track it, with a
@@ -213,11 +214,13 @@ const AFTER_FOLLOW: &str = "Examples (in the folder of the repository):
   ./ibcplan follow --json --workers 4 setup.toml
   ./ibcplan follow setup.toml --journal journal.toml
 
-Each turn comes on standard input as a document of TOML with the turn's keys at its
-top, ended by a line ---. The answer, the turn's report or its fault, is written at
-once, with a line --- after it; with --json it is an object on a line. A document
-with a fault changes nothing. What is written is the report that plan writes for the
-script of the setup and the turns.
+SETUP is a script without turns. Each turn comes on standard input as a document of
+TOML with the turn's keys at its top, ended by a line ---. The answer, the turn's
+report or its fault, is written at once, with a line --- after it; with --json it is
+an object on a line. A document with a fault changes nothing. The answers are the
+report that plan writes for the script of the setup and the turns. In version 3
+heights and packets that no plan needs are forgotten, and an event of one is a fault
+(1033): leave it out.
 
 With --journal each turn is on the disk before it is answered. The file is a script
 that plan reads. Where it has turns their answers come first, and then those to new
@@ -277,7 +280,7 @@ fn follow_workers<'a>(alloc: Global) -> Arg<'a> {
 /// The setup of a follower, which may come from its journal.
 fn follow_setup<'a>(alloc: Global) -> Result<Arg<'a>, AllocError> {
     Arg::new(alloc, SETUP)
-        .help("The file of a script without turns")
+        .help("The file of a script without turns; the journal's own where none is given")
         .required_unless_present(JOURNAL)
 }
 
