@@ -360,8 +360,10 @@ fn put_end<W: Sink>(form: Form, writer: &mut W) -> Result<(), RunError>
 /// each at once: its report and a line `---`, or the fault for which it is no turn and that line; with
 /// `Form::Json` an object on a line. The first line of a report stands before them, and `end` behind them,
 /// where the input has ended. So what was written, without the lines `---` and the faults, is the report of
-/// the script that consists of the setup and the documents that were no fault, in whatever pieces the input
-/// comes and however many workers there are, at most 64 (with 0 the calling thread does all). The journal stores
+/// the script that consists of the setup and the documents that were no fault. From version 3 on each report is
+/// one of what is left after the turns before, which changes none as long as no event speaks of what was
+/// forgotten or is refused for want of room (`laws::forgetting_changes_no_answer`). The pieces in which the input
+/// comes change nothing, nor do the workers, at most 64 (with 0 the calling thread does all). The journal stores
 /// each of these documents before its answer is written. `Run` is the first fault of the setup, and nothing is
 /// then written; `Device`, where the writer fails, and `NoMemory`, where a growth is refused; `Input` where the
 /// input fails, and `Journal` where the journal does. It may wait for the input, for workers and for the gate;

@@ -1,6 +1,7 @@
 //! Turns as they come: a `Follower` reads each from a document of its own, leads a relayer through it and
-//! answers by its report, or by the fault of the document, which then changes nothing. `follow_over` goes
-//! over an input to its end: its documents end by lines `---`.
+//! answers by its report, or by the fault of the document, which then changes nothing. From version 3 on it
+//! forgets what no plan needs any more (`tidying`). `follow_over` goes over an input to its end: its documents
+//! end by lines `---`.
 #![tactic(auto)]
 
 mod answer;

@@ -32,7 +32,8 @@ pub(crate) fn forgets<G: Gate + Send + Sync + Drop + 'static>(
     }
 }
 
-/// The height up to which a chain was forgotten, or the sequence from which on a path goes on.
+/// The height up to which the chain at a place was forgotten, or the sequence from which on the path at a place
+/// goes on; 0 where there is none.
 fn forgotten_of(forgotten: &[u64], chain: usize) -> u64
     ensures { result ≡ slice_index_or forgotten.now chain 0 }
 {
