@@ -12,12 +12,17 @@ use rb_base::{Gate, Sink};
 use rb_follow::{FollowError, Form, Journal, Watcher, follow_over};
 use rb_script_toml::{Fault, FaultName};
 use std::alloc::Global;
+use std::io;
 use std::io::Read;
 use std::sync::Arc;
 
 /// What to do where a turn can't be stored.
 const UNSTORED: &str =
     "The turn that was to be stored there isn't answered. Make room, and go on with the same --journal: it has all turns that were answered.";
+
+/// What to do where a turn of the journal isn't answered as when it was stored.
+const CHANGED: &str =
+    "Go on with the release of ibcplan that began this journal, and with its turns as they were written; or begin another journal (docs/OPERATING.md).";
 
 /// Tells on standard error what the answer to a document that is refused doesn't say.
 #[derive(Drop)]
@@ -33,7 +38,7 @@ impl<R: Eprint> Watcher for Notices<'_, R> {
             }
             (FaultName::TooManyObjects | FaultName::TooManyEvents, "-", _) => {
                 let _ = eprintln!(self.rt;
-                    "{fault}\nThis process takes no more of them: begin anew, with the records that clients have stored by now"
+                    "{fault}\nThis process takes no more of them: begin anew (docs/OPERATING.md), with the consensus states that clients have stored by now"
                 );
             }
             _ => {}
@@ -76,7 +81,17 @@ pub fn follow<'a, R: Host, G: Gate + Send + Sync + Drop + 'static, I: Read, J: J
         Err(FollowError::Run(error)) => Err(ProgramError::of_run(error, setup)),
         Err(FollowError::Input(error)) => Err(Input::unread(error)),
         Err(FollowError::Journal(error)) => {
-            Err(ProgramError::of_journal(setup.name(), error, UNSTORED))
+            let advice = journal_advice(&error);
+            Err(ProgramError::of_journal(setup.name(), error, advice))
         }
+    }
+}
+
+/// What to do where a journal fails.
+fn journal_advice(error: &io::Error) -> &'static str {
+    if error.kind() == io::ErrorKind::InvalidData {
+        CHANGED
+    } else {
+        UNSTORED
     }
 }
