@@ -1,6 +1,7 @@
 //! The parts of the relayer state machine's state: the light store of each chain, which may be shared
 //! (`books`), clients with the heights that they have stored and their open batches (`clients`), and
-//! paths with their packets (`paths`, `views`).
+//! paths with their packets (`paths`, `views`); and the floors of the chains, below which nothing is
+//! needed any more (`floors`).
 //!
 //! Chains, clients and paths are named by their places in the script. A change comes in three calls: a
 //! `refuse_` call says why it would be refused, a `make_` or `set_apart` call makes room for it, and a

@@ -11,7 +11,7 @@ field_error_advice FieldErrorName.ErrorPage =
 field_error_advice FieldErrorName.Compressed = codes "it is compressed with gzip; unpack it (gunzip), or save it as `curl --compressed` does"
 field_error_advice FieldErrorName.CutShort = codes "it begins with '{' and doesn't end with '}': was it cut short? ask the node again"
 field_error_advice FieldErrorName.UnknownShape =
-    codes "this is no answer of /commit, /validators, /tx_search, client_states or consensus_states; take the file away"
+    codes "import reads no answer of this shape (docs/IMPORT.md lists those it reads); ask the node again, or take the file away"
 field_error_advice FieldErrorName.NodeError = codes "the node answered an error; ask it again, or another node"
 field_error_advice FieldErrorName.MissingField = codes "this field has to be there; ask the node again"
 field_error_advice FieldErrorName.WrongType = codes "a value of another type belongs here; ask the node again"

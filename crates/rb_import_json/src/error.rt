@@ -119,7 +119,7 @@ impl FieldErrorName {
                 "it begins with '{' and doesn't end with '}': was it cut short? ask the node again"
             }
             FieldErrorName::UnknownShape => {
-                "this is no answer of /commit, /validators, /tx_search, client_states or consensus_states; take the file away"
+                "import reads no answer of this shape (docs/IMPORT.md lists those it reads); ask the node again, or take the file away"
             }
             FieldErrorName::NodeError =>
                 "the node answered an error; ask it again, or another node",

@@ -86,12 +86,12 @@ const FEE_RANGE: &str =
     "fees and gas are numbers from 0 to 10^9; take a larger unit where one is more";
 
 const NO_NANOSECONDS: &str =
-    "a whole number of nanoseconds belongs here or, in version 2, in [chain.defaults] of the chain that the client follows; only a setup for import may leave it out";
+    "a whole number of nanoseconds belongs here or, from version 2 on, in [chain.defaults] of the chain that the client follows; only a setup for import may leave it out";
 
 const UPDATE_VOTES: &str = "all or needed belongs here, in quotes";
 
 const NO_FEES: &str =
-    "three numbers belong here, as [100, 1, 1], or, in version 2, in [chain.defaults] of the chain that the client follows";
+    "three numbers belong here, as [100, 1, 1], or, from version 2 on, in [chain.defaults] of the chain that the client follows";
 
 /// The keys of a client.
 const CLIENT_KEYS: [ClientKey; 11] = [
