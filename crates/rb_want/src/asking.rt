@@ -1,4 +1,4 @@
-//! What is to be fetched next for a setup.
+//! The next requests for a setup.
 ghost use Rattle.std.specs.Prelude.{◌≡◌, List, IfOk, OnOk, fold, map};
 ghost use Rattle.std.specs.List.{AllZip, enumerate_from, flat_map};
 ghost use Rattle.rb_want.specs.Adding.{Outcome, told_of, with_needed, with_outcome, with_path_ends};
@@ -13,10 +13,10 @@ use rb_import_setup::{ClientSetup, PathSetup, Setup};
 use rb_want_requests::{Folders, Wanted};
 use std::alloc::{AllocError, Global};
 
-/// What is to be fetched next for the last turn of a setup, by what is there: of each client its state, its
-/// records and the latest height of the chain that it tracks; then the answers by which the step is judged that its search comes
-/// to; and of each path that names both ends of its channel, which packets are pending, and transactions on these.
-/// `AllocError` comes where a growth is refused.
+/// The next requests for the last turn of a setup, by the answers in its folders. Of each client: its state,
+/// its consensus states and the latest height of the chain that it tracks; then the answers that judge the next
+/// step of its search. Of each path that names both ends of its channel: which packets are pending, and their
+/// transactions. `AllocError` comes where a growth is refused.
 pub fn wanted_of<'a>(
     alloc: Global,
     setup: &'a Setup,
@@ -131,7 +131,7 @@ fn add_path<'a>(
     }
 }
 
-/// What there is of each chain.
+/// The answers of each chain.
 fn answers_of<'a>(alloc: Global, folders: &'a Folders) -> Result<Vec<ChainAnswers<'a>>, AllocError>
     ensures { IfOk result (λ answers. map (λ a. a.folder.now) answers.items ≡ folders.entry.now.chains.items) }
 {

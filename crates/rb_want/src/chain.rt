@@ -1,4 +1,4 @@
-//! What the answers of a chain give to judge steps with.
+//! The answers of a chain that judge steps.
 ghost use Rattle.std.specs.Prelude.{◌≡◌, ◌==◌, ◌↔◌, ◌⊎◌, ℕ, false, List, IfNone, IfOk, IfSome, IsSome, IsTrue, OnOk, filter, map, min, not, slice_get, ◌-◌, ◌^◌};
 ghost use Rattle.std.specs.List.{filter_map, list_all, list_any};
 ghost use Rattle.std.specs.List.Sorted.{IsNonDecreasingBy};
@@ -20,8 +20,7 @@ use std::alloc::{AllocError, Global};
 /// How many validators are asked for on a page, the most that nodes give.
 const VALIDATORS_A_PAGE: u64 = 100;
 
-/// What the folder of a chain gives: beside its contents what the node says of itself, and the sets of which all pages
-/// are there.
+/// The folder of a chain: its contents, the node's status, and the sets with all of their pages.
 #[derive(Drop)]
 pub struct ChainAnswers<'a> {
     pub folder: &'a Folder,
@@ -32,7 +31,7 @@ pub struct ChainAnswers<'a> {
 }
 
 impl<'a> ChainAnswers<'a> {
-    /// What the files in the folder of a chain give.
+    /// The answers in the folder of a chain.
     pub fn of(alloc: Global, folder: &'a Folder) -> Result<ChainAnswers<'a>, AllocError>
         ensures folder { IfOk result (λ answers. answers.folder.now ≡ folder.entry.now) }
     {
@@ -103,7 +102,7 @@ impl<'a> ChainAnswers<'a> {
     }
 }
 
-/// What a node says of itself, where several answers do the last.
+/// The node's status; the last of several.
 #[tactic(auto, using(crate::proofs::Taking::taking))]
 fn status_in(contents: &[Content]) -> Option<NodeStatus>
     ensures { result ≡ status_in contents.now }
@@ -115,7 +114,7 @@ fn status_in(contents: &[Content]) -> Option<NodeStatus>
     last
 }
 
-/// What a node says of itself, where the content has it, else what it said before.
+/// The node's status, if the content is one, else the earlier status.
 fn later_status(before: Option<NodeStatus>, content: &Content) -> Option<NodeStatus>
     ensures { result ≡ later_status before content.now }
 {

@@ -24,7 +24,7 @@ use std::alloc::{AllocError, Global};
 /// Clock drifts are below this.
 const DRIFT_LIMIT: u64 = 1 << 63;
 
-/// A client of a setup in its last turn, with what is there of it and of the chain that it tracks.
+/// A client in the last turn of a setup, with its answers and those of the chain that it tracks.
 #[derive(Drop)]
 pub struct Case<'b, 'a> {
     alloc: Global,
@@ -186,7 +186,7 @@ impl<'b, 'a> Case<'b, 'a> {
         Ok(true)
     }
 
-    /// Adds what the node of the chain says of itself, if it isn't there, and tells whether that is so.
+    /// Adds the status of the chain's node, if it isn't there, and tells whether that is so.
     #[tactic(auto, using(crate::proofs::Adding::adding, crate::proofs::Adding::ending))]
     fn add_status(&self, wanted: &mut Wanted<'_>) -> Result<bool, AllocError>
         ensures lacks { IfOk result (λ lacks. lacks ≡ lacks_status (tracking_of self.now)) }
@@ -246,7 +246,7 @@ impl<'b, 'a> Case<'b, 'a> {
         Ok(())
     }
 
-    /// That no more is asked, since this isn't given.
+    /// The end of a client whose host or node refused this.
     fn not_given(&self, missing: Missing) -> End
         ensures { result ≡ not_given (tracking_of self.now) missing }
     {
@@ -297,8 +297,8 @@ impl<'b, 'a> Case<'b, 'a> {
         })
     }
 
-    /// Where the client is to get: its goal, or the greatest height whose votes are final, the one before the node's latest. None,
-    /// and why, where the chain isn't there yet.
+    /// The heights that the client's search aims at: its goal, or the greatest height with final votes, the one
+    /// before the node's latest. None, with an end that says why, where the chain isn't there yet.
     #[tactic(auto, unfolding(crate::specs::Needs::aim_of, crate::specs::Needs::aim_ends), using(crate::proofs::Adding::ending))]
     fn aim(&self, wanted: &mut Wanted<'_>) -> Result<Option<Aim>, AllocError>
         ensures aim { IfOk result (λ aim. aim ≡ aim_of (tracking_of self.now) (map (λ r. r.now) self.now.answers.records.items)) }
@@ -322,7 +322,7 @@ impl<'b, 'a> Case<'b, 'a> {
         }
     }
 
-    /// Where the client is to get, of the heights up to the greatest whose votes are final.
+    /// The heights that the search aims at, up to the greatest with final votes.
     #[tactic(auto, using(crate::proofs::Adding::ending))]
     fn aim_below(&self, wanted: &mut Wanted<'_>, latest: Height) -> Result<Option<Aim>, AllocError>
         ensures aim { IfOk result (λ aim. aim ≡ aim_below self.now.goal (map (λ r. r.now) self.now.answers.records.items) latest) }
@@ -421,7 +421,7 @@ impl<'b, 'a> Case<'b, 'a> {
         }
     }
 
-    /// Adds what the step of a question waits for, and why it is asked.
+    /// Adds the requests that judge the step of a question, and the reason.
     fn add_question(
         &self,
         wanted: &mut Wanted<'_>,
@@ -468,7 +468,7 @@ impl<'b, 'a> Case<'b, 'a> {
     }
 }
 
-/// What the step rule says of the step to a height that was refused, if one was.
+/// The step rule's answer to the step to a refused height, if there is one.
 fn verdict_if(
     steps: &Steps<'_, '_>,
     trusted: Height,

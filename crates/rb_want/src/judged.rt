@@ -1,4 +1,4 @@
-//! What steps of a client are judged by.
+//! The facts by which steps of a client are judged.
 ghost use Rattle.std.specs.List.Sorted.{IsNonDecreasingBy};
 
 use crate::chain::ChainAnswers;
@@ -6,7 +6,7 @@ use rb_base::{Options, Window};
 use rb_import_answers::ConsensusState;
 use std::alloc::Global;
 
-/// A client that is to be updated in a window: how it judges headers, its records by rising height, and what there is of the
+/// A client to update in a window: its options, its consensus states by rising height, and the answers of the
 /// chain that it tracks.
 #[derive(Clone, Copy)]
 pub struct Steps<'b, 'a> {

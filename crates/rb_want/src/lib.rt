@@ -1,6 +1,5 @@
-//! What is to be fetched next from nodes, so that clients' updates and the pending packets of paths can be planned: of the
-//! answers that aren't there yet those that a search by halves asks for, which goes by the step rule (`rb_step`) over those
-//! that are there.
+//! The next requests to nodes, for the updates of clients and for the pending packets of paths. A search by
+//! halves chooses heights: it judges steps by the step rule (`rb_step`), over the answers in the folders.
 #![tactic(auto)]
 
 mod asking;

@@ -1,4 +1,4 @@
-//! What the folder of a path tells of pending packets.
+//! Pending packets, by the answers in the folder of a path.
 ghost use Rattle.std.specs.Prelude.{◌≡◌, IfOk, ◌&&◌, nat_le, count_by, length};
 ghost use Rattle.std.specs.List.{flat_map, list_any};
 ghost use Rattle.std.specs.List.Sorted.{IsNonDecreasing};
@@ -13,9 +13,9 @@ use rb_import_answers::{PacketEvent, PacketKind};
 use rb_want_requests::{Content, Folder, PartKind, SEQUENCES_A_PART, count_parts};
 use std::alloc::{AllocError, Global};
 
-/// Of a path: how many pages of commitments are there, and whether the last is among these; the sequences of the
-/// commitments, in the order of the answers; which of them weren't received and of which the acknowledgement was written,
-/// each by rising sequence, and how many answers tell so.
+/// The pending packets of a path: how many pages of commitments there are, and whether the last is one of them;
+/// the sequences of the commitments, in the order of the answers; the sequences that weren't received, and
+/// those with an acknowledgement, by rising sequence; and how many answers tell either.
 #[derive(Drop)]
 pub struct PacketAnswers<'a> {
     pub folder: &'a Folder,
@@ -36,7 +36,7 @@ pub struct PacketAnswers<'a> {
 }
 
 impl<'a> PacketAnswers<'a> {
-    /// What the files in the folder of a path tell.
+    /// The pending packets by the answers in the folder of a path.
     pub fn of(alloc: Global, folder: &'a Folder) -> Result<PacketAnswers<'a>, AllocError>
         ensures { IfOk result (λ answers. answers.folder.now ≡ folder.entry.now) }
     {
@@ -60,8 +60,8 @@ impl<'a> PacketAnswers<'a> {
         (self.pending.len() as u64).div_ceil(SEQUENCES_A_PART)
     }
 
-    /// Whether the answers on all parts of the pending packets are there: which weren't received, and which acknowledgements
-    /// were written.
+    /// Whether all parts of the pending packets have their answers: which weren't received, and which
+    /// acknowledgements were written.
     fn are_complete(&self) -> bool
         ensures { result ≡ are_complete self.now.folder.now.contents.items }
     {

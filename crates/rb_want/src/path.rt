@@ -1,4 +1,5 @@
-//! What is wanted for one path: which of its packets are pending, and where these were sent, received and acknowledged.
+//! The requests for one path: which of its packets are pending, and where they were sent, received and
+//! acknowledged.
 ghost use Rattle.std.specs.Prelude.{◌≡◌, ◌∷◌, [], IfOk, OnOk};
 ghost use Rattle.std.specs.List.{flat_map, range_with_len};
 ghost use Rattle.rb_script_types.specs.Channels.{end_text};
@@ -21,7 +22,7 @@ struct Side {
     end: ChannelEnd,
 }
 
-/// A path of a setup that names both ends of its channel, with what is there of it.
+/// A path of a setup that names both ends of its channel, with its answers.
 #[derive(Drop)]
 pub struct PathCase<'a> {
     alloc: Global,
@@ -74,8 +75,8 @@ pub fn path_case_of<'a>(
 }
 
 impl PathCase<'_> {
-    /// Adds what is wanted for the path: its commitments; then which of these packets weren't received and of which the
-    /// acknowledgement was written; and where each was sent, received and acknowledged.
+    /// Adds the requests for the path: its commitments; then which of these packets were received, and which
+    /// acknowledgements were written; then where each was sent, received and acknowledged.
     #[tactic(auto, unfolding(crate::specs::Paths::path_needs, crate::specs::Paths::path_ends), using(crate::proofs::Adding::adding, crate::proofs::Adding::path_ending))]
     pub fn add_wanted(&self, wanted: &mut Wanted<'_>) -> Result<(), AllocError>
         ensures requests { OnOk result (wanted.new.requests.items ≡ with_needed wanted.old.folders.now wanted.old.requests.items (path_needs (path_view self.now) self.now.answers.folder.now)) }
@@ -138,8 +139,8 @@ impl PathCase<'_> {
         Ok(())
     }
 
-    /// Adds of a pending packet that the path has to do with where it was sent and, where that is done, received and
-    /// acknowledged.
+    /// Adds the search for the sending of a pending packet of the path and, once it has an answer, for its
+    /// receiving and its acknowledgement.
     #[tactic(auto, unfolding(crate::specs::Paths::packet_needs), using(crate::proofs::Adding::adding, crate::proofs::Adding::path_ending))]
     fn add_packet(&self, wanted: &mut Wanted<'_>, sequence: u64) -> Result<(), AllocError>
         ensures requests { OnOk result (wanted.new.requests.items ≡ with_needed wanted.old.folders.now wanted.old.requests.items (packet_needs (path_view self.now) self.now.answers.folder.now sequence)) }

@@ -1,4 +1,4 @@
-//! What the folder of a client tells of it.
+//! A client's answers.
 ghost use Rattle.std.specs.Prelude.{◌≡◌, ◌==◌, ◌++◌, IfOk, OnOk, count_by, filter, map};
 ghost use Rattle.std.specs.List.{list_any};
 ghost use Rattle.std.specs.List.Sorted.{IsNonDecreasingBy, IsPermutation};
@@ -11,8 +11,8 @@ use rb_import_answers::{ClientState, ConsensusState};
 use rb_want_requests::{Content, Folder, PartKind, count_parts};
 use std::alloc::{AllocError, Global};
 
-/// The client's state, or whether there is one of a client that is frozen or isn't Tendermint's; its consensus states by rising height, how many
-/// pages of them are there, and whether the last is among these.
+/// The answers of a client: its state, or whether one is of a client that is frozen or isn't Tendermint's; its
+/// consensus states by rising height, how many pages of them there are, and whether the last is one of them.
 #[derive(Drop)]
 pub struct ClientAnswers<'a> {
     pub folder: &'a Folder,
@@ -29,7 +29,8 @@ pub struct ClientAnswers<'a> {
 }
 
 impl<'a> ClientAnswers<'a> {
-    /// What the files in the folder of a client tell, of records at this revision number, by rising height.
+    /// The answers in the folder of a client, with its consensus states of this revision number, by rising
+    /// height.
     pub fn of(
         alloc: Global,
         folder: &'a Folder,

@@ -67,7 +67,7 @@ impl<'b, 'a> Steps<'b, 'a> {
         }
     }
 
-    /// What the step rule says of a step in the window, where all is there that it takes.
+    /// The step rule's answer to a step in the window, if the answers judge it.
     #[tactic(auto, using(crate::proofs::Judging::lacking))]
     pub fn verdict_on(&self, trusted: Height, height: Height) -> Result<Option<Verdict>, AllocError>
         ensures { IfOk result (IsSaidOf self.now trusted height) }
@@ -161,7 +161,7 @@ impl<'b, 'a> Steps<'b, 'a> {
         }
     }
 
-    /// The queries that the judgement of a step waits for: each is of something that isn't there.
+    /// The queries whose answers are missing to judge a step.
     pub fn lacks(&self, trusted: Height, height: Height) -> Result<Vec<Query>, AllocError>
         ensures { IfOk result (λ lacks. WaitsFor self.now trusted height lacks.items) }
     {
@@ -230,7 +230,8 @@ fn stored_at<'a>(records: &[&'a ConsensusState], height: Height) -> Option<&'a C
     records.get(place).copied()
 }
 
-/// What the step rule says of a step in a window: at its first moment, and where the step is accepted then, at its last.
+/// The step rule's answer to a step in a window: at its first moment and, if the step is accepted then, at its
+/// last.
 fn verdict_in(
     options: &Options,
     window: &Window,
