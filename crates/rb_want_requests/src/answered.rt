@@ -1,4 +1,4 @@
-//! Which requests are answered by what is there.
+//! Which requests the contents of folders answer.
 ghost use Rattle.std.specs.Prelude.{◌≡◌, count_by};
 ghost use Rattle.std.specs.List.{list_any};
 ghost use Rattle.rb_want_requests.specs.Answered.{is_acknowledgements, is_answered, is_commit_of, is_commitments, is_page_of, is_part_of, is_state, is_states, is_status, is_unreceived};
@@ -16,8 +16,8 @@ pub enum PartKind {
     Acknowledgements,
 }
 
-/// Whether what a query asks for is among these contents; of pages and parts as many as its number says. Searches are told
-/// by their files' names.
+/// Whether these contents answer a query; of pages and parts there have to be as many as its number says.
+/// Searches are told apart by the names of their files.
 pub fn is_answered(contents: &[Content], query: &Query) -> bool
     ensures { result ≡ is_answered contents.now query.now }
 {
@@ -42,7 +42,7 @@ fn has_state(contents: &[Content]) -> bool
     contents.iter().any(|content| is_state(content))
 }
 
-/// Whether it is there what a node says of itself.
+/// Whether the node's status is there.
 fn has_status(contents: &[Content]) -> bool
     ensures { result ≡ list_any is_status contents.now }
 {

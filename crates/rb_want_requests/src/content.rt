@@ -1,4 +1,4 @@
-//! What the files of a folder hold, as far as it says what is still to be fetched.
+//! The contents of files, as far as the next requests go by them.
 ghost use Rattle.std.specs.Prelude.{◌≡◌, IfOk, option_and_then, option_map, string_bytes, codes};
 ghost use Rattle.serde_json.specs.Find.{get};
 ghost use Rattle.serde_json.specs.View.{view};
@@ -45,20 +45,20 @@ pub enum Content {
     Acknowledgements(Vec<u64>),
     /// What transactions did with packets.
     Search(PacketPage),
-    /// Nothing of these.
+    /// Another text.
     Other,
 }
 
-/// What a node says of itself (CometBFT, `/status`): the height of its latest block, and the chain that
-/// it is a node of, where it says so.
+/// A node's status (CometBFT, `/status`): the height of its latest block, and the identifier of its chain, if
+/// the node names it.
 #[derive(Clone, Copy)]
 pub struct NodeStatus {
     pub latest: Height,
     pub network: Option<ChainId>,
 }
 
-/// What there is in the folder of a chain, of a client or of a path: what its files hold, and the names of the requests
-/// that were refused, and of those that have answers of `/tx_search`.
+/// The folder of a chain, a client or a path: the contents of its files, and the names of the requests that
+/// were refused, and of those with an answer of `/tx_search`.
 #[derive(Drop)]
 pub struct Folder {
     pub contents: Vec<Content>,
@@ -74,8 +74,8 @@ pub struct Folders {
     pub paths: Vec<Folder>,
 }
 
-/// What the bytes of a file hold, of a client's records those of this revision and of later ones. `AllocError` comes where a
-/// growth is refused.
+/// The content of a file; of a client's consensus states those of this revision and of later ones. `AllocError`
+/// comes where a growth is refused.
 pub fn content_of(alloc: Global, bytes: &[u8], since: u64) -> Result<Content, AllocError>
     ensures content { IfOk result (λ content. content_view content ≡ content_in since bytes.now) }
 {

@@ -5,7 +5,7 @@ ghost use Rattle.rb_want_requests.specs.Keys.{IsGreatest, digit_of, greater_of, 
 
 use crate::content::Content;
 
-/// The greatest key of a next page: what comes before it is there.
+/// The greatest key of a next page: all pages before it are there.
 #[tactic(auto, using(crate::proofs::Greatest::steps))]
 pub fn next_key(contents: &[Content]) -> Option<&str>
     ensures key { option_copied result ≡ next_key contents.now }

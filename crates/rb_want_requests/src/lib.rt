@@ -1,5 +1,5 @@
-//! Requests to nodes and gateways: what the files of a folder hold, and which requests these answer; lists of requests, each
-//! once and none of them answered, with why they are made; and the lines that say them.
+//! Requests to nodes and gateways: the contents of folders, and which requests they answer; lists of requests,
+//! each once and without an answer, with the reasons; and the lines that say them.
 #![tactic(auto)]
 
 mod answered;

@@ -1,4 +1,4 @@
-//! The lines that say what is to be fetched.
+//! The lines of requests.
 ghost use Rattle.std.specs.Prelude.{◌≡◌};
 ghost use Rattle.std.specs.Fmt.{WritesOnOk};
 ghost use Rattle.std.specs.Option.{option_copied};
@@ -14,7 +14,7 @@ use std::fmt;
 /// How many consensus states are asked for on a page.
 const STATES_A_PAGE: u64 = 1000;
 
-/// The line of a request, over the folders of what is there: the chain, the path, and the file that the answer belongs into.
+/// The line of a request: the chain, the path, and the file for the answer.
 #[derive(Clone, Copy)]
 pub struct RequestLine<'a> {
     pub folders: &'a Folders,
@@ -62,7 +62,7 @@ impl<'a> RequestLine<'a> {
         }
     }
 
-    /// What the files of the folder hold that the answer belongs into.
+    /// The contents of the folder for the answer.
     fn contents(&self) -> &'a [Content]
         ensures { result.now ≡ contents_of (folder_of self.now.folders.now self.now.request.now.owner) }
     {

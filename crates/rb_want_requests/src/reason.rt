@@ -1,4 +1,4 @@
-//! Why something is asked for, or no more is.
+//! Why a step is asked for, and why no more is.
 ghost use Rattle.std.specs.Prelude.{◌≡◌};
 ghost use Rattle.rb_want_requests.specs.Ends.{is_same_end};
 ghost use Rattle.rb_want_requests.specs.Reasons.{client_of, needed_of, refused_of};
@@ -8,8 +8,8 @@ use rb_import_answers::TrustLevel;
 use rb_step::Verdict;
 use std::fmt;
 
-/// Between which heights a client's search asks: the greatest that is accepted from a trusted one, and the least that isn't, with what
-/// the step rule says of it where it was judged.
+/// The heights between which a client's search asks: the greatest accepted one from a trusted height, and the
+/// least refused one, with the step rule's answer where it was judged.
 #[derive(Clone, Copy)]
 pub struct Why {
     pub client: ClientId,
@@ -57,7 +57,7 @@ struct Refused {
     trust: TrustLevel,
 }
 
-/// The height that a reason has as refused.
+/// The refused height of a reason.
 fn refused_of(height: Height, why: &Why) -> Refused
     ensures { result ≡ refused_of height why.now }
 {
@@ -94,7 +94,7 @@ impl fmt::Display for Refused {
     }
 }
 
-/// The greatest power of so much in all that isn't enough for a trust level.
+/// The greatest power, of this total, that isn't enough for a trust level.
 fn needed_of(total: u64, trust: TrustLevel) -> u128
     ensures { result ≡ needed_of total trust }
 {

@@ -1,4 +1,4 @@
-//! Requests, each once and not too many at once, and why they are made.
+//! Requests, each once and at most 30 at a time, and their reasons.
 ghost use Rattle.std.specs.Prelude.{◌≡◌, ◌<◌, ◌≤◌, ◌++◌, ◌∷◌, [], All, if◌then◌else◌, false, true, IfOk, OnErr, OnOk, length};
 ghost use Rattle.std.specs.List.{list_any};
 ghost use Rattle.rb_want_requests.specs.Ends.{AreDistinctEnds, is_same_end, with_end};
@@ -14,9 +14,9 @@ use std::fmt;
 /// The most requests that are named at once.
 pub const MOST_REQUESTS: usize = 30;
 
-/// What is to be fetched next: at most 30 requests, each once, none that is answered or was refused; why, by client; and of
-/// which clients and paths no more is asked though they aren't where they should be, of a path and a chain once. No request is there
-/// where no more is needed.
+/// The next requests: at most 30, each once, none with an answer and none that was refused. Then the reasons,
+/// by client. Then the clients and paths for which no more is asked though they aren't where they should be, of
+/// a path each chain once.
 #[derive(Drop)]
 pub struct Wanted<'a> {
     pub folders: &'a Folders,
@@ -50,7 +50,7 @@ impl fmt::Display for Wanted<'_> {
 }
 
 impl<'a> Wanted<'a> {
-    /// Nothing, over the folders of what is there.
+    /// No request, over these folders.
     pub fn nothing(alloc: Global, folders: &'a Folders) -> Wanted<'a>
         ensures folders { result.folders.now ≡ folders.entry.now }
         ensures requests { result.requests.items ≡ [] }

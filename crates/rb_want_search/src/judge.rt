@@ -13,7 +13,7 @@ pub enum Judgement {
     Refused,
     /// The client refuses it, as it does each other step from this trusted height.
     Never,
-    /// The node doesn't give what it takes to judge the step.
+    /// The node lacks an answer that it takes to judge the step.
     Gone,
     /// An answer that it takes to judge the step isn't there yet.
     Unknown,
