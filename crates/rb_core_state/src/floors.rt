@@ -1,4 +1,5 @@
-//! The floors of the chains: the greatest heights of records below which nothing is needed.
+//! The floors of the chains: all that is needed lies at or above them. Each `lower_` function gives the lesser
+//! of a height and of the heights that something needs.
 ghost use Rattle.std.specs.Prelude.{◌≡◌, ◌<◌, ℕ, [], None, Some, count_by, filter, find, length, map, nat_le, reverse, slice_index_or, IfOk, if◌then◌else◌};
 ghost use Rattle.std.specs.List.{enumerate_from, flat_map, list_any};
 ghost use Rattle.std.specs.Option.{option_map, option_to_list};
@@ -149,7 +150,7 @@ fn lower_by_late<A: Allocator>(
     }
 }
 
-/// The least of a height and those that a packet needs on its destination.
+/// The least of a height and those that a packet needs at its destination.
 fn lower_there<A: Allocator>(
     lowest: Option<Height>,
     book: &ChainBook<A>,
@@ -169,7 +170,7 @@ fn lower_there<A: Allocator>(
     }
 }
 
-/// The least of a height and those that a packet needs on its source.
+/// The least of a height and those that a packet needs at its source.
 fn lower_here(lowest: Option<Height>, order: Order, packet: &Packet) -> Option<Height>
     ensures { result ≡ lowered lowest (forgetting.needs_here order packet.now) }
 {
@@ -179,7 +180,7 @@ fn lower_here(lowest: Option<Height>, order: Order, packet: &Packet) -> Option<H
     }
 }
 
-/// The least of a height and those that the packets of a path need on its source, where this is it.
+/// The least of a height and those that the packets of a path need at its source, if the chain is the source.
 fn lower_on_source<A: Allocator>(
     lowest: Option<Height>,
     is_source: bool,
@@ -193,7 +194,7 @@ fn lower_on_source<A: Allocator>(
     lower_by_sent(lowest, path.config().order, path.packets())
 }
 
-/// The least of a height and those that packets need on their source.
+/// The least of a height and those that packets need at their source.
 fn lower_by_sent(lowest: Option<Height>, order: Order, packets: &[Packet]) -> Option<Height>
     ensures { result ≡ lowered lowest (flat_map (forgetting.needs_here order) packets.now) }
 {
@@ -204,8 +205,8 @@ fn lower_by_sent(lowest: Option<Height>, order: Order, packets: &[Packet]) -> Op
     least
 }
 
-/// The least of a height and those that the packets of a path need on its destination, where this is it and
-/// has this book.
+/// The least of a height and those that the packets of a path need at its destination, if the chain of this
+/// book is the destination.
 fn lower_on_destination<A: Allocator>(
     lowest: Option<Height>,
     is_destination: bool,
@@ -220,7 +221,7 @@ fn lower_on_destination<A: Allocator>(
     lower_by_received(lowest, book, path.config().order, path.packets())
 }
 
-/// The least of a height and those that packets need on their destination.
+/// The least of a height and those that packets need at their destination.
 fn lower_by_received<A: Allocator>(
     lowest: Option<Height>,
     book: &ChainBook<A>,
@@ -259,7 +260,7 @@ fn lower_by_path<A: Allocator + Copy>(
     )
 }
 
-/// The least of a height and those that a client needs, where it tracks this chain, which has this book.
+/// The least of a height and those that a client needs, if it tracks the chain of this book.
 fn lower_by_tracking<A: Allocator>(
     lowest: Option<Height>,
     is_tracked: bool,
