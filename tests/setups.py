@@ -62,6 +62,7 @@ def setup_cases(top):
                          (b"chains = [{ id = 'a', max_gas = 0 }]", b"1006 OutOfRange at chains[0].max_gas"), (b"chains = [{ id = 'a', max_msg_num = 'b' }]", b"1004 WrongType at chains[0].max_msg_num"),
                          (b"chains = [{ id = 'a', gas_price = 1 }]", b"1004 WrongType at chains[0].gas_price"), (b"chains = [{ id = 'a', gas_price = { price = -1 } }]", b"1006 OutOfRange at chains[0].gas_price")):
         yield Case(f"setup of {given}", ["setup", "--hermes", "-", word], given, b"", b"fault " + fault + b"\n", 1)
+    yield Case("setup of another file", ["setup", "--hermes", "-", word], b"version = 1", b"", b"fault 1002 MissingKey at chains\n", 1, named=(b"[[chains]] in Hermes' configuration",))
     yield Case("setup without clients", ["setup", "--hermes", str(CONFIG)], b"", b"", b"error: the following required arguments were not provided:\n", 2)
 
 

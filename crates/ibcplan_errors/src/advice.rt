@@ -189,6 +189,9 @@ fn range_of(key: &str) -> &'static str {
         "wait_ns" => "a wait is from 0 to 2^63 - 1 nanoseconds",
         "validators" => "a power is from 1 to 2^60 - 1",
         "labels" => "a label's height is from 1, its fee and its count from 0 to 2^63 - 1",
+        "max_gas" => "a gas limit is from 1 to 10^15",
+        "max_msg_num" => "a number of messages is from 1 to 10,000",
+        "gas_price" => "a price isn't below 0",
         _ => "this number is too small or too big",
     }
 }
@@ -239,7 +242,7 @@ fn outer_type(array: &str) -> &'static str {
 /// What belongs into an array whose elements are tables, if it is one.
 fn table_type(array: &str) -> &'static str {
     match array {
-        "chain" | "client" | "path" | "turn" | "goal" | "event" | "settle" => {
+        "chain" | "client" | "path" | "turn" | "goal" | "event" | "settle" | "chains" => {
             "a table belongs here"
         }
         _ => "a value of another type belongs here",
@@ -280,6 +283,7 @@ fn top_type(key: &str) -> &'static str {
         }
         "chain" => "an array of tables belongs here, as [[chain]]",
         "path" => "an array of tables belongs here, as [[path]]",
+        "chains" => { "an array of tables belongs here, as [[chains]] in Hermes' configuration" }
         "client" => {
             "an array of tables belongs here, as [[client]]; in a certificate an identifier in quotes"
         }
@@ -295,7 +299,8 @@ fn type_of(key: &str) -> &'static str {
         "source" | "dest" | "order" | "forward" | "back" | "kind" | "name" => TEXT,
         "set" | "next" | "root" | "votes" | "answer" => TEXT,
         "port" | "channel" | "counterparty_port" | "counterparty_channel" => TEXT,
-        "chain" | "client" | "path" => TEXT,
+        "chain" | "client" | "path" | "rpc_addr" => TEXT,
+        "max_gas" | "max_msg_num" => WHOLE,
         _ => array_type(key),
     }
 }
@@ -317,6 +322,7 @@ fn array_type(key: &str) -> &'static str {
         "settle" => "an array of tables belongs here, as [[turn.settle]]",
         "turn" => "an array of tables belongs here, as [[turn]]; in a certificate a turn's number",
         "defaults" => "a table belongs here, as [chain.defaults]",
+        "gas_price" => "a table with a price belongs here, as { price = 0.025, denom = 'uatom' }",
         "updates" => "pairs of a height and a trusted height belong here, as [[3, 1]]",
         "labels" => "a height, a fee and a count belong here, as [[3, 112, 1]]",
         _ => "a value of another type, or an array of another length, belongs here",
