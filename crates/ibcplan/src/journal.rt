@@ -12,7 +12,7 @@ use std::vec::IntoIter;
 
 /// What to do where the file can't be opened or read.
 const UNREAD: &str =
-    "Give the path of a file that can be read and written, or of one that is to be made.";
+    "Give the path of a file that can be read and written; where SETUP is given, too, a file that isn't there is made.";
 
 /// What to do where the file can't be begun or cut.
 const UNWRITTEN: &str = "Nothing is answered. Make room, or give another file.";
