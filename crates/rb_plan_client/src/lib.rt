@@ -24,3 +24,4 @@ pub use message::Message;
 pub use planned::{Plan, Planned};
 pub use planning::answer;
 pub use task::{PathTask, same_messages};
+pub use waiting::press_moment;

@@ -82,8 +82,10 @@ fn too_late(wait: u64, message: &PacketMsg) -> Option<u128>
     }
 }
 
-/// The moment from which on a message presses.
-fn press_moment<A: Allocator + Copy>(
+/// The moment, in nanoseconds since 1970-01-01T00:00:00Z, from which on a message waits for no other: at once where it may
+/// not wait; else once it has waited since it came to be provable, or, for a receive, so long before its packet may have
+/// expired.
+pub fn press_moment<A: Allocator + Copy>(
     job: &JobView<A>,
     waits: &Waits,
     message: &PacketMsg,
