@@ -6,7 +6,7 @@ ghost use Rattle.rb_import_json.specs.Fields.{object_view, each};
 ghost use Rattle.rb_import_answers.specs.Votes.{flag};
 ghost use Rattle.rb_import_answers.specs.Headers.{block, canonical, header, header_view, signature, of_height, signed, signed_view};
 
-use crate::header::read_fields;
+use crate::header::read_header_fields;
 use crate::root::root_of;
 use rb_base::{ChainId, Height, Moment};
 use rb_import_json::{AnswerError, FieldError, FieldErrorName, Key, Object, Segment};
@@ -124,7 +124,7 @@ fn read_header(
     ensures signatures { IfOk result (λ read. read.signatures ≡ signatures) }
     ensures canonical { IfOk result (λ read. read.is_canonical ≡ is_canonical) }
 {
-    let fields = read_fields(alloc, head)?;
+    let fields = read_header_fields(alloc, head)?;
     let hash = rb_header::hash(alloc, &fields)?;
     Ok(SignedHeader {
         chain: fields.chain,
