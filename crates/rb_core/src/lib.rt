@@ -21,4 +21,5 @@ mod told;
 
 pub use follower::Follower;
 pub use machine::Core;
+pub use refusing::MAX_EVENTS;
 pub use told::Told;

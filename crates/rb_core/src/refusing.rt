@@ -18,7 +18,7 @@ use rb_script_types::Refusal;
 use std::alloc::Allocator;
 
 /// The most events that are taken in.
-const MAX_EVENTS: usize = 1_000_000;
+pub const MAX_EVENTS: usize = 1_000_000;
 
 /// Whether the chain, the client or the path of an event is there.
 fn is_known<A: Allocator + Copy>(state: &CoreState<A>, event: &Event<A>) -> bool
