@@ -19,8 +19,12 @@ march_year-within days = omega arith
 day_of_year-bound : (days : ℕ) → day_of_year days < 366
 day_of_year-bound days = omega arith
 
-march_year-bound : (days : ℕ) → days ≤ 3000000 → march_year days ≤ 9000
+march_year-bound : (days : ℕ) → days ≤ 3652364 → march_year days ≤ 9999
 march_year-bound days few = omega arith
+
+-- the last of these days is the last of December
+march_year-early : (days : ℕ) → days ≤ 3652364 → 12 < month_scale days / 153 → march_year days ≤ 9998
+march_year-early days few early = omega arith
 
 march_days-shift : (year : ℕ) → march_days (year + 10000) ≡ march_days year + 3652425
 march_days-shift year = omega arith
@@ -38,7 +42,7 @@ within_year days =
     omega (arith, same, next, march_year-days days, march_year-within days, march_days-suc (march_year days))
 
 -- from March on
-date-late : (days : ℕ) → days ≤ 3000000 → month_scale days / 153 ≤ 12
+date-late : (days : ℕ) → days ≤ 3652364 → month_scale days / 153 ≤ 12
     → IsDateOf days (record { year = march_year days; month = month_scale days / 153; day = month_scale days % 153 / 5 + 1 })
 date-late days few late =
     let year = march_year days in
@@ -53,7 +57,7 @@ date-late days few late =
     }
 
 -- before March
-date-early : (days : ℕ) → days ≤ 3000000 → 12 < month_scale days / 153
+date-early : (days : ℕ) → days ≤ 3652364 → 12 < month_scale days / 153
     → IsDateOf days (record { year = march_year days + 1; month = month_scale days / 153 - 12; day = month_scale days % 153 / 5 + 1 })
 date-early days few early =
     let year = march_year days in
@@ -65,7 +69,7 @@ date-early days few early =
     let count = day_count-early (pos (year + 1)) (year + 10000) (month - 12) day (omega (arith, signed_arith)) (omega arith) (omega arith) (omega arith) in
     record {
       civil = (
-        omega (arith, signed_arith, march_year-bound days few),
+        omega (arith, signed_arith, march_year-early days few early),
         (omega arith, omega arith),
         (omega arith, day_in_early_month (pos (year + 1)) (day_of_year days) early (within_year days)),
       );
@@ -78,7 +82,7 @@ date_by-late year month day h = let t : nat_lt 12 month ≡ false = grind (arith
 date_by-early : (year month day : ℕ) → 12 < month → date_by year month day ≡ record { year = year + 1; month = month - 12; day = day }
 date_by-early year month day h = let t : nat_lt 12 month ≡ true = grind (arith, nat_tests) in rw t
 
-date_from_march-is : (days : ℕ) → days ≤ 3000000 → IsDateOf days (date_from_march days)
+date_from_march-is : (days : ℕ) → days ≤ 3652364 → IsDateOf days (date_from_march days)
 date_from_march-is days few =
     elim (cases_lt 12 (month_scale days / 153)) [
       | inl early ↦ rw (date_by-early (march_year days) (month_scale days / 153) (month_scale days % 153 / 5 + 1) early) (date-early days few early)
@@ -86,10 +90,10 @@ date_from_march-is days few =
     ]
 
 -- the date of a day that a moment lies in
-pub date_of-civil : (days : ℕ) → days ≤ 2000000 → IsCivilDate (pos (date_of days).year) (date_of days).month (date_of days).day
+pub date_of-civil : (days : ℕ) → days ≤ 2932896 → IsCivilDate (pos (date_of days).year) (date_of days).month (date_of days).day
 date_of-civil days few = (date_from_march-is (days + 719468) (omega arith)).civil
 
-pub date_of-day : (days : ℕ) → days ≤ 2000000 → days_from_civil (pos (date_of days).year) (date_of days).month (date_of days).day ≡ pos days
+pub date_of-day : (days : ℕ) → days ≤ 2932896 → days_from_civil (pos (date_of days).year) (date_of days).month (date_of days).day ≡ pos days
 date_of-day days few =
     let is = date_from_march-is (days + 719468) (omega arith) in
     let date = date_of days in

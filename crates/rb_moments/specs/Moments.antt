@@ -1,5 +1,6 @@
 -- Moments as texts: RFC 3339, in UTC, with as many digits of a second as are needed.
-use Rattle.std.specs.Prelude.{◌≡◌, ℕ, ◌+◌, ◌-◌, ◌*◌, ◌/◌, ◌%◌, nat_lt, List, ◌++◌, codes, if◌then◌else◌, None, Ok, pos}
+use Rattle.std.specs.Prelude.{◌≡◌, ℕ, ◌+◌, ◌-◌, ◌*◌, ◌/◌, ◌%◌, ◌≤◌, nat_le, nat_lt, List, ◌++◌, codes, if◌then◌else◌, None, Ok, pos}
+use Rattle.std.specs.Fmt.{decimal}
 use Rattle.jiff.specs.Words.{parse_timestamp}
 use Rattle.jiff_fmt.specs.Text.{pad2, pad4, fraction_part}
 use Rattle.rb_base.specs.Amount.{IsMoment}
@@ -54,6 +55,18 @@ unfoldable pub moment_text : ℕ → List ℕ
 moment_text n =
     let seconds = n / 1000000000 in
     date_text (date_of (seconds / 86400)) ++ codes "T" ++ clock_text (seconds % 86400) ++ fraction_part None (n % 1000000000) ++ codes "Z"
+
+-- RFC 3339 writes years by four digits: the last second that is in the year 9999 by each offset from UTC, of which the least is -25:59:59
+-- (9999-12-30T22:00:00.999999999Z)
+abbrev pub last_moment : ℕ
+last_moment = 253402207200999999999
+
+abbrev pub IsShown : ℕ → Type 0
+IsShown n = n ≤ last_moment
+
+-- the moment so many nanoseconds after 1970-01-01T00:00:00Z, or the nanoseconds alone where that is later
+abbrev pub instant_text : ℕ → List ℕ
+instant_text n = if nat_le n last_moment then moment_text n else decimal n ++ codes " ns"
 
 -- a moment's text is read as that moment
 abbrev pub MomentsAreRead : Type 0
