@@ -487,17 +487,17 @@ CHANGES = [
 ]
 
 
-NEXT_SETS = "notice MissingNextSet at hub-on-zone: no update starts from stored records without their next validators"
-NEXT_SET = NEXT_SETS + f"; no answer has those of %d records: fetch all pages of /validators?height=%d&per_page=100, for the highest of them,{INTO}hub-4\n"
-LEFT_SETS = NEXT_SETS + "; those of %d records are of sets of hub-4 that are left out\n"
-LATEST = ("notice MissingLatest at hub-on-zone %d: the client's latest height is not among its stored records, so that its answers are of two moments or of two "
-          "nodes, or pages of records are missing; fetch client_states and all pages of consensus_states of the client again, from one node,"
+NEXT_SETS = "notice MissingNextSet at hub-on-zone: no update starts from stored consensus states without their next validators"
+NEXT_SET = NEXT_SETS + f"; no answer has those of %d consensus states: fetch all pages of /validators?height=%d&per_page=100, for the highest of them,{INTO}hub-4\n"
+LEFT_SETS = NEXT_SETS + "; those of %d consensus states are of sets of hub-4 that are left out\n"
+LATEST = ("notice MissingLatest at hub-on-zone %d: the client's latest height is not among its stored consensus states, so that its answers are of two moments or of two "
+          "nodes, or pages of consensus states are missing; fetch client_states and all pages of consensus_states of the client again, from one node,"
           f"{INTO}hub-on-zone\n")
 NOT_CANONICAL = ("notice NotCanonical at hub-4 %d: %d commits, this the highest, are not canonical yet, since the node had no next block; the chain may store more "
                  "votes of them, so that an update costs more; fetch /commit?height=%d again, in place of that answer\n")
-MANY = "notice TooManyRecords at %s: %d of its stored records, the lowest, are left out; a chain's book holds 4,096 records\n"
-HEADERS = "notice TooManyHeaders at hub-4: %d of its headers, the lowest, are left out; a chain's book holds 4,096 records\n"
-SETS = "notice TooManySets at hub-4: %d of its validator sets, the lowest, are left out, with %d headers of them; a chain's book holds 1,024 sets\n"
+MANY = "notice TooManyRecords at %s: %d of its stored consensus states, the lowest, are left out; a light store holds 4,096 consensus states\n"
+HEADERS = "notice TooManyHeaders at hub-4: %d of its headers, the lowest, are left out; a light store holds 4,096 consensus states\n"
+SETS = "notice TooManySets at hub-4: %d of its validator sets, the lowest, are left out, with %d headers of them; a light store holds 1,024 sets\n"
 GOAL = ("notice UnseenGoal at hub-on-zone %d: hub-4 has no header %s height, so that no update reaches it; fetch /commit?height=%d and all pages of "
         f"/validators?height=%d&per_page=100{INTO}hub-4\n")
 EXPIRED = ("notice NothingTrusted at hub-on-zone: %s, so that no update starts from any; see whether the window is right, or fetch the client's "
@@ -508,7 +508,7 @@ UNSEARCHED = ("notice MissingSearches at transfers: no answer of /tx_search tell
               f"packets that aren't seen as sent, and those that aren't seen as received or cleared are planned again; fetch all pages of /tx_search{INTO}transfers\n")
 SEVERAL = ("notice SeveralCounterparties at transfers: packets were sent from its source to several destinations: those to transfer/%s are taken, those to others, "
            "as transfer/%s, are passed over; write counterparty_port and counterparty_channel, beside port and channel, into the setup's path, so that they decide\n")
-FRESH = ("notice NothingFresh at hub-on-zone: its records are due for a refresh by the window's end, and no header of hub-4 is young enough for it, so that "
+FRESH = ("notice NothingFresh at hub-on-zone: its consensus states are due for a refresh by the window's end, and no header of hub-4 is young enough for it, so that "
          f"none is planned; fetch /commit and /validators of later heights{INTO}hub-4\n")
 PACKETS = ("notice TooManyPackets at transfers: %d packets were sent, and a path holds 4,096, so that the later ones are refused; if all packets before %d are "
            "finished, give the path first = %d in the setup\n")
@@ -542,20 +542,20 @@ NOTICES = [
         moved(f"hub-4/validators-1-{page}.json", f"hub-4/validators-90-{page}.json", copy=True),
         edited(f"hub-4/validators-90-{page}.json", put("result.block_height", "90"))))), []),
     (0, str, in_turn(removed(COMMIT_FILE), edited(STORED_FILE, gone("consensus_states[1]"))), [GOAL % (80, "at or above the goal's", 80, 80), LATEST % 80]),
-    (0, swapped(SETTING, SETTING + "period_ns = 1\n"), removed(), [EXPIRED % "all 2 stored records have expired at the window's end"]),
+    (0, swapped(SETTING, SETTING + "period_ns = 1\n"), removed(), [EXPIRED % "all 2 stored consensus states have expired at the window's end"]),
     (0, swapped(SETTING, SETTING + "period_ns = 563_000_000_000\n"), removed(), []),  # record 80 is trusted until 12:17:55.8
     # record 80 is trusted to the window's end, and a nanosecond longer
-    (0, swapped(SETTING, SETTING + "period_ns = 57_196_761_877\n"), removed(), [EXPIRED % "all 2 stored records have expired at the window's end"]),
+    (0, swapped(SETTING, SETTING + "period_ns = 57_196_761_877\n"), removed(), [EXPIRED % "all 2 stored consensus states have expired at the window's end"]),
     (0, swapped(SETTING, SETTING + "period_ns = 57_196_761_878\n"), removed(), []),
-    (0, swapped(SETTING, SETTING + "period_ns = 1\n"), edited(STORED_FILE, gone("consensus_states[0]")), [EXPIRED % "its stored record has expired at the window's end"]),
-    (0, str, NO_RECORD, [EXPIRED % "it has stored no record", LATEST % 80]),
+    (0, swapped(SETTING, SETTING + "period_ns = 1\n"), edited(STORED_FILE, gone("consensus_states[0]")), [EXPIRED % "its stored consensus state has expired at the window's end"]),
+    (0, str, NO_RECORD, [EXPIRED % "it has stored no consensus state", LATEST % 80]),
     (0, swapped(FROM, "12:08:32Z"), removed(), [FUTURE % (80, 1)]),
     (0, swapped(FROM, "12:00:01Z"), removed(), [FUTURE % (1, 2)]),
     (0, swapped(FROM, "12:08:33Z"), removed(), []),
     # at the window's end header 80 is 57.2 seconds old
     (0, swapped(SETTING, SETTING + "refresh_ns = 57_000_000_000\n"), removed(), [FRESH]),
     (0, swapped(SETTING, SETTING + "refresh_ns = 58_000_000_000\n"), removed(), []),
-    (0, swapped(SETTING, SETTING + "refresh_ns = 1\n"), NO_RECORD, [EXPIRED % "it has stored no record", LATEST % 80]),
+    (0, swapped(SETTING, SETTING + "refresh_ns = 1\n"), NO_RECORD, [EXPIRED % "it has stored no consensus state", LATEST % 80]),
     (1, str, saved(*packet_txs(OURS, *((40, "send_packet", sequence) for sequence in range(100, 4195)))), [PACKETS % (4098, 3, 3)]),
     (1, str, edited(RECEIVED_FILE, put(f"{TX}.tx_result.code", 11)), []),  # what failed did nothing
     # of one packet several events: both searches saved, and messages that were relayed once more, before and after

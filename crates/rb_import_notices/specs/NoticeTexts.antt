@@ -34,7 +34,7 @@ too_many_headers_text n =
     ++ n.chain.now
     ++ codes ": "
     ++ decimal n.left_out
-    ++ codes " of its headers, the lowest, are left out; a chain's book holds 4,096 records"
+    ++ codes " of its headers, the lowest, are left out; a light store holds 4,096 consensus states"
 
 abbrev pub too_many_sets_text : TooManySets → List ℕ
 too_many_sets_text n =
@@ -44,7 +44,7 @@ too_many_sets_text n =
     ++ decimal n.left_out
     ++ codes " of its validator sets, the lowest, are left out, with "
     ++ decimal n.headers
-    ++ codes " headers of them; a chain's book holds 1,024 sets"
+    ++ codes " headers of them; a light store holds 1,024 sets"
 
 abbrev pub too_many_records_text : TooManyRecords → List ℕ
 too_many_records_text n =
@@ -52,7 +52,7 @@ too_many_records_text n =
     ++ n.client.now
     ++ codes ": "
     ++ decimal n.left_out
-    ++ codes " of its stored records, the lowest, are left out; a chain's book holds 4,096 records"
+    ++ codes " of its stored consensus states, the lowest, are left out; a light store holds 4,096 consensus states"
 
 abbrev pub too_many_packets_text : TooManyPackets → List ℕ
 too_many_packets_text n =
@@ -91,7 +91,7 @@ abbrev pub nothing_fresh_text : NothingFresh → List ℕ
 nothing_fresh_text n =
     codes "notice NothingFresh at "
     ++ n.client.now
-    ++ codes ": its records are due for a refresh by the window's end, and no header of "
+    ++ codes ": its consensus states are due for a refresh by the window's end, and no header of "
     ++ n.chain.now
     ++ (codes " is young enough for it, so that none is planned; fetch /commit and /validators of later heights into files *.json of "
     ++ codes "the folder ")
@@ -116,8 +116,8 @@ missing_latest_text n =
     ++ n.client.now
     ++ codes " "
     ++ decimal n.height
-    ++ (codes ": the client's latest height is not among its stored records, so that its answers are of two moments or of two nodes, or "
-    ++ codes "pages of records are missing; fetch client_states and all pages of consensus_states of the client again, from one node, into "
+    ++ (codes ": the client's latest height is not among its stored consensus states, so that its answers are of two moments or of two nodes, or "
+    ++ codes "pages of consensus states are missing; fetch client_states and all pages of consensus_states of the client again, from one node, into "
     ++ codes "files *.json of the folder ")
     ++ n.client.now
 
@@ -131,9 +131,9 @@ not_verified_text n =
 
 unfoldable pub expired_text : ℕ → List ℕ
 expired_text n =
-    if n == 0 then codes ": it has stored no record"
-    else if n == 1 then codes ": its stored record has expired at the window's end"
-    else codes ": all " ++ decimal n ++ codes " stored records have expired at the window's end"
+    if n == 0 then codes ": it has stored no consensus state"
+    else if n == 1 then codes ": its stored consensus state has expired at the window's end"
+    else codes ": all " ++ decimal n ++ codes " stored consensus states have expired at the window's end"
 
 abbrev pub untrusted_advice : List ℕ
 untrusted_advice =
@@ -230,7 +230,7 @@ abbrev pub unseen_of : ℕ → List ℕ → ℕ → List ℕ
 unseen_of count chain next =
     codes "; no answer has those of "
     ++ decimal count
-    ++ codes " records: fetch all pages of /validators?height="
+    ++ codes " consensus states: fetch all pages of /validators?height="
     ++ decimal next
     ++ codes "&per_page=100, for the highest of them, into files *.json of the folder "
     ++ chain
@@ -241,7 +241,7 @@ unseen_part count chain None = []
 
 -- the next sets of so many records are left out of a chain
 abbrev pub left_out_of : ℕ → List ℕ → List ℕ
-left_out_of count chain = codes "; those of " ++ decimal count ++ codes " records are of sets of " ++ chain ++ codes " that are left out"
+left_out_of count chain = codes "; those of " ++ decimal count ++ codes " consensus states are of sets of " ++ chain ++ codes " that are left out"
 
 unfoldable pub left_out_part : ℕ → List ℕ → List ℕ
 left_out_part count chain = if count == 0 then [] else left_out_of count chain
@@ -250,7 +250,7 @@ abbrev pub missing_next_set_text : MissingNextSet → List ℕ
 missing_next_set_text n =
     codes "notice MissingNextSet at "
     ++ n.client.now
-    ++ codes ": no update starts from stored records without their next validators"
+    ++ codes ": no update starts from stored consensus states without their next validators"
     ++ unseen_part n.unseen n.chain.now n.next
     ++ left_out_part n.left_out n.chain.now
 

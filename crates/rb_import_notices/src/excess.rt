@@ -27,7 +27,7 @@ impl fmt::Display for TooManyHeaders<'_> {
         let left_out = self.left_out;
         write!(
             f,
-            "notice TooManyHeaders at {chain}: {left_out} of its headers, the lowest, are left out; a chain's book holds 4,096 records"
+            "notice TooManyHeaders at {chain}: {left_out} of its headers, the lowest, are left out; a light store holds 4,096 consensus states"
         )
     }
 }
@@ -52,7 +52,7 @@ impl fmt::Display for TooManySets<'_> {
         let headers = self.headers;
         write!(
             f,
-            "notice TooManySets at {chain}: {left_out} of its validator sets, the lowest, are left out, with {headers} headers of them; a chain's book holds 1,024 sets"
+            "notice TooManySets at {chain}: {left_out} of its validator sets, the lowest, are left out, with {headers} headers of them; a light store holds 1,024 sets"
         )
     }
 }
@@ -76,7 +76,7 @@ impl fmt::Display for TooManyRecords<'_> {
         let left_out = self.left_out;
         write!(
             f,
-            "notice TooManyRecords at {client}: {left_out} of its stored records, the lowest, are left out; a chain's book holds 4,096 records"
+            "notice TooManyRecords at {client}: {left_out} of its stored consensus states, the lowest, are left out; a light store holds 4,096 consensus states"
         )
     }
 }

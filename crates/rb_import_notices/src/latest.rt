@@ -9,7 +9,7 @@ use std::alloc::{AllocError, Global};
 use std::fmt;
 
 /// A client, and the latest height that its state names, of which no answer has the record. Each update stores one (ICS 7),
-/// so that the state and the records are of two moments or of two nodes, or pages of records are missing.
+/// so that the state and the records are of two moments or of two nodes, or pages of consensus states are missing.
 #[derive(Clone, Copy, Debug)]
 pub struct MissingLatest<'a> {
     pub client: &'a str,
@@ -27,7 +27,7 @@ impl fmt::Display for MissingLatest<'_> {
         let height = self.height;
         write!(
             f,
-            "notice MissingLatest at {client} {height}: the client's latest height is not among its stored records, so that its answers are of two moments or of two nodes, or pages of records are missing; fetch client_states and all pages of consensus_states of the client again, from one node, into files *.json of the folder {client}"
+            "notice MissingLatest at {client} {height}: the client's latest height is not among its stored consensus states, so that its answers are of two moments or of two nodes, or pages of consensus states are missing; fetch client_states and all pages of consensus_states of the client again, from one node, into files *.json of the folder {client}"
         )
     }
 }

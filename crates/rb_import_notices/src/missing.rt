@@ -53,7 +53,7 @@ impl fmt::Display for MissingNextSet<'_> {
         let client = self.client;
         write!(
             f,
-            "notice MissingNextSet at {client}: no update starts from stored records without their next validators"
+            "notice MissingNextSet at {client}: no update starts from stored consensus states without their next validators"
         )?;
         self.write_unseen(f)?;
         self.write_left_out(f)
@@ -98,7 +98,7 @@ fn write_unseen_of<W: fmt::Write>(
 {
     write!(
         f,
-        "; no answer has those of {unseen} records: fetch all pages of /validators?height={next}&per_page=100, for the highest of them, into files *.json of the folder {chain}"
+        "; no answer has those of {unseen} consensus states: fetch all pages of /validators?height={next}&per_page=100, for the highest of them, into files *.json of the folder {chain}"
     )
 }
 
@@ -112,7 +112,7 @@ fn write_left_out_of<W: fmt::Write>(
 {
     write!(
         f,
-        "; those of {left_out} records are of sets of {chain} that are left out"
+        "; those of {left_out} consensus states are of sets of {chain} that are left out"
     )
 }
 

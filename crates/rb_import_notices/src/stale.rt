@@ -28,7 +28,7 @@ impl fmt::Display for NothingFresh<'_> {
         let chain = self.chain;
         write!(
             f,
-            "notice NothingFresh at {client}: its records are due for a refresh by the window's end, and no header of {chain} is young enough for it, so that none is planned; fetch /commit and /validators of later heights into files *.json of the folder {chain}"
+            "notice NothingFresh at {client}: its consensus states are due for a refresh by the window's end, and no header of {chain} is young enough for it, so that none is planned; fetch /commit and /validators of later heights into files *.json of the folder {chain}"
         )
     }
 }

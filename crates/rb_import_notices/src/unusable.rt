@@ -43,11 +43,11 @@ fn write_expired<W: fmt::Write>(f: &mut fmt::Formatter<W>, expired: usize) -> fm
     ensures { WritesOnOk W.write_str_gives f.old result (expired_text expired) f.new }
 {
     match expired {
-        0 => f.write_str(": it has stored no record"),
-        1 => f.write_str(": its stored record has expired at the window's end"),
+        0 => f.write_str(": it has stored no consensus state"),
+        1 => f.write_str(": its stored consensus state has expired at the window's end"),
         _ => write!(
             f,
-            ": all {expired} stored records have expired at the window's end"
+            ": all {expired} stored consensus states have expired at the window's end"
         ),
     }
 }
