@@ -44,7 +44,7 @@ why_line w = codes "why " ++ (w.client ++ (codes " from " ++ (decimal w.trusted 
 
 abbrev pub missing_text : Missing → List ℕ
 missing_text State = codes "its state"
-missing_text Records = codes "all of its records"
+missing_text Records = codes "all of its consensus states"
 missing_text LatestHeight = codes "the latest height of the chain that it tracks"
 
 -- why nothing goes on
@@ -64,7 +64,7 @@ client_of (ends.Stuck why) = why.client
 
 abbrev pub cause_text : End → List ℕ
 cause_text (ends.NotGiven client missing) = codes "the node doesn't give " ++ missing_text missing
-cause_text (ends.NoRecord client) = codes "it has stored no record below the height that it should get to"
+cause_text (ends.NoRecord client) = codes "it has stored no consensus state below the height that it should get to"
 cause_text (ends.OtherClient client) = codes "it is frozen, or no Tendermint client"
 cause_text (ends.BadOptions client) = codes "its trust level, period or drift is out of range"
 cause_text (ends.OtherNetwork client chain) = codes "the node's status is not one of " ++ chain

@@ -121,7 +121,7 @@ impl fmt::Display for Missing {
     fn fmt<W: fmt::Write>(&self, f: &mut fmt::Formatter<W>) -> fmt::Result {
         match self {
             Missing::State => write!(f, "its state"),
-            Missing::Records => write!(f, "all of its records"),
+            Missing::Records => write!(f, "all of its consensus states"),
             Missing::LatestHeight => write!(f, "the latest height of the chain that it tracks"),
         }
     }
@@ -207,7 +207,7 @@ impl fmt::Display for Cause<'_> {
             End::NotGiven { missing, .. } => write!(f, "the node doesn't give {missing}"),
             End::NoRecord { .. } => write!(
                 f,
-                "it has stored no record below the height that it should get to"
+                "it has stored no consensus state below the height that it should get to"
             ),
             End::OtherClient { .. } => write!(f, "it is frozen, or no Tendermint client"),
             End::BadOptions { .. } => {
