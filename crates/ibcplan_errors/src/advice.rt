@@ -47,7 +47,7 @@ pub fn advice_for(name: FaultName, path: &str) -> &'static str {
         }
         FaultName::TooManyEvents => "there may be 200,000 goals, events and settlements in all",
         FaultName::UnknownSetName => {
-            "no set event before this one gives the chain a set of this name: sets stand before the headers and records that name them"
+            "no set event before this one gives the chain a set of this name: sets stand before the headers and consensus states that name them"
         }
         FaultName::DuplicateSetName => "an earlier set event of the chain has this name",
         FaultName::TwoGoals =>
