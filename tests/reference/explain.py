@@ -305,9 +305,9 @@ def told_answer(step, client):
     reasons = {
         "NotEnoughTrust": lambda: f"set that {t} names: {short(step['trusted_power'])}",
         "HeightOrder": lambda: f"{h} isn't higher than {t}",
-        "Expired": lambda: f"the record of {t} has expired since {reference.stamp(step['expiry_ns'])}{within}",
+        "Expired": lambda: f"the consensus state of {t} has expired since {reference.stamp(step['expiry_ns'])}{within}",
         "FromFuture": lambda: f"the time of {h}, {reference.stamp(step['time_ns'])}, is ahead of the window's first moment by the clock drift or more",
-        "TrustedSetUnknown": lambda: f"the book hasn't the set that {t} names",
+        "TrustedSetUnknown": lambda: f"the light store hasn't the set that {t} names",
         "WrongNextSet": lambda: f"the set of {h} isn't the one that {t} names",
         "NotTwoThirds": lambda: f"own set: {short(step['own_power'])}",
     }
@@ -342,7 +342,7 @@ def heading(client):
     if client["outcome"] == "held":
         return f"held by batch {client['batch']}"
     if client["outcome"] == "idle":
-        dead = "all stored records have expired" if client["stored"] else "no record is stored"
+        dead = "all stored consensus states have expired" if client["stored"] else "no consensus state is stored"
         return f"idle: {IDLE.get(client['reason'], dead)}"
     (kind, height), = client["goal"].items()
     return ("at least " if kind == "at_least" else "") + f"height {height} is wanted" + (": unreachable" if client["outcome"] == "unreachable" else "")
@@ -394,7 +394,7 @@ def unreachable_lines(client):
         yield "  no header has a height that is wanted"
         return
     if not client["tried"]:
-        yield f"  {client['wanted']}, the lowest header that is wanted: no record below it is stored"
+        yield f"  {client['wanted']}, the lowest header that is wanted: no consensus state below it is stored"
         return
     yield f"  {client['wanted']}, the lowest header that is wanted:"
     yield from (f"    from {step['trusted']}: {told_answer(step, client)}" for step in client["tried"])
@@ -425,8 +425,8 @@ PACKET_CLASHES = {
     ("closed", "Repeat"): "it is closed already",
 }
 CLASHES = {
-    "UnknownSet": "the book has no set of the hash that it gives for its own", "WrongVerdictCount": "its votes are more or fewer than the members of its set",
-    "Full": "there is no room for more", "HashClash": "the book has another set of this hash",
+    "UnknownSet": "the light store has no set of the hash that it gives for its own", "WrongVerdictCount": "its votes are more or fewer than the members of its set",
+    "Full": "there is no room for more", "HashClash": "the light store has another set of this hash",
 }
 
 
@@ -435,7 +435,7 @@ def subject(refused):
     owner = refused[OWNERS.get(kind, "path")]
     number = refused.get(NUMBERS.get(kind))
     return {
-        "set": f"a set of {owner}", "header": f"header {number} of {owner}", "stored": f"stored record {number} of {owner}",
+        "set": f"a set of {owner}", "header": f"header {number} of {owner}", "stored": f"stored consensus state {number} of {owner}",
         "sent": f"sent packet {number} of {owner}", "received": f"received packet {number} of {owner}", "ack": f"acknowledgement of packet {number} of {owner}",
         "cleared": f"cleared packet {number} of {owner}", "closed": f"closed path {owner}",
     }[kind]
@@ -447,7 +447,7 @@ def clash(refused):
     if name == "BadVote":
         return f"its vote {refused['vote']} (from 0) is bad"
     if name == "Conflict":
-        return f"the book has another record or header at height {refused['with_height']}"
+        return f"the light store has another consensus state or header at height {refused['with_height']}"
     if name == "TimeOrder":
         return f"its time and that of height {refused['with_height']} aren't in the order of the heights"
     return PACKET_CLASHES.get((refused["kind"], name)) or CLASHES[name]

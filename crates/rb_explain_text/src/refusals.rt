@@ -98,7 +98,7 @@ fn push_subject(text: &mut String, config: &Config, subject: &Subject) -> Result
         }
         Subject::Stored { client, height } => {
             let client = client_name(config, *client);
-            write!(text, "stored record {height} of {client}")
+            write!(text, "stored consensus state {height} of {client}")
         }
         Subject::Sent { path, sequence } => {
             let path = path_name(config, *path);
@@ -150,7 +150,7 @@ fn packet_clash(subject: &Subject, refusal: Refusal) -> Option<&'static str> {
 fn push_clash(text: &mut String, refusal: Refusal) -> Result<(), AllocError> {
     match refusal {
         Refusal::UnknownSet => text.push_str(
-            "the book has no set of the hash that it gives for its own",
+            "the light store has no set of the hash that it gives for its own",
         ),
         Refusal::WrongVerdictCount => {
             text.push_str("its votes are more or fewer than the members of its set")
@@ -159,7 +159,7 @@ fn push_clash(text: &mut String, refusal: Refusal) -> Result<(), AllocError> {
         Refusal::Conflict(height) => {
             write!(
                 text,
-                "the book has another record or header at height {height}"
+                "the light store has another consensus state or header at height {height}"
             )
         }
         Refusal::TimeOrder(height) => {
@@ -169,7 +169,7 @@ fn push_clash(text: &mut String, refusal: Refusal) -> Result<(), AllocError> {
             )
         }
         Refusal::Full => text.push_str("there is no room for more"),
-        Refusal::HashClash => text.push_str("the book has another set of this hash"),
+        Refusal::HashClash => text.push_str("the light store has another set of this hash"),
         Refusal::UnknownObject => text.push_str("there is no such chain, client or path"),
         Refusal::Stale { front } => {
             write!(

@@ -123,7 +123,7 @@ fn push_reason(
     match reason {
         Reason::HeightOrder => write!(text, "{height} isn't higher than {trusted}"),
         Reason::Expired => {
-            write!(text, "the record of {trusted} has expired since ")?;
+            write!(text, "the consensus state of {trusted} has expired since ")?;
             push_moment(text, step.expiry)?;
             if step.expiry > window.from().nanoseconds() {
                 text.push_str(", within the window")?;
@@ -142,7 +142,7 @@ fn push_reason(
             text.push_str(", is ahead of the window's first moment by the clock drift or more")
         }
         Reason::TrustedSetUnknown => {
-            write!(text, "the book hasn't the set that {trusted} names")
+            write!(text, "the light store hasn't the set that {trusted} names")
         }
         Reason::WrongNextSet => {
             write!(

@@ -129,8 +129,8 @@ fn push_goal(text: &mut String, goal: Goal) -> Result<(), AllocError> {
 /// Why a client is idle, in words.
 fn idle_words(stored: &[StoredHeight], reason: IdleReason) -> &'static str {
     match reason {
-        IdleReason::NothingLive if stored.is_empty() => "idle: no record is stored",
-        IdleReason::NothingLive => "idle: all stored records have expired",
+        IdleReason::NothingLive if stored.is_empty() => "idle: no consensus state is stored",
+        IdleReason::NothingLive => "idle: all stored consensus states have expired",
         IdleReason::MessagesWait => "idle: packet messages wait for others to go with them",
         IdleReason::NothingProved => {
             "idle: packet messages are owed, and no height that proves one of them can be reached"
@@ -308,7 +308,7 @@ fn push_unreachable(
     if why.steps.is_empty() {
         return writeln!(
             text,
-            "  {wanted}, the lowest header that is wanted: no record below it is stored"
+            "  {wanted}, the lowest header that is wanted: no consensus state below it is stored"
         );
     }
     writeln!(text, "  {wanted}, the lowest header that is wanted:")?;
