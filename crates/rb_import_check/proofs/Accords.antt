@@ -12,7 +12,7 @@ use Rattle.rb_import_check.specs.declared.client.Stored.{Stored}
 use Rattle.rb_import_check.specs.declared.error.CheckErrorName.{CheckErrorName}
 use Rattle.rb_import_check.specs.declared.error.ImportError.{ImportError}
 use Rattle.rb_import_check.specs.declared.error.ImportError.TheVariants as errors
-use Rattle.rb_import_check.specs.Accord.{AgreesWith, IsAsHeader}
+use Rattle.rb_import_check.specs.Accord.{AgreesWith, DiffersFrom, IsAsHeader, NamesDifference}
 use Rattle.rb_import_check.specs.Errors.{IsTold}
 
 abbrev pub height_of : Commit → ℕ
@@ -93,5 +93,11 @@ pub tells_other : (commits : List Commit) (stored : List Stored) (i : ℕ) (s : 
     → IsTold CheckErrorName.OtherRecord (AgreesWith commits s → ⊥) e → IsTold CheckErrorName.OtherRecord (Any (λ (x : Stored). ¬ AgreesWith commits x) stored) e
 tells_other commits stored i s (errors.CheckError p) small is w = (w.0, (i, s, small, sym is, w.1))
 tells_other commits stored i s errors.NoMemory small is w = tt
+
+-- of some records, where it names one and its header
+pub names_difference : (commits : List Commit) (stored : List Stored) (i : ℕ) (s : Stored) (e : ImportError) → i < length stored → s ≡ get_or stored i s
+    → Any (λ c. DiffersFrom c s e) commits → NamesDifference commits stored e
+names_difference commits stored i s (errors.CheckError p) small is w = (i, s, small, sym is, w)
+names_difference commits stored i s errors.NoMemory small is w = tt
 
 pub ruleset according = (tells_other, agrees_where_found, disagrees)

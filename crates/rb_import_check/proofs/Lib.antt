@@ -4,6 +4,7 @@ mod OtherVotes
 pub mod Sorting
 pub mod SetsLemmas
 pub mod ReasonsLemmas
+pub mod Naming
 pub mod Accords
 pub mod Heights
 pub mod Pages

@@ -1,5 +1,5 @@
 -- What an error says: what doesn't hold, where, in which files, and what to do.
-use Rattle.std.specs.Prelude.{ℕ, ◌==◌, List, [], ◌++◌, Option, Some, None, codes, if◌then◌else◌}
+use Rattle.std.specs.Prelude.{ℕ, List, [], ◌++◌, Option, Some, None, codes}
 use Rattle.std.specs.Borrow.{Bor}
 use Rattle.std.specs.Fmt.{decimal}
 use Rattle.rb_import_check.specs.declared.error.CheckError.{CheckError}
@@ -40,12 +40,16 @@ pages_request height = codes "; fetch all pages of /validators?height=" ++ decim
 abbrev pub commit_request : ℕ → List ℕ
 commit_request height = codes "; fetch /commit?height=" ++ decimal height
 
--- what to do with an answer on another chain: one of a height is a chain's, others have height 0
-abbrev pub other_chain_request : ℕ → List ℕ
-other_chain_request height = if height == 0
-    then codes "; this client follows, or these verdicts are on, another chain than the setup says: is the identifier right? "
+-- what to do with a chain's answer that is on another chain
+abbrev pub other_chain_request : List ℕ
+other_chain_request = codes "; fetch it from this chain's node, or, if the chain was upgraded, write its new identifier into the setup"
+
+-- what to do with an answer that is of no height: on another chain, it is a client's state or verdicts
+abbrev pub request_without_height : CheckErrorName → List ℕ
+request_without_height CheckErrorName.OtherChain =
+    codes "; this client follows, or these verdicts are on, another chain than the setup says: is the identifier right? "
     ++ codes "if the chain was upgraded, write its new identifier into the setup"
-    else codes "; fetch it from this chain's node, or, if the chain was upgraded, write its new identifier into the setup"
+request_without_height _ = []
 
 -- which answers of a height are to be fetched
 abbrev pub request_text : CheckErrorName → ℕ → List ℕ
@@ -56,13 +60,13 @@ request_text CheckErrorName.MissingSet height = pages_request height
 request_text CheckErrorName.SignatureCount height = commit_request height ++ codes " again"
 request_text CheckErrorName.OtherSigner height = commit_request height ++ codes " again"
 request_text CheckErrorName.OtherHeader height = commit_request height ++ codes " again, from another node if it stays"
-request_text CheckErrorName.OtherChain height = other_chain_request height
+request_text CheckErrorName.OtherChain height = other_chain_request
 request_text _ height = []
 
--- the same, where there is a height
+-- the same, whether or not there is a height
 abbrev pub requests_text : CheckErrorName → Option ℕ → List ℕ
 requests_text name (Some height) = request_text name height
-requests_text name None = []
+requests_text name None = request_without_height name
 
 -- a file of a folder
 abbrev pub file_of : List ℕ → List ℕ

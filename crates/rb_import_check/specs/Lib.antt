@@ -9,4 +9,5 @@ pub mod Verdicts
 pub mod Chains
 pub mod Refusals
 pub mod Clients
+pub mod Named
 pub mod Accord

@@ -1,6 +1,6 @@
 //! Whether what a client has stored is what the chain's headers say.
 ghost use Rattle.std.specs.Prelude.{◌≡◌, ◌↔◌, IsTrue, map, All, Any, IfErr, OnOk};
-ghost use Rattle.rb_import_check.specs.Accord.{AgreesWith, IsAsHeader};
+ghost use Rattle.rb_import_check.specs.Accord.{AgreesWith, DiffersFrom, IsAsHeader, NamesDifference};
 ghost use Rattle.rb_import_check.specs.Errors.{IsTold, IsToldOf};
 
 use crate::chain::{Commit, SeenChain, heights_of};
@@ -20,6 +20,7 @@ pub fn judge_records<'a>(
 ) -> Result<(), ImportError<'a>>
     ensures accord { OnOk result (All (AgreesWith chain.now.commits.items) stored.now) }
     ensures other { IfErr result (IsTold CheckErrorName.OtherRecord (Any (λ s. ¬ AgreesWith chain.now.commits.items s) stored.now)) }
+    ensures named { IfErr result (NamesDifference chain.now.commits.items stored.now) }
     ensures told { IfErr result (IsToldOf id.entry.now) }
 {
     let heights = heights_of(alloc, chain.commits.as_slice())?;
@@ -39,6 +40,7 @@ fn judge_record<'a>(
     requires { heights.now ≡ map (λ c. c.header.now.height) chain.now.commits.items }
     ensures accord { OnOk result (AgreesWith chain.now.commits.items stored.now) }
     ensures other { IfErr result (IsTold CheckErrorName.OtherRecord (¬ AgreesWith chain.now.commits.items stored.now)) }
+    ensures named { IfErr result (λ e. Any (λ c. DiffersFrom c stored.now e) chain.now.commits.items) }
     ensures told { IfErr result (IsToldOf id.entry.now) }
 {
     let Ok(place) = heights.binary_search(&stored.state.height) else {

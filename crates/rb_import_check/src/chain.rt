@@ -4,7 +4,8 @@ ghost use Rattle.std.specs.List.{AllZip};
 ghost use Rattle.std.specs.List.Sorted.{IsNonDecreasingBy, IsStrictlyIncreasing};
 ghost use Rattle.rb_valset.specs.Refusal.{set_refusal};
 ghost use Rattle.rb_valset.specs.ValidatorSet.{set_hash, in_set_order};
-ghost use Rattle.rb_import_check.specs.Errors.{IsBetween, IsTold, IsToldBy, IsToldOf};
+ghost use Rattle.rb_import_check.specs.Errors.{IsAt, IsBetween, IsIn, IsTold, IsToldBy, IsToldOf};
+ghost use Rattle.rb_import_check.specs.Named.{NamesFall, NamesOf, NamesOtherHeader, ShowsHeader};
 ghost use Rattle.rb_import_check.specs.Refusals.{HasReasonOf, HaveTooMany, HaveTwoTotals, RefusesCommit, RefusesPages};
 ghost use Rattle.rb_import_check.specs.Verdicts.{TellsOtherVotes, verdict_list};
 ghost use Rattle.rb_import_check.specs.Clients.{Falls};
@@ -62,6 +63,7 @@ pub fn seen_chain<'a>(
     ensures all_sets { IfOk result (λ chain. HaveSets answers.entry.now chain.sets.sets.items) }
     ensures validators { IfOk result (λ chain. All (HasItsValidators answers.entry.now) chain.commits.items) }
     ensures reason { IfErr result (HasReasonOf id.entry.now answers.entry.now) }
+    ensures named { IfErr result (NamesOf id.entry.now answers.entry.now) }
     ensures told { IfErr result (IsToldOf id.entry.now) }
 {
     let commits = commits_of(alloc, id, answers)?;
@@ -85,6 +87,7 @@ fn commits_of<'a>(
     ensures files { IfOk result (λ commits. AreOfFiles (filed_of answers.entry.now) commits.items) }
     ensures verdicts { IfOk result (λ commits. All (IsJudged answers.entry.now) commits.items) }
     ensures reason { IfErr result (HasReasonOf id.entry.now answers.entry.now) }
+    ensures named { IfErr result (NamesOf id.entry.now answers.entry.now) }
     ensures told { IfErr result (IsToldOf id.entry.now) }
 {
     let mut commits = all_commits(alloc, id, answers)?;
@@ -103,6 +106,7 @@ fn all_commits<'a>(
     ensures files { IfOk result (λ commits. map filed commits.items ≡ filed_of answers.entry.now) }
     ensures verdicts { IfOk result (λ commits. All (IsJudged answers.entry.now) commits.items) }
     ensures reason { IfErr result (HasReasonOf id.entry.now answers.entry.now) }
+    ensures named { IfErr result (NamesOf id.entry.now answers.entry.now) }
     ensures told { IfErr result (IsToldOf id.entry.now) }
 {
     let verdicts = verdicts_in(id, answers)?;
@@ -116,7 +120,7 @@ fn all_commits<'a>(
             NodeAnswer::Validators(_) | NodeAnswer::Verdicts(_) | NodeAnswer::Other(_) => {}
             _ => {
                 let file = saved.file.as_str();
-                return Err(ImportError::at(CheckErrorName::WrongFolder, id, 0, file));
+                return Err(ImportError::in_file(CheckErrorName::WrongFolder, id, file));
             }
         }
     }
@@ -136,6 +140,7 @@ fn commit_in<'a>(
     ensures file { IfOk result (λ commit. commit.file.now ≡ string_bytes saved.entry.now.file) }
     ensures verdict { IfOk result (IsJudgedBy (option_to_list (option_map (λ v. v.now) verdicts.entry))) }
     ensures other { IfErr result (IsTold CheckErrorName.OtherVerdict (TellsOtherVotes (verdict_list (option_to_list (option_map (λ v. v.now) verdicts.entry))) saved.entry.now.digest (length header.entry.now.signatures.items))) }
+    ensures named { IfErr result (λ e. IsAt header.entry.now.height e × IsIn (string_bytes saved.entry.now.file) e) }
     ensures told { IfErr result (IsToldOf id.entry.now) }
 {
     let verdict = verdict_on(id, verdicts, saved, header)?;
@@ -151,6 +156,7 @@ fn commit_in<'a>(
 fn judge_chains<'a>(id: &'a str, commits: &[Commit<'a>]) -> Result<(), ImportError<'a>>
     ensures chain { OnOk result (All (IsOfChain id.entry.now) commits.now) }
     ensures other { IfErr result (IsTold CheckErrorName.OtherChain (Any (λ c. ¬ IsOfChain id.entry.now c) commits.now)) }
+    ensures named { IfErr result (λ e. Any (λ c. NamesOtherHeader id.entry.now (filed c) e) commits.now) }
     ensures told { IfErr result (IsToldOf id.entry.now) }
 {
     for commit in commits {
@@ -163,6 +169,7 @@ fn judge_chains<'a>(id: &'a str, commits: &[Commit<'a>]) -> Result<(), ImportErr
 fn judge_chain<'a>(id: &'a str, commit: &Commit<'a>) -> Result<(), ImportError<'a>>
     ensures chain { OnOk result (IsOfChain id.entry.now commit.now) }
     ensures other { IfErr result (IsTold CheckErrorName.OtherChain (¬ IsOfChain id.entry.now commit.now)) }
+    ensures named { IfErr result (NamesOtherHeader id.entry.now (filed commit.now)) }
     ensures told { IfErr result (IsToldOf id.entry.now) }
 {
     if commit.header.chain.as_str() == id {
@@ -170,7 +177,7 @@ fn judge_chain<'a>(id: &'a str, commit: &Commit<'a>) -> Result<(), ImportError<'
     } else {
         let height = commit.header.height.get();
         let found = commit.header.chain.as_str();
-        Err(ImportError::of_other_chain(id, height, commit.file, found))
+        Err(ImportError::of_other_chain(id, Some(height), commit.file, found))
     }
 }
 
@@ -178,6 +185,7 @@ fn judge_chain<'a>(id: &'a str, commit: &Commit<'a>) -> Result<(), ImportError<'
 fn judge_blocks<'a>(id: &'a str, commits: &[Commit<'a>]) -> Result<(), ImportError<'a>>
     ensures blocks { OnOk result (All IsOfItsBlock commits.now) }
     ensures other { IfErr result (IsTold CheckErrorName.OtherHeader (Any (λ c. ¬ IsOfItsBlock c) commits.now)) }
+    ensures named { IfErr result (λ e. Any (λ c. ShowsHeader (filed c) e) commits.now) }
     ensures told { IfErr result (IsToldOf id.entry.now) }
 {
     for commit in commits {
@@ -190,6 +198,7 @@ fn judge_blocks<'a>(id: &'a str, commits: &[Commit<'a>]) -> Result<(), ImportErr
 fn judge_block<'a>(id: &'a str, commit: &Commit<'a>) -> Result<(), ImportError<'a>>
     ensures block { OnOk result (IsOfItsBlock commit.now) }
     ensures other { IfErr result (IsTold CheckErrorName.OtherHeader (¬ IsOfItsBlock commit.now)) }
+    ensures named { IfErr result (ShowsHeader (filed commit.now)) }
     ensures told { IfErr result (IsToldOf id.entry.now) }
 {
     let header = commit.header.hash;
@@ -211,6 +220,7 @@ fn judge_heights<'a>(
 ) -> Result<(), ImportError<'a>>
     ensures rising { OnOk result (IsStrictlyIncreasing (map (λ c. c.header.now.height) commits.now)) }
     ensures falling { IfErr result (IsTold CheckErrorName.TwoAnswers (Falls (map (λ c. c.header.now.height) commits.now))) }
+    ensures named { IfErr result (NamesFall (λ c. c.header.now.height) (λ c. c.file.now) commits.now) }
     ensures told { IfErr result (IsToldOf id.entry.now) }
 {
     let heights = heights_of(alloc, commits)?;
@@ -233,6 +243,7 @@ pub(crate) fn heights_of(alloc: Global, commits: &[Commit]) -> Result<Vec<Height
 fn two_commits<'a>(id: &'a str, commit: &Commit<'a>, other: &Commit<'a>) -> ImportError<'a>
     ensures name { IsTold CheckErrorName.TwoAnswers ⊤ result }
     ensures files { IsBetween commit.now.file.now other.now.file.now result }
+    ensures height { IsAt commit.now.header.now.height result }
     ensures told { IsToldOf id.entry.now result }
 {
     let height = commit.header.height.get();

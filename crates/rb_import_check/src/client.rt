@@ -1,6 +1,7 @@
 //! What a client has stored, and how it judges headers.
 ghost use Rattle.std.specs.Prelude.{◌≡◌, ◌≢◌, ◌↔◌, ◌++◌, ⊤, IsTrue, true, false, map, filter, nat_le, All, Any, IfOk, IfErr, OnOk, option_map, option_to_list};
-ghost use Rattle.rb_import_check.specs.Errors.{IsBetween, IsTold, IsToldOf};
+ghost use Rattle.rb_import_check.specs.Errors.{IsAt, IsBetween, IsTold, IsToldOf};
+ghost use Rattle.rb_import_check.specs.Named.{NamesFall, NamesForeign, NamesIn, NamesOtherRecord};
 ghost use Rattle.std.specs.List.Sorted.{IsNonDecreasingBy, IsStrictlyIncreasing};
 ghost use Rattle.rb_import_check.specs.Clients.{AreStatesOfFiles, IsOfRevision, JudgesAs, level_of, AtRevision, HaveStates, HasReason, Falls, client_states_of, current_of, filed_state, filed_states_of, is_of_client, is_last_in, has_last};
 
@@ -45,6 +46,7 @@ pub fn seen_client<'a>(
     ensures files { IfOk result (λ client. AtRevision tracked.now (λ revision. AreStatesOfFiles (filed_states_of revision answers.entry.now) client.stored.items)) }
     ensures last { OnOk result (has_last answers.entry.now ≡ true) }
     ensures reason { IfErr result (HasReason setup.entry.now tracked.now answers.entry.now) }
+    ensures named { IfErr result (NamesIn tracked.now answers.entry.now) }
     ensures told { IfErr result (IsToldOf setup.entry.now.id) }
 {
     let state = state_of(setup, tracked, answers)?;
@@ -85,6 +87,7 @@ fn state_of<'a>(
 ) -> Result<Option<&'a ClientState>, ImportError<'a>>
     ensures state { IfOk result (λ state. option_to_list (option_map (λ s. s.now) state) ≡ client_states_of answers.entry.now) }
     ensures reason { IfErr result (HasReason setup.entry.now tracked.now answers.entry.now) }
+    ensures named { IfErr result (NamesIn tracked.now answers.entry.now) }
     ensures told { IfErr result (IsToldOf setup.entry.now.id) }
 {
     let id = setup.id.as_str();
@@ -94,14 +97,14 @@ fn state_of<'a>(
         if let NodeAnswer::ClientState(state) = &saved.answer {
             let file = saved.file.as_str();
             if !is_of_chain(state, tracked) {
-                return Err(ImportError::of_other_chain(id, 0, file, state.chain.as_str()));
+                return Err(ImportError::of_other_chain(id, None, file, state.chain.as_str()));
             }
             if state.revision != revision {
-                return Err(ImportError::at(CheckErrorName::OtherRevision, id, 0, file));
+                return Err(ImportError::in_file(CheckErrorName::OtherRevision, id, file));
             }
             if let Some((earlier, _)) = found {
                 let name = CheckErrorName::TwoAnswers;
-                return Err(ImportError::between(name, id, 0, earlier, file));
+                return Err(ImportError::in_files(name, id, earlier, file));
             }
             found = Some((file, state));
         }
@@ -131,6 +134,7 @@ fn stored_of<'a>(
     ensures files { IfOk result (λ stored. AtRevision tracked.now (λ revision. AreStatesOfFiles (filed_states_of revision answers.entry.now) stored.items)) }
     ensures last { OnOk result (has_last answers.entry.now ≡ true) }
     ensures reason { IfErr result (HasReason setup.entry.now tracked.now answers.entry.now) }
+    ensures named { IfErr result (NamesIn tracked.now answers.entry.now) }
     ensures told { IfErr result (IsToldOf setup.entry.now.id) }
 {
     let id = setup.id.as_str();
@@ -189,6 +193,7 @@ fn current_of<'a>(
     ensures states { IfOk result (λ stored. map (λ s. s.state.now) stored.items ≡ current_of revision answers.entry.now) }
     ensures files { IfOk result (λ stored. map filed_state stored.items ≡ filed_states_of revision answers.entry.now) }
     ensures foreign { IfErr result (IsTold CheckErrorName.WrongFolder (Any (λ s. is_of_client s.answer ≡ false) answers.entry.now)) }
+    ensures named { IfErr result (NamesForeign answers.entry.now) }
     ensures told { IfErr result (IsToldOf id.entry.now) }
 {
     let mut stored = Vec::new(alloc);
@@ -199,7 +204,7 @@ fn current_of<'a>(
                 add_states(file, revision, page.states.as_slice(), &mut stored)?;
             }
             NodeAnswer::ClientState(_) | NodeAnswer::Other(_) => {}
-            _ => return Err(ImportError::at(CheckErrorName::WrongFolder, id, 0, file)),
+            _ => return Err(ImportError::in_file(CheckErrorName::WrongFolder, id, file)),
         }
     }
     Ok(stored)
@@ -231,6 +236,7 @@ fn judge_revisions<'a>(
 ) -> Result<(), ImportError<'a>>
     ensures revision { OnOk result (All (λ s. s.state.now.revision ≡ revision) stored.now) }
     ensures other { IfErr result (IsTold CheckErrorName.OtherRevision (Any (λ s. s.state.now.revision ≢ revision) stored.now)) }
+    ensures named { IfErr result (λ e. Any (λ s. NamesOtherRecord revision (filed_state s) e) stored.now) }
     ensures told { IfErr result (IsToldOf id.entry.now) }
 {
     for record in stored {
@@ -250,6 +256,7 @@ fn judge_heights<'a>(
 ) -> Result<(), ImportError<'a>>
     ensures rising { OnOk result (IsStrictlyIncreasing (map (λ s. s.state.now.height) stored.now)) }
     ensures falling { IfErr result (IsTold CheckErrorName.TwoAnswers (Falls (map (λ s. s.state.now.height) stored.now))) }
+    ensures named { IfErr result (NamesFall (λ s. s.state.now.height) (λ s. s.file.now) stored.now) }
     ensures told { IfErr result (IsToldOf id.entry.now) }
 {
     let heights = heights_of(alloc, stored)?;
@@ -271,6 +278,7 @@ fn heights_of(alloc: Global, stored: &[Stored]) -> Result<Vec<Height>, AllocErro
 fn two_records<'a>(id: &'a str, stored: &Stored<'a>, other: &Stored<'a>) -> ImportError<'a>
     ensures name { IsTold CheckErrorName.TwoAnswers ⊤ result }
     ensures files { IsBetween stored.now.file.now other.now.file.now result }
+    ensures height { IsAt stored.now.state.now.height result }
     ensures told { IsToldOf id.entry.now result }
 {
     let height = stored.state.height.get();

@@ -198,6 +198,21 @@ impl<'a> ImportError<'a> {
         })
     }
 
+    /// A problem in a file, which is of no height or sequence.
+    pub fn in_file(name: CheckErrorName, object: &'a str, file: &'a str) -> ImportError<'a>
+        ensures { result ≡ ImportError.CheckError (record { name = name; object = object.entry; number = None; file = Some file.entry; other = None; hashes = None; chain = None }) }
+    {
+        ImportError::CheckError(CheckError {
+            name,
+            object,
+            number: None,
+            file: Some(file),
+            other: None,
+            hashes: None,
+            chain: None,
+        })
+    }
+
     /// A problem in a file, at a height or a sequence.
     pub fn at(name: CheckErrorName, object: &'a str, number: u64, file: &'a str) -> ImportError<'a>
         ensures { result ≡ ImportError.CheckError (record { name = name; object = object.entry; number = Some number; file = Some file.entry; other = None; hashes = None; chain = None }) }
@@ -233,23 +248,43 @@ impl<'a> ImportError<'a> {
         })
     }
 
-    /// An answer on another chain.
+    /// An answer on another chain, at its height, if it has one.
     pub fn of_other_chain(
         object: &'a str,
-        number: u64,
+        number: Option<u64>,
         file: &'a str,
         chain: &'a str,
     ) -> ImportError<'a>
-        ensures { result ≡ ImportError.CheckError (record { name = CheckErrorName.OtherChain; object = object.entry; number = Some number; file = Some file.entry; other = None; hashes = None; chain = Some chain.entry }) }
+        ensures { result ≡ ImportError.CheckError (record { name = CheckErrorName.OtherChain; object = object.entry; number = number; file = Some file.entry; other = None; hashes = None; chain = Some chain.entry }) }
     {
         ImportError::CheckError(CheckError {
             name: CheckErrorName::OtherChain,
             object,
-            number: Some(number),
+            number,
             file: Some(file),
             other: None,
             hashes: None,
             chain: Some(chain),
+        })
+    }
+
+    /// A problem between two files, which are of no height or sequence.
+    pub fn in_files(
+        name: CheckErrorName,
+        object: &'a str,
+        file: &'a str,
+        other: &'a str,
+    ) -> ImportError<'a>
+        ensures { result ≡ ImportError.CheckError (record { name = name; object = object.entry; number = None; file = Some file.entry; other = Some other.entry; hashes = None; chain = None }) }
+    {
+        ImportError::CheckError(CheckError {
+            name,
+            object,
+            number: None,
+            file: Some(file),
+            other: Some(other),
+            hashes: None,
+            chain: None,
         })
     }
 

@@ -1,6 +1,6 @@
 //! What an error says: what doesn't hold, where, in which files, and what to do.
 ghost use Rattle.std.specs.Prelude.{◌≡◌};
-ghost use Rattle.rb_import_check.specs.ErrorTexts.{other_way};
+ghost use Rattle.rb_import_check.specs.ErrorTexts.{other_way, request_without_height};
 
 use crate::error::{CheckError, CheckErrorName, HeaderHashes, ImportError};
 use crate::hexadecimal::Hexadecimal;
@@ -145,7 +145,8 @@ impl fmt::Display for Hashes {
     }
 }
 
-/// Which answers of a height are to be fetched, where such are wrong or missing.
+/// Which answers of a height are to be fetched, where such are wrong or missing; of an answer on another chain that is of
+/// no height, what may be wrong with it.
 #[derive(Clone, Copy)]
 struct Request {
     name: CheckErrorName,
@@ -160,7 +161,7 @@ impl fmt::Display for Request {
 
     fn fmt<W: fmt::Write>(&self, f: &mut fmt::Formatter<W>) -> fmt::Result {
         let Some(height) = self.number else {
-            return Ok(());
+            return f.write_str(request_without_height(self.name));
         };
         let pages = PagesRequest { height };
         let commit = CommitRequest { height };
@@ -173,14 +174,23 @@ impl fmt::Display for Request {
             CheckErrorName::OtherHeader => {
                 write!(f, "{commit} again, from another node if it stays")
             }
-            CheckErrorName::OtherChain if height == 0 => f.write_str(
-                "; this client follows, or these verdicts are on, another chain than the setup says: is the identifier right? if the chain was upgraded, write its new identifier into the setup",
-            ),
             CheckErrorName::OtherChain => f.write_str(
                 "; fetch it from this chain's node, or, if the chain was upgraded, write its new identifier into the setup",
             ),
             _ => Ok(()),
         }
+    }
+}
+
+/// What to do with an answer that is of no height: on another chain, it is a client's state or verdicts.
+fn request_without_height(name: CheckErrorName) -> &'static str
+    ensures { result.now ≡ request_without_height name }
+{
+    match name {
+        CheckErrorName::OtherChain => {
+            "; this client follows, or these verdicts are on, another chain than the setup says: is the identifier right? if the chain was upgraded, write its new identifier into the setup"
+        }
+        _ => "",
     }
 }
 

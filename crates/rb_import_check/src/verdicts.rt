@@ -1,7 +1,8 @@
 //! The verdicts on the signatures of a chain's commits.
-ghost use Rattle.std.specs.Prelude.{◌≡◌, ◌↔◌, ◌<◌, IsTrue, false, length, IfOk, IfErr, option_map, option_to_list};
+ghost use Rattle.std.specs.Prelude.{◌≡◌, ◌↔◌, ◌<◌, IsTrue, false, length, IfOk, IfErr, option_map, option_to_list, string_bytes};
 ghost use Rattle.rb_import_answers.specs.Votes.{letter_of};
-ghost use Rattle.rb_import_check.specs.Errors.{IsTold, IsToldOf};
+ghost use Rattle.rb_import_check.specs.Errors.{IsAt, IsIn, IsTold, IsToldOf};
+ghost use Rattle.rb_import_check.specs.Named.{NamesOf};
 ghost use Rattle.rb_import_check.specs.Refusals.{HasReasonOf};
 ghost use Rattle.rb_import_check.specs.Verdicts.{IsOnOther, IsVerdictOn, HasVotes, TellsOtherVotes, has_verdicts, is_among, is_verdicts, verdict_list, verdicts_of, vote_letter};
 
@@ -17,6 +18,7 @@ pub fn verdicts_in<'a>(
 ) -> Result<Option<&'a Verdicts>, ImportError<'a>>
     ensures verdicts { IfOk result (λ found. option_to_list (option_map (λ v. v.now) found) ≡ verdicts_of answers.entry.now) }
     ensures reason { IfErr result (HasReasonOf id.entry.now answers.entry.now) }
+    ensures named { IfErr result (NamesOf id.entry.now answers.entry.now) }
     ensures told { IfErr result (IsToldOf id.entry.now) }
 {
     let mut found: Option<(&'a str, &'a Verdicts)> = None;
@@ -24,11 +26,11 @@ pub fn verdicts_in<'a>(
         if let NodeAnswer::Verdicts(verdicts) = &saved.answer {
             let file = saved.file.as_str();
             if !are_on_chain(verdicts, id) {
-                return Err(ImportError::of_other_chain(id, 0, file, verdicts.chain.as_str()));
+                return Err(ImportError::of_other_chain(id, None, file, verdicts.chain.as_str()));
             }
             if let Some((earlier, _)) = found {
                 let name = CheckErrorName::TwoAnswers;
-                return Err(ImportError::between(name, id, 0, earlier, file));
+                return Err(ImportError::in_files(name, id, earlier, file));
             }
             found = Some((file, verdicts));
         }
@@ -67,6 +69,7 @@ pub fn verdict_on<'a>(
     ensures verdict { IfOk result (λ verdict. IsVerdictOn (verdict_list (option_to_list (option_map (λ v. v.now) verdicts.entry))) saved.entry.now.digest (option_map (λ v. v.now) verdict)) }
     ensures votes { IfOk result (λ verdict. HasVotes (length header.now.signatures.items) (option_map (λ v. v.now) verdict)) }
     ensures other { IfErr result (IsTold CheckErrorName.OtherVerdict (TellsOtherVotes (verdict_list (option_to_list (option_map (λ v. v.now) verdicts.entry))) saved.entry.now.digest (length header.now.signatures.items))) }
+    ensures named { IfErr result (λ e. IsAt header.now.height e × IsIn (string_bytes saved.entry.now.file) e) }
     ensures told { IfErr result (IsToldOf id.entry.now) }
 {
     let verdict = with_digest(commits_of(verdicts), &saved.digest);

@@ -1,11 +1,13 @@
-use Rattle.std.proofs.Common.{◌≡◌, ◌<◌, All, length, false, get_or, arith, rules, ap, subst, sym}
+use Rattle.std.proofs.Common.{◌≡◌, ◌<◌, All, Some, length, false, get_or, arith, rules, ap, refl, subst, sym}
 use Rattle.std.proofs.lemmas.Grind.{common_steps}
 use Rattle.rb_import_check.specs.declared.error.CheckErrorName.{CheckErrorName}
 use Rattle.rb_import_check.specs.Chains.{IsJudgedBy, headers_in}
 use Rattle.rb_import_check.specs.Errors.{IsTold}
+use Rattle.rb_import_check.specs.Named.{NamesOf}
 use Rattle.rb_import_check.specs.Refusals.{HasReasonOf, is_of_chain}
 use Rattle.rb_import_check.specs.Verdicts.{TellsOtherVotes, verdict_list, verdicts_of}
 use Rattle.rb_import_check.proofs.ChainReasons.{is_elsewhere, tells_votes}
+use Rattle.rb_import_check.proofs.Naming.{names_votes}
 use Rattle.rb_import_check.proofs.chain.all_commits.Goals as goal
 
 pub returns-clause-verdicts : goal.returns-clause-verdicts
@@ -29,4 +31,23 @@ returns-in_default-clause-reason c =
     let is : c.saved-item.result ≡ get_or c.args.answers.now c.loop-saved.saved-index c.saved-item.result = search rules in
     let other : is_of_chain c.saved-item.result.answer ≡ false =
     is_elsewhere c.saved-item.result.answer (λ header e. grind (arith, common_steps)) (λ page e. grind (arith, common_steps)) (λ v e. grind (arith, common_steps)) (λ query e. grind (arith, common_steps)) in
-    subst (HasReasonOf c.args.id.now c.args.answers.now) (sym c.at.ensures) (c.loop-saved.saved-index, c.saved-item.result, small, sym is, other)
+    subst (HasReasonOf c.args.id.now c.args.answers.now) (sym c.in_file.ensures) (c.loop-saved.saved-index, c.saved-item.result, small, sym is, other)
+
+pub returns-in_err-commit-in-Commit-clause-named : goal.returns-in_err-commit-in-Commit-clause-named
+returns-in_err-commit-in-Commit-clause-named c =
+    let small : c.loop-saved.saved-index < length c.args.answers.now = search rules in
+    let is : c.saved-item.result ≡ get_or c.args.answers.now c.loop-saved.saved-index c.saved-item.result = search rules in
+    let e = c.in_err-commit-in-Commit.field-0.0 in
+    let told : IsTold CheckErrorName.OtherVerdict (TellsOtherVotes (verdict_list (verdicts_of c.args.answers.now)) c.saved-item.result.digest (length c.in-Commit.header.signatures.items)) e =
+    subst (λ v. IsTold CheckErrorName.OtherVerdict (TellsOtherVotes (verdict_list v) c.saved-item.result.digest (length c.in-Commit.header.signatures.items)) e) c.in_ok-verdicts.ensures.verdicts c.in_err-commit-in-Commit.ensures.other in
+    let named : NamesOf c.args.id.now c.args.answers.now e =
+    names_votes c.args.id.now c.args.answers.now c.loop-saved.saved-index c.saved-item.result c.in-Commit.header e small is (ap headers_in c.in-Commit.is) told c.in_err-commit-in-Commit.ensures.named in
+    search rules
+
+pub returns-in_default-clause-named : goal.returns-in_default-clause-named
+returns-in_default-clause-named c =
+    let small : c.loop-saved.saved-index < length c.args.answers.now = search rules in
+    let is : c.saved-item.result ≡ get_or c.args.answers.now c.loop-saved.saved-index c.saved-item.result = search rules in
+    let other : is_of_chain c.saved-item.result.answer ≡ false =
+    is_elsewhere c.saved-item.result.answer (λ header e. grind (arith, common_steps)) (λ page e. grind (arith, common_steps)) (λ v e. grind (arith, common_steps)) (λ query e. grind (arith, common_steps)) in
+    subst (NamesOf c.args.id.now c.args.answers.now) (sym c.in_file.ensures) (c.loop-saved.saved-index, c.saved-item.result, small, sym is, (other, refl, (ap Some c.as_str-file.ensures.value, refl)))

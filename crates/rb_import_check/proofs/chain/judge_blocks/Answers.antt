@@ -1,11 +1,13 @@
-use Rattle.std.proofs.Common.{◌≡◌, ◌<◌, All, length, get_or, rules, subst, sym}
-use Rattle.std.specs.Prelude.{Any}
+use Rattle.std.proofs.Common.{◌≡◌, ◌<◌, All, Err, length, get_or, rules, subst, sym}
+use Rattle.std.specs.Prelude.{Any, IfErr}
 use Rattle.std.proofs.lemmas.List.{take_all}
 use Rattle.std.proofs.lemmas.List.Elements.{All-more}
 use Rattle.rb_import_check.specs.declared.chain.Commit.{Commit}
 use Rattle.rb_import_check.specs.declared.error.CheckErrorName.{CheckErrorName}
-use Rattle.rb_import_check.specs.Chains.{IsOfItsBlock}
+use Rattle.rb_import_check.specs.declared.error.ImportError.{ImportError}
+use Rattle.rb_import_check.specs.Chains.{IsOfItsBlock, filed}
 use Rattle.rb_import_check.specs.Errors.{IsTold}
+use Rattle.rb_import_check.specs.Named.{ShowsHeader}
 use Rattle.rb_import_check.proofs.SetReasons.{told_so}
 use Rattle.rb_import_check.proofs.chain.judge_blocks.Goals as goal
 
@@ -27,3 +29,12 @@ returns-in_err-judge_block-clause-other c =
 
 pub returns-clause-blocks : goal.returns-clause-blocks
 returns-clause-blocks c = subst (All (IsOfItsBlock)) (take_all c.loop-commit.commit-index c.args.commits.now (search rules)) c.loop-commit.invariant
+
+pub returns-in_err-judge_block-clause-named : goal.returns-in_err-judge_block-clause-named
+returns-in_err-judge_block-clause-named c =
+    let small : c.loop-commit.commit-index < length c.args.commits.now = search rules in
+    let is : c.commit-item.result ≡ get_or c.args.commits.now c.loop-commit.commit-index c.commit-item.result = search rules in
+    let e = c.in_err-judge_block.field-0.0 in
+    let named : Any (λ (x : Commit). ShowsHeader (filed x) e) c.args.commits.now = (c.loop-commit.commit-index, c.commit-item.result, small, sym is, c.in_err-judge_block.ensures.named) in
+    let is_err : c.from_residual.result ≡ Err e = search rules in
+    subst (λ r. IfErr r (λ (f : ImportError). Any (λ (x : Commit). ShowsHeader (filed x) f) c.args.commits.now)) (sym is_err) named

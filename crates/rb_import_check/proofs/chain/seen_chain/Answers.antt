@@ -2,11 +2,13 @@ use Rattle.std.proofs.Common.{List, map, rules, subst}
 use Rattle.std.specs.Prelude.{Any}
 use Rattle.rb_import_check.specs.declared.chain.Commit.{Commit}
 use Rattle.rb_import_check.specs.declared.error.CheckErrorName.{CheckErrorName}
-use Rattle.rb_import_check.specs.Chains.{IsOfChain, IsOfItsBlock}
+use Rattle.rb_import_check.specs.Chains.{IsOfChain, IsOfItsBlock, filed}
 use Rattle.rb_import_check.specs.Clients.{Falls}
 use Rattle.rb_import_check.specs.Errors.{IsTold, IsToldBy}
+use Rattle.rb_import_check.specs.Named.{NamesFall, NamesOf, NamesOtherHeader, ShowsHeader}
 use Rattle.rb_import_check.specs.Refusals.{HasReasonOf, RefusesCommit}
 use Rattle.rb_import_check.proofs.ChainReasons.{tells_block, tells_chain, tells_twice}
+use Rattle.rb_import_check.proofs.Naming.{names_block, names_chain, names_pages, names_set, names_twice}
 use Rattle.rb_import_check.proofs.SetReasons.{RefusesSome, header_of, tells_pages, tells_set}
 use Rattle.rb_import_check.proofs.chain.seen_chain.Goals as goal
 
@@ -53,4 +55,44 @@ returns-in_err-judge_signatures-clause-reason c =
     subst (λ (l : List Commit). IsToldBy (λ name. Any (RefusesCommit name c.in_ok-sets.sets.sets.items) l) e) c.as_slice-5.ensures.value c.in_err-judge_signatures.ensures.reason in
     let reason : HasReasonOf c.args.id.now c.args.answers.now e =
     tells_set c.args.id.now c.args.answers.now c.in_ok-commits.commits.items c.in_ok-sets.sets.sets.items c.in_ok-commits.ensures.headers c.in_ok-sets.ensures.sets e told in
+    search rules
+
+pub returns-in_err-judge_chains-clause-named : goal.returns-in_err-judge_chains-clause-named
+returns-in_err-judge_chains-clause-named c =
+    let e = c.in_err-judge_chains.field-0.0 in
+    let all : List Commit = c.in_ok-commits.commits.items in
+    let which : Any (λ x. NamesOtherHeader c.args.id.now (filed x) e) all =
+    subst (λ (l : List Commit). Any (λ x. NamesOtherHeader c.args.id.now (filed x) e) l) c.as_slice.ensures.value c.in_err-judge_chains.ensures.named in
+    let named : NamesOf c.args.id.now c.args.answers.now e = names_chain c.args.id.now c.args.answers.now all _ e c.in_ok-commits.ensures.files c.in_err-judge_chains.ensures.other which in
+    search rules
+
+pub returns-in_err-judge_blocks-clause-named : goal.returns-in_err-judge_blocks-clause-named
+returns-in_err-judge_blocks-clause-named c =
+    let e = c.in_err-judge_blocks.field-0.0 in
+    let all : List Commit = c.in_ok-commits.commits.items in
+    let which : Any (λ x. ShowsHeader (filed x) e) all =
+    subst (λ (l : List Commit). Any (λ x. ShowsHeader (filed x) e) l) c.as_slice-2.ensures.value c.in_err-judge_blocks.ensures.named in
+    let named : NamesOf c.args.id.now c.args.answers.now e = names_block c.args.id.now c.args.answers.now all _ e c.in_ok-commits.ensures.files c.in_err-judge_blocks.ensures.other which in
+    search rules
+
+pub returns-in_err-judge_heights-clause-named : goal.returns-in_err-judge_heights-clause-named
+returns-in_err-judge_heights-clause-named c =
+    let e = c.in_err-judge_heights.field-0.0 in
+    let all : List Commit = c.in_ok-commits.commits.items in
+    let which : NamesFall (λ (x : Commit). x.header.now.height) (λ (x : Commit). x.file.now) all e =
+    subst (λ (l : List Commit). NamesFall (λ (x : Commit). x.header.now.height) (λ (x : Commit). x.file.now) l e) c.as_slice-3.ensures.value c.in_err-judge_heights.ensures.named in
+    let named : NamesOf c.args.id.now c.args.answers.now e =
+    names_twice c.args.id.now c.args.answers.now all _ e c.in_ok-commits.ensures.files c.in_ok-commits.ensures.order c.in_err-judge_heights.ensures.falling which in
+    search rules
+
+pub returns-in_err-sets-clause-named : goal.returns-in_err-sets-clause-named
+returns-in_err-sets-clause-named c =
+    let e = c.in_err-sets.field-0.0 in
+    let named : NamesOf c.args.id.now c.args.answers.now e = names_pages c.args.id.now c.args.answers.now _ e c.in_err-sets.ensures.reason in
+    search rules
+
+pub returns-in_err-judge_signatures-clause-named : goal.returns-in_err-judge_signatures-clause-named
+returns-in_err-judge_signatures-clause-named c =
+    let e = c.in_err-judge_signatures.field-0.0 in
+    let named : NamesOf c.args.id.now c.args.answers.now e = names_set c.args.id.now c.args.answers.now _ _ e c.in_err-judge_signatures.ensures.reason in
     search rules

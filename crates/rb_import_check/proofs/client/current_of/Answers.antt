@@ -1,4 +1,4 @@
-use Rattle.std.proofs.Common.{◌≡◌, ◌<◌, ◌++◌, ◌∙◌, ℕ, List, map, filter, nat_le, length, false, get_or, arith, rules, refl, subst, sym}
+use Rattle.std.proofs.Common.{◌≡◌, ◌<◌, ◌++◌, ◌∙◌, ℕ, List, map, filter, nat_le, Some, length, false, get_or, arith, rules, ap, refl, subst, sym}
 use Rattle.std.specs.Prelude.{Any, Bool, string_bytes}
 use Rattle.std.proofs.lemmas.Grind.{common_steps}
 use Rattle.rb_import_check.specs.declared.error.CheckErrorName.{CheckErrorName}
@@ -6,6 +6,7 @@ use Rattle.rb_import_check.specs.declared.saved.Saved.{Saved}
 use Rattle.rb_import_answers.specs.declared.client.ConsensusState.{ConsensusState}
 use Rattle.rb_import_check.specs.Clients.{FiledState, filed_state, filed_states_in, is_of_client, stored_in}
 use Rattle.rb_import_check.specs.Errors.{IsTold, IsToldOf}
+use Rattle.rb_import_check.specs.Named.{NamesForeign}
 use Rattle.rb_import_check.proofs.ReasonsLemmas.{is_foreign}
 use Rattle.rb_import_check.proofs.Sorting.{filtered_more}
 use Rattle.rb_import_check.proofs.client.current_of.Goals.{in-ConsensusStates+in_ok-add_states-in-ConsensusStates, in-ClientState-1, in-Other-1}
@@ -19,8 +20,9 @@ returns-in_default c =
     record {
       states = tt;
       files = tt;
-      foreign = subst (IsTold CheckErrorName.WrongFolder (Any (λ (s : Saved). is_of_client s.answer ≡ false) c.args.answers.now)) (sym c.at.ensures) (refl, (c.loop-saved.saved-index, c.saved-item.result, small, sym is, other));
-      told = subst (IsToldOf c.args.id.now) (sym c.at.ensures) refl;
+      foreign = subst (IsTold CheckErrorName.WrongFolder (Any (λ (s : Saved). is_of_client s.answer ≡ false) c.args.answers.now)) (sym c.in_file.ensures) (refl, (c.loop-saved.saved-index, c.saved-item.result, small, sym is, other));
+      named = subst (NamesForeign c.args.answers.now) (sym c.in_file.ensures) (c.loop-saved.saved-index, c.saved-item.result, small, sym is, (other, refl, (ap Some c.as_str-file.ensures.value, refl)));
+      told = subst (IsToldOf c.args.id.now) (sym c.in_file.ensures) refl;
     }
 
 -- the records that pass of a file are those of what is in it

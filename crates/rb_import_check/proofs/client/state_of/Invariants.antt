@@ -1,8 +1,12 @@
 use Rattle.std.proofs.Common.{◌≡◌, take}
 use Rattle.std.specs.Prelude.{option_map, option_to_list}
 use Rattle.rb_import_check.specs.Clients.{client_states_of}
+use Rattle.rb_import_check.specs.Named.{filed_client_states_of}
 use Rattle.rb_import_check.proofs.client.state_of.Given as goal
 
--- what was found is the state that the answers so far tell of
+-- what was found is the state that the answers so far tell of, and its file
 abbrev pub invariant-loop-saved : goal.invariant-loop-saved
-invariant-loop-saved l = option_to_list (option_map (λ p. p.1.now) l.found) ≡ client_states_of (take l.saved-index l.answers)
+invariant-loop-saved l = record {
+  states : option_to_list (option_map (λ p. p.1.now) l.found) ≡ client_states_of (take l.saved-index l.answers);
+  files : option_to_list (option_map (λ p. (p.1.now, p.0.now)) l.found) ≡ filed_client_states_of (take l.saved-index l.answers);
+}

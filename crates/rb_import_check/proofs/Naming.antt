@@ -1,0 +1,224 @@
+-- What an error names of answers.
+use Rattle.std.proofs.Common.{◌≡◌, ℕ, zero, suc, ◌+◌, ◌<◌, ◌≤◌, List, [], ◌∷◌, ◌++◌, length, get_or, take, map, inl, inr, refl, sym, subst, ap, ◌∙◌, arith}
+use Rattle.std.specs.Prelude.{Any, slice_index, string_bytes}
+use Rattle.std.specs.List.{flat_map}
+use Rattle.std.specs.List.Sorted.{IsNonDecreasingBy, IsPermutation}
+use Rattle.std.proofs.lemmas.List.{get_or_default, length-map}
+use Rattle.std.proofs.lemmas.List.Sorted.{IsPermutation-cons, IsPermutation-map, IsPermutation-refl, IsPermutation-swap, IsPermutation-trans}
+use Rattle.rb_import_answers.specs.Revisions.{IsRevision}
+use Rattle.rb_import_answers.specs.declared.answer.NodeAnswer.{NodeAnswer}
+use Rattle.rb_import_answers.specs.declared.commit.SignedHeader.{SignedHeader}
+use Rattle.rb_import_check.specs.declared.chain.Commit.{Commit}
+use Rattle.rb_import_check.specs.declared.client.Stored.{Stored}
+use Rattle.rb_import_check.specs.declared.error.CheckErrorName.{CheckErrorName}
+use Rattle.rb_import_check.specs.declared.error.ImportError.{ImportError}
+use Rattle.rb_import_check.specs.declared.error.ImportError.TheVariants as errors
+use Rattle.rb_import_check.specs.declared.saved.Saved.{Saved}
+use Rattle.rb_import_check.specs.declared.sets.SeenSet.{SeenSet}
+use Rattle.rb_import_check.specs.Chains.{AreOfFiles, Filed, filed, filed_of, headers_in, pages_at}
+use Rattle.rb_import_check.specs.Clients.{AreStatesOfFiles, FiledState, filed_state, filed_states_of}
+use Rattle.rb_import_check.specs.Errors.{AreTwoAmong, IsAt, IsBetween, IsBetweenTwo, IsIn, IsTold, IsToldBy}
+use Rattle.rb_import_check.specs.Named.{Names, NamesByName, NamesFall, NamesForeign, NamesIn, NamesOf, NamesOtherHeader, NamesOtherRecord, ShowsHeader, with_files}
+use Rattle.rb_import_check.specs.Refusals.{RefusesCommit, RefusesPages}
+use Rattle.rb_import_check.specs.Verdicts.{TellsOtherVotes, verdict_list, verdicts_of}
+use Rattle.rb_import_check.proofs.ChainReasons.{any_viewed}
+use Rattle.rb_import_check.proofs.ReasonsLemmas.{any_one}
+use Rattle.rb_import_check.proofs.Sorting.{assoc, taken}
+
+-- ---- two of a list
+
+first_two : {X : Type 0} (x y : X) (xs : List X) → IsPermutation (x ∷ y ∷ xs) (y ∷ x ∷ xs)
+first_two x y xs = IsPermutation-swap (x ∷ y ∷ xs) (y ∷ x ∷ xs) 0 1 (omega arith) (omega arith) refl
+
+-- two neighbours are two of a list
+pub neighbours : {X : Type 0} (xs : List X) (i : ℕ) (x y : X) → i + 1 < length xs → x ≡ get_or xs i x → y ≡ get_or xs (i + 1) y → AreTwoAmong x y xs
+neighbours [] i x y small one two = absurd (omega arith)
+neighbours (a ∷ []) i x y small one two = absurd (omega arith)
+neighbours {X} (a ∷ b ∷ xs) zero x y small one two =
+    let all : List X = a ∷ b ∷ xs in
+    (xs, subst (λ z. IsPermutation all (z ∷ y ∷ xs)) (sym one) (subst (λ z. IsPermutation all (a ∷ z ∷ xs)) (sym two) (IsPermutation-refl all)))
+neighbours {X} (a ∷ b ∷ xs) (suc i) x y small one two =
+    let next : suc i + 1 ≡ suc (i + 1) = omega arith in
+    let below : AreTwoAmong x y (b ∷ xs) = neighbours (b ∷ xs) i x y (omega arith) one (subst (λ k. y ≡ get_or (a ∷ b ∷ xs) k y) next two) in
+    let others : List X = below.0 in (
+      a ∷ others,
+      IsPermutation-trans _ (a ∷ x ∷ y ∷ others) _ (IsPermutation-cons a _ _ below.1)
+          (IsPermutation-trans _ (x ∷ a ∷ y ∷ others) _ (first_two a x (y ∷ others)) (IsPermutation-cons x _ _ (first_two a y others))),
+    )
+
+-- what elements hold is what the first ones hold, and what the others do
+parts : {X A : Type 0} (f : X → List A) (xs : List X) (i : ℕ) → (rest : List A) × (flat_map f xs ≡ flat_map f (take i xs) ++ rest)
+parts f [] zero = ([], refl)
+parts f [] (suc i) = ([], refl)
+parts f (x ∷ xs) zero = (flat_map f (x ∷ xs), refl)
+parts f (x ∷ xs) (suc i) =
+    let (rest, is) = parts f xs i in
+    (rest, ap (λ l. f x ++ l) is ∙ assoc (f x) (flat_map f (take i xs)) rest)
+
+-- what an element holds, and the one that those before it hold, are two of all
+pub two_held : {X A : Type 0} (f : X → List A) (xs : List X) (i : ℕ) (x : X) (a b : A) → i < length xs → x ≡ get_or xs i x → a ∷ [] ≡ flat_map f (take i xs) → f x ≡ b ∷ [] → AreTwoAmong a b (flat_map f xs)
+two_held f xs i x a b small is before there =
+    let (rest, all) = parts f xs (i + 1) in
+    let both : flat_map f (take (i + 1) xs) ≡ a ∷ b ∷ [] = taken f xs i x small is ∙ ap (λ l. l ++ f x) (sym before) ∙ ap (λ l. a ∷ l) there in
+    (rest, subst (IsPermutation (flat_map f xs)) (all ∙ ap (λ l. l ++ rest) both) (IsPermutation-refl (flat_map f xs)))
+
+-- ---- two of one height
+
+pub two_files : {X A : Type 0} (view : X → A) (height : A → ℕ) (file : A → List ℕ) (all : List A) (xs : List X) (e : ImportError) (i : ℕ) (x y : X)
+    → IsPermutation all (map view xs) → IsNonDecreasingBy (λ z. height (view z)) xs → i + 1 < length xs → x ≡ get_or xs i x → y ≡ get_or xs (i + 1) y
+    → height (view y) ≤ height (view x) → IsAt (height (view x)) e → IsBetween (file (view x)) (file (view y)) e
+    → IsBetweenTwo file (λ a b. (height a ≡ height b) × IsAt (height a) e) all e
+two_files view height file all xs e i x y same order small one two low at between =
+    let (others, both) = neighbours xs i x y small one two in
+    let rising : height (view (get_or xs i y)) ≤ height (view (get_or xs (i + 1) y)) = order i (i + 1) y (omega arith) small in
+    let first : height (view (get_or xs i y)) ≡ height (view x) = ap (λ z. height (view z)) (get_or_default xs i y x (omega arith) ∙ sym one) in
+    let second : height (view (get_or xs (i + 1) y)) ≡ height (view y) = ap (λ z. height (view z)) (sym two) in
+    (view x, view y, (map view others, IsPermutation-trans _ _ _ same (IsPermutation-map view _ _ both)), (omega arith, at), between)
+
+index_at : {X : Type 0} (f : X → ℕ) (xs : List X) (k : ℕ) (x : X) → k < length xs → x ≡ get_or xs k x → slice_index (map f xs) k ≡ f x
+index_at f [] k x small is = absurd (omega (arith, small))
+index_at f (y ∷ xs) zero x small is = ap f (sym is)
+index_at f (y ∷ xs) (suc k) x small is = index_at f xs k x (omega (arith, small)) is
+
+names_fall : {X : Type 0} (height : X → ℕ) (file : X → List ℕ) (xs : List X) (e : ImportError) (i : ℕ) (x y : X) → i + 1 < length xs → x ≡ get_or xs i x → y ≡ get_or xs (i + 1) y
+    → height y ≤ height x → IsAt (height x) e → IsBetween (file x) (file y) e → NamesFall height file xs e
+names_fall height file xs (errors.CheckError p) i x y small one two low at between = (i, x, y, small, one, two, low, at, between)
+names_fall height file xs errors.NoMemory i x y small one two low at between = tt
+
+-- two whose heights don't rise, by the list of the heights
+pub falls : {X : Type 0} (height : X → ℕ) (file : X → List ℕ) (heights : List ℕ) (xs : List X) (e : ImportError) (i : ℕ) (x y : X) → heights ≡ map height xs → i + 1 < length heights
+    → slice_index heights (i + 1) ≤ slice_index heights i → x ≡ get_or xs i x → y ≡ get_or xs (i + 1) y → IsAt (height x) e → IsBetween (file x) (file y) e → NamesFall height file xs e
+falls height file heights xs e i x y are small low one two at between =
+    let long : length heights ≡ length xs = ap length are ∙ length-map xs height in
+    let within : i + 1 < length xs = omega (arith, long, small) in
+    let first : slice_index heights i ≡ height x = ap (λ l. slice_index l i) are ∙ index_at height xs i x (omega (arith, within)) one in
+    let second : slice_index heights (i + 1) ≡ height y = ap (λ l. slice_index l (i + 1)) are ∙ index_at height xs (i + 1) y within two in
+    names_fall height file xs e i x y within one two (omega (arith, first, second, low)) at between
+
+-- ---- a chain's answers
+
+pub names_chain : (id : List ℕ) (saved : List Saved) (commits : List Commit) (R : Type 0) (e : ImportError) → AreOfFiles (filed_of saved) commits
+    → IsTold CheckErrorName.OtherChain R e → Any (λ c. NamesOtherHeader id (filed c) e) commits → NamesOf id saved e
+names_chain id saved commits R (errors.CheckError p) same w named =
+    subst (λ name. Names name id saved (errors.CheckError p)) (sym w.0)
+    (inl (any_viewed filed (λ (f : Filed). NamesOtherHeader id f (errors.CheckError p)) (filed_of saved) commits same named))
+names_chain id saved commits R errors.NoMemory same w named = tt
+
+pub names_block : (id : List ℕ) (saved : List Saved) (commits : List Commit) (R : Type 0) (e : ImportError) → AreOfFiles (filed_of saved) commits
+    → IsTold CheckErrorName.OtherHeader R e → Any (λ c. ShowsHeader (filed c) e) commits → NamesOf id saved e
+names_block id saved commits R (errors.CheckError p) same w named =
+    subst (λ name. Names name id saved (errors.CheckError p)) (sym w.0)
+    (any_viewed filed (λ (f : Filed). ShowsHeader f (errors.CheckError p)) (filed_of saved) commits same named)
+names_block id saved commits R errors.NoMemory same w named = tt
+
+pub names_twice : (id : List ℕ) (saved : List Saved) (commits : List Commit) (R : Type 0) (e : ImportError) → AreOfFiles (filed_of saved) commits
+    → IsNonDecreasingBy (λ (c : Commit). c.header.now.height) commits → IsTold CheckErrorName.TwoAnswers R e
+    → NamesFall (λ (c : Commit). c.header.now.height) (λ (c : Commit). c.file.now) commits e → NamesOf id saved e
+names_twice id saved commits R (errors.CheckError p) same order w (i, x, y, small, one, two, low, at, between) =
+    subst (λ name. Names name id saved (errors.CheckError p)) (sym w.0)
+    (inl (two_files filed (λ (f : Filed). f.0.height) (λ (f : Filed). f.2) (filed_of saved) commits (errors.CheckError p) i x y same order small one two low at between))
+names_twice id saved commits R errors.NoMemory same order w named = tt
+
+pub names_votes : (id : List ℕ) (saved : List Saved) (i : ℕ) (s : Saved) (h : SignedHeader) (e : ImportError) → i < length saved → s ≡ get_or saved i s → headers_in s.answer ≡ h ∷ []
+    → IsTold CheckErrorName.OtherVerdict (TellsOtherVotes (verdict_list (verdicts_of saved)) s.digest (length h.signatures.items)) e → IsAt h.height e × IsIn (string_bytes s.file) e
+    → NamesOf id saved e
+names_votes id saved i s h (errors.CheckError p) small is there w named =
+    subst (λ name. Names name id saved (errors.CheckError p)) (sym w.0)
+    (any_one (λ (f : Filed). TellsOtherVotes (verdict_list (verdicts_of saved)) f.1 (length f.0.signatures.items) × IsAt f.0.height (errors.CheckError p) × IsIn f.2 (errors.CheckError p))
+    (λ (t : Saved). map (λ (x : SignedHeader). (x, t.digest, string_bytes t.file)) (headers_in t.answer))
+    saved i s (h, s.digest, string_bytes s.file) small is (ap (map (λ (x : SignedHeader). (x, s.digest, string_bytes s.file))) there) (w.1, named.0, named.1))
+names_votes id saved i s h errors.NoMemory small is there w named = tt
+
+-- one that an answer tells of, with its file
+pub any_filed : {A : Type 0} (told : NodeAnswer → List A) (P : A × List ℕ → Type 0) (saved : List Saved) (i : ℕ) (s : Saved) (a : A) → i < length saved → s ≡ get_or saved i s
+    → told s.answer ≡ a ∷ [] → P (a, string_bytes s.file) → Any P (with_files told saved)
+any_filed {A} told P saved i s a small is there w =
+    any_one P (λ (t : Saved). map (λ (x : A). (x, string_bytes t.file)) (told t.answer)) saved i s (a, string_bytes s.file) small is (ap (map (λ (x : A). (x, string_bytes s.file))) there) w
+
+pub two_filed : {A : Type 0} (told : NodeAnswer → List A) (saved : List Saved) (i : ℕ) (s : Saved) (a b : A) (earlier : List ℕ) → i < length saved → s ≡ get_or saved i s
+    → (a, earlier) ∷ [] ≡ with_files told (take i saved) → told s.answer ≡ b ∷ [] → AreTwoAmong (a, earlier) (b, string_bytes s.file) (with_files told saved)
+two_filed {A} told saved i s a b earlier small is before there =
+    two_held (λ (t : Saved). map (λ (x : A). (x, string_bytes t.file)) (told t.answer)) saved i s (a, earlier) (b, string_bytes s.file) small is before (ap (map (λ (x : A). (x, string_bytes s.file))) there)
+
+-- ---- names of which nothing more is told
+
+of_pages : (id : List ℕ) (saved : List Saved) (headers : List SignedHeader) (e : ImportError) (name : CheckErrorName) → (height : ℕ) × RefusesPages name headers height (pages_at saved height) → Names name id saved e
+of_pages id saved headers e CheckErrorName.WrongFolder w = absurd w.1
+of_pages id saved headers e CheckErrorName.OtherChain w = absurd w.1
+of_pages id saved headers e CheckErrorName.OtherRevision w = tt
+of_pages id saved headers e CheckErrorName.TwoAnswers w = absurd w.1
+of_pages id saved headers e CheckErrorName.OtherTotal w = tt
+of_pages id saved headers e CheckErrorName.MissingPage w = tt
+of_pages id saved headers e CheckErrorName.TooManyValidators w = tt
+of_pages id saved headers e CheckErrorName.BadSet w = tt
+of_pages id saved headers e CheckErrorName.OtherSet w = tt
+of_pages id saved headers e CheckErrorName.MissingSet w = tt
+of_pages id saved headers e CheckErrorName.OtherHeader w = absurd w.1
+of_pages id saved headers e CheckErrorName.SignatureCount w = tt
+of_pages id saved headers e CheckErrorName.OtherSigner w = tt
+of_pages id saved headers e CheckErrorName.MissingClientState w = tt
+of_pages id saved headers e CheckErrorName.MissingConsensusStates w = tt
+of_pages id saved headers e CheckErrorName.OtherRecord w = tt
+of_pages id saved headers e CheckErrorName.MissingCommitments w = tt
+of_pages id saved headers e CheckErrorName.MissingTransactions w = tt
+of_pages id saved headers e CheckErrorName.TwoChannels w = tt
+of_pages id saved headers e CheckErrorName.MissingSend w = tt
+of_pages id saved headers e CheckErrorName.MissingReceive w = tt
+of_pages id saved headers e CheckErrorName.OtherVerdict w = absurd w.1
+of_pages id saved headers e CheckErrorName.ScriptTooBig w = tt
+
+pub names_pages : (id : List ℕ) (saved : List Saved) (headers : List SignedHeader) (e : ImportError)
+    → IsToldBy (λ name. (height : ℕ) × RefusesPages name headers height (pages_at saved height)) e → NamesOf id saved e
+names_pages id saved headers (errors.CheckError p) w = of_pages id saved headers (errors.CheckError p) p.name w
+names_pages id saved headers errors.NoMemory w = tt
+
+of_commit : (id : List ℕ) (saved : List Saved) (sets : List SeenSet) (commits : List Commit) (e : ImportError) (name : CheckErrorName) → Any (RefusesCommit name sets) commits → Names name id saved e
+of_commit id saved sets commits e CheckErrorName.WrongFolder (k, c, small, is, (s, there, hash, differ)) = absurd differ
+of_commit id saved sets commits e CheckErrorName.OtherChain (k, c, small, is, (s, there, hash, differ)) = absurd differ
+of_commit id saved sets commits e CheckErrorName.OtherRevision w = tt
+of_commit id saved sets commits e CheckErrorName.TwoAnswers (k, c, small, is, (s, there, hash, differ)) = absurd differ
+of_commit id saved sets commits e CheckErrorName.OtherTotal w = tt
+of_commit id saved sets commits e CheckErrorName.MissingPage w = tt
+of_commit id saved sets commits e CheckErrorName.TooManyValidators w = tt
+of_commit id saved sets commits e CheckErrorName.BadSet w = tt
+of_commit id saved sets commits e CheckErrorName.OtherSet w = tt
+of_commit id saved sets commits e CheckErrorName.MissingSet w = tt
+of_commit id saved sets commits e CheckErrorName.OtherHeader (k, c, small, is, (s, there, hash, differ)) = absurd differ
+of_commit id saved sets commits e CheckErrorName.SignatureCount w = tt
+of_commit id saved sets commits e CheckErrorName.OtherSigner w = tt
+of_commit id saved sets commits e CheckErrorName.MissingClientState w = tt
+of_commit id saved sets commits e CheckErrorName.MissingConsensusStates w = tt
+of_commit id saved sets commits e CheckErrorName.OtherRecord w = tt
+of_commit id saved sets commits e CheckErrorName.MissingCommitments w = tt
+of_commit id saved sets commits e CheckErrorName.MissingTransactions w = tt
+of_commit id saved sets commits e CheckErrorName.TwoChannels w = tt
+of_commit id saved sets commits e CheckErrorName.MissingSend w = tt
+of_commit id saved sets commits e CheckErrorName.MissingReceive w = tt
+of_commit id saved sets commits e CheckErrorName.OtherVerdict (k, c, small, is, (s, there, hash, differ)) = absurd differ
+of_commit id saved sets commits e CheckErrorName.ScriptTooBig w = tt
+
+pub names_set : (id : List ℕ) (saved : List Saved) (sets : List SeenSet) (commits : List Commit) (e : ImportError)
+    → IsToldBy (λ name. Any (RefusesCommit name sets) commits) e → NamesOf id saved e
+names_set id saved sets commits (errors.CheckError p) w = of_commit id saved sets commits (errors.CheckError p) p.name w
+names_set id saved sets commits errors.NoMemory w = tt
+
+-- ---- a client's answers
+
+pub names_foreign : (tracked : List ℕ) (saved : List Saved) (R : Type 0) (e : ImportError) → IsTold CheckErrorName.WrongFolder R e → NamesForeign saved e → NamesIn tracked saved e
+names_foreign tracked saved R (errors.CheckError p) w named = subst (λ name. NamesByName name tracked saved (errors.CheckError p)) (sym w.0) named
+names_foreign tracked saved R errors.NoMemory w named = tt
+
+pub names_revision : (tracked : List ℕ) (saved : List Saved) (revision : ℕ) (stored : List Stored) (R : Type 0) (e : ImportError) → IsRevision tracked revision
+    → AreStatesOfFiles (filed_states_of revision saved) stored → IsTold CheckErrorName.OtherRevision R e → Any (λ s. NamesOtherRecord revision (filed_state s) e) stored → NamesIn tracked saved e
+names_revision tracked saved revision stored R (errors.CheckError p) is same w named =
+    subst (λ name. NamesByName name tracked saved (errors.CheckError p)) (sym w.0)
+    (inr (revision, is, any_viewed filed_state (λ (f : FiledState). NamesOtherRecord revision f (errors.CheckError p)) (filed_states_of revision saved) stored same named))
+names_revision tracked saved revision stored R errors.NoMemory is same w named = tt
+
+pub names_twice_in : (tracked : List ℕ) (saved : List Saved) (revision : ℕ) (stored : List Stored) (R : Type 0) (e : ImportError) → IsRevision tracked revision
+    → AreStatesOfFiles (filed_states_of revision saved) stored → IsNonDecreasingBy (λ (s : Stored). s.state.now.height) stored → IsTold CheckErrorName.TwoAnswers R e
+    → NamesFall (λ (s : Stored). s.state.now.height) (λ (s : Stored). s.file.now) stored e → NamesIn tracked saved e
+names_twice_in tracked saved revision stored R (errors.CheckError p) is same order w (i, x, y, small, one, two, low, at, between) =
+    subst (λ name. NamesByName name tracked saved (errors.CheckError p)) (sym w.0)
+    (inr (revision, is, two_files filed_state (λ (f : FiledState). f.0.height) (λ (f : FiledState). f.1) (filed_states_of revision saved) stored (errors.CheckError p) i x y same order small one two low at between))
+names_twice_in tracked saved revision stored R errors.NoMemory is same order w named = tt
