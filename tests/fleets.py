@@ -28,13 +28,13 @@ CLIENTS = {
     "empty": (written(RECORDS % "empty", ""), "refused Empty at -"),
     "refused": (written(STATES % "refused", '{"code": 5, "message": "client not found", "details": []}'), "refused NodeError at -"),
     "gone": (removed_folder("gone"), "device"),
-    "elsewhere": (edited(STATES % "elsewhere", put(f"{STATE}.chain_id", "hub-9")), "refused OtherChain at elsewhere 0"),
-    "upgraded": (edited(STATES % "upgraded", put(f"{STATE}.latest_height.revision_number", "5")), "refused OtherRevision at upgraded 0"),
-    "twice": (moved(STATES % "twice", "twice/again.json", copy=True), "refused TwoAnswers at twice 0"),
+    "elsewhere": (edited(STATES % "elsewhere", put(f"{STATE}.chain_id", "hub-9")), "refused OtherChain at elsewhere"),
+    "upgraded": (edited(STATES % "upgraded", put(f"{STATE}.latest_height.revision_number", "5")), "refused OtherRevision at upgraded"),
+    "twice": (moved(STATES % "twice", "twice/again.json", copy=True), "refused TwoAnswers at twice"),
     "stateless": (removed(STATES % "stateless"), "refused MissingClientState at stateless"),
     "recordless": (removed(RECORDS % "recordless"), "refused MissingConsensusStates at recordless"),
     "forged": (edited(RECORDS % "forged", put(f"{CONSENSUS}.consensus_state.root.hash", "A" * 43 + "=")), "refused OtherRecord at forged 1"),
-    "mixed": (moved("hub-4/commit-80.json", "mixed/commit-80.json", copy=True), "refused WrongFolder at mixed 0"),
+    "mixed": (moved("hub-4/commit-80.json", "mixed/commit-80.json", copy=True), "refused WrongFolder at mixed"),
 }
 # the same by path, each from hub-4 to zone-1
 PATHS = {
