@@ -30,7 +30,7 @@ check_error_advice CheckErrorName.MissingClientState =
 check_error_advice CheckErrorName.MissingConsensusStates =
     codes "consensus states are missing; fetch /ibc/core/client/v1/consensus_states/ID, all of its pages,"
 check_error_advice CheckErrorName.OtherRecord =
-    codes "the client's record has another time, root or next set than the chain's header of this height, so that one of the two isn't "
+    codes "the client's consensus state has another time, root or next set than the chain's header of this height, so that one of the two isn't "
     ++ codes "the chain's; fetch both again; if it stays, the client may have been given a forged header: don't update it, and submit its "
     ++ codes "misbehaviour"
 check_error_advice CheckErrorName.MissingCommitments =

@@ -129,7 +129,7 @@ impl CheckErrorName {
                 "consensus states are missing; fetch /ibc/core/client/v1/consensus_states/ID, all of its pages,"
             }
             CheckErrorName::OtherRecord => {
-                "the client's record has another time, root or next set than the chain's header of this height, so that one of the two isn't the chain's; fetch both again; if it stays, the client may have been given a forged header: don't update it, and submit its misbehaviour"
+                "the client's consensus state has another time, root or next set than the chain's header of this height, so that one of the two isn't the chain's; fetch both again; if it stays, the client may have been given a forged header: don't update it, and submit its misbehaviour"
             }
             CheckErrorName::MissingCommitments => {
                 "commitments to packets are missing; fetch /ibc/core/channel/v1/channels/CHANNEL/ports/PORT/packet_commitments of the path's source, all of its pages,"
