@@ -4,6 +4,7 @@ pub mod Found
 pub mod Highest
 pub mod Lowering
 pub mod Naming
+pub mod PathNames
 pub mod Reasoning
 pub mod Refusing
 pub mod Rooms

@@ -20,7 +20,7 @@ use Rattle.rb_import_check.specs.declared.error.ImportError.{ImportError}
 use Rattle.rb_import_check.specs.declared.error.ImportError.TheVariants as errors
 use Rattle.rb_import_merge.specs.declared.packets.SeenPacket.{SeenPacket}
 use Rattle.rb_import_merge.specs.Packets.{StandsFor, are_of_one, place_of}
-use Rattle.rb_import_merge.specs.Lowest.{AreEqualSendings, AreTwoOf, AreTwoSendings, block_cmp, packet_cmp}
+use Rattle.rb_import_merge.specs.Lowest.{AreEqualSendings, AreTwoOf, NamesTwo, block_cmp, packet_cmp}
 use Rattle.rb_import_merge.proofs.Seeing.{any_among}
 
 -- ---- what stands for what
@@ -184,7 +184,8 @@ rising sorted order =
 -- two that differ are among the packets in another order, too
 pub two_too : (xs ys : List SeenPacket) (e : ImportError) → IsPermutation xs ys → AreTwoOf xs e → AreTwoOf ys e
 two_too xs ys (errors.CheckError problem) same (name, (k, p, small, is, other)) =
-    (name, any_among (λ (q : SeenPacket). Any (AreTwoSendings q) ys) xs ys same (k, p, small, is, any_among (AreTwoSendings p) xs ys same other))
+    let Two : SeenPacket → SeenPacket → Type 0 = NamesTwo (errors.CheckError problem) in
+    (name, any_among (λ (q : SeenPacket). Any (Two q) ys) xs ys same (k, p, small, is, any_among (Two p) xs ys same other))
 two_too xs ys errors.NoMemory same two = tt
 
 pub ruleset lowering = (among, standing, once)

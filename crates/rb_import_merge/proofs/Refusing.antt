@@ -14,13 +14,13 @@ use Rattle.rb_import_check.specs.declared.error.CheckErrorName.{CheckErrorName}
 use Rattle.rb_import_check.specs.declared.error.ImportError.{ImportError}
 use Rattle.rb_import_check.specs.declared.error.ImportError.TheVariants as errors
 use Rattle.rb_import_check.specs.declared.saved.Saved.{Saved}
-use Rattle.rb_import_check.specs.Errors.{IsTold}
+use Rattle.rb_import_check.specs.Errors.{IsIn, IsOfNoHeight, IsTold}
 use Rattle.rb_import_check.proofs.ChainReasons.{any_map}
 use Rattle.rb_import_check.proofs.ReasonsLemmas.{any_left}
 use Rattle.rb_import_merge.specs.declared.packets.Page.{Page}
 use Rattle.rb_import_merge.specs.declared.packets.SeenPacket.{SeenPacket}
 use Rattle.rb_import_merge.specs.Committed.{IsWhyNotPending, lack_of, was}
-use Rattle.rb_import_merge.specs.Lowest.{AreTwoOf, AreTwoSendings}
+use Rattle.rb_import_merge.specs.Lowest.{AreTwoOf, NamesTwo}
 use Rattle.rb_import_merge.specs.Packets.{AreFromOne, HaveEvents, IsOfOtherFolder, StandsFor, are_of_one, counterparty, events_of, is_on_packets, is_wanted, seen_events, wanted_of}
 use Rattle.rb_import_merge.specs.Pending.{is_unreceived}
 use Rattle.rb_import_merge.specs.Refusals.{HasReasonOfPath, HaveTwoSendings, IsFromOther, LacksEvent, RefusesPath, TellOtherwise}
@@ -31,7 +31,7 @@ use Rattle.rb_import_merge.proofs.Seeing.{filter_events, have_events}
 abbrev pub event_of : SeenPacket → PacketEvent
 event_of p = p.event.now
 
-any_more : {A : Type 0} (P Q : A → Type 0) (xs : List A) → ((x : A) → P x → Q x) → Any P xs → Any Q xs
+pub any_more : {A : Type 0} (P Q : A → Type 0) (xs : List A) → ((x : A) → P x → Q x) → Any P xs → Any Q xs
 any_more P Q xs more (k, x, small, is, p) = (k, x, small, is, more x p)
 
 -- ---- another folder, missing transactions
@@ -39,7 +39,7 @@ any_more P Q xs more (k, x, small, is, p) = (k, x, small, is, more x p)
 pub other_folder : (setup : PathSetup) (saved : List Saved) (e : ImportError) → IsOfOtherFolder saved e → HasReasonOfPath setup saved e
 other_folder setup saved (errors.CheckError p) w =
     subst (λ name. RefusesPath name setup saved) (sym w.0)
-    (any_more (λ (s : Saved). (is_on_packets s.answer ≡ false) × IsSomeAnd p.file (λ file. file.now ≡ string_bytes s.file)) (λ (s : Saved). is_on_packets s.answer ≡ false) saved (λ s both. both.0) w.1)
+    (any_more (λ (s : Saved). (is_on_packets s.answer ≡ false) × IsIn (string_bytes s.file) (errors.CheckError p) × IsOfNoHeight (errors.CheckError p)) (λ (s : Saved). is_on_packets s.answer ≡ false) saved (λ s both. both.0) w.1)
 other_folder setup saved errors.NoMemory w = absurd w
 
 pub cut_short : (setup : PathSetup) (saved : List Saved) (pages : List Page) (e : ImportError) → map (λ (p : Page). p.page.now) pages ≡ pages_of saved → IsCutShort pages e → HasReasonOfPath setup saved e
@@ -60,11 +60,12 @@ any_so_far P p xs i w =
 
 -- a packet is from another source than one of the wanted ones so far
 pub two_sources : (setup : PathSetup) (p : SeenPacket → Bool) (all before : List SeenPacket) (i : ℕ) (x : SeenPacket) (e : ImportError) → i < length all → x ≡ get_or all i x → before ≡ filter p (take i all)
-    → IsTold CheckErrorName.TwoChannels ((setup.source_channel ≡ None) × Any (λ (q : SeenPacket). IsFromOther q x) before) e
-    → IsTold CheckErrorName.TwoChannels ((setup.source_channel ≡ None) × Any (λ (q : SeenPacket). Any (IsFromOther q) all) (filter p all)) e
+    → IsTold CheckErrorName.TwoChannels ((setup.source_channel ≡ None) × Any (λ (q : SeenPacket). IsFromOther e q x) before) e
+    → IsTold CheckErrorName.TwoChannels ((setup.source_channel ≡ None) × Any (λ (q : SeenPacket). Any (IsFromOther e q) all) (filter p all)) e
 two_sources setup p all before i x (errors.CheckError q) small is was w =
-    let some : Any (λ (y : SeenPacket). IsFromOther y x) (filter p all) = any_so_far (λ (y : SeenPacket). IsFromOther y x) p all i (subst (Any (λ (y : SeenPacket). IsFromOther y x)) was w.1.1) in
-    (w.0, (w.1.0, any_more (λ (y : SeenPacket). IsFromOther y x) (λ (y : SeenPacket). Any (IsFromOther y) all) (filter p all) (λ y other. (i, x, small, sym is, other)) some))
+    let Other : SeenPacket → SeenPacket → Type 0 = IsFromOther (errors.CheckError q) in
+    let some : Any (λ (y : SeenPacket). Other y x) (filter p all) = any_so_far (λ (y : SeenPacket). Other y x) p all i (subst (Any (λ (y : SeenPacket). Other y x)) was w.1.1) in
+    (w.0, (w.1.0, any_more (λ (y : SeenPacket). Other y x) (λ (y : SeenPacket). Any (Other y) all) (filter p all) (λ y other. (i, x, small, sym is, other)) some))
 two_sources setup p all before i x errors.NoMemory small is was w = tt
 
 -- what holds of the first packet holds of some
@@ -74,9 +75,9 @@ any_first (Some b) (x ∷ xs) P is p = (0, x, omega arith, refl, subst P (same_S
 any_first None xs P is p = absurd p
 
 pub other_first : (setup : PathSetup) (first : Option (Bor SeenPacket)) (xs : List SeenPacket) (x : SeenPacket) (e : ImportError) → option_map (λ b. b.now) first ≡ slice_get xs 0
-    → IsTold CheckErrorName.TwoChannels ((setup.source_channel ≡ None) × IsSomeAnd first (λ b. IsFromOther b.now x)) e
-    → IsTold CheckErrorName.TwoChannels ((setup.source_channel ≡ None) × Any (λ (q : SeenPacket). IsFromOther q x) xs) e
-other_first setup first xs x (errors.CheckError p) is w = (w.0, (w.1.0, any_first first xs (λ (q : SeenPacket). IsFromOther q x) is w.1.1))
+    → IsTold CheckErrorName.TwoChannels ((setup.source_channel ≡ None) × IsSomeAnd first (λ b. IsFromOther e b.now x)) e
+    → IsTold CheckErrorName.TwoChannels ((setup.source_channel ≡ None) × Any (λ (q : SeenPacket). IsFromOther e q x) xs) e
+other_first setup first xs x (errors.CheckError p) is w = (w.0, (w.1.0, any_first first xs (λ (q : SeenPacket). IsFromOther (errors.CheckError p) q x) is w.1.1))
 other_first setup first xs x errors.NoMemory is w = tt
 
 -- a packet more is from the one source where it is from that of the first
@@ -100,20 +101,24 @@ module _ (setup : PathSetup) (saved : List Saved) (all wanted : List SeenPacket)
       let p : PacketEvent → Bool = is_wanted setup (counterparty setup (events_of saved)) saved in
       ap (map event_of) are ∙ filter_events p all ∙ ap (filter p) these
 
-  pub of_two_sources : (e : ImportError) → IsTold CheckErrorName.TwoChannels ((setup.source_channel ≡ None) × Any (λ (q : SeenPacket). Any (IsFromOther q) all) (filter Wanted all)) e → HasReasonOfPath setup saved e
+  pub of_two_sources : (e : ImportError) → IsTold CheckErrorName.TwoChannels ((setup.source_channel ≡ None) × Any (λ (q : SeenPacket). Any (IsFromOther e q) all) (filter Wanted all)) e → HasReasonOfPath setup saved e
   of_two_sources (errors.CheckError p) w =
       let Other : PacketEvent → PacketEvent → Type 0 = λ e f. string_bytes e.source ≢ string_bytes f.source in
-      let mine : Any (λ (q : SeenPacket). Any (IsFromOther q) all) wanted = subst (Any (λ (q : SeenPacket). Any (IsFromOther q) all)) (sym are) w.1.1 in
+      let From : SeenPacket → SeenPacket → Type 0 = IsFromOther (errors.CheckError p) in
+      let mine : Any (λ (q : SeenPacket). Any (From q) all) wanted = subst (Any (λ (q : SeenPacket). Any (From q) all)) (sym are) w.1.1 in
       let each : Any (λ (q : SeenPacket). Any (Other (event_of q)) (events_of saved)) wanted =
-      any_more _ _ wanted (λ q other. subst (Any (Other (event_of q))) these (any_map event_of (Other (event_of q)) all other)) mine in
+      any_more (λ (q : SeenPacket). Any (From q) all) _ wanted
+      (λ q other. subst (Any (Other (event_of q))) these (any_map event_of (Other (event_of q)) all (any_more (From q) (λ (r : SeenPacket). Other (event_of q) (event_of r)) all (λ r from. from.0) other))) mine in
       subst (λ name. RefusesPath name setup saved) (sym w.0)
       (w.1.0, subst (Any (λ e. Any (Other e) (events_of saved))) events_are (any_map event_of (λ e. Any (Other e) (events_of saved)) wanted each))
   of_two_sources errors.NoMemory w = tt
 
   pub of_two_sendings : (e : ImportError) → AreTwoOf wanted e → HasReasonOfPath setup saved e
   of_two_sendings (errors.CheckError p) w =
+      let Two : SeenPacket → SeenPacket → Type 0 = NamesTwo (errors.CheckError p) in
       let each : Any (λ (q : SeenPacket). Any (TellOtherwise (event_of q)) (map event_of wanted)) wanted =
-      any_more (λ (q : SeenPacket). Any (AreTwoSendings q) wanted) _ wanted (λ q other. any_map event_of (TellOtherwise (event_of q)) wanted other) w.1 in
+      any_more (λ (q : SeenPacket). Any (Two q) wanted) _ wanted
+      (λ q other. any_map event_of (TellOtherwise (event_of q)) wanted (any_more (Two q) (λ (r : SeenPacket). TellOtherwise (event_of q) (event_of r)) wanted (λ r two. two.0) other)) w.1 in
       let two : HaveTwoSendings (map event_of wanted) = any_map event_of (λ e. Any (TellOtherwise e) (map event_of wanted)) wanted each in
       subst (λ name. RefusesPath name setup saved) (sym w.0) (subst HaveTwoSendings events_are two)
   of_two_sendings errors.NoMemory w = tt
@@ -124,7 +129,7 @@ unless_name : (holds : Bool) (name other : CheckErrorName) → unless holds name
 unless_name true name other e = absurd (none-some other e)
 unless_name false name other e = same_Some name other e
 
-flaw_name : (kind : PacketKind) (sent received : Bool) (name : CheckErrorName) → flaw_by kind sent received ≡ Some name → (CheckErrorName.MissingSend ≡ name) ⊎ (CheckErrorName.MissingReceive ≡ name)
+pub flaw_name : (kind : PacketKind) (sent received : Bool) (name : CheckErrorName) → flaw_by kind sent received ≡ Some name → (CheckErrorName.MissingSend ≡ name) ⊎ (CheckErrorName.MissingReceive ≡ name)
 flaw_name PacketKind.Sent sent received name e = absurd (none-some name e)
 flaw_name PacketKind.Received sent received name e = inl (unless_name sent _ name e)
 flaw_name PacketKind.AckWritten sent received name e = inr (unless_name received _ name e)
@@ -139,7 +144,7 @@ lack_by false true lacks name e = inl (same_Some _ name e)
 lack_by false false true name e = inr (same_Some _ name e)
 lack_by false false false name e = absurd (none-some name e)
 
-lack_name : (first : ℕ) (saved : List Saved) (packets : List SeenPacket) (n : ℕ) (name : CheckErrorName) → lack_of first saved packets n ≡ Some name
+pub lack_name : (first : ℕ) (saved : List Saved) (packets : List SeenPacket) (n : ℕ) (name : CheckErrorName) → lack_of first saved packets n ≡ Some name
     → (CheckErrorName.MissingSend ≡ name) ⊎ (CheckErrorName.MissingReceive ≡ name)
 lack_name first saved packets n name e =
     lack_by (nat_lt n first) (not (was PacketKind.Sent n packets)) (not (is_unreceived saved n) && not (was PacketKind.Received n packets)) name e
@@ -157,7 +162,7 @@ of_flaw setup saved packets (errors.CheckError p) have (k, q, small, is, (flaw, 
 of_flaw setup saved packets errors.NoMemory have w = absurd w
 
 pub of_lack : (setup : PathSetup) (saved : List Saved) (packets : List SeenPacket) (e : ImportError) → HaveEvents setup saved packets → IsWhyNotPending setup saved packets e → HasReasonOfPath setup saved e
-of_lack setup saved packets (errors.CheckError p) have (inl (lack, name, number, file)) = subst (λ n. RefusesPath n setup saved) (sym name) lack
+of_lack setup saved packets (errors.CheckError p) have (inl (lack, name, number, file, other)) = subst (λ n. RefusesPath n setup saved) (sym name) lack
 of_lack setup saved packets (errors.CheckError p) have (inr (last, (k, s, small, is, ((j, n, within, at, (lack, number)), file)))) =
     lacks setup saved packets p.name have (inr (k, s, small, is, (j, n, within, at, lack))) (lack_name setup.config.first saved packets n p.name lack)
 of_lack setup saved packets errors.NoMemory have w = absurd w

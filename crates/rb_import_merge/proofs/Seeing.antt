@@ -15,7 +15,7 @@ use Rattle.rb_import_answers.specs.declared.packets.PacketEvent.{PacketEvent}
 use Rattle.rb_import_merge.specs.declared.packets.SeenPacket.{SeenPacket}
 use Rattle.rb_import_setup.specs.declared.setup.PathSetup.{PathSetup}
 use Rattle.rb_import_answers.specs.Revisions.{IsRevision}
-use Rattle.rb_import_merge.specs.Packets.{StandsFor, HaveEvents, IsOfPath, Expires, ExpiresAt, are_of_one, place_of, counterparty, events_of, is_wanted, is_source, is_dest, seen_events, wanted_of}
+use Rattle.rb_import_merge.specs.Packets.{StandsFor, FiledEvent, HaveEvents, IsOfPath, Expires, ExpiresAt, are_of_one, place_of, counterparty, events_of, filed_event, is_wanted, is_source, is_dest, seen_events, wanted_of}
 use Rattle.rb_import_check.specs.declared.saved.Saved.{Saved}
 
 -- ---- one packet more
@@ -34,6 +34,16 @@ pub events_more : (before : List PacketEvent) (all after : List SeenPacket) (p :
 events_more before all after p es i e small is was now one =
     ap seen_events now ∙ map_push (λ (s : SeenPacket). s.event.now) all p ∙ ap (λ l. l ++ p.event.now ∷ []) was ∙ ap (λ x. (before ++ take i es) ++ x ∷ []) one
     ∙ joined before (take i es) (e ∷ []) ∙ ap (λ l. before ++ l) (sym (take_more es i e small ∙ ap (λ y. take i es ++ y ∷ []) (sym is)))
+
+-- and its file
+pub files_more : (before : List FiledEvent) (all after : List SeenPacket) (p : SeenPacket) (es : List PacketEvent) (i : ℕ) (e : PacketEvent) (file : List ℕ) → i < length es → e ≡ get_or es i e
+    → map filed_event all ≡ before ++ map (λ x. (x, file)) (take i es) → after ≡ all ++ p ∷ [] → filed_event p ≡ (e, file) → map filed_event after ≡ before ++ map (λ x. (x, file)) (take (i + 1) es)
+files_more before all after p es i e file small is was now one =
+    let in_file : PacketEvent → FiledEvent = λ x. (x, file) in
+    let next : map in_file (take (i + 1) es) ≡ map in_file (take i es) ++ in_file e ∷ [] =
+    ap (map in_file) (take_more es i e small ∙ ap (λ y. take i es ++ y ∷ []) (sym is)) ∙ map_push in_file (take i es) e in
+    ap (map filed_event) now ∙ map_push filed_event all p ∙ ap (λ l. l ++ filed_event p ∷ []) was ∙ ap (λ x. (before ++ map in_file (take i es)) ++ x ∷ []) one
+    ∙ joined before (map in_file (take i es)) (in_file e ∷ []) ∙ ap (λ l. before ++ l) (sym next)
 
 pub wanted_more : (p : SeenPacket → Bool) (done after : List SeenPacket) (xs : List SeenPacket) (i : ℕ) (x : SeenPacket) → i < length xs → x ≡ get_or xs i x
     → done ≡ filter p (take i xs) → after ≡ done ++ (if p x then x ∷ [] else []) → after ≡ filter p (take (i + 1) xs)

@@ -1,6 +1,6 @@
 -- That packets with a commitment were sent, and received where they have to be (ICS 4: a commitment is stored as a packet is sent; a packet that
 -- was received, and isn't acknowledged yet, has it still).
-use Rattle.std.specs.Prelude.{◌≡◌, ◌⊎◌, ℕ, ◌≤◌, ◌==◌, nat_lt, Bool, true, false, not, ◌&&◌, if◌then◌else◌, List, Option, Some, None, IsSomeAnd, All, Any, string_bytes}
+use Rattle.std.specs.Prelude.{◌≡◌, ◌⊎◌, ℕ, ◌≤◌, ◌==◌, nat_lt, Bool, true, false, not, ◌&&◌, if◌then◌else◌, List, Option, Some, None, All, Any, string_bytes}
 use Rattle.std.specs.List.{list_any}
 use Rattle.rb_import_answers.specs.declared.packets.PacketKind.{PacketKind}
 use Rattle.rb_import_setup.specs.declared.setup.PathSetup.{PathSetup}
@@ -9,6 +9,7 @@ use Rattle.rb_import_check.specs.declared.error.CheckErrorName.{CheckErrorName}
 use Rattle.rb_import_check.specs.declared.error.ImportError.{ImportError}
 use Rattle.rb_import_check.specs.declared.error.ImportError.TheVariants as errors
 use Rattle.rb_import_check.specs.declared.saved.Saved.{Saved}
+use Rattle.rb_import_check.specs.Errors.{IsAt, IsIn}
 use Rattle.rb_import_merge.specs.declared.packets.SeenPacket.{SeenPacket}
 use Rattle.rb_import_merge.specs.Packets.{place_of}
 use Rattle.rb_import_merge.specs.Pending.{committed_in, is_last_in, is_unreceived, tell_commitments}
@@ -54,8 +55,8 @@ lack_of first saved packets n =
 -- the problem is what a packet lacks to which this answer tells of a commitment: its sequence, and the answer's file
 abbrev pub IsLack : PathSetup → List Saved → List SeenPacket → Saved → CheckError → Type 0
 IsLack setup saved packets s p =
-    Any (λ n. (lack_of setup.config.first saved packets n ≡ Some p.name) × (p.number ≡ Some n)) (committed_in s.answer)
-    × IsSomeAnd p.file (λ file. file.now ≡ string_bytes s.file)
+    Any (λ n. (lack_of setup.config.first saved packets n ≡ Some p.name) × IsAt n (errors.CheckError p)) (committed_in s.answer)
+    × IsIn (string_bytes s.file) (errors.CheckError p)
 
 abbrev pub IsLackIn : PathSetup → List Saved → List SeenPacket → Saved → ImportError → Type 0
 IsLackIn setup saved packets s (errors.CheckError p) = IsLack setup saved packets s p
@@ -63,7 +64,7 @@ IsLackIn setup saved packets s errors.NoMemory = ⊥
 
 -- the problem is that the last page of commitments isn't there
 abbrev pub LacksLastPage : List Saved → CheckError → Type 0
-LacksLastPage saved p = (lack_last_page saved ≡ true) × (p.name ≡ CheckErrorName.MissingCommitments) × (p.number ≡ None) × (p.file ≡ None)
+LacksLastPage saved p = (lack_last_page saved ≡ true) × (p.name ≡ CheckErrorName.MissingCommitments) × (p.number ≡ None) × (p.file ≡ None) × (p.other ≡ None)
 
 -- why a path's answers don't tell of its pending packets: the last page of commitments isn't there, or else a packet with a commitment lacks an event
 abbrev pub IsWhyNotPending : PathSetup → List Saved → List SeenPacket → ImportError → Type 0

@@ -7,6 +7,7 @@ pub mod Committed
 pub mod Ways
 pub mod Totals
 pub mod Refusals
+pub mod Named
 pub mod Errors
 pub mod Room
 pub mod Sets

@@ -5,7 +5,7 @@ use Rattle.std.specs.declared.cmp.Ordering.{Ordering}
 use Rattle.rb_import_answers.specs.declared.packets.PacketKind.{PacketKind}
 use Rattle.rb_import_check.specs.declared.error.CheckErrorName.{CheckErrorName}
 use Rattle.rb_import_check.specs.declared.error.ImportError.{ImportError}
-use Rattle.rb_import_check.specs.Errors.{IsTold}
+use Rattle.rb_import_check.specs.Errors.{IsAt, IsBetween, IsTold}
 use Rattle.rb_import_merge.specs.declared.packets.SeenPacket.{SeenPacket}
 use Rattle.rb_import_merge.specs.Packets.{IsSameSending, place_of}
 
@@ -33,6 +33,10 @@ AreTwoSendings p q =
     (p.event.now.kind ≡ PacketKind.Sent) × (q.event.now.kind ≡ PacketKind.Sent) × (p.event.now.sequence ≡ q.event.now.sequence)
     × (IsSameSending q.event.now p.event.now → ⊥)
 
+-- so it is, and the error is between their files, and names the sequence
+abbrev pub NamesTwo : ImportError → SeenPacket → SeenPacket → Type 0
+NamesTwo e p q = AreTwoSendings p q × IsAt p.event.now.sequence e × IsBetween p.file.now q.file.now e
+
 -- the problem is that two of the packets' events tell of one sending, and aren't equal
 abbrev pub AreTwoOf : List SeenPacket → ImportError → Type 0
-AreTwoOf packets e = IsTold CheckErrorName.TwoAnswers (Any (λ (p : SeenPacket). Any (AreTwoSendings p) packets) packets) e
+AreTwoOf packets e = IsTold CheckErrorName.TwoAnswers (Any (λ (p : SeenPacket). Any (NamesTwo e p) packets) packets) e

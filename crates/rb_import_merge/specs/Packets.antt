@@ -1,5 +1,5 @@
 -- What was seen of a path's packets (ICS 4).
-use Rattle.std.specs.Prelude.{◌≡◌, ℕ, ◌+◌, ◌-◌, ◌^◌, ◌≤◌, ◌==◌, nat_le, nat_lt, Bool, true, false, not, ◌&&◌, ◌||◌, if◌then◌else◌, List, [], ◌∷◌, Option, Some, None, IfSome, IsSomeAnd, option_map, String, All, Any, Contains, length, map, filter, string_bytes}
+use Rattle.std.specs.Prelude.{◌≡◌, ℕ, ◌+◌, ◌-◌, ◌^◌, ◌≤◌, ◌==◌, nat_le, nat_lt, Bool, true, false, not, ◌&&◌, ◌||◌, if◌then◌else◌, List, [], ◌∷◌, Option, Some, None, IfSome, option_map, String, All, Any, Contains, length, map, filter, string_bytes}
 use Rattle.std.specs.Global.{Global}
 use Rattle.std.specs.List.{flat_map, list_any, IsDistinct}
 use Rattle.std.specs.Option.{option_or}
@@ -15,6 +15,8 @@ use Rattle.rb_import_check.specs.declared.error.CheckErrorName.{CheckErrorName}
 use Rattle.rb_import_check.specs.declared.error.ImportError.{ImportError}
 use Rattle.rb_import_check.specs.declared.error.ImportError.TheVariants as errors
 use Rattle.rb_import_check.specs.declared.saved.Saved.{Saved}
+use Rattle.rb_import_check.specs.Errors.{IsIn, IsOfNoHeight}
+use Rattle.rb_import_check.specs.Named.{with_files}
 use Rattle.rb_import_merge.specs.Pending.{is_pending, tells_done}
 use Rattle.rb_import_merge.specs.declared.packets.Searches.{Searches}
 use Rattle.rb_import_merge.specs.declared.packets.SeenPacket.{SeenPacket}
@@ -75,6 +77,21 @@ events_in (answers.Other query) = []
 -- the events that a path's answers tell of, in their order
 abbrev pub events_of : List Saved → List PacketEvent
 events_of saved = flat_map (λ s. events_in s.answer) saved
+
+-- an event, and the name of its file
+abbrev pub FiledEvent : Type 0
+FiledEvent = PacketEvent × List ℕ
+
+-- the events that a path's answers tell of, each with its file
+abbrev pub filed_events_of : List Saved → List FiledEvent
+filed_events_of saved = with_files events_in saved
+
+abbrev pub filed_event : SeenPacket → FiledEvent
+filed_event p = (p.event.now, p.file.now)
+
+-- the answer in the packet's file tells of its event
+abbrev pub IsOfFile : List Saved → SeenPacket → Type 0
+IsOfFile saved p = Contains (filed_events_of saved) (filed_event p)
 
 -- the events of seen packets
 abbrev pub seen_events : List SeenPacket → List PacketEvent
@@ -138,11 +155,11 @@ is_on_packets (answers.Pending p) = true
 is_on_packets (answers.Verdicts v) = false
 is_on_packets (answers.Other query) = true
 
--- the problem is that one of the answers belongs into another folder: its file
+-- the problem is that one of the answers belongs into another folder: its file, and no number
 abbrev pub IsOfOtherFolder : List Saved → ImportError → Type 0
 IsOfOtherFolder saved (errors.CheckError p) =
     (p.name ≡ CheckErrorName.WrongFolder)
-    × Any (λ (s : Saved). (is_on_packets s.answer ≡ false) × IsSomeAnd p.file (λ file. file.now ≡ string_bytes s.file)) saved
+    × Any (λ (s : Saved). (is_on_packets s.answer ≡ false) × IsIn (string_bytes s.file) (errors.CheckError p) × IsOfNoHeight (errors.CheckError p)) saved
 IsOfOtherFolder saved errors.NoMemory = ⊥
 
 -- what is seen are wanted events; each wanted event has one that stands for it; no two are of one kind and sequence

@@ -6,7 +6,7 @@ use Rattle.rb_import_setup.specs.declared.setup.PathSetup.{PathSetup}
 use Rattle.rb_import_check.specs.declared.error.CheckErrorName.{CheckErrorName}
 use Rattle.rb_import_check.specs.declared.error.ImportError.{ImportError}
 use Rattle.rb_import_check.specs.declared.saved.Saved.{Saved}
-use Rattle.rb_import_check.specs.Errors.{IsToldBy}
+use Rattle.rb_import_check.specs.Errors.{IsAt, IsBetween, IsToldBy}
 use Rattle.rb_import_merge.specs.declared.packets.SeenPacket.{SeenPacket}
 use Rattle.rb_import_merge.specs.Committed.{lack_last_page, lack_of}
 use Rattle.rb_import_merge.specs.Packets.{HaveEvents, IsSameSending, events_of, is_on_packets, wanted_of}
@@ -20,9 +20,9 @@ HaveTwoSources setup saved =
     (setup.source_channel ≡ None)
     × Any (λ (e : PacketEvent). Any (λ (f : PacketEvent). string_bytes e.source ≢ string_bytes f.source) (events_of saved)) (wanted_of setup saved)
 
--- so it is of two events that were seen
-abbrev pub IsFromOther : SeenPacket → SeenPacket → Type 0
-IsFromOther p q = string_bytes p.event.now.source ≢ string_bytes q.event.now.source
+-- so it is of two events that were seen, and the error is between their files, and names the sequence of the second
+abbrev pub IsFromOther : ImportError → SeenPacket → SeenPacket → Type 0
+IsFromOther e p q = (string_bytes p.event.now.source ≢ string_bytes q.event.now.source) × IsAt q.event.now.sequence e × IsBetween p.file.now q.file.now e
 
 -- both events tell of one sending, and they aren't equal
 abbrev pub TellOtherwise : PacketEvent → PacketEvent → Type 0

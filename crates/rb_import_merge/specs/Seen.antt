@@ -17,7 +17,7 @@ use Rattle.rb_import_check.specs.declared.saved.SavedAnswers.{SavedAnswers}
 use Rattle.rb_import_check.specs.declared.sets.SeenSet.{SeenSet}
 use Rattle.rb_import_check.specs.Accord.{AgreesWith}
 use Rattle.rb_import_check.specs.Chains.{AreOfFiles, HaveHeaders, HaveSets, IsJudged, filed_of, headers_of}
-use Rattle.rb_import_check.specs.Clients.{AtRevision, HaveStates, JudgesAs, client_states_of, current_of}
+use Rattle.rb_import_check.specs.Clients.{AreStatesOfFiles, AtRevision, HaveStates, JudgesAs, client_states_of, current_of, filed_states_of}
 use Rattle.rb_import_check.specs.Sets.{IsPlaceOf, WasSeen}
 use Rattle.rb_import_merge.specs.declared.kept.KeptSets.{KeptSets}
 use Rattle.rb_import_merge.specs.declared.packets.SeenPacket.{SeenPacket}
@@ -25,7 +25,7 @@ use Rattle.rb_import_merge.specs.declared.seen.Seen.{Seen}
 use Rattle.rb_import_merge.specs.Committed.{HaveCommitted}
 use Rattle.rb_import_merge.specs.Lowest.{kind_cmp}
 use Rattle.rb_import_merge.specs.Ways.{HasBefore}
-use Rattle.rb_import_merge.specs.Packets.{Expires, HaveEvents}
+use Rattle.rb_import_merge.specs.Packets.{Expires, HaveEvents, IsOfFile}
 use Rattle.rb_import_merge.specs.Room.{AtEachPlace, FitBooks, FitsHeaders}
 use Rattle.rb_import_merge.specs.Sets.{AreKeptSets}
 
@@ -53,12 +53,13 @@ IsSeenChain saved chain = AreHighestHeaders saved chain.commits.items × HaveSet
 abbrev pub AgreesWithChain : List SeenChain → ClientSetup → List Stored → Type 0
 AgreesWithChain seen c stored = IfSome (slice_get seen c.tracks) (λ (chain : SeenChain). All (AgreesWith chain.commits.items) stored)
 
--- the client judges headers as the setup says, or else its state, and its records are those that its answers tell of, without those
--- of a revision before that of the chain that it tracks, and agree with that chain's headers
+-- the client judges headers as the setup says, or else its state, and its records are those that its answers tell of, each of its file,
+-- without those of a revision before that of the chain that it tracks, and agree with that chain's headers
 abbrev pub IsSeenClient : List (List ℕ) → List SeenChain → ClientSetup → List Saved → SeenClient → Type 0
 IsSeenClient chains seen c saved client =
     JudgesAs c (client_states_of saved) client
     × IsSomeAnd (slice_get chains c.tracks) (λ tracked. AtRevision tracked (λ revision. HaveStates (current_of revision saved) client.stored.items))
+    × IsSomeAnd (slice_get chains c.tracks) (λ tracked. AtRevision tracked (λ revision. AreStatesOfFiles (filed_states_of revision saved) client.stored.items))
     × AgreesWithChain seen c client.stored.items
 
 -- each of these is what was seen of the client at its place
@@ -70,11 +71,12 @@ AreSeenClients setup answers seen clients =
 abbrev pub surplus_of : List Saved → ℕ
 surplus_of saved = length (headers_of saved) - 4096
 
--- these are the path's packets that its answers tell of, each with the height of its destination, a chain of the setup, from which on it isn't
--- received, and with the event before it; each packet with a commitment has its events; and they stand by kind, block and sequence
+-- these are the path's packets that its answers tell of, each of its file, with the height of its destination, a chain of the setup, from which
+-- on it isn't received, and with the event before it; each packet with a commitment has its events; and they stand by kind, block and sequence
 abbrev pub IsSeenPath : List (List ℕ) → PathSetup → List Saved → List SeenPacket → Type 0
 IsSeenPath chains path saved packets =
-    HaveEvents path saved packets × IsSomeAnd (slice_get chains path.config.destination) (λ dest. All (Expires dest) packets)
+    HaveEvents path saved packets × All (IsOfFile saved) packets
+    × IsSomeAnd (slice_get chains path.config.destination) (λ dest. All (Expires dest) packets)
     × All (HasBefore packets) packets × HaveCommitted path saved packets × IsSorted kind_cmp packets
 
 -- each of these is what was seen of the path at its place

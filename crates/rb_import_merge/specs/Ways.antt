@@ -1,11 +1,12 @@
 -- What was done with a packet before (ICS 4: a packet is received, acknowledged or times out once it was sent; its acknowledgement is written once it
 -- was received).
-use Rattle.std.specs.Prelude.{◌≡◌, Bool, if◌then◌else◌, List, Option, Some, None, IfSome, IsSomeAnd, Any}
+use Rattle.std.specs.Prelude.{◌≡◌, Bool, if◌then◌else◌, List, Option, Some, None, IfSome, Any}
 use Rattle.rb_import_answers.specs.declared.packets.PacketEvent.{PacketEvent}
 use Rattle.rb_import_answers.specs.declared.packets.PacketKind.{PacketKind}
 use Rattle.rb_import_check.specs.declared.error.CheckErrorName.{CheckErrorName}
 use Rattle.rb_import_check.specs.declared.error.ImportError.{ImportError}
 use Rattle.rb_import_check.specs.declared.error.ImportError.TheVariants as errors
+use Rattle.rb_import_check.specs.Errors.{IsAt, IsIn}
 use Rattle.rb_import_merge.specs.declared.packets.SeenPacket.{SeenPacket}
 use Rattle.rb_import_merge.specs.Committed.{WasSeen, was}
 
@@ -39,6 +40,6 @@ flaw_of packets e = flaw_by e.kind (was PacketKind.Sent e.sequence packets) (was
 abbrev pub IsFlawIn : List SeenPacket → ImportError → Type 0
 IsFlawIn packets (errors.CheckError p) =
     Any
-    (λ (q : SeenPacket). (flaw_of packets q.event.now ≡ Some p.name) × (p.number ≡ Some q.event.now.sequence) × IsSomeAnd p.file (λ file. file.now ≡ q.file.now))
+    (λ (q : SeenPacket). (flaw_of packets q.event.now ≡ Some p.name) × IsAt q.event.now.sequence (errors.CheckError p) × IsIn q.file.now (errors.CheckError p))
     packets
 IsFlawIn packets errors.NoMemory = ⊥

@@ -5,10 +5,11 @@ ghost use Rattle.std.specs.List.Sorted.{IsPermutation, IsSorted};
 ghost use Rattle.rb_import_check.specs.Errors.{IsTold, IsToldOf};
 ghost use Rattle.rb_import_merge.specs.Committed.{HaveCommitted, was};
 ghost use Rattle.rb_import_merge.specs.Lowest.{kind_cmp, packet_cmp};
-ghost use Rattle.rb_import_merge.specs.Packets.{AreFromOne, IsOfPath, IsOfOtherFolder, HaveEvents, Expires, ExpiresAt, expiry_at, within_heights, is_on_packets, is_source, is_dest, is_wanted, counts_as, is_silent, lacks, one_if, some_timed_out, tells_of, events_of, seen_events};
+ghost use Rattle.rb_import_merge.specs.Packets.{AreFromOne, IsOfFile, IsOfPath, IsOfOtherFolder, HaveEvents, Expires, ExpiresAt, expiry_at, within_heights, is_on_packets, is_source, is_dest, is_wanted, counts_as, is_silent, lacks, one_if, some_timed_out, tells_of, events_of, filed_event, seen_events};
+ghost use Rattle.rb_import_merge.specs.Named.{NamesOfPath};
 ghost use Rattle.rb_import_merge.specs.Pending.{tells_done};
 ghost use Rattle.rb_import_merge.specs.Refusals.{HasReasonOfPath, IsFromOther};
-ghost use Rattle.rb_import_merge.specs.Totals.{IsCutShort, count_in, count_with, is_whole, pages_of};
+ghost use Rattle.rb_import_merge.specs.Totals.{IsCutShort, count_in, count_with, filed_page, filed_pages_of, is_whole, pages_of};
 ghost use Rattle.rb_import_merge.specs.Ways.{HasBefore, IsFlawIn, flaw_of, unless};
 
 use crate::counterparties::counterparty;
@@ -83,6 +84,7 @@ pub fn seen_packets<'a>(
 ) -> Result<Vec<SeenPacket<'a>>, ImportError<'a>>
     ensures path { IfOk result (λ packets. All (IsOfPath setup.entry.now answers.entry.now) packets.items) }
     ensures events { IfOk result (λ packets. HaveEvents setup.entry.now answers.entry.now packets.items) }
+    ensures files { IfOk result (λ packets. All (IsOfFile answers.entry.now) packets.items) }
     ensures expiry { IfOk result (λ packets. All (Expires dest.now) packets.items) }
     ensures source { IfOk result (λ packets. setup.entry.now.source_channel ≡ None → AreFromOne packets.items) }
     ensures before { IfOk result (λ packets. All (HasBefore packets.items) packets.items) }
@@ -91,6 +93,7 @@ pub fn seen_packets<'a>(
     ensures answers { OnOk result (All (λ s. is_on_packets s.answer ≡ true) answers.entry.now) }
     ensures whole { OnOk result (All (λ p. is_whole p.total (pages_of answers.entry.now) ≡ true) (pages_of answers.entry.now)) }
     ensures reason { IfErr result (HasReasonOfPath setup.entry.now answers.entry.now) }
+    ensures named { IfErr result (NamesOfPath setup.entry.now answers.entry.now) }
     ensures told { IfErr result (IsToldOf setup.entry.now.config.id) }
 {
     let id = setup.config.id.as_str();
@@ -267,7 +270,7 @@ fn judge_kinds<'a>(id: &'a str, answers: &'a [Saved]) -> Result<(), ImportError<
     for saved in answers {
         if !is_on_packets(&saved.answer) {
             let file = saved.file.as_str();
-            return Err(ImportError::at(CheckErrorName::WrongFolder, id, 0, file));
+            return Err(ImportError::in_file(CheckErrorName::WrongFolder, id, file));
         }
     }
     Ok(())
@@ -286,7 +289,8 @@ fn is_on_packets(answer: &NodeAnswer) -> bool
 /// The pages of transactions among a path's answers.
 #[tactic(auto, using(rb_import_check::proofs::Sorting::taking))]
 fn pages_of(alloc: Global, answers: &[Saved]) -> Result<Vec<Page<'_>>, AllocError>
-    ensures { IfOk result (λ pages. map (λ p. p.page.now) pages.items ≡ pages_of answers.now) }
+    ensures pages { IfOk result (λ pages. map (λ p. p.page.now) pages.items ≡ pages_of answers.now) }
+    ensures files { IfOk result (λ pages. map filed_page pages.items ≡ filed_pages_of answers.now) }
 {
     let mut pages = Vec::new(alloc);
     for saved in answers {
@@ -356,6 +360,7 @@ fn all_events<'a>(
     pages: &[Page<'a>],
 ) -> Result<Vec<SeenPacket<'a>>, AllocError>
     ensures events { IfOk result (λ all. seen_events all.items ≡ flat_map (λ p. p.page.now.events.items) pages.now) }
+    ensures files { IfOk result (λ all. map filed_event all.items ≡ flat_map (λ p. map (λ e. (e, p.file.now)) p.page.now.events.items) pages.now) }
     ensures expiry { IfOk result (λ all. All (ExpiresAt revision) all.items) }
 {
     let mut all = Vec::new(alloc);
@@ -372,6 +377,7 @@ fn add_events<'a>(
     all: &mut Vec<SeenPacket<'a>>,
 ) -> Result<(), AllocError>
     ensures events { OnOk result (seen_events all.new.items ≡ seen_events all.old.items ++ page.entry.page.now.events.items) }
+    ensures files { OnOk result (map filed_event all.new.items ≡ map filed_event all.old.items ++ map (λ e. (e, page.entry.file.now)) page.entry.page.now.events.items) }
     ensures expiry { All (ExpiresAt revision) all.old.items → All (ExpiresAt revision) all.new.items }
 {
     let file = page.file;
@@ -418,7 +424,7 @@ fn wanted_of<'a>(
 ) -> Result<Vec<SeenPacket<'a>>, ImportError<'a>>
     ensures source { IfOk result (λ wanted. setup.entry.now.source_channel ≡ None → AreFromOne wanted.items) }
     ensures wanted { IfOk result (λ wanted. wanted.items ≡ filter (λ s. is_wanted setup.entry.now (option_map (λ e. e.now) end.entry) answers.now s.event.now) all.now) }
-    ensures other { IfErr result (IsTold CheckErrorName.TwoChannels ((setup.entry.now.source_channel ≡ None) × Any (λ p. Any (IsFromOther p) all.now) (filter (λ s. is_wanted setup.entry.now (option_map (λ e. e.now) end.entry) answers.now s.event.now) all.now))) }
+    ensures other { IfErr result (λ e. IsTold CheckErrorName.TwoChannels ((setup.entry.now.source_channel ≡ None) × Any (λ p. Any (IsFromOther e p) all.now) (filter (λ s. is_wanted setup.entry.now (option_map (λ e. e.now) end.entry) answers.now s.event.now) all.now)) e) }
     ensures told { IfErr result (IsToldOf setup.entry.now.config.id) }
 {
     let mut wanted = Vec::new(alloc);
@@ -438,7 +444,7 @@ fn add_wanted<'a>(
 ) -> Result<(), ImportError<'a>>
     ensures source { OnOk result (setup.entry.now.source_channel ≡ None → AreFromOne wanted.old.items → AreFromOne wanted.new.items) }
     ensures wanted { OnOk result (wanted.new.items ≡ wanted.old.items ++ (if is_wanted setup.entry.now (option_map (λ e. e.now) end.entry) answers.now seen.entry.event.now then seen.entry ∷ [] else [])) }
-    ensures other { IfErr result (IsTold CheckErrorName.TwoChannels ((setup.entry.now.source_channel ≡ None) × Any (λ p. IsFromOther p seen.entry) wanted.old.items)) }
+    ensures other { IfErr result (λ e. IsTold CheckErrorName.TwoChannels ((setup.entry.now.source_channel ≡ None) × Any (λ p. IsFromOther e p seen.entry) wanted.old.items) e) }
     ensures told { IfErr result (IsToldOf setup.entry.now.config.id) }
 {
     if is_wanted(setup, end, answers, wanted.first(), &seen)? {
@@ -458,7 +464,7 @@ fn is_wanted<'a>(
 ) -> Result<bool, ImportError<'a>>
     ensures source { OnOk result (setup.entry.now.source_channel ≡ None → IfSome first.entry (λ first. string_bytes first.now.event.now.source ≡ string_bytes seen.now.event.now.source)) }
     ensures wanted { IfOk result (λ is. is ≡ is_wanted setup.entry.now (option_map (λ e. e.now) end.entry) answers.now seen.now.event.now) }
-    ensures other { IfErr result (IsTold CheckErrorName.TwoChannels ((setup.entry.now.source_channel ≡ None) × IsSomeAnd first.entry (λ first. IsFromOther first.now seen.now))) }
+    ensures other { IfErr result (λ e. IsTold CheckErrorName.TwoChannels ((setup.entry.now.source_channel ≡ None) × IsSomeAnd first.entry (λ first. IsFromOther e first.now seen.now)) e) }
     ensures told { IfErr result (IsToldOf setup.entry.now.config.id) }
 {
     let source = seen.event.source.as_str();

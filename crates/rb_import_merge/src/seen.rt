@@ -2,7 +2,7 @@
 ghost use Rattle.std.specs.Prelude.{◌≡◌, ◌<◌, ◌≤◌, ◌↔◌, Some, length, slice_get, All, IsTrue, IfOk, IfErr, OnOk};
 ghost use Rattle.rb_import_check.specs.Errors.{IsToldOf, IsTooBig};
 ghost use Rattle.rb_import_merge.specs.Errors.{IsToldIn};
-ghost use Rattle.rb_import_merge.specs.Reasons.{HasReasonIn, IsOfOtherRecord};
+ghost use Rattle.rb_import_merge.specs.Reasons.{HasReasonIn, IsOfDifference};
 ghost use Rattle.rb_import_merge.specs.Room.{AtEachPlace};
 ghost use Rattle.rb_import_merge.specs.Seen.{AgreesWithChain, AreSeenClients, AreSeenPaths, IsKeptSet, IsSeenChain, IsSeenIn, IsWrittenOf, answers_at, surplus_of};
 
@@ -205,7 +205,7 @@ fn judge_client<'a>(
     stored: &[Stored<'a>],
 ) -> Result<(), ImportError<'a>>
     ensures accord { OnOk result (AgreesWithChain chains.now client.entry.now stored.now) }
-    ensures other { IfErr result (IsOfOtherRecord chains.now client.entry.now stored.now) }
+    ensures other { IfErr result (IsOfDifference chains.now client.entry.now stored.now) }
     ensures told { IfErr result (IsToldOf client.entry.now.id) }
 {
     match chains.get(client.tracks) {

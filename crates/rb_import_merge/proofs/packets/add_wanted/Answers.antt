@@ -1,5 +1,6 @@
-use Rattle.std.proofs.Common.{◌≡◌, ◌++◌, ◌∷◌, [], None, List, rules, sym, subst, ap, ◌∙◌}
+use Rattle.std.proofs.Common.{◌≡◌, ◌++◌, ◌∷◌, [], None, List, sym, subst, ap, ◌∙◌}
 use Rattle.std.specs.Prelude.{Any, option_map, slice_get}
+use Rattle.std.proofs.lemmas.Result.{err_from_is_err_and}
 use Rattle.rb_import_check.specs.declared.error.CheckErrorName.{CheckErrorName}
 use Rattle.rb_import_check.specs.Errors.{IsTold}
 use Rattle.rb_import_merge.specs.declared.packets.SeenPacket.{SeenPacket}
@@ -13,9 +14,10 @@ pub returns-in_err-is_wanted-clause-other : goal.returns-in_err-is_wanted-clause
 returns-in_err-is_wanted-clause-other c =
     let e = c.in_err-is_wanted.field-0.0 in
     let first : option_map (λ b. b.now) c.first.result ≡ slice_get c.args.wanted.now.items 0 = c.first.ensures.value ∙ ap (λ (l : List SeenPacket). slice_get l 0) c.deref.ensures.value in
-    let other : IsTold CheckErrorName.TwoChannels ((c.args.setup.now.source_channel ≡ None) × Any (λ (p : SeenPacket). IsFromOther p c.args.seen) c.args.wanted.now.items) e =
+    let other : IsTold CheckErrorName.TwoChannels ((c.args.setup.now.source_channel ≡ None) × Any (λ (p : SeenPacket). IsFromOther e p c.args.seen) c.args.wanted.now.items) e =
     other_first c.args.setup.now c.first.result c.args.wanted.now.items c.args.seen e first c.in_err-is_wanted.ensures.other in
-    search rules
+    let p = err_from_is_err_and c.from_residual.result c.from_residual.ensures.1 in
+    rw (p.1, p.2) other
 
 pub returns-clause-source : goal.returns-clause-source
 returns-clause-source c = λ none one.

@@ -1,4 +1,4 @@
-use Rattle.std.proofs.Common.{◌≡◌, true, false, refl, rules, sym, subst}
+use Rattle.std.proofs.Common.{◌≡◌, Some, true, false, refl, rules, sym, subst, ap}
 use Rattle.rb_import_check.specs.declared.saved.Saved.{Saved}
 use Rattle.rb_import_merge.specs.Packets.{IsOfOtherFolder, is_on_packets}
 use Rattle.rb_import_merge.proofs.Committing.{at_end, one_more}
@@ -7,8 +7,8 @@ use Rattle.rb_import_merge.proofs.packets.judge_kinds.Goals as goal
 pub returns-then-not-is_on_packets-clause-refused : goal.returns-then-not-is_on_packets-clause-refused
 returns-then-not-is_on_packets-clause-refused c =
     let other : is_on_packets c.saved-item.result.answer ≡ false = search rules in
-    subst (IsOfOtherFolder c.args.answers.now) (sym c.at.ensures)
-    (refl, (c.loop-saved.saved-index, c.saved-item.result, c.loop-saved-test.true, sym c.saved-item.is, (other, c.as_str-file.ensures.value)))
+    subst (IsOfOtherFolder c.args.answers.now) (sym c.in_file.ensures)
+    (refl, (c.loop-saved.saved-index, c.saved-item.result, c.loop-saved-test.true, sym c.saved-item.is, (other, (ap (λ l. Some l) c.as_str-file.ensures.value, refl), refl)))
 
 pub loop-saved-preserved : goal.loop-saved-preserved
 loop-saved-preserved c =

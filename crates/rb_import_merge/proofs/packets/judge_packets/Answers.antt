@@ -8,7 +8,7 @@ use Rattle.rb_import_merge.proofs.packets.judge_packets.Goals as goal
 pub returns-in-Some-clause-refused : goal.returns-in-Some-clause-refused
 returns-in-Some-clause-refused c = λ order.
     subst (IsFlawIn c.args.packets.now) (sym c.at.ensures)
-    (c.loop-seen.seen-index, c.seen-item.result, c.loop-seen-test.true, sym c.seen-item.is, (sym (c.flaw_of.ensures order) ∙ c.in-Some.is, refl, refl))
+    (c.loop-seen.seen-index, c.seen-item.result, c.loop-seen-test.true, sym c.seen-item.is, (sym (c.flaw_of.ensures order) ∙ c.in-Some.is, refl, (refl, refl)))
 
 pub loop-seen-preserved : goal.loop-seen-preserved
 loop-seen-preserved c =

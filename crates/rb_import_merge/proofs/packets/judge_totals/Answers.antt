@@ -7,7 +7,7 @@ use Rattle.rb_import_merge.proofs.packets.judge_totals.Goals as goal
 pub returns-then-not-is_whole-clause-refused : goal.returns-then-not-is_whole-clause-refused
 returns-then-not-is_whole-clause-refused c =
     let short : is_whole c.page-item.result.page.now.total (map (λ (q : Page). q.page.now) c.args.pages.now) ≡ false = search rules in
-    subst (IsCutShort c.args.pages.now) (sym c.at.ensures) (refl, (c.loop-page.page-index, c.page-item.result, c.loop-page-test.true, sym c.page-item.is, (short, refl, refl)))
+    subst (IsCutShort c.args.pages.now) (sym c.at.ensures) (refl, (c.loop-page.page-index, c.page-item.result, c.loop-page-test.true, sym c.page-item.is, (short, refl, (refl, refl))))
 
 pub loop-page-preserved : goal.loop-page-preserved
 loop-page-preserved c =

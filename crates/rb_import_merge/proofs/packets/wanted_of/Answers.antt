@@ -1,5 +1,6 @@
-use Rattle.std.proofs.Common.{◌≡◌, None, Bool, filter, rules}
+use Rattle.std.proofs.Common.{◌≡◌, None, Bool, filter}
 use Rattle.std.specs.Prelude.{Any, option_map}
+use Rattle.std.proofs.lemmas.Result.{err_from_is_err_and}
 use Rattle.rb_import_check.specs.declared.error.CheckErrorName.{CheckErrorName}
 use Rattle.rb_import_check.specs.Errors.{IsTold}
 use Rattle.rb_import_merge.specs.declared.packets.SeenPacket.{SeenPacket}
@@ -19,8 +20,10 @@ loop-seen-preserved c = record {
 
 pub returns-in_err-add_wanted-clause-other : goal.returns-in_err-add_wanted-clause-other
 returns-in_err-add_wanted-clause-other c =
+    let e = c.in_err-add_wanted.field-0.0 in
     let test : SeenPacket → Bool = λ s. is_wanted c.args.setup.now (option_map (λ e. e.now) c.args.end) c.args.answers.now s.event.now in
-    let two : IsTold CheckErrorName.TwoChannels ((c.args.setup.now.source_channel ≡ None) × Any (λ (p : SeenPacket). Any (IsFromOther p) c.args.all.now) (filter test c.args.all.now)) c.in_err-add_wanted.field-0.0 =
+    let two : IsTold CheckErrorName.TwoChannels ((c.args.setup.now.source_channel ≡ None) × Any (λ (p : SeenPacket). Any (IsFromOther e p) c.args.all.now) (filter test c.args.all.now)) e =
     two_sources c.args.setup.now test c.args.all.now c.loop-seen.wanted.items
-    c.loop-seen.seen-index c.seen-item.result c.in_err-add_wanted.field-0.0 c.loop-seen-test.true c.seen-item.is c.loop-seen.invariant.wanted c.in_err-add_wanted.ensures.other in
-    search rules
+    c.loop-seen.seen-index c.seen-item.result e c.loop-seen-test.true c.seen-item.is c.loop-seen.invariant.wanted c.in_err-add_wanted.ensures.other in
+    let p = err_from_is_err_and c.from_residual.result c.from_residual.ensures.1 in
+    rw (p.1, p.2) two
