@@ -7,13 +7,17 @@ use Rattle.rb_import_answers.specs.Said.{IsPlain}
 use Rattle.rb_import_answers.proofs.PlainTexts.{are_plain}
 use Rattle.rb_import_setup.specs.Documents.{max_bytes}
 use Rattle.rb_import_setup.specs.declared.setup.Setup.{Setup}
+use Rattle.rb_import_check.specs.declared.error.ImportError.{ImportError}
+use Rattle.rb_import_check.specs.declared.error.ImportError.TheVariants as errors
 use Rattle.rb_import_check.specs.declared.saved.SavedAnswers.{SavedAnswers}
+use Rattle.rb_import_merge.specs.Reasons.{HasReasonIn}
 use Rattle.rb_import_merge.specs.Room.{AtEachPlace}
 use Rattle.rb_import_merge.specs.declared.kept.KeptSets.{KeptSets}
 use Rattle.rb_import_merge.specs.declared.seen.Seen.{Seen}
 use Rattle.rb_import_text.specs.TableTexts.{tables_text}
 use Rattle.rb_import.specs.Openings.{IsOpening, Opens, credit, hold_verdicts, opening_of, seen_commits, verifier_of, warning, words_of, words_on}
 use Rattle.rb_import.specs.Parts.{IsNeededOf}
+use Rattle.rb_import.specs.Reasons.{HasReasonOfScript}
 use Rattle.rb_import.specs.Scripts.{IsFitting, IsText, with_sets}
 
 line_by : (b : Bool) (words : List ℕ) → All IsPlain words → IsOpening b (cond b (credit words) warning)
@@ -47,3 +51,8 @@ pub fits_in_part : (setup : Setup) (answers : SavedAnswers) (seen : Seen) (whole
     → IsFitting setup answers seen text
 unfolding IsFitting
 fits_in_part setup answers seen whole text sets is big needed part = inr (whole, is, big, sets, needed, part)
+
+-- a reason in the answers is one of the script
+pub of_answers : (setup : Setup) (answers : SavedAnswers) (e : ImportError) → HasReasonIn setup answers e → HasReasonOfScript setup answers e
+of_answers setup answers (errors.CheckError p) w = inl w
+of_answers setup answers errors.NoMemory w = tt

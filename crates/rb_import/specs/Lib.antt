@@ -6,3 +6,4 @@ pub mod Parts
 pub mod Finding
 pub mod Tallies
 pub mod Scripts
+pub mod Reasons

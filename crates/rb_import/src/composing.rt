@@ -6,6 +6,7 @@ ghost use Rattle.rb_import_merge.specs.Errors.{IsToldIn};
 ghost use Rattle.rb_import_merge.specs.Seen.{HoldsOfSeen};
 ghost use Rattle.rb_import_notices.specs.Whole.{AreNoticesOf};
 ghost use Rattle.rb_import.specs.Openings.{Opens, hold_verdicts};
+ghost use Rattle.rb_import.specs.Reasons.{HasReasonOfScript};
 ghost use Rattle.rb_import.specs.Scripts.{IsFitting, IsText, IsTooLong};
 ghost use Rattle.rb_import.specs.Texts.{heading};
 
@@ -39,9 +40,9 @@ pub fn compose<'a>(
 ) -> Result<Composed<'a>, ImportError<'a>>
     ensures size { IfOk result (λ script. length (string_bytes script.text) ≤ max_bytes) }
     ensures opening { IfOk result (λ script. Opens (hold_verdicts answers.entry.now) (string_bytes script.text)) }
-    ensures notices { IfOk result (λ script. HoldsOfSeen setup.entry.now answers.entry.now (λ seen. AreNoticesOf setup.entry.now answers.entry.now seen script.notices)) }
     ensures script { IfOk result (λ script. HoldsOfSeen setup.entry.now answers.entry.now (λ seen.
         AreNoticesOf setup.entry.now answers.entry.now seen script.notices × IsFitting setup.entry.now answers.entry.now seen (string_bytes script.text))) }
+    ensures reason { IfErr result (HasReasonOfScript setup.entry.now answers.entry.now) }
     ensures told { IfErr result (IsToldIn setup.entry.now) }
     ensures big { IfErr result (λ e. IsTooBig e → HoldsOfSeen setup.entry.now answers.entry.now (λ seen. IsTooLong setup.entry.now answers.entry.now seen)) }
 {

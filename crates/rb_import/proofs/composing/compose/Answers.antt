@@ -1,17 +1,11 @@
-use Rattle.std.proofs.Common.{◌<◌, length, rules, string_bytes}
+use Rattle.std.proofs.Common.{◌<◌, inr, length, refl, rules, string_bytes, subst, sym}
 use Rattle.rb_import_setup.specs.Documents.{max_bytes}
-use Rattle.rb_import.proofs.Fitting.{opens_fitting}
+use Rattle.rb_import.specs.Reasons.{HasReasonOfScript}
+use Rattle.rb_import.proofs.Fitting.{of_answers, opens_fitting}
 use Rattle.rb_import.proofs.composing.compose.Goals as goal
 
 pub returns-clause-opening : goal.returns-clause-opening
 returns-clause-opening c = opens_fitting _ _ _ _ c.in_ok-text.ensures
-
-pub returns-clause-notices : goal.returns-clause-notices
-returns-clause-notices c = (
-  c.in_ok-seen.seen,
-  c.in_ok-seen.ensures.seen,
-  (c.in_ok-notices.ensures.missing, c.in_ok-notices.ensures.excess, c.in_ok-notices.ensures.unusable, c.in_ok-notices.ensures.unsure, c.in_ok-notices.ensures.passed, c.in_ok-notices.ensures.unverified, c.in_ok-notices.ensures.canonical),
-)
 
 pub returns-clause-script : goal.returns-clause-script
 returns-clause-script c = (
@@ -25,3 +19,15 @@ returns-then-len-gt-MAX_BYTES-clause-big c =
     λ is.
     let big : max_bytes < length (string_bytes c.in_ok-text.text) = search rules in
     (c.in_ok-seen.seen, c.in_ok-seen.ensures.seen, (string_bytes c.in_ok-text.text, c.in_ok-text.ensures, big))
+
+pub returns-then-len-gt-MAX_BYTES-clause-reason : goal.returns-then-len-gt-MAX_BYTES-clause-reason
+returns-then-len-gt-MAX_BYTES-clause-reason c =
+    let big : max_bytes < length (string_bytes c.in_ok-text.text) = search rules in
+    subst (HasReasonOfScript c.args.setup.now c.args.answers.now) (sym c.of.ensures)
+    (inr (refl, (refl, refl, refl), (refl, (c.in_ok-seen.seen, c.in_ok-seen.ensures.seen, (string_bytes c.in_ok-text.text, c.in_ok-text.ensures, big)))))
+
+pub returns-in_err-seen-clause-reason : goal.returns-in_err-seen-clause-reason
+returns-in_err-seen-clause-reason c =
+    let e = c.in_err-seen.field-0.0 in
+    let reason : HasReasonOfScript c.args.setup.now c.args.answers.now e = of_answers c.args.setup.now c.args.answers.now e c.in_err-seen.ensures.reason in
+    search rules
