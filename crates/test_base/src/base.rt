@@ -21,15 +21,26 @@ const NO_IDENTIFIERS: &[&str] = &[
     "0123456789abcdef0123456789abcdef0123456789abcdef0123456789abcdef0",
 ];
 
-fn check_identifier(rt: &impl Abort, alloc: Global, text: &str) -> Result<(), Fail> {
+/// The identifiers of a chain and of a path with this text are written so.
+fn check_others(rt: &impl Abort, text: &str) -> Result<(), Fail> {
+    let chain = ChainId::new(text).ok_or("chain")?;
+    assert_same(rt, &text, chain.as_str(), text);
+    let path = PathId::new(text).ok_or("path")?;
+    assert_same(rt, &text, path.as_str(), text);
+    Ok(())
+}
+
+/// A client's identifier is printed as its text.
+fn check_printed(rt: &impl Abort, alloc: Global, text: &str) -> Result<(), Fail> {
     let id = ClientId::new(text).ok_or("client")?;
     let printed = format!(in alloc; "{id}")?;
-    assert_same(rt, &text, &printed.as_str(), &text);
-    let chain = ChainId::new(text).ok_or("chain")?;
-    assert_same(rt, &text, &chain.as_str(), &text);
-    let path = PathId::new(text).ok_or("path")?;
-    assert_same(rt, &text, &path.as_str(), &text);
+    assert_same(rt, &text, printed.as_str(), text);
     Ok(())
+}
+
+fn check_identifier(rt: &impl Abort, alloc: Global, text: &str) -> Result<(), Fail> {
+    check_printed(rt, alloc, text)?;
+    check_others(rt, text)
 }
 
 #[test]
@@ -38,7 +49,7 @@ fn knows_identifiers(rt: HostRuntime) -> Result<(), Fail> {
         check_identifier(&rt, rt.alloc(), text)?;
     }
     for text in NO_IDENTIFIERS {
-        assert_same(&rt, text, &ClientId::new(text).is_none(), &true);
+        assert_same(&rt, text, ClientId::new(text).is_none(), true);
     }
     Ok(())
 }

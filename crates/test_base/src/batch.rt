@@ -69,11 +69,11 @@ fn messages_of(alloc: Global, gas: &[u64]) -> Result<Vec<Msg>, AllocError> {
 }
 
 fn check_run(rt: &impl Abort, index: usize, run: &Transaction, wanted: (usize, usize, u64)) {
-    assert_same(rt, &index, &(run.first, run.count, run.gas), &wanted);
+    assert_same(rt, &index, (run.first, run.count, run.gas), wanted);
 }
 
 fn check_runs(rt: &impl Abort, index: usize, runs: &[Transaction], wanted: &[(usize, usize, u64)]) {
-    assert_same(rt, &index, &runs.len(), &wanted.len());
+    assert_same(rt, &index, runs.len(), wanted.len());
     for (run, wanted) in runs.iter().zip(wanted) {
         check_run(rt, index, run, *wanted);
     }
@@ -83,7 +83,7 @@ fn check_row(rt: &impl Abort, alloc: Global, index: usize, row: &Row) -> Result<
     let messages = messages_of(alloc, row.gas)?;
     match (cut(alloc, &messages, limits_of(row.limits)?), row.wanted) {
         (Ok(runs), Ok(wanted)) => check_runs(rt, index, runs.as_slice(), wanted),
-        (Err(error), Err(place)) => assert_same(rt, &index, &error, &BatchError::TooBig(place)),
+        (Err(error), Err(place)) => assert_same(rt, &index, error, BatchError::TooBig(place)),
         _ => return Err(Fail::from("cut")),
     }
     Ok(())
@@ -107,7 +107,7 @@ const REFUSALS: &[(BatchError, &str)] = &[
 fn prints_its_refusals(rt: HostRuntime) -> Result<(), Fail> {
     for (error, text) in REFUSALS {
         let printed = format!(in rt.alloc(); "{error}")?;
-        assert_same(&rt, &"text", &printed.as_str(), text);
+        assert_same(&rt, "text", &printed.as_str(), text);
     }
     Ok(())
 }

@@ -31,8 +31,8 @@ fn make_plane(alloc: Global, columns: usize, step: usize) -> Result<Plane, Alloc
 }
 
 fn check_sums(rt: &impl Abort, row: usize, powers: &Powers, plane: &Plane, wanted: u64) {
-    assert_same(rt, &row, &masked_sum(powers, plane), &wanted);
-    assert_same(rt, &row, &plain_sum(powers, plane), &wanted);
+    assert_same(rt, &row, masked_sum(powers, plane), wanted);
+    assert_same(rt, &row, plain_sum(powers, plane), wanted);
 }
 
 /// The powers' number, the plane's, and each how manieth of its columns is set; the sum.
@@ -111,7 +111,7 @@ fn check_address(
     number: u32,
     wanted: Result<u32, LanesError>,
 ) {
-    assert_same(rt, &number, &columns.intern(&address(number)), &wanted);
+    assert_same(rt, &number, columns.intern(&address(number)), wanted);
 }
 
 /// As many addresses as there are columns, and then one more.
@@ -123,7 +123,7 @@ fn numbers_addresses_until_all_columns_are_taken(rt: HostRuntime) -> Result<(), 
     }
     check_address(&rt, &mut columns, 65_536, Err(LanesError::ColumnsFull));
     check_address(&rt, &mut columns, 7, Ok(7));
-    assert_same(&rt, &"columns", &columns.len(), &65_536);
+    assert_same(&rt, "columns", columns.len(), 65_536);
     Ok(())
 }
 
@@ -140,7 +140,7 @@ fn check_refusal(
     text: &str,
 ) -> Result<(), AllocError> {
     let printed = format!(in alloc; "{error}")?;
-    assert_same(rt, &text, &printed.as_str(), &text);
+    assert_same(rt, &text, printed.as_str(), text);
     Ok(())
 }
 

@@ -532,7 +532,7 @@ fn check_owed(
     wanted: &[PacketMsg],
 ) -> Result<(), Fail> {
     let list = owed(view)?;
-    assert_same(rt, &index, &list.as_slice(), &wanted);
+    assert_same(rt, &index, list.as_slice(), wanted);
     Ok(())
 }
 
@@ -545,7 +545,7 @@ fn check_parts(
 ) -> Result<(), Fail> {
     let mut parts = owed_part(view, Part::Packets)?;
     parts.extend_from_slice(&owed_part(view, Part::Channel)?)?;
-    assert_same(rt, &index, &parts.as_slice(), &wanted);
+    assert_same(rt, &index, parts.as_slice(), wanted);
     Ok(())
 }
 
@@ -632,8 +632,8 @@ fn check_ready(rt: &impl Abort, alloc: Global, index: usize, reach: &Reach) -> R
     let list = messages_of(alloc, &[], list)?;
     let expected = chosen(alloc, &list, kept)?;
     let ready = ready(alloc, &list, order, Height::new(reach))?;
-    assert_same(rt, &index, &ready.as_slice(), &expected.as_slice());
-    assert_same(rt, &index, &wanted(&ready), &Height::new(floor));
+    assert_same(rt, &index, ready.as_slice(), expected.as_slice());
+    assert_same(rt, &index, wanted(&ready), Height::new(floor));
     Ok(())
 }
 
@@ -666,7 +666,7 @@ fn check_beyond(rt: &impl Abort, alloc: Global, index: usize, row: &Beyond) -> R
     let list = messages_of(alloc, &[], list)?;
     let expected = chosen(alloc, &list, kept)?;
     let beyond = ready_beyond(alloc, &list, order, Height::new(near), Height::new(reach))?;
-    assert_same(rt, &index, &beyond.as_slice(), &expected.as_slice());
+    assert_same(rt, &index, beyond.as_slice(), expected.as_slice());
     Ok(())
 }
 

@@ -1,6 +1,7 @@
 use rb_base::Height;
 use rb_want_search::{Aim, Finding, Judge, Judgement, search};
 use std::alloc::AllocError;
+use std::process::Abort;
 use std::test::Fail;
 
 /// A rule by which steps are accepted.
@@ -112,34 +113,68 @@ fn height(number: u64) -> Result<Height, Fail> {
     Ok(Height::new(number).ok_or("height")?)
 }
 
+/// The toy with one answer more: where the search ends, and whether it does.
+fn step(toy: &mut Toy, first: Height, aim: &Aim) -> Result<Option<Option<u64>>, AllocError> {
+    match search(toy, first, aim)? {
+        Finding::Asks(question) => {
+            let asked = (question.trusted.get(), question.height.get());
+            toy.steps.push(asked)?;
+            Ok(None)
+        }
+        Finding::Reached(reached) => Ok(Some(Some(reached.get()))),
+        Finding::Stuck { .. } => Ok(Some(None)),
+    }
+}
+
+/// Where the search ends; none where it is stuck, or asks for more than a thousand steps.
+fn end_of(toy: &mut Toy, first: Height, aim: &Aim) -> Result<Option<u64>, AllocError> {
+    for _ in 0..1000 {
+        if let Some(end) = step(toy, first, aim)? {
+            return Ok(end);
+        }
+    }
+    Ok(None)
+}
+
+fn aim_of((least, most): (u64, u64)) -> Result<Aim, Fail> {
+    Ok(Aim {
+        least: height(least)?,
+        most: height(most)?,
+    })
+}
+
+fn check_search(
+    rt: &impl Abort,
+    toy: &mut Toy,
+    first: Height,
+    aim: &Aim,
+    wanted: Option<u64>,
+    bound: usize,
+) -> Result<(), AllocError> {
+    let end = end_of(toy, first, aim)?;
+    let (rule, asked) = (toy.rule, toy.steps.len());
+    assert!(rt;
+        end == wanted && asked <= bound,
+        "{rule:?}: {end:?}, asks for {asked}"
+    );
+    Ok(())
+}
+
 #[test]
 fn searches_by_halves(rt: HostRuntime) -> Result<(), Fail> {
-    for (rule, first, (least, most), wanted, bound) in ROWS {
-        let aim = Aim {
-            least: height(*least)?,
-            most: height(*most)?,
-        };
+    for (rule, first, aim, wanted, bound) in ROWS {
         let mut toy = Toy {
             rule: *rule,
             steps: Vec::new(rt.alloc()),
         };
-        let mut end = None;
-        for _ in 0..1000 {
-            match search(&toy, height(*first)?, &aim)? {
-                Finding::Asks(question) => {
-                    let step = (question.trusted.get(), question.height.get());
-                    toy.steps.push(step)?;
-                }
-                Finding::Reached(reached) => {
-                    end = Some(reached.get());
-                    break;
-                }
-                Finding::Stuck { .. } => break,
-            }
-        }
-        assert_eq!(rt; end, *wanted, "{rule:?}");
-        let asked = toy.steps.len();
-        assert!(rt; asked <= *bound, "{rule:?} asks for {asked}");
+        check_search(
+            &rt,
+            &mut toy,
+            height(*first)?,
+            &aim_of(*aim)?,
+            *wanted,
+            *bound,
+        )?;
     }
     Ok(())
 }

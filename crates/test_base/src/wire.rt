@@ -41,9 +41,9 @@ fn left_of(tx: Tx<u32>, rx: Rx<u32>) -> Result<Option<Vec<u32>>, AllocError>
 fn what_is_left_follows_what_was_taken(rt: HostRuntime) -> Result<(), Fail> {
     let (mut tx, mut rx) = lane::<u32, _>(rt.alloc(), 2)?;
     check_full(&rt, &mut tx)?;
-    assert_same(&rt, &"taken", &rx.pop(), &Some(1));
+    assert_same(&rt, "taken", rx.pop(), Some(1));
     let left = left_of(tx, rx)?.ok_or("the other end is there")?;
-    assert_same(&rt, &"left", &left.as_slice(), &[2].as_slice());
+    assert_same(&rt, "left", &left.as_slice(), &[2].as_slice());
     Ok(())
 }
 
@@ -133,6 +133,6 @@ const ITEMS: &[u32] = &[7, 8, 9, 10, 11];
 #[test]
 fn lane_delivers(rt: HostRuntime) -> Result<(), Fail> {
     let all = send_across(&rt, rt.alloc(), ITEMS, 100_000_000)?.ok_or("the other end is there")?;
-    assert_same(&rt, &"items", &all.as_slice(), &ITEMS);
+    assert_same(&rt, "items", all.as_slice(), ITEMS);
     Ok(())
 }
