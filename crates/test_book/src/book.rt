@@ -104,17 +104,18 @@ fn add_first_set(
     set: &ValidatorSet,
 ) -> Result<(), Fail> {
     let unknown = book.add_header(make_header(alloc, 2, 20, set, THREE)?);
-    assert_same(rt, &"header", &unknown, &Err(BookError::UnknownSet));
+    assert_same(rt, "header", unknown, Err(BookError::UnknownSet));
     for place in 0..2 {
-        assert_same(rt, &place, &book.add_set(set.copy()?), &Ok(()));
+        assert_same(rt, &place, book.add_set(set.copy()?), Ok(()));
     }
     Ok(())
 }
 
 fn check_heights(rt: &impl Abort, alloc: Global, book: &ChainBook) -> Result<(), Fail> {
     let wanted = make_heights(alloc, &[2, 3, 5])?;
-    assert_same(rt, &"heights", &book.heights()?, &wanted);
-    assert_same(rt, &"top", &book.top(), &wanted.last().copied());
+    let heights = book.heights()?;
+    assert_same(rt, "heights", heights.as_slice(), wanted.as_slice());
+    assert_same(rt, "top", book.top(), wanted.last().copied());
     Ok(())
 }
 
@@ -132,28 +133,29 @@ fn make_times(alloc: Global, rows: &[(u64, u64)]) -> Result<Vec<(Height, Moment)
 
 fn check_times(rt: &impl Abort, alloc: Global, book: &ChainBook) -> Result<(), Fail> {
     let wanted = make_times(alloc, &[(2, 20), (3, 30), (5, 50)])?;
-    assert_same(rt, &"times", &book.heights_and_times()?, &wanted);
+    let times = book.heights_and_times()?;
+    assert_same(rt, "times", times.as_slice(), wanted.as_slice());
     Ok(())
 }
 
 fn check_counts(rt: &impl Abort, book: &ChainBook, five: Height) {
-    assert_same(rt, &"sets", &book.sets().len(), &1);
-    assert_same(rt, &"headers", &book.headers().len(), &3);
-    assert_same(rt, &"lower", &book.lower_count(five), &2);
+    assert_same(rt, "sets", book.sets().len(), 1);
+    assert_same(rt, "headers", book.headers().len(), 3);
+    assert_same(rt, "lower", book.lower_count(five), 2);
 }
 
 fn check_records(rt: &impl Abort, book: &ChainBook, hash: [u8; 32]) -> Result<(), Fail> {
     let first = RecordAt::new(height(2)?, entry(20, hash)?);
-    assert_same(rt, &"first", &book.records().first(), &Some(&first));
+    assert_same(rt, "first", book.records().first(), Some(&first));
     check_counts(rt, book, height(5)?);
     Ok(())
 }
 
 /// The header at 3, which the set has signed.
 fn check_header(rt: &impl Abort, header: &Header, set: &ValidatorSet, three: Height) {
-    assert_same(rt, &"height", &header.height(), &three);
-    assert_same(rt, &"commits", &header.commits(), &3);
-    assert_same(rt, &"votes", &header.votes().len(), &4);
+    assert_same(rt, "height", header.height(), three);
+    assert_same(rt, "commits", header.commits(), 3);
+    assert_same(rt, "votes", header.votes().len(), 4);
     assert!(rt; header.is_of(set) && header.record().names(set));
 }
 
@@ -165,7 +167,7 @@ fn check_header_at(
 ) -> Result<(), Fail> {
     let header = book.header(three).ok_or("header")?;
     check_header(rt, header, set, three);
-    assert_same(rt, &"record", &book.record(three), &Some(header.record()));
+    assert_same(rt, "record", book.record(three), Some(header.record()));
     assert!(rt; book.set(header.set_hash()).is_some());
     Ok(())
 }
@@ -176,8 +178,8 @@ fn check_places(
     set: &ValidatorSet,
     three: Height,
 ) -> Result<(), Fail> {
-    assert_same(rt, &"set", &book.set_place(set.hash()), &Some(0));
-    assert_same(rt, &"header", &book.header_place(three), &Some(1));
+    assert_same(rt, "set", book.set_place(set.hash()), Some(0));
+    assert_same(rt, "header", book.header_place(three), Some(1));
     check_header_at(rt, book, set, three)
 }
 
@@ -193,7 +195,7 @@ fn check_offer(
     (at, seconds, votes, refusal): &Offer,
 ) -> Result<(), Fail> {
     let answer = book.add_header(make_header(alloc, *at, *seconds, set, votes)?);
-    assert_same(rt, seconds, &answer, &answer_of(*refusal)?);
+    assert_same(rt, seconds, answer, answer_of(*refusal)?);
     Ok(())
 }
 
@@ -223,13 +225,22 @@ fn check_told(
     Ok(())
 }
 
-/// A book is its copy, and not an empty one.
-fn check_equal(rt: &impl Abort, alloc: Global, book: &ChainBook) -> Result<(), AllocError> {
+fn check_copy(rt: &impl Abort, book: &ChainBook) -> Result<(), AllocError> {
     let copy = book.copy()?;
     assert!(rt; copy == *book);
+    Ok(())
+}
+
+fn check_not_empty(rt: &impl Abort, alloc: Global, book: &ChainBook) -> Result<(), AllocError> {
     let empty = ChainBook::new(alloc)?;
     assert!(rt; empty != *book);
     Ok(())
+}
+
+/// A book is its copy, and not an empty one.
+fn check_equal(rt: &impl Abort, alloc: Global, book: &ChainBook) -> Result<(), AllocError> {
+    check_copy(rt, book)?;
+    check_not_empty(rt, alloc, book)
 }
 
 fn check_book(
@@ -262,7 +273,7 @@ fn check_numbered(
     wanted: Result<(), BookError>,
 ) -> Result<(), Fail> {
     let answer = book.add_record(height(number)?, entry(number, ZERO)?);
-    assert_same(rt, &number, &answer, &wanted);
+    assert_same(rt, &number, answer, wanted);
     Ok(())
 }
 
@@ -276,8 +287,8 @@ fn add_up_to(rt: &impl Abort, book: &mut ChainBook, limit: u64) -> Result<(), Fa
 
 /// The book may have so many records, and has them.
 fn check_limit(rt: &impl Abort, book: &ChainBook, wanted: usize) {
-    assert_same(rt, &"limit", &book.limit(), &wanted);
-    assert_same(rt, &"records", &book.records().len(), &wanted);
+    assert_same(rt, "limit", book.limit(), wanted);
+    assert_same(rt, "records", book.records().len(), wanted);
 }
 
 /// Fills the book with records, as many as it may have, and tries one more.
@@ -308,7 +319,7 @@ fn check_numbered_set(
     wanted: Result<(), BookError>,
 ) -> Result<(), Fail> {
     let answer = book.add_set(make_numbered_set(alloc, from, to)?);
-    assert_same(rt, &from, &answer, &wanted);
+    assert_same(rt, &from, answer, wanted);
     Ok(())
 }
 
@@ -350,7 +361,7 @@ fn check_refusal(
     text: &str,
 ) -> Result<(), AllocError> {
     let printed = format!(in alloc; "{refusal}")?;
-    assert_same(rt, &"text", &printed.as_str(), &text);
+    assert_same(rt, "text", printed.as_str(), text);
     Ok(())
 }
 

@@ -122,25 +122,70 @@ fn carried_by(
     Ok(carried_votes(&options, height(1)?, Some(next), header, own))
 }
 
+/// The header of the case, of its own set.
+fn header_of(alloc: Global, case: &Case, own: &ValidatorSet) -> Result<Header, Fail> {
+    let record = Record::new(nanosecond(100)?, [0; 32], *own.hash());
+    let votes = Vec::from_slice(alloc, case.votes)?;
+    Ok(Header::new(height(case.height)?, record, *own.hash(), votes))
+}
+
+fn check_carried(
+    rt: &impl Abort,
+    case: &Case,
+    next: &ValidatorSet,
+    header: &Header,
+    own: &ValidatorSet,
+) -> Result<(), Fail>
+    requires { IsSignedBy header.now own.now }
+{
+    let commit = carried_by(case, CarriedVotes::Commit, next, header, own)?;
+    let cast = carried_by(case, CarriedVotes::Cast, next, header, own)?;
+    let needed = carried_by(case, CarriedVotes::Needed, next, header, own)?;
+    assert_same(rt, case.name, (commit, cast, needed), case.carried);
+    Ok(())
+}
+
+fn check_least(
+    rt: &impl Abort,
+    case: &Case,
+    header: &Header,
+    own: &ValidatorSet,
+) -> Result<(), Fail>
+    requires { IsSignedBy header.now own.now }
+{
+    let options = options_of(case, CarriedVotes::Needed)?;
+    let least = least_votes(&options, header, own);
+    assert_same(rt, case.name, least, case.least);
+    Ok(())
+}
+
+fn check_header(
+    rt: &impl Abort,
+    case: &Case,
+    next: &ValidatorSet,
+    header: &Header,
+    own: &ValidatorSet,
+) -> Result<(), Fail> {
+    assert!(rt; header.is_of(own));
+    check_carried(rt, case, next, header, own)?;
+    check_least(rt, case, header, own)
+}
+
+fn check_sets(
+    rt: &impl Abort,
+    alloc: Global,
+    case: &Case,
+    next: &ValidatorSet,
+    own: &ValidatorSet,
+) -> Result<(), Fail> {
+    let header = header_of(alloc, case, own)?;
+    check_header(rt, case, next, &header, own)
+}
+
 fn check(rt: &impl Abort, alloc: Global, case: &Case) -> Result<(), Fail> {
     let next = make_set(alloc, case.next)?;
     let own = make_set(alloc, case.own)?;
-    let record = Record::new(nanosecond(100)?, [0; 32], *own.hash());
-    let votes = Vec::from_slice(alloc, case.votes)?;
-    let header = Header::new(height(case.height)?, record, *own.hash(), votes);
-    assert!(rt; header.is_of(&own));
-    let commit = carried_by(case, CarriedVotes::Commit, &next, &header, &own)?;
-    let cast = carried_by(case, CarriedVotes::Cast, &next, &header, &own)?;
-    let needed = carried_by(case, CarriedVotes::Needed, &next, &header, &own)?;
-    assert_same(rt, &case.name, &(commit, cast, needed), &case.carried);
-    let options = options_of(case, CarriedVotes::Needed)?;
-    assert_same(
-        rt,
-        &case.name,
-        &least_votes(&options, &header, &own),
-        &case.least,
-    );
-    Ok(())
+    check_sets(rt, alloc, case, &next, &own)
 }
 
 #[test]

@@ -60,7 +60,7 @@ fn check_root(
     wanted: &str,
 ) -> Result<(), AllocError> {
     let text = to_hex(alloc, root(leaves).as_slice())?;
-    assert_same(rt, &count, &text.as_str(), &wanted);
+    assert_same(rt, &count, text.as_str(), wanted);
     Ok(())
 }
 
@@ -68,7 +68,7 @@ fn check_root(
 fn check_halves(rt: &impl Abort, leaves: &[&[u8]]) {
     if leaves.len() > 4 {
         let halves = node(&root(&leaves[..4]), &root(&leaves[4..]));
-        assert_same(rt, &leaves.len(), &root(leaves), &halves);
+        assert_same(rt, &leaves.len(), root(leaves), halves);
     }
 }
 

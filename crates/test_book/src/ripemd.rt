@@ -37,7 +37,7 @@ fn check_digest(
     wanted: &str,
 ) -> Result<(), AllocError> {
     let digest = to_hex(alloc, rb_ripemd::hash(message).as_slice())?;
-    assert_same(rt, &message.len(), &digest.as_str(), &wanted);
+    assert_same(rt, &message.len(), digest.as_str(), wanted);
     Ok(())
 }
 

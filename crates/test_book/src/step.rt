@@ -239,12 +239,12 @@ fn check_step(
 {
     let (from, until) = case.window;
     let first = verdict_at(case, trusted, next, header, own, from)?;
-    assert_same(rt, &case.name, &first, &case.first);
+    assert_same(rt, &case.name, first, case.first);
     let last = verdict_at(case, trusted, next, header, own, until)?;
-    assert_same(rt, &case.name, &last, &case.last);
+    assert_same(rt, &case.name, last, case.last);
     let wanted = case.first == Verdict::Success && case.last == Verdict::Success;
     let accepted = is_accepted(case, trusted, next, header, own)?;
-    assert_same(rt, &case.name, &accepted, &wanted);
+    assert_same(rt, &case.name, accepted, wanted);
     Ok(())
 }
 
@@ -364,7 +364,7 @@ fn check_known(
     wanted: bool,
 ) -> Result<(), Fail> {
     let heights = make_heights(alloc, numbers)?;
-    assert_same(rt, &"known", &are_known(heights.as_slice(), book), &wanted);
+    assert_same(rt, "known", are_known(heights.as_slice(), book), wanted);
     Ok(())
 }
 
@@ -411,9 +411,9 @@ const STEPS: &[(u64, u64, bool, u64, u64)] = &[
 ];
 
 fn check_height(rt: &impl Abort, view: &ClientView, at: Height, is_stored: bool, is_live: bool) {
-    assert_same(rt, &"stored", &view.is_stored(at), &is_stored);
-    assert_same(rt, &"live", &view.is_live(at), &is_live);
-    assert_same(rt, &"source", &view.is_source(at), &(is_stored && is_live));
+    assert_same(rt, "stored", view.is_stored(at), is_stored);
+    assert_same(rt, "live", view.is_live(at), is_live);
+    assert_same(rt, "source", view.is_source(at), (is_stored && is_live));
 }
 
 fn check_heights(rt: &impl Abort, view: &ClientView) -> Result<(), Fail> {
@@ -431,9 +431,9 @@ fn check_costs(
     (trusted, number): (Height, Height),
     (is_accepted, fee, charge): (bool, u64, u64),
 ) {
-    assert_same(rt, &"step", &view.accepts(trusted, number), &is_accepted);
-    assert_same(rt, &"fee", &view.fee(trusted, number), &fee);
-    assert_same(rt, &"charge", &view.charge(gas, trusted, number), &charge);
+    assert_same(rt, "step", view.accepts(trusted, number), is_accepted);
+    assert_same(rt, "fee", view.fee(trusted, number), fee);
+    assert_same(rt, "charge", view.charge(gas, trusted, number), charge);
 }
 
 fn check_steps(rt: &impl Abort, view: &ClientView) -> Result<(), Fail> {
@@ -450,7 +450,7 @@ fn check_moment(rt: &impl Abort, view: &ClientView) -> Result<(), Fail> {
     let window = Window::at(nanosecond(200 * SECOND)?);
     let (options, fees, stored) = (view.options(), view.fees(), view.stored());
     let view = ClientView::new(options, fees, stored, window, view.book());
-    assert_same(rt, &"window", &view.window(), &window);
+    assert_same(rt, "window", view.window(), window);
     assert!(rt; view.accepts(height(1)?, height(4)?));
     Ok(())
 }

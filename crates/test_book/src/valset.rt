@@ -58,7 +58,7 @@ const LEAVES: &[(u64, &str)] = &[
 /// Bytes in hexadecimal are this text.
 fn check_hex(rt: &impl Abort, alloc: Global, bytes: &[u8], wanted: &str) -> Result<(), AllocError> {
     let text = to_hex(alloc, bytes)?;
-    assert_same(rt, &wanted, &text.as_str(), &wanted);
+    assert_same(rt, &wanted, text.as_str(), wanted);
     Ok(())
 }
 
@@ -70,7 +70,7 @@ fn check_leaf(
     tail: &str,
 ) -> Result<(), Fail> {
     let validator = Validator::new(*key, power)?;
-    assert_same(rt, &"power", &validator.power(), &power);
+    assert_same(rt, "power", validator.power(), power);
     check_hex(rt, alloc, validator.address(), address)?;
     let leaf = format!(in alloc; "{frame}{tail}")?;
     Ok(check_hex(rt, alloc, validator.leaf().as_slice(), leaf.as_str())?)
@@ -128,7 +128,7 @@ fn check_place(
     key: PublicKey,
 ) -> Result<(), Fail> {
     let member = Validator::new(key, 1)?;
-    assert_same(rt, &place, &set.position(member.address()), &Some(place));
+    assert_same(rt, &place, set.position(member.address()), Some(place));
     let found = set.find(member.address()).ok_or("absent")?;
     assert_same(rt, &place, found.key(), member.key());
     Ok(())
@@ -155,7 +155,7 @@ fn check_set(
     (_, total, order, hash): &Ordered,
 ) -> Result<(), Fail> {
     assert_same(rt, hash, &set.total(), total);
-    assert_same(rt, hash, &set.size(), &order.len());
+    assert_same(rt, hash, set.size(), order.len());
     check_hex(rt, alloc, set.hash(), hash)?;
     check_places(rt, set, order)
 }
@@ -251,7 +251,7 @@ fn check_refused(
 ) -> Result<(), Fail> {
     let refusal = make_set(alloc, members).err().ok_or("accepted")?;
     let printed = format!(in alloc; "{refusal}")?;
-    assert_same(rt, &"text", &printed.as_str(), &text);
+    assert_same(rt, "text", printed.as_str(), text);
     Ok(())
 }
 
@@ -273,7 +273,7 @@ fn check_count(
     let member = Validator::new(PublicKey::Ed25519([1; 32]), 1)?;
     let members = vec![in alloc; member; count]?;
     let refusal = ValidatorSet::new(alloc, members).err();
-    assert_same(rt, &count, &refusal, &Some(wanted));
+    assert_same(rt, &count, refusal, Some(wanted));
     Ok(())
 }
 
