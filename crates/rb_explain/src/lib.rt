@@ -5,7 +5,6 @@
 mod client;
 mod heights;
 mod idle;
-mod press;
 mod reach;
 mod ready;
 mod refused;

@@ -6,10 +6,9 @@ ghost use Rattle.rb_explain.specs.Client.{IsRight};
 ghost use Rattle.rb_explain.specs.Ends.{ends_of};
 ghost use Rattle.rb_explain.specs.Waiting.{AreAmong, IsLeft, IsSentFirst, IsWaiting, owed_message, owed_messages, owed_on, sent_in};
 
-use crate::press::press_moment;
 use crate::ready::{Ends, ends_at, is_ready};
 use rb_base::Height;
-use rb_plan_client::{JobView, Message, PathTask};
+use rb_plan_client::{JobView, Message, PathTask, press_moment};
 use rb_scan::PacketMsg;
 use rb_super_turn::Outcome;
 use std::alloc::{AllocError, Allocator};
