@@ -5,7 +5,6 @@
 mod client_message;
 mod commit;
 mod entry;
-mod fields;
 mod header;
 mod signed;
 mod text;

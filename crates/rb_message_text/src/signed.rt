@@ -1,6 +1,5 @@
 //! A signed header (CometBFT, `SignedHeader`), as an answer has it.
-ghost use Rattle.std.specs.Prelude.{◌≡◌, pos};
-ghost use Rattle.jiff.specs.Words.{civil_nanos};
+ghost use Rattle.std.specs.Prelude.{◌≡◌};
 ghost use Rattle.serde_json.specs.View.{view};
 ghost use Rattle.rb_import_json.specs.FieldErrors.{Gives, or_flaw};
 ghost use Rattle.rb_import_json.specs.Fields.{object_view};
@@ -9,13 +8,11 @@ ghost use Rattle.rb_message_text.specs.Signed.{in_nanos, signed_in, signed_of_by
 ghost use Rattle.rb_message_text.specs.Views.{signed_view};
 
 use crate::commit::{SignedCommit, read_commit};
-use crate::fields::read_fields;
-use jiff::Timestamp;
 use jiff::civil::DateTime;
-use jiff::tz::Offset;
-use rb_base::Moment;
 use rb_header::Header;
+use rb_import_answers::read_header_fields;
 use rb_import_json::{AnswerError, FieldError, FieldErrorName, FieldPath, Key, Object, Segment};
+use rb_moments::clock_at;
 use serde_json::Value;
 use std::alloc::Global;
 
@@ -72,7 +69,7 @@ fn signed_of(alloc: Global, answer: &Object<'_>) -> Result<Signed, AnswerError>
     let both = answer.object(Key::SignedHeader, Segment::SignedHeader)?;
     let head = both.object(Key::Header, Segment::Header)?;
     let part = both.object(Key::Commit, Segment::Commit)?;
-    let header = read_fields(alloc, &head)?;
+    let header = read_header_fields(alloc, &head)?;
     let clock = clock_at(header.time);
     let proposer = head.address(Key::ProposerAddress)?;
     let commit = read_commit(alloc, &part)?;
@@ -82,12 +79,4 @@ fn signed_of(alloc: Global, answer: &Object<'_>) -> Result<Signed, AnswerError>
         proposer,
         commit,
     })
-}
-
-/// What a clock in UTC shows at a moment.
-fn clock_at(moment: Moment) -> DateTime
-    ensures { civil_nanos result ≡ pos moment }
-{
-    let instant = Timestamp::from_nanosecond(moment.nanoseconds() as i128).unwrap();
-    Offset::UTC.to_datetime(instant)
 }
