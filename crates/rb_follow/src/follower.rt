@@ -22,6 +22,7 @@ use crate::setup::{path_ids, read_setup_text};
 use crate::tidying::{check_spoken, forgets, raise};
 use crate::turns::read_turn_is_turn;
 use rb_base::{Gate, PathId};
+use rb_core::MAX_EVENTS;
 use rb_core_model::rules::fee_tables;
 use rb_script_config::Setup;
 use rb_script_read::{NextTurn, Reading, ReadingChange, read_turn_document};
@@ -34,9 +35,6 @@ use std::thread::Threads;
 
 /// The most turns of a follower from version 3 on.
 const MOST_TURNS: usize = 10_000;
-
-/// The most events of a relayer's log.
-const MAX_EVENTS: usize = 1_000_000;
 
 /// A relayer that is led through turns, each read from a document of its own. A contract sees what it is set
 /// up with, the turns' number, what reading them left to the next, how many events its log can have, how
