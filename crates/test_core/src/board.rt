@@ -3,6 +3,7 @@
 //! is what a desk shows.
 use crate::run::{Deed, event_of, start};
 use rb_board::{Desk, DeskError, Note, Pen, open};
+use rb_core::Core;
 use rb_scan::Packet;
 use std::alloc::Global;
 use std::sync::atomic::{AtomicU64, Ordering};
@@ -108,16 +109,33 @@ fn end_watch<R: Threads>(rt: &R, thread: Option<JoinHandle<Option<Desk>>>) -> Op
     thread?.join(rt)
 }
 
-/// A board of a machine that knows nothing, with two desks.
-fn open_two<R: Wait>(rt: &R, alloc: Global) -> Option<(Pen, Desk, Desk)> {
-    let core = start(alloc, 12, &[])?;
-    let (pen, mut desks) = open(rt, alloc, core, 2).ok()?;
-    match (desks.pop(), desks.pop()) {
+/// A pen with two of its desks.
+fn with_two<R: Wait>(
+    rt: &R,
+    pen: Pen,
+    one: Option<Desk>,
+    other: Option<Desk>,
+) -> Option<(Pen, Desk, Desk)> {
+    match (one, other) {
         (Some(one), Some(other)) => Some((pen, one, other)),
         _ => {
             pen.close(rt);
             None
         }
+    }
+}
+
+fn open_of<R: Wait>(rt: &R, alloc: Global, core: Core) -> Option<(Pen, Desk, Desk)> {
+    let (pen, mut desks) = open(rt, alloc, core, 2).ok()?;
+    let one = desks.pop();
+    with_two(rt, pen, one, desks.pop())
+}
+
+/// A board of a machine that knows nothing, with two desks.
+fn open_two<R: Wait>(rt: &R, alloc: Global) -> Option<(Pen, Desk, Desk)> {
+    match start(alloc, 12, &[]) {
+        Some(core) => open_of(rt, alloc, core),
+        None => None,
     }
 }
 
@@ -181,15 +199,19 @@ fn clear_on_second_path<R: Wait>(rt: &R, alloc: Global, pen: Pen) -> (Pen, bool)
     (pen, is_sent && is_cleared && published.is_ok())
 }
 
+/// Whether one of these packets is cleared, and no more.
+fn is_one_cleared(packets: &[Packet]) -> bool {
+    let mut cleared: usize = 0;
+    for packet in packets {
+        cleared = cleared.saturating_add(usize::from(packet.is_cleared()));
+    }
+    cleared == 1
+}
+
 /// Whether a desk shows the one packet of the second path as cleared.
 fn shows_cleared(desk: &mut Desk) -> bool {
     match desk.view_path(1) {
-        Ok(view) => view
-            .packets()
-            .iter()
-            .filter(|packet| packet.is_cleared())
-            .count()
-            == 1,
+        Ok(view) => is_one_cleared(view.packets()),
         Err(_) => false,
     }
 }

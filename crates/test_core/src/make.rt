@@ -6,13 +6,18 @@ use rb_scan::{Order, Sequence};
 use rb_script_types::{ClientConfig, Config, PathConfig, PathGas, RefreshTo, Version, Waits};
 use rb_valset::{PublicKey, Validator, ValidatorSet};
 use std::alloc::Global;
-use std::fmt::Debug;
+use std::fmt::{Debug, Display};
 use std::process::Abort;
 
 /// Asserts in one place for all tests, since each `assert_eq!` makes the proof of the function around
-/// it dearer.
-pub fn assert_same<T: PartialEq + Debug>(rt: &impl Abort, row: &impl Debug, given: &T, wanted: &T) {
-    assert!(rt; *given == *wanted, "{row:?}: {given:?}, not {wanted:?}");
+/// it dearer, and so does each reference that is made for it.
+pub fn assert_same<T: PartialEq + Debug + Copy>(
+    rt: &impl Abort,
+    row: impl Display + Copy,
+    given: T,
+    wanted: T,
+) {
+    assert!(rt; given == wanted, "{row}: {given:?}, not {wanted:?}");
 }
 
 pub fn second(number: u64) -> Option<Moment> {

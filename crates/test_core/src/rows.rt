@@ -1,9 +1,11 @@
-use crate::make::assert_same;
 use crate::run::{Deed, Row, Run, start, start_dear};
 use rb_base::Part;
 use rb_book::Vote;
+use rb_core::{Core, Follower};
 use rb_core_model::CoreError;
 use rb_script_types::Refusal;
+use std::alloc::Global;
+use std::process::Abort;
 use std::test::Fail;
 
 const THREE: &[Vote] = &[Vote::Commit, Vote::Commit, Vote::Commit, Vote::Absent];
@@ -14,6 +16,19 @@ const BAD: &[Vote] = &[Vote::Commit, Vote::Bad, Vote::Bad, Vote::Absent];
 
 const SHORT: &[Vote] = &[Vote::Bad];
 
+/// Does what these tables say with a machine, from which what is beside it comes out.
+fn check(
+    rt: &impl Abort,
+    alloc: Global,
+    core: Option<Core>,
+    tables: &[&[Row]],
+) -> Result<(), Fail> {
+    let Some(core) = core else {
+        return Err(Fail::from("no machine"));
+    };
+    Run::new(alloc, core).go_through(rt, alloc, tables)
+}
+
 /// On a machine with a third client.
 const FOREIGN: &[Row] = &[(Deed::Window(50, 60), "Noted"), (Deed::Draft(2), "idle")];
 
@@ -22,6 +37,7 @@ const FOREIGN: &[Row] = &[(Deed::Window(50, 60), "Noted"), (Deed::Draft(2), "idl
 ///
 /// 407 needs two sets with one hash; 406 for sets and for packets, and 808, stand by themselves.
 const ORDER: &[Row] = &[
+    (Deed::Anew(3, &[]), ""),
     // a client isn't there, or no window yet
     (Deed::Draft(2), "801 UnknownObject"),
     (Deed::Draft(0), "805 OutOfOrder"),
@@ -111,10 +127,7 @@ const ORDER: &[Row] = &[
 #[test]
 fn refuses_in_order(rt: HostRuntime) -> Result<(), Fail> {
     let alloc = rt.alloc();
-    let mut run = Run::new(alloc, start(alloc, 3, &["third"]).ok_or("start")?);
-    run.go(&rt, alloc, FOREIGN)?;
-    run.core = start(alloc, 3, &[]).ok_or("start")?;
-    run.go(&rt, alloc, ORDER)
+    check(&rt, alloc, start(alloc, 3, &["third"]), &[FOREIGN, ORDER])
 }
 
 /// A plan of a client, made on another machine, where the client's updates take more gas.
@@ -122,6 +135,7 @@ const ELSEWHERE: &[Row] = &[(Deed::Window(50, 60), "Noted"), (Deed::Draft(2), "i
 
 /// It is offered in the same window, and then a plan of this machine.
 const OF_ANOTHER: &[Row] = &[
+    (Deed::Anew(3, &["third"]), ""),
     (Deed::Window(50, 60), "Noted"),
     (Deed::Last, "802 Stale"),
     (Deed::Draft(2), "idle"),
@@ -131,24 +145,41 @@ const OF_ANOTHER: &[Row] = &[
 #[test]
 fn refuses_plans_of_another_machine(rt: HostRuntime) -> Result<(), Fail> {
     let alloc = rt.alloc();
-    let mut run = Run::new(alloc, start_dear(alloc).ok_or("start")?);
-    run.go(&rt, alloc, ELSEWHERE)?;
-    run.core = start(alloc, 3, &["third"]).ok_or("start")?;
-    run.go(&rt, alloc, OF_ANOTHER)
+    check(&rt, alloc, start_dear(alloc), &[ELSEWHERE, OF_ANOTHER])
+}
+
+/// Whether a follower refuses what it is told of the last plan that was made, since it is out of order.
+fn is_out_of_order(run: &mut Run, follower: &mut Follower) -> Option<bool> {
+    let told = run.told()?;
+    let answer = follower.follow(&told);
+    Some(matches!(answer, Err(CoreError::Refused(Refusal::OutOfOrder))))
+}
+
+fn check_follower(
+    rt: &impl Abort,
+    alloc: Global,
+    run: &mut Run,
+    follower: &mut Follower,
+) -> Result<(), Fail> {
+    run.go(rt, alloc, ELSEWHERE)?;
+    let is_refused = is_out_of_order(run, follower).ok_or("told")?;
+    assert!(rt; is_refused);
+    Ok(())
+}
+
+/// The same with a follower of the machine as it is now.
+fn check_new_follower(rt: &impl Abort, alloc: Global, core: Core) -> Result<(), Fail> {
+    let mut follower = core.follower()?;
+    check_follower(rt, alloc, &mut Run::new(alloc, core), &mut follower)
 }
 
 /// A follower without a window replays no plan that was made in one.
 #[test]
 fn a_follower_replays_no_plan_before_a_window(rt: HostRuntime) -> Result<(), Fail> {
-    let alloc = rt.alloc();
-    let core = start(alloc, 3, &["third"]).ok_or("start")?;
-    let mut follower = core.follower()?;
-    let mut run = Run::new(alloc, core);
-    run.go(&rt, alloc, ELSEWHERE)?;
-    let told = run.told().ok_or("told")?;
-    let answer = follower.follow(&told);
-    assert!(rt; matches!(answer, Err(CoreError::Refused(Refusal::OutOfOrder))));
-    Ok(())
+    match start(rt.alloc(), 3, &["third"]) {
+        Some(core) => check_new_follower(&rt, rt.alloc(), core),
+        None => Err(Fail::from("start")),
+    }
 }
 
 /// Sets and headers of both chains, of which each client has stored height 1, and can be brought to
@@ -329,14 +360,17 @@ const OUTCOMES: &[Row] = &[
 #[test]
 fn keeps_what_was_settled(rt: HostRuntime) -> Result<(), Fail> {
     let alloc = rt.alloc();
-    let mut run = Run::new(alloc, start(alloc, 12, &[]).ok_or("start")?);
-    run.go(&rt, alloc, CHAINS)?;
-    run.go(&rt, alloc, RECEIVES)?;
-    run.go(&rt, alloc, OUTCOMES)
+    check(
+        &rt,
+        alloc,
+        start(alloc, 12, &[]),
+        &[CHAINS, RECEIVES, OUTCOMES],
+    )
 }
 
 /// A chain of which 1,024 sets were observed.
 const MORE_SETS: &[Row] = &[
+    (Deed::LoneSets(0, 1024), "Noted"),
     (Deed::Set(0, 0xa1), "406 Full"),
     (Deed::LoneSet(0, 1024), "406 Full"),
     (Deed::LoneSet(0, 1023), "Noted"),
@@ -346,16 +380,12 @@ const MORE_SETS: &[Row] = &[
 #[test]
 fn refuses_more_sets(rt: HostRuntime) -> Result<(), Fail> {
     let alloc = rt.alloc();
-    let mut run = Run::new(alloc, start(alloc, 12, &[]).ok_or("start")?);
-    for number in 0..1024 {
-        let text = run.act(&rt, alloc, Deed::LoneSet(0, number)).ok_or("set")?;
-        assert_same(&rt, &number, &text.as_str(), &"Noted");
-    }
-    run.go(&rt, alloc, MORE_SETS)
+    check(&rt, alloc, start(alloc, 12, &[]), &[MORE_SETS])
 }
 
 /// A path that has 4,096 packets.
 const FULL: &[Row] = &[
+    (Deed::Packets(0, 4096), "Noted"),
     (Deed::Sent(0, 4097, 5, 0), "406 Full"),
     (Deed::Sent(0, 4096, 5, 0), "804 Repeat"),
     (Deed::Sent(1, 4097, 5, 0), "Noted"),
@@ -364,18 +394,12 @@ const FULL: &[Row] = &[
 #[test]
 fn refuses_more_packets(rt: HostRuntime) -> Result<(), Fail> {
     let alloc = rt.alloc();
-    let mut run = Run::new(alloc, start(alloc, 12, &[]).ok_or("start")?);
-    for sequence in 1..4097 {
-        let text = run
-            .act(&rt, alloc, Deed::Sent(0, sequence, 5, 0))
-            .ok_or("sent")?;
-        assert_same(&rt, &sequence, &text.as_str(), &"Noted");
-    }
-    run.go(&rt, alloc, FULL)
+    check(&rt, alloc, start(alloc, 12, &[]), &[FULL])
 }
 
 /// The events before a log is full: some would be taken in again, and some refused.
 const NEARLY_FULL: &[Row] = &[
+    (Deed::Anew(3, &[]), ""),
     (Deed::Window(50, 60), "Noted"),
     (Deed::Set(0, 0xa1), "Noted"),
     (Deed::Header(0, 5, 50, 0xa1, THREE), "Noted"),
@@ -427,16 +451,20 @@ const LOG_FULL: &[Row] = &[
     (Deed::Settled(2, 1, 0), "801 UnknownObject"),
 ];
 
+/// What is refused once a log has a million events changes nothing.
+fn check_full_log(rt: &impl Abort, alloc: Global, run: &mut Run) -> Result<(), Fail> {
+    run.go_through(rt, alloc, &[FOREIGN, NEARLY_FULL])?;
+    run.fill(Deed::Window(50, 60), 1_000_000).ok_or("window")?;
+    run.go(rt, alloc, LOG_FULL)?;
+    assert!(rt; run.core.front() == 1_000_000);
+    Ok(())
+}
+
 /// A log of a million events takes no more.
 #[test]
 fn refuses_more_events(rt: HostRuntime) -> Result<(), Fail> {
-    let alloc = rt.alloc();
-    let mut run = Run::new(alloc, start(alloc, 3, &["third"]).ok_or("start")?);
-    run.go(&rt, alloc, FOREIGN)?;
-    run.core = start(alloc, 3, &[]).ok_or("start")?;
-    run.go(&rt, alloc, NEARLY_FULL)?;
-    run.fill(Deed::Window(50, 60), 1_000_000).ok_or("window")?;
-    run.go(&rt, alloc, LOG_FULL)?;
-    assert!(rt; run.core.front() == 1_000_000);
-    Ok(())
+    match start(rt.alloc(), 3, &["third"]) {
+        Some(core) => check_full_log(&rt, rt.alloc(), &mut Run::new(rt.alloc(), core)),
+        None => Err(Fail::from("start")),
+    }
 }

@@ -20,7 +20,7 @@ use std::test::Fail;
 
 /// What is done to a machine: chains, clients and paths by their places, times in seconds, and sets by
 /// the first byte of their first member's key.
-#[derive(Clone, Copy, Debug)]
+#[derive(Clone, Copy)]
 pub enum Deed {
     Window(u64, u64),
     /// The client is asked for this height at least.
@@ -50,6 +50,20 @@ pub enum Deed {
     /// Puts a copy of the machine aside, or goes on with the one that is there.
     Copy,
     Swap,
+    /// Goes on with a machine before its first event, of this limit and with these clients more.
+    Anew(usize, &'static [&'static str]),
+    /// So many lone sets, or packets, one after the other, up to the first one that isn't noted.
+    LoneSets(usize, u64),
+    Packets(usize, u64),
+}
+
+/// The one of several lone sets or packets that has this place.
+fn deed_at(deed: Deed, place: u64) -> Option<Deed> {
+    match deed {
+        Deed::LoneSets(chain, _) => Some(Deed::LoneSet(chain, u16::try_from(place).ok()?)),
+        Deed::Packets(path, _) => Some(Deed::Sent(path, place.saturating_add(1), 5, 0)),
+        _ => None,
+    }
 }
 
 /// What is done, and what comes out.
@@ -200,15 +214,13 @@ pub fn table_of(alloc: Global, book: &ChainBook) -> Result<Graph, AllocError>
     ensures { IfOk result (λ graph. graph ≡ book.now) }
 {
     let copy = book.copy()?;
-    let graph = Graph::from_book(alloc, copy)?;
-    Ok(graph)
+    Graph::from_book(alloc, copy)
 }
 
 /// What is planned for a job.
 pub fn draft_of(alloc: Global, job: JobView) -> Result<Draft, AllocError> {
     let graph = table_of(alloc, job.view().book())?;
-    let draft = draft(job, &graph)?;
-    Ok(draft)
+    draft(job, &graph)
 }
 
 impl Run {
@@ -293,18 +305,48 @@ impl Run {
         Told::of(&ready).ok()
     }
 
+    fn begin_anew(&mut self, limit: usize, more: &[&'static str]) -> Option<()> {
+        self.core = start(self.alloc, limit, more)?;
+        Some(())
+    }
+
+    /// Goes on with another machine, or with a copy beside this one.
+    fn change(&mut self, texts: Global, deed: Deed) -> Option<String> {
+        match deed {
+            Deed::Copy => self.put_copy_aside()?,
+            Deed::Swap => self.swap()?,
+            Deed::Anew(limit, more) => self.begin_anew(limit, more)?,
+            _ => return None,
+        }
+        Some(String::new(texts))
+    }
+
+    /// What comes of the last of so many, or of the first one that isn't noted.
+    fn enter_all(
+        &mut self,
+        rt: &impl Abort,
+        texts: Global,
+        deed: Deed,
+        count: u64,
+    ) -> Option<String> {
+        let mut last = String::new(texts);
+        for place in 0..count {
+            last = self.enter(rt, texts, deed_at(deed, place)?)?;
+            if last.as_str() != "Noted" {
+                break;
+            }
+        }
+        Some(last)
+    }
+
     /// What comes out where this is done; none where no memory is left.
     pub fn act(&mut self, rt: &impl Abort, texts: Global, deed: Deed) -> Option<String> {
         match deed {
             Deed::Scan(path, part) => self.scan(texts, path, part),
             Deed::Draft(client) => self.draft(texts, client),
-            Deed::Copy => {
-                self.put_copy_aside()?;
-                Some(String::new(texts))
-            }
-            Deed::Swap => {
-                self.swap()?;
-                Some(String::new(texts))
+            Deed::Copy | Deed::Swap | Deed::Anew(..) => self.change(texts, deed),
+            Deed::LoneSets(_, count) | Deed::Packets(_, count) => {
+                self.enter_all(rt, texts, deed, count)
             }
             _ => self.enter(rt, texts, deed),
         }
@@ -312,9 +354,22 @@ impl Run {
 
     /// Does all this, from which what is beside it comes out.
     pub fn go(&mut self, rt: &impl Abort, texts: Global, rows: &[Row]) -> Result<(), Fail> {
-        for (deed, wanted) in rows {
+        for (place, (deed, wanted)) in rows.iter().enumerate() {
             let text = self.act(rt, texts, *deed).ok_or("no answer")?;
-            assert_same(rt, deed, &text.as_str(), wanted);
+            assert_same(rt, place, text.as_str(), *wanted);
+        }
+        Ok(())
+    }
+
+    /// Does all this, table after table.
+    pub fn go_through(
+        &mut self,
+        rt: &impl Abort,
+        texts: Global,
+        tables: &[&[Row]],
+    ) -> Result<(), Fail> {
+        for rows in tables {
+            self.go(rt, texts, rows)?;
         }
         Ok(())
     }

@@ -3,10 +3,10 @@
 use crate::make::assert_same;
 use crate::run::{Deed, draft_of, event_of, learn, offer, start, table_of};
 use crate::tell::{answer_text, reply_text};
-use crossbeam_utils::sync::Parker;
+use crossbeam_utils::sync::{Parker, Unparker};
 use rb_base::{OpenGate, Part, WorkItem};
 use rb_board::{Desk, Note, open};
-use rb_book::Vote;
+use rb_book::{ChainBook, Vote};
 use rb_core::Core;
 use rb_core_model::{Event, scan};
 use rb_graph::SharedGraph;
@@ -45,8 +45,19 @@ fn make_core(alloc: Global, events: usize) -> Option<Core> {
     make_core_of(alloc, EVENTS.get(..events)?)
 }
 
+fn shared_table_of(alloc: Global, book: &ChainBook) -> Option<SharedGraph> {
+    let graph = table_of(alloc, book).ok()?;
+    SharedGraph::new(alloc, graph).ok()
+}
+
+/// The table of the light store that a core shows a client.
+fn shared_table(alloc: Global, core: &Core, client: usize) -> Option<SharedGraph> {
+    let job = core.client_view(client).ok()?;
+    shared_table_of(alloc, job.view().book())
+}
+
 /// What a worker is told to do: a part of a path, or a client.
-#[derive(Clone, Copy, Debug, PartialEq, Eq)]
+#[derive(Clone, Copy)]
 enum Job {
     Scan(usize, Part),
     Plan(usize),
@@ -66,16 +77,11 @@ impl Job {
         };
         match self {
             Job::Scan(path, part) => Some(Order::Scan { path, part, note }),
-            Job::Plan(client) => {
-                let job = core.client_view(client).ok()?;
-                let graph = table_of(alloc, job.view().book()).ok()?;
-                let graph = SharedGraph::new(alloc, graph).ok()?;
-                Some(Order::Plan {
-                    client,
-                    note,
-                    graph,
-                })
-            }
+            Job::Plan(client) => Some(Order::Plan {
+                client,
+                note,
+                graph: shared_table(alloc, core, client)?,
+            }),
         }
     }
 
@@ -107,7 +113,7 @@ impl Job {
 }
 
 /// What is put into a lane.
-#[derive(Clone, Copy, Debug)]
+#[derive(Clone, Copy)]
 enum Put {
     /// What is found of the job, by the core as it was when the job was ordered.
     Right(Job),
@@ -120,7 +126,7 @@ enum Put {
 }
 
 /// What a test does, and what comes of it.
-#[derive(Clone, Copy, Debug)]
+#[derive(Clone, Copy)]
 enum Step {
     Order(Job),
     /// Puts it into the lane of this worker.
@@ -150,11 +156,16 @@ struct Fakes {
     second: Ends,
 }
 
+fn make_unparker(alloc: Global) -> Option<Unparker> {
+    let parker = Parker::new(alloc).ok()?;
+    parker.unparker().clone().ok()
+}
+
 /// A worker that does nothing, with the other ends of its lanes.
 fn make_worker<R: Threads>(rt: &R, alloc: Global) -> Option<(Worker, Ends)> {
     let (ordered, orders) = lane(alloc, 64).ok()?;
     let (findings, found) = lane(alloc, 64).ok()?;
-    let unparker = Parker::new(alloc).ok()?.unparker().clone().ok()?;
+    let unparker = make_unparker(alloc)?;
     let thread = thread::spawn(rt, || ()).ok()?;
     let worker = Worker::over(ordered, found, unparker, thread);
     Some((worker, Ends { orders, findings }))
@@ -228,6 +239,13 @@ impl Fakes {
         }
     }
 
+    /// What is replied to what was found of the job is this.
+    fn take_as<R: Abort>(&mut self, rt: &R, job: Job, wanted: &'static str) -> Option<()> {
+        let told = self.take(rt, job)?;
+        assert_same(rt, "taken", told.as_str(), wanted);
+        Some(())
+    }
+
     fn act<R: Wait + Abort>(&mut self, rt: &R, step: Step) -> Option<()> {
         match step {
             Step::Order(job) => self.order(rt, job),
@@ -236,27 +254,23 @@ impl Fakes {
                 self.team.wait_for(rt, &mut self.inbox, job.item());
                 Some(())
             }
-            Step::Take(job, wanted) => {
-                let told = self.take(rt, job)?;
-                assert_same(rt, &step, &told.as_str(), &wanted);
-                Some(())
-            }
+            Step::Take(job, wanted) => self.take_as(rt, job, wanted),
             Step::Finish(ends_well) => {
                 let finished = self.team.finish(rt, &mut self.inbox);
-                assert_same(rt, &step, &finished.is_ok(), &ends_well);
+                assert_same(rt, "finished", finished.is_ok(), ends_well);
                 Some(())
             }
         }
     }
 
-    /// Does all this; tells whether it could be done.
-    fn go<R: Wait + Abort>(&mut self, rt: &R, steps: &[Step]) -> bool {
-        for step in steps {
+    /// Does all this; answers how much could be done.
+    fn go<R: Wait + Abort>(&mut self, rt: &R, steps: &[Step]) -> usize {
+        for (place, step) in steps.iter().enumerate() {
             if self.act(rt, *step).is_none() {
-                return false;
+                return place;
             }
         }
-        true
+        steps.len()
     }
 
     /// Ends the team; tells how many orders came through each lane.
@@ -365,9 +379,12 @@ const ODD: &[Step] = &[
 #[test]
 fn odd_findings_change_nothing(rt: HostRuntime) -> Result<(), Fail> {
     let mut fakes = Fakes::make(&rt, rt.alloc()).ok_or("team")?;
-    let is_done = fakes.go(&rt, ODD);
+    let done = fakes.go(&rt, ODD);
     let ordered = fakes.end(&rt);
-    assert!(rt; is_done && ordered == (6, 5), "{ordered:?}");
+    assert!(rt;
+        done == ODD.len() && ordered == (6, 5),
+        "{done} {ordered:?}"
+    );
     Ok(())
 }
 
@@ -399,8 +416,13 @@ const ORDERS: &[[usize; 4]] = &[
     [3, 2, 1, 0],
 ];
 
-/// The parts of the paths, whose findings are taken in in this order.
-const SCANS: &[Job] = &[PACKETS, CHANNEL, OTHER_PACKETS, OTHER_CHANNEL];
+/// The parts of the paths, whose findings are taken in in this order, and what is replied to them.
+const SCANS: &[(Job, &str)] = &[
+    (PACKETS, "Noted"),
+    (CHANNEL, "Noted"),
+    (OTHER_PACKETS, "Noted"),
+    (OTHER_CHANNEL, "Noted"),
+];
 
 /// The plans, and what is replied to them.
 const PLANS: &[(Job, &str)] = &[(Job::Plan(0), "Opened(1)"), (Job::Plan(1), "Noted")];
@@ -414,38 +436,54 @@ impl Fakes {
     }
 
     /// Takes in what was found of a job, once.
-    fn take_once<R: Wait + Abort>(&mut self, rt: &R, job: Job, wanted: &'static str) -> Option<()> {
-        self.act(rt, Step::Take(job, wanted))?;
-        self.act(rt, Step::Take(job, "nothing"))
+    fn take_once<R: Abort>(&mut self, rt: &R, job: Job, wanted: &'static str) -> Option<()> {
+        self.take_as(rt, job, wanted)?;
+        self.take_as(rt, job, "nothing")
+    }
+
+    fn order_all<R: Wait>(&mut self, rt: &R, jobs: &[(Job, &'static str)]) -> Option<()> {
+        for (job, _) in jobs {
+            self.order(rt, *job)?;
+        }
+        Some(())
+    }
+
+    /// Finds the scans with these places, one after the other.
+    fn find_scans<R: Wait + Abort>(&mut self, rt: &R, order: &[usize]) -> Option<()> {
+        for place in order {
+            let (job, _) = SCANS.get(*place)?;
+            self.find(rt, *job)?;
+        }
+        Some(())
+    }
+
+    /// Finds the second plan first or not.
+    fn find_plans<R: Wait + Abort>(&mut self, rt: &R, is_swapped: bool) -> Option<()> {
+        self.find(rt, Job::Plan(usize::from(is_swapped)))?;
+        self.find(rt, Job::Plan(usize::from(!is_swapped)))
+    }
+
+    /// Takes the jobs in, once all that was ordered has come to an end.
+    fn take_all<R: Wait + Abort>(&mut self, rt: &R, jobs: &[(Job, &'static str)]) -> Option<()> {
+        self.act(rt, Step::Finish(true))?;
+        for (job, wanted) in jobs {
+            self.take_once(rt, *job, wanted)?;
+        }
+        Some(())
     }
 
     /// Orders the scans, finds them in this order, and takes them in.
     fn scan_all<R: Wait + Abort>(&mut self, rt: &R, order: &[usize]) -> Option<()> {
-        for job in SCANS {
-            self.order(rt, *job)?;
-        }
-        for place in order {
-            self.find(rt, *SCANS.get(*place)?)?;
-        }
-        self.act(rt, Step::Finish(true))?;
-        for job in SCANS {
-            self.take_once(rt, *job, "Noted")?;
-        }
-        Some(())
+        self.order_all(rt, SCANS)?;
+        self.find_scans(rt, order)?;
+        self.take_all(rt, SCANS)
     }
 
     /// Orders the plans, finds the second one first or not, and takes them in.
     fn plan_all<R: Wait + Abort>(&mut self, rt: &R, is_swapped: bool) -> Option<()> {
-        for (job, _) in PLANS {
-            self.order(rt, *job)?;
-        }
-        self.find(rt, Job::Plan(usize::from(is_swapped)))?;
-        self.find(rt, Job::Plan(usize::from(!is_swapped)))?;
-        self.act(rt, Step::Finish(true))?;
-        for (job, wanted) in PLANS {
-            self.take_once(rt, *job, *wanted)?;
-        }
-        Some(())
+        self.order_all(rt, PLANS)?;
+        self.find_plans(rt, is_swapped)?;
+        self.take_all(rt, PLANS)
     }
 
     fn run<R: Wait + Abort>(&mut self, rt: &R, order: &[usize]) -> bool {
@@ -477,14 +515,24 @@ const ASKED: &[Deed] = &[
 /// The set alone.
 const WITHOUT_HEADERS: &[Deed] = &[Deed::Set(0, 0xa1), Deed::Window(200, 200)];
 
-/// What a worker that looks at this desk plans for the client, by the table of a light store without headers.
-fn plan_by_older_table(alloc: Global, desk: &mut Desk) -> Option<String> {
-    let older = make_core_of(alloc, WITHOUT_HEADERS)?;
-    let order = Job::Plan(0).order(alloc, &older)?;
-    match work(alloc, desk, order, &OpenGate)? {
+/// The plan that was found, as text.
+fn plan_text_of(alloc: Global, finding: Option<Finding>) -> Option<String> {
+    match finding? {
         Finding::Planned(draft) => answer_text(alloc, draft.answer()).ok(),
         _ => None,
     }
+}
+
+/// What a worker that looks at this desk plans for the client, by the table of this core.
+fn plan_by_table_of(alloc: Global, desk: &mut Desk, core: &Core) -> Option<String> {
+    let order = Job::Plan(0).order(alloc, core)?;
+    plan_text_of(alloc, work(alloc, desk, order, &OpenGate))
+}
+
+/// The same by the table of a light store without headers.
+fn plan_by_older_table(alloc: Global, desk: &mut Desk) -> Option<String> {
+    let older = make_core_of(alloc, WITHOUT_HEADERS)?;
+    plan_by_table_of(alloc, desk, &older)
 }
 
 /// What a worker plans so on the board of a core.
@@ -500,12 +548,15 @@ fn plan_on_board<R: Wait>(rt: &R, alloc: Global, core: Core) -> Option<String> {
 
 #[test]
 fn a_worker_plans_by_no_other_table(rt: HostRuntime) -> Result<(), Fail> {
-    let alloc = rt.alloc();
-    let core = make_core_of(alloc, ASKED).ok_or("core")?;
-    let text = plan_on_board(&rt, alloc, core).ok_or("plan")?;
-    assert!(rt;
-        text.as_str() == "at least 5 | 7<1 | batch 7: 0+1 111",
-        "{text}"
+    let text = match make_core_of(rt.alloc(), ASKED) {
+        Some(core) => plan_on_board(&rt, rt.alloc(), core).ok_or("plan")?,
+        None => return Err(Fail::from("core")),
+    };
+    assert_same(
+        &rt,
+        "plan",
+        text.as_str(),
+        "at least 5 | 7<1 | batch 7: 0+1 111",
     );
     Ok(())
 }

@@ -1,6 +1,7 @@
 //! What the machine answers, as text.
 use rb_core_model::{Reply, Scan};
-use rb_plan_client::{Message, Planned, Sending};
+use rb_plan::Update;
+use rb_plan_client::{Batch, Message, Plan, Planned, Sending};
 use rb_scan::PacketMsg;
 use rb_script_types::{Goal, Refusal};
 use std::alloc::{AllocError, Global};
@@ -17,37 +18,53 @@ fn message_text(alloc: Global, message: &Message) -> Result<String, AllocError> 
     format!(in alloc; "{:?} {path} {} {gas}", packet.kind, packet.sequence)
 }
 
+fn batch_text(alloc: Global, batch: &Batch) -> Result<String, AllocError> {
+    let mut text = format!(in alloc; " | batch {}:", batch.proof())?;
+    for (place, sent) in batch.transactions().iter().enumerate() {
+        let comma = if place == 0 { "" } else { "," };
+        let part = format!(in alloc; "{comma} {}+{} {}", sent.first, sent.count, sent.gas)?;
+        text.push_str(part.as_str())?;
+    }
+    Ok(text)
+}
+
 fn sending_text(alloc: Global, sending: &Sending) -> Result<String, AllocError> {
     match sending {
         Sending::Nothing => format!(in alloc; " | nothing"),
         Sending::TooBig(index) => format!(in alloc; " | too big {index}"),
-        Sending::Batched(batch) => {
-            let mut text = format!(in alloc; " | batch {}:", batch.proof())?;
-            for (place, sent) in batch.transactions().iter().enumerate() {
-                let comma = if place == 0 { "" } else { "," };
-                let part = format!(in alloc; "{comma} {}+{} {}", sent.first, sent.count, sent.gas)?;
-                text.push_str(part.as_str())?;
-            }
-            Ok(text)
-        }
+        Sending::Batched(batch) => batch_text(alloc, batch),
     }
+}
+
+fn push_updates(alloc: Global, text: &mut String, updates: &[Update]) -> Result<(), AllocError> {
+    for update in updates {
+        let (to, from) = (update.height(), update.trusted());
+        text.push_str(format!(in alloc; " | {to}<{from}")?.as_str())?;
+    }
+    Ok(())
+}
+
+fn push_messages(alloc: Global, text: &mut String, messages: &[Message]) -> Result<(), AllocError> {
+    for message in messages {
+        text.push_str(" | ")?;
+        text.push_str(message_text(alloc, message)?.as_str())?;
+    }
+    Ok(())
+}
+
+fn push_plan(alloc: Global, text: &mut String, plan: &Plan) -> Result<(), AllocError> {
+    push_updates(alloc, text, plan.updates())?;
+    push_messages(alloc, text, plan.messages())?;
+    let sending = sending_text(alloc, plan.sending())?;
+    text.push_str(sending.as_str())
 }
 
 fn planned_text(alloc: Global, planned: &Planned) -> Result<String, AllocError> {
     let mut text = goal_text(alloc, planned.goal())?;
-    let Some(plan) = planned.plan() else {
-        text.push_str(" | unreachable")?;
-        return Ok(text);
-    };
-    for update in plan.updates() {
-        let (to, from) = (update.height(), update.trusted());
-        text.push_str(format!(in alloc; " | {to}<{from}")?.as_str())?;
+    match planned.plan() {
+        Some(plan) => push_plan(alloc, &mut text, plan)?,
+        None => text.push_str(" | unreachable")?,
     }
-    for message in plan.messages() {
-        text.push_str(" | ")?;
-        text.push_str(message_text(alloc, message)?.as_str())?;
-    }
-    text.push_str(sending_text(alloc, plan.sending())?.as_str())?;
     Ok(text)
 }
 
