@@ -338,7 +338,7 @@ fn check_verdict(
     verdict: Judgement,
 ) -> Result<(), AllocError> {
     let text = to_text(alloc, verdict)?;
-    assert_same(rt, &case.name, &text.as_str(), &case.verdict);
+    assert_same(rt, case.name, text.as_str(), case.verdict);
     Ok(())
 }
 

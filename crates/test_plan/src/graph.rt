@@ -183,7 +183,7 @@ const LEVELS: &[(u64, &[Step])] = &[
 ];
 
 fn same_steps(rt: &impl Abort, row: u64, steps: &[Step], wanted: &[Step]) {
-    assert_same(rt, &row, &steps, &wanted);
+    assert_same(rt, row, steps, wanted);
 }
 
 /// The table and the verifier tell these steps at a trust level.

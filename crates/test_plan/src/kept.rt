@@ -100,7 +100,7 @@ fn steps_anew(alloc: Global, graph: &Graph, level: u64) -> Result<Vec<Step>, Fai
 }
 
 fn same_steps(rt: &impl Abort, steps: &[Step], wanted: &[Step]) {
-    assert_same(rt, &wanted.len(), &steps, &wanted);
+    assert_same(rt, wanted.len(), steps, wanted);
 }
 
 /// A table has these steps, as the one that is made of its book has.
@@ -190,7 +190,7 @@ fn add_set_both(
 ) -> Result<(), Fail> {
     let given = graph.add_set(make_set(alloc, set)?);
     let wanted = book.add_set(make_set(alloc, set)?);
-    assert_same(rt, &"set", &given, &wanted);
+    assert_same(rt, "set", given, wanted);
     Ok(())
 }
 
@@ -204,7 +204,7 @@ fn add_record_both(
 ) -> Result<(), Fail> {
     let (place, record) = (height(at)?, record_at(at, next)?);
     let given = graph.add_record(place, record);
-    assert_same(rt, &at, &given, &book.add_record(place, record));
+    assert_same(rt, at, given, book.add_record(place, record));
     Ok(())
 }
 
@@ -216,7 +216,7 @@ fn add_header_both(
     header: Header,
 ) -> Result<(), Fail> {
     let given = graph.add_header(header.copy()?);
-    assert_same(rt, &"header", &given, &book.add_header(header));
+    assert_same(rt, "header", given, book.add_header(header));
     Ok(())
 }
 
@@ -249,9 +249,10 @@ fn check_table(
     book: &ChainBook,
     step: usize,
 ) -> Result<(), Fail> {
-    assert_same(rt, &step, &graph.is_of(book), &true);
+    assert_same(rt, step, graph.is_of(book), true);
     let told = steps_of(alloc, graph, 60)?;
-    assert_same(rt, &step, &told, &steps_anew(alloc, graph, 60)?);
+    let anew = steps_anew(alloc, graph, 60)?;
+    assert_same(rt, step, told.as_slice(), anew.as_slice());
     Ok(())
 }
 

@@ -227,7 +227,7 @@ fn check_text(
     row: &Row,
 ) -> Result<(), AllocError> {
     let text = to_text(alloc, answer)?;
-    assert_same(rt, &row.number, &text.as_str(), &row.text);
+    assert_same(rt, row.number, text.as_str(), row.text);
     Ok(())
 }
 
@@ -241,7 +241,7 @@ fn check_answer(
 ) -> Result<(), Fail> {
     check_text(rt, alloc, answer, row)?;
     check_text(rt, alloc, &answer.copy()?, row)?;
-    assert_same(rt, &row.text, &proof_of(view, answer), &row.proof);
+    assert_same(rt, row.text, proof_of(view, answer), row.proof);
     Ok(())
 }
 
@@ -341,14 +341,14 @@ fn plans_by_fee_then_height(rt: HostRuntime) -> Result<(), Fail> {
 }
 
 fn check_label(rt: &impl Abort, labelling: &Labelling, at: Height, wanted: Option<Cost>) {
-    assert_same(rt, &at, &labelling.get(at), &wanted);
+    assert_same(rt, at, labelling.get(at), wanted);
 }
 
 fn check_labelling(rt: &impl Abort, labelling: &Labelling) -> Result<(), Fail> {
     let seven = Some(Cost { fee: 224, count: 2 });
     check_label(rt, labelling, height(7)?, seven);
     check_label(rt, labelling, height(4)?, None);
-    assert_same(rt, &"top", &top_reachable(labelling), &Some(height(10)?));
+    assert_same(rt, "top", top_reachable(labelling), Some(height(10)?));
     Ok(())
 }
 
@@ -368,7 +368,7 @@ fn check_labels(
 fn check_gas(rt: &impl Abort, view: &ClientView) -> Result<(), Fail> {
     let gas = FeeTable::new(1_000, 0, 3)?;
     let update = Update::new(height(5)?, height(1)?);
-    assert_same(rt, &"gas", &gas_of(view, &gas, &update), &1_312);
+    assert_same(rt, "gas", gas_of(view, &gas, &update), 1_312);
     Ok(())
 }
 
