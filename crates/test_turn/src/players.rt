@@ -9,16 +9,16 @@ use rb_base::{Counted, Gate, OpenGate, Part, WorkItem};
 use rb_board::Desk;
 use rb_script_read::read_script;
 use rb_super::run_by_team;
-use rb_super_turn::Crew;
+use rb_super_turn::{Crew, Report};
 use rb_super_worker::{Finding, Findings, Order, Orders, Team, Worker, work};
 use rb_text::write_report;
-use rb_wire::lane;
+use rb_wire::{Rx, Tx, lane};
 use std::alloc::{AllocError, Global};
 use std::process::Abort;
 use std::sync::atomic::{AtomicU64, Ordering};
 use std::sync::{Arc, Wait};
 use std::test::Fail;
-use std::thread::Threads;
+use std::thread::{JoinHandle, Threads};
 use std::{mem, thread};
 
 /// Counts the scans and the plans that begin.
@@ -61,7 +61,7 @@ impl Gate for Jobs {
 }
 
 /// What a player does once it has its orders of a turn's scans, or of its plans.
-#[derive(Clone, Copy, Debug)]
+#[derive(Clone, Copy)]
 enum Deed {
     /// Hands over what is found of the job with this number in the way's order.
     Find(usize),
@@ -81,7 +81,7 @@ enum Deed {
 }
 
 /// What a player does with so many scans, once they were ordered, and with so many plans; in which order it takes them.
-#[derive(Clone, Copy, Debug)]
+#[derive(Clone, Copy)]
 struct Way {
     order: &'static [usize],
     scans: usize,
@@ -182,32 +182,51 @@ impl Player {
         Some(())
     }
 
+    /// Hands over what is found of a job.
+    fn find_and_hand_over(&mut self, number: usize) -> Option<()> {
+        let finding = self.find(number)?;
+        self.hand_over(finding)
+    }
+
+    /// Hands over what is found of a scan, as one of the other path.
+    fn forge_and_hand_over(&mut self, number: usize) -> Option<()> {
+        let finding = self.find(number)?;
+        self.hand_over(forged(finding))
+    }
+
+    fn hand_over_unseen(&mut self, number: usize) -> Option<()> {
+        let item = item_of(self.job(number)?);
+        self.hand_over(Finding::Unseen(item))
+    }
+
+    fn hand_over_old_scans(&mut self) -> Option<()> {
+        let old = mem::replace(&mut self.old_scans, Vec::new(self.alloc));
+        self.hand_over_all(old)
+    }
+
+    fn hand_over_old_plans(&mut self) -> Option<()> {
+        let old = mem::replace(&mut self.old_plans, Vec::new(self.alloc));
+        self.hand_over_all(old)
+    }
+
     fn act(&mut self, deed: Deed) -> Option<()> {
         match deed {
-            Deed::Find(number) => {
-                let finding = self.find(number)?;
-                self.hand_over(finding)
-            }
-            Deed::Forge(number) => {
-                let finding = self.find(number)?;
-                self.hand_over(forged(finding))
-            }
-            Deed::Unseen(number) => {
-                let item = item_of(self.job(number)?);
-                self.hand_over(Finding::Unseen(item))
-            }
+            Deed::Find(number) => self.find_and_hand_over(number),
+            Deed::Forge(number) => self.forge_and_hand_over(number),
+            Deed::Unseen(number) => self.hand_over_unseen(number),
             Deed::Short(item) => self.hand_over(Finding::Short(item)),
             Deed::Keep => self.keep(),
-            Deed::StaleScans => {
-                let old = mem::replace(&mut self.old_scans, Vec::new(self.alloc));
-                self.hand_over_all(old)
-            }
-            Deed::StalePlans => {
-                let old = mem::replace(&mut self.old_plans, Vec::new(self.alloc));
-                self.hand_over_all(old)
-            }
+            Deed::StaleScans => self.hand_over_old_scans(),
+            Deed::StalePlans => self.hand_over_old_plans(),
             Deed::Leave => None,
         }
+    }
+
+    fn act_all(&mut self, deeds: &[Deed]) -> Option<()> {
+        for deed in deeds {
+            self.act(*deed)?;
+        }
+        Some(())
     }
 
     /// Takes an order in; with the last one of the scans, or of the plans, it does what it is to do.
@@ -221,9 +240,7 @@ impl Player {
         if self.jobs.len() < count {
             return Some(());
         }
-        for deed in deeds {
-            self.act(*deed)?;
-        }
+        self.act_all(deeds)?;
         self.jobs.clear();
         Some(())
     }
@@ -257,6 +274,42 @@ fn play<R: Wait>(rt: &R, player: Player) {
     }
 }
 
+fn make_player(alloc: Global, desk: Desk, orders: Orders, findings: Findings, way: Way) -> Player {
+    Player {
+        alloc,
+        desk,
+        orders,
+        findings,
+        way,
+        jobs: Vec::new(alloc),
+        old_scans: Vec::new(alloc),
+        old_plans: Vec::new(alloc),
+    }
+}
+
+/// Lets a player play in a thread of its own.
+fn spawn_player<R: Wait + Threads + Copy + Send + 'static>(
+    rt: &R,
+    player: Player,
+) -> Result<JoinHandle<()>, AllocError> {
+    let runtime = *rt;
+    thread::spawn(rt, move || play(&runtime, player)).map_err(|_| AllocError)
+}
+
+/// A lane for one order, with its player's end.
+fn make_orders(alloc: Global) -> Result<(Tx<Order>, Orders), AllocError> {
+    let (ordered, lane) = lane(alloc, 1)?;
+    let parker = Parker::new(alloc)?;
+    Ok((ordered, Orders { lane, parker }))
+}
+
+/// A lane for 32 findings, with its player's end, which wakes the supervisor by this.
+fn make_findings(alloc: Global, home: &Unparker) -> Result<(Findings, Rx<Finding>), AllocError> {
+    let (lane, findings) = lane(alloc, 32)?;
+    let unparker = home.clone()?;
+    Ok((Findings { lane, unparker }, findings))
+}
+
 /// Starts a player, which wakes the supervisor by this. One order and 32 findings lie in its lanes.
 fn start_player<R: Wait + Threads + Copy + Send + 'static>(
     rt: &R,
@@ -265,28 +318,11 @@ fn start_player<R: Wait + Threads + Copy + Send + 'static>(
     home: &Unparker,
     way: Way,
 ) -> Result<Worker, AllocError> {
-    let (ordered, orders) = lane(alloc, 1)?;
-    let (found, findings) = lane(alloc, 32)?;
-    let parker = Parker::new(alloc)?;
-    let unparker = parker.unparker().clone()?;
-    let player = Player {
-        alloc,
-        desk,
-        orders: Orders {
-            lane: orders,
-            parker,
-        },
-        findings: Findings {
-            lane: found,
-            unparker: home.clone()?,
-        },
-        way,
-        jobs: Vec::new(alloc),
-        old_scans: Vec::new(alloc),
-        old_plans: Vec::new(alloc),
-    };
-    let runtime = *rt;
-    let thread = thread::spawn(rt, move || play(&runtime, player)).map_err(|_| AllocError)?;
+    let (ordered, orders) = make_orders(alloc)?;
+    let (found, findings) = make_findings(alloc, home)?;
+    let unparker = orders.parker.unparker().clone()?;
+    let player = make_player(alloc, desk, orders, found, way);
+    let thread = spawn_player(rt, player)?;
     Ok(Worker::over(ordered, findings, unparker, thread))
 }
 
@@ -307,6 +343,15 @@ fn start_team<R: Wait + Threads + Copy + Send + 'static>(
     Ok(Team::over(alloc, workers, gate, home))
 }
 
+/// The text of a report.
+fn text_of(alloc: Global, report: &Report) -> Result<String, Fail> {
+    let mut writer = Counted::new(Vec::new(alloc));
+    if write_report(alloc, report, &mut writer).is_err() {
+        return Err(Fail::from("write"));
+    }
+    Ok(String::from_utf8_lossy(alloc, writer.into_inner().as_slice())?)
+}
+
 /// The script's report with so many desks, by the team that is started for them; the crew's gate is of the supervisor's jobs.
 fn report_by<R, F>(
     crew: &Crew<R, Jobs>,
@@ -322,9 +367,7 @@ where
 {
     let script = read_script(alloc, BATCHES.as_bytes())?;
     let report = run_by_team(crew, alloc, script, desks, start)?;
-    let mut writer = Counted::new(Vec::new(alloc));
-    write_report(alloc, &report, &mut writer).map_err(|_| Fail::from("write"))?;
-    Ok(String::from_utf8_lossy(alloc, writer.into_inner().as_slice())?)
+    text_of(alloc, &report)
 }
 
 /// Whether the report is the script's where players work in these ways, one or two of them, and how many scans and plans
@@ -539,9 +582,9 @@ const ROWS: &[(&[Way], (u64, u64))] = &[
 
 #[test]
 fn reports_do_not_go_by_what_is_found(rt: HostRuntime) -> Result<(), Fail> {
-    for (ways, own) in ROWS {
+    for (row, (ways, own)) in ROWS.iter().enumerate() {
         let given = run(&rt, rt.alloc(), *ways)?;
-        assert!(rt; given == (true, *own), "{ways:?}: {given:?}");
+        assert!(rt; given == (true, *own), "{row}: {given:?}");
     }
     Ok(())
 }

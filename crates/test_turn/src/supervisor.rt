@@ -6,10 +6,10 @@ use rb_core::Core;
 use rb_core_model::{CoreError, Entry, Event};
 use rb_plan_client::Draft;
 use rb_script_read::read_script;
-use rb_script_types::{Goal, Observation, Script, Turn};
+use rb_script_types::{Goal, Observation, Refusal, Script, Settlement, Turn};
 use rb_super::Supervisor;
 use rb_super_turn::Crew;
-use std::alloc::Global;
+use std::alloc::{AllocError, Global};
 use std::process::Abort;
 use std::test::Fail;
 use std::thread::Threads;
@@ -135,8 +135,24 @@ fn log_of(alloc: Global, core: &Core) -> Result<String, Fail> {
     Ok(words)
 }
 
+/// The line of what is refused.
+fn refused_line(
+    alloc: Global,
+    what: &str,
+    number: usize,
+    refusal: Refusal,
+) -> Result<String, AllocError> {
+    if what == "window" {
+        format!(in alloc; "refused window {refusal}\n")
+    } else {
+        format!(in alloc; "refused {what} {number} {refusal}\n")
+    }
+}
+
 /// How many events a core has taken in, headers the first client's chain has, and packets the first path.
-fn shown(core: &Core) -> (usize, usize, usize) {
+type Shown = (usize, usize, usize);
+
+fn shown(core: &Core) -> Shown {
     let headers = match core.client_view(0) {
         Ok(job) => job.view().book().headers().len(),
         Err(_) => 0,
@@ -162,6 +178,25 @@ impl Run {
         Ok(())
     }
 
+    /// What was taken in is one event more.
+    fn check_taken(&self, rt: &impl Abort, what: &str, before: Shown) {
+        let front = before.0.saturating_add(1);
+        assert!(rt; shown(self.supervisor.core()).0 == front, "{what}");
+    }
+
+    /// What was refused has changed nothing, and is told.
+    fn note_refused(
+        &mut self,
+        rt: &impl Abort,
+        (what, number): (&str, usize),
+        before: Shown,
+        refusal: Refusal,
+    ) -> Result<(), Fail> {
+        assert!(rt; shown(self.supervisor.core()) == before, "{what}");
+        let line = refused_line(self.alloc, what, number, refusal)?;
+        self.tell(line.as_str())
+    }
+
     /// Takes an event in. Where it is refused nothing has changed, and that is told.
     fn enter(
         &mut self,
@@ -173,21 +208,36 @@ impl Run {
         let before = shown(self.supervisor.core());
         match self.supervisor.take_in(event) {
             Ok(_) => {
-                let front = before.0.saturating_add(1);
-                assert!(rt; shown(self.supervisor.core()).0 == front, "{what}");
+                self.check_taken(rt, what, before);
                 Ok(())
             }
             Err(CoreError::Refused(refusal)) => {
-                assert!(rt; shown(self.supervisor.core()) == before, "{what}");
-                let line = if what == "window" {
-                    format!(in self.alloc; "refused window {refusal}\n")?
-                } else {
-                    format!(in self.alloc; "refused {what} {number} {refusal}\n")?
-                };
-                self.tell(line.as_str())
+                self.note_refused(rt, (what, number), before, refusal)
             }
             Err(CoreError::NoMemory) => Err(Fail::from("no memory")),
         }
+    }
+
+    fn enter_events(&mut self, rt: &impl Abort, events: Vec<Observation>) -> Result<(), Fail> {
+        let mut number: usize = 0;
+        for event in events {
+            self.enter(rt, "event", number, Event::Observed(event))?;
+            number = number.saturating_add(1);
+        }
+        Ok(())
+    }
+
+    fn enter_settlements(
+        &mut self,
+        rt: &impl Abort,
+        settlements: Vec<Settlement>,
+    ) -> Result<(), Fail> {
+        let mut number: usize = 0;
+        for settlement in settlements {
+            self.enter(rt, "settle", number, Event::Settled(settlement))?;
+            number = number.saturating_add(1);
+        }
+        Ok(())
     }
 
     fn enter_turn(&mut self, rt: &impl Abort, turn: Turn) -> Result<(), Fail> {
@@ -198,48 +248,58 @@ impl Run {
             ..
         } = turn;
         self.enter(rt, "window", 0, Event::Window(window))?;
+        self.enter_events(rt, events)?;
+        self.enter_settlements(rt, settlements)
+    }
+
+    fn tell_number(&mut self, number: usize) -> Result<(), Fail> {
+        let line = format!(in self.alloc; "turn {number}\n")?;
+        self.tell(line.as_str())
+    }
+
+    fn enter_turns(&mut self, rt: &impl Abort, turns: Vec<Turn>) -> Result<(), Fail> {
         let mut number: usize = 0;
-        for event in events {
-            self.enter(rt, "event", number, Event::Observed(event))?;
+        for turn in turns {
             number = number.saturating_add(1);
-        }
-        let mut number: usize = 0;
-        for settlement in settlements {
-            self.enter(rt, "settle", number, Event::Settled(settlement))?;
-            number = number.saturating_add(1);
+            self.tell_number(number)?;
+            self.enter_turn(rt, turn)?;
         }
         Ok(())
     }
+
+    /// What was refused, and what its log tells then.
+    fn end(self) -> Result<(String, String), Fail> {
+        let Run {
+            alloc,
+            supervisor,
+            refused,
+        } = self;
+        let log = log_of(alloc, &supervisor.stop())?;
+        Ok((refused, log))
+    }
+}
+
+fn check_turns(rt: &impl Abort, run: Run, turns: Vec<Turn>) -> Result<(), Fail> {
+    let mut run = run;
+    run.enter_turns(rt, turns)?;
+    let (refused, log) = run.end()?;
+    assert!(rt;
+        refused.as_str() == REFUSED && log.as_str() == LOG,
+        "{log} {refused}"
+    );
+    Ok(())
 }
 
 #[test]
 fn supervisor_refuses_in_order(rt: HostRuntime) -> Result<(), Fail> {
     let alloc = rt.alloc();
     let Script { config, turns } = read_script(alloc, EVENTS.as_bytes())?;
-    let mut run = Run {
+    let run = Run {
         alloc,
         supervisor: Supervisor::new(alloc, config)?,
         refused: String::new(alloc),
     };
-    let mut number: usize = 0;
-    for turn in turns {
-        number = number.saturating_add(1);
-        run.tell(format!(in alloc; "turn {number}\n")?.as_str())?;
-        run.enter_turn(&rt, turn)?;
-    }
-    let Run {
-        supervisor,
-        refused,
-        ..
-    } = run;
-    let log = log_of(alloc, &supervisor.stop())?;
-    assert!(rt;
-        refused.as_str() == REFUSED && log.as_str() == LOG,
-        "{} {}",
-        log.as_str(),
-        refused.as_str()
-    );
-    Ok(())
+    check_turns(&rt, run, turns)
 }
 
 /// What is planned for the clients in a turn of this window that tells of nothing.
@@ -289,17 +349,44 @@ fn accept(supervisor: &mut Supervisor, event: Event) -> Result<(), Fail> {
     }
 }
 
+fn accept_all(
+    supervisor: &mut Supervisor,
+    window: Window,
+    events: Vec<Observation>,
+) -> Result<(), Fail> {
+    accept(supervisor, Event::Window(window))?;
+    for event in events {
+        accept(supervisor, Event::Observed(event))?;
+    }
+    Ok(())
+}
+
+/// The window and the observations of the first turn.
+fn first_of(turns: Vec<Turn>) -> Option<(Window, Vec<Observation>)> {
+    let mut turns = turns;
+    turns.truncate(1);
+    let Turn { window, events, .. } = turns.pop()?;
+    Some((window, events))
+}
+
 /// A supervisor that has taken in the window and the observations of a script's first turn, with that window.
 fn after_first_turn(alloc: Global, text: &str) -> Result<(Supervisor, Window), Fail> {
-    let Script { config, mut turns } = read_script(alloc, text.as_bytes())?;
-    turns.truncate(1);
-    let Turn { window, events, .. } = turns.pop().ok_or("turn")?;
+    let Script { config, turns } = read_script(alloc, text.as_bytes())?;
     let mut supervisor = Supervisor::new(alloc, config)?;
-    accept(&mut supervisor, Event::Window(window))?;
-    for event in events {
-        accept(&mut supervisor, Event::Observed(event))?;
-    }
+    let (window, events) = first_of(turns).ok_or("turn")?;
+    accept_all(&mut supervisor, window, events)?;
     Ok((supervisor, window))
+}
+
+fn told_at(drafts: &[Draft], place: usize) -> Option<(usize, u64, usize, usize)> {
+    told(drafts.get(place)?)
+}
+
+/// There are two plans, each of an update and a message.
+fn check_drafts(rt: &impl Abort, drafts: &[Draft]) {
+    assert!(rt; told_at(drafts, 0) == Some((0, 5, 1, 1)), "first");
+    assert!(rt; told_at(drafts, 1) == Some((1, 6, 1, 1)), "second");
+    assert!(rt; drafts.len() == 2, "third");
 }
 
 /// The first turn's plans, by one turn that tells of nothing after all was taken in that the first turn tells of.
@@ -308,9 +395,6 @@ fn drafts_are_the_plans(rt: HostRuntime) -> Result<(), Fail> {
     let alloc = rt.alloc();
     let (supervisor, window) = after_first_turn(alloc, BATCHES)?;
     let drafts = drafts_in(&rt, alloc, supervisor, window)?;
-    let mut given = drafts.iter().map(told);
-    assert!(rt; given.next() == Some(Some((0, 5, 1, 1))), "first");
-    assert!(rt; given.next() == Some(Some((1, 6, 1, 1))), "second");
-    assert!(rt; given.next().is_none(), "third");
+    check_drafts(&rt, drafts.as_slice());
     Ok(())
 }

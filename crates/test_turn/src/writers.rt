@@ -93,6 +93,27 @@ const WRITERS: &[(usize, Option<ErrorKind>)] = &[
     (usize::MAX, None),
 ];
 
+/// A writer has taken all of the report, and none of its calls failed.
+fn check_whole(rt: &impl Abort, writer: &Failing) {
+    let (taken, calls) = (writer.bytes.len(), writer.calls);
+    assert!(rt;
+        taken == REPORT.len() && calls <= writer.good_calls,
+        "{taken} {calls}"
+    );
+}
+
+/// The call of the writer that failed is the last one, and the run ended with `device`.
+fn check_failed(rt: &impl Abort, writer: &Failing, error: RunError) {
+    let (taken, calls, good_calls) = (writer.bytes.len(), writer.calls, writer.good_calls);
+    let is_device = matches!(error, RunError::Device) && error.status() == 4;
+    let is_last = calls == good_calls.saturating_add(1);
+    let is_all_before = taken == good_calls || (writer.most > 1 && taken > good_calls);
+    assert!(rt;
+        is_device && is_last && is_all_before,
+        "{good_calls}: {taken} {calls}"
+    );
+}
+
 /// Runs the script over a writer that fails after so many calls. What it took is a beginning of the report, and all of
 /// it where the run ends well; the call that fails is the last one, and the run ends with `device`. Tells whether it
 /// ends well.
@@ -105,27 +126,15 @@ fn run<R: Threads + Wait + Abort + Copy + Send + Sync + 'static>(
 ) -> bool {
     let mut writer = Failing::new(alloc, most, fault, good_calls);
     let ran = run_over(rt, alloc, SCRIPT.as_bytes(), &mut writer, 0, gate);
-    let taken = writer.bytes.len();
-    assert!(rt;
-        REPORT.as_bytes().starts_with(writer.bytes.as_slice()),
-        "{most} {good_calls}"
-    );
+    let is_beginning = REPORT.as_bytes().starts_with(writer.bytes.as_slice());
+    assert!(rt; is_beginning, "{most} {good_calls}");
     match ran {
         Ok(()) => {
-            assert!(rt;
-                taken == REPORT.len() && writer.calls <= good_calls,
-                "{most} {good_calls}"
-            );
+            check_whole(rt, &writer);
             true
         }
         Err(error) => {
-            let is_device = matches!(error, RunError::Device) && error.status() == 4;
-            let is_last = writer.calls == good_calls.saturating_add(1);
-            let is_all_before = taken == good_calls || (most > 1 && taken > good_calls);
-            assert!(rt;
-                is_device && is_last && is_all_before,
-                "{most} {good_calls}: {error:?}, {taken}"
-            );
+            check_failed(rt, &writer, error);
             false
         }
     }
