@@ -16,7 +16,7 @@ use crate::journal::{OpenedJournal, open_journal};
 use crate::messages::{Folders, messages_of_script};
 use crate::progress::Progress;
 use crate::reporting::{plan_status, refused_events};
-use ibcplan_cli::{Request, WantedTurns, WorkerCount, setup_for};
+use ibcplan_cli::{Request, Wanted, WantedTurns, WorkerCount, setup_for};
 use ibcplan_errors::{Input, ProgramError, status};
 use ibcplan_folders::{Answers, ImportedText, WantedText, imported, wanted};
 use rb_base::{Counted, Gate, Sink, write_whole};
@@ -103,17 +103,7 @@ fn done_of<'a, R: Host, W: Sink>(
     requires { W.is_broken output.old ≡ false }
 {
     match request {
-        Request::Plan {
-            script,
-            workers,
-            is_strict,
-        } => plan_file(rt, script, workers, is_strict, is_watched, output),
-        Request::PlanJson {
-            script,
-            workers,
-            is_strict,
-        } => json_file(rt, script, workers, is_strict, is_watched, output),
-        Request::Commands { script, turns } => commands_file(rt, script, turns, is_watched, output),
+        Request::Script { script, wanted } => script_file(rt, script, wanted, is_watched, output),
         Request::Follow {
             setup,
             workers,
@@ -125,64 +115,11 @@ fn done_of<'a, R: Host, W: Sink>(
             workers,
             is_json,
         } => follow_journal(rt, setup, journal, workers, is_json, is_watched, output),
-        Request::Explain {
-            script,
-            turns,
-            client,
-            is_whole,
-            is_json,
-        } => {
-            let form = if is_json {
-                Form::Json { is_whole }
-            } else {
-                Form::Text { is_whole }
-            };
-            let asked = AskedExplanation {
-                turns,
-                client,
-                form,
-            };
-            explain_file(rt, script, asked, is_watched, output)
-        }
-        Request::Picture {
-            script,
-            turns,
-            client,
-        } => {
-            let form = Form::Picture;
-            let asked = AskedExplanation {
-                turns,
-                client,
-                form,
-            };
-            explain_file(rt, script, asked, is_watched, output)
-        }
-        Request::Health {
-            script,
-            are_metrics,
-        } => health_file(rt, script, are_metrics, is_watched, output),
-        Request::Messages {
-            script,
-            folder,
-            output: made,
-        } => {
-            let folders = Folders {
-                answers: folder,
-                output: made,
-            };
-            messages_file(rt, script, folders, is_watched, output)
-        }
         Request::Import {
             setup,
             folder,
             is_all_or_nothing,
-        } => {
-            let answers = Answers {
-                folder,
-                is_all_or_nothing,
-            };
-            import_files(rt, setup, answers, output)
-        }
+        } => import_files(rt, setup, folder, is_all_or_nothing, output),
         Request::Setup { config, clients } => setup_file(rt, config, clients.as_slice(), output),
         Request::Want { setup, folder } => want_files(rt, setup, folder, output),
         Request::Certify {
@@ -192,11 +129,11 @@ fn done_of<'a, R: Host, W: Sink>(
     }
 }
 
-fn plan_file<'a, R: Host, W: Sink>(
+/// Reads a script, and writes what is wanted about it.
+fn script_file<'a, R: Host, W: Sink>(
     rt: &R,
     script: &'a str,
-    workers: WorkerCount,
-    is_strict: bool,
+    wanted: Wanted<'a>,
     is_watched: bool,
     output: &mut W,
 ) -> Result<Done, ProgramError<'a>>
@@ -204,93 +141,142 @@ fn plan_file<'a, R: Host, W: Sink>(
 {
     let script = Input::read(rt, script)?;
     let progress = Progress::new(*rt, is_watched);
-    plan(
-        rt,
-        rt.alloc(),
-        &script,
-        workers,
-        is_strict,
-        progress,
-        output,
-    )
+    write_wanted(rt, &script, wanted, progress, output)
 }
 
-fn json_file<'a, R: Host, W: Sink>(
+/// Writes what is wanted about a script.
+fn write_wanted<'a, R: Host, W: Sink>(
     rt: &R,
-    script: &'a str,
-    workers: WorkerCount,
-    is_strict: bool,
-    is_watched: bool,
+    script: &Input<'a>,
+    wanted: Wanted<'a>,
+    progress: Progress<R>,
     output: &mut W,
 ) -> Result<Done, ProgramError<'a>>
     requires { W.is_broken output.old ≡ false }
 {
-    let script = Input::read(rt, script)?;
-    let progress = Progress::new(*rt, is_watched);
-    let json = json_of_script(rt, rt.alloc(), &script, workers, is_strict, progress)?;
+    match wanted {
+        Wanted::Report { workers, is_strict } => plan(
+            rt,
+            rt.alloc(),
+            script,
+            workers,
+            is_strict,
+            progress,
+            output,
+        ),
+        Wanted::Json { workers, is_strict } => {
+            write_json(rt, script, workers, is_strict, progress, output)
+        }
+        Wanted::Commands { turns } => write_commands(rt, script, turns, progress, output),
+        Wanted::Explanation {
+            turns,
+            client,
+            is_whole,
+            is_json,
+        } => {
+            let asked = AskedExplanation {
+                turns,
+                client,
+                form: text_form(is_whole, is_json),
+            };
+            write_explanation(rt, script, asked, progress, output)
+        }
+        Wanted::Picture { turns, client } => {
+            let asked = AskedExplanation {
+                turns,
+                client,
+                form: Form::Picture,
+            };
+            write_explanation(rt, script, asked, progress, output)
+        }
+        Wanted::Health { are_metrics } => write_health(rt, script, are_metrics, progress, output),
+        Wanted::Messages {
+            folder,
+            output: made,
+        } => {
+            let folders = Folders {
+                answers: folder,
+                output: made,
+            };
+            write_messages(rt, script, folders, progress, output)
+        }
+    }
+}
+
+fn write_json<'a, R: Host, W: Sink>(
+    rt: &R,
+    script: &Input<'a>,
+    workers: WorkerCount,
+    is_strict: bool,
+    progress: Progress<R>,
+    output: &mut W,
+) -> Result<Done, ProgramError<'a>>
+    requires { W.is_broken output.old ≡ false }
+{
+    let json = json_of_script(rt, rt.alloc(), script, workers, is_strict, progress)?;
     write(json.text.as_str(), output)?;
     Ok(Done::quietly(json.status))
 }
 
-fn commands_file<'a, R: Host, W: Sink>(
+fn write_commands<'a, R: Host, W: Sink>(
     rt: &R,
-    script: &'a str,
+    script: &Input<'a>,
     turns: WantedTurns,
-    is_watched: bool,
+    progress: Progress<R>,
     output: &mut W,
 ) -> Result<Done, ProgramError<'a>>
     requires { W.is_broken output.old ≡ false }
 {
-    let script = Input::read(rt, script)?;
-    let progress = Progress::new(*rt, is_watched);
-    let text = commands_of_script(rt, rt.alloc(), &script, turns, progress)?;
+    let text = commands_of_script(rt, rt.alloc(), script, turns, progress)?;
     write(text.as_str(), output)?;
     Ok(Done::quietly(status::DONE))
 }
 
-fn explain_file<'a, R: Host, W: Sink>(
+fn text_form(is_whole: bool, is_json: bool) -> Form {
+    if is_json {
+        Form::Json { is_whole }
+    } else {
+        Form::Text { is_whole }
+    }
+}
+
+fn write_explanation<'a, R: Host, W: Sink>(
     rt: &R,
-    script: &'a str,
+    script: &Input<'a>,
     asked: AskedExplanation<'a>,
-    is_watched: bool,
+    progress: Progress<R>,
     output: &mut W,
 ) -> Result<Done, ProgramError<'a>>
     requires { W.is_broken output.old ≡ false }
 {
-    let script = Input::read(rt, script)?;
-    let progress = Progress::new(*rt, is_watched);
-    explain(rt, rt.alloc(), &script, asked, progress, output)?;
+    explain(rt, rt.alloc(), script, asked, progress, output)?;
     Ok(Done::quietly(status::DONE))
 }
 
-fn health_file<'a, R: Host, W: Sink>(
+fn write_health<'a, R: Host, W: Sink>(
     rt: &R,
-    script: &'a str,
+    script: &Input<'a>,
     are_metrics: bool,
-    is_watched: bool,
+    progress: Progress<R>,
     output: &mut W,
 ) -> Result<Done, ProgramError<'a>>
     requires { W.is_broken output.old ≡ false }
 {
-    let script = Input::read(rt, script)?;
-    let progress = Progress::new(*rt, is_watched);
-    let text = health_of_script(rt, rt.alloc(), &script, are_metrics, &progress)?;
+    let text = health_of_script(rt, rt.alloc(), script, are_metrics, &progress)?;
     write(text.as_str(), output)?;
     Ok(Done::quietly(status::DONE))
 }
 
-fn messages_file<'a, R: Host, W: Sink>(
+fn write_messages<'a, R: Host, W: Sink>(
     rt: &R,
-    script: &'a str,
+    script: &Input<'a>,
     folders: Folders<'_>,
-    is_watched: bool,
+    progress: Progress<R>,
     output: &mut W,
 ) -> Result<Done, ProgramError<'a>>
     requires { W.is_broken output.old ≡ false }
 {
-    let script = Input::read(rt, script)?;
-    let progress = Progress::new(*rt, is_watched);
-    let lines = messages_of_script(rt, &script, folders, &progress)?;
+    let lines = messages_of_script(rt, script, folders, &progress)?;
     write(lines.as_str(), output)?;
     Ok(Done::quietly(status::DONE))
 }
@@ -298,11 +284,16 @@ fn messages_file<'a, R: Host, W: Sink>(
 fn import_files<'a, R: Host, W: Sink>(
     rt: &R,
     setup: &'a str,
-    answers: Answers<'_>,
+    folder: &str,
+    is_all_or_nothing: bool,
     output: &mut W,
 ) -> Result<Done, ProgramError<'a>>
     requires { W.is_broken output.old ≡ false }
 {
+    let answers = Answers {
+        folder,
+        is_all_or_nothing,
+    };
     let setup = Input::read(rt, setup)?;
     let ImportedText {
         script,

@@ -1,5 +1,5 @@
 //! The command lines of `explain` and `picture`.
-use crate::request::{JSON, Request, SCRIPT, flag, last, script_command, turn, turns_of};
+use crate::request::{JSON, Wanted, flag, last, script_command, turn, turns_of};
 use clap::{Arg, ArgAction, ArgMatches, Command};
 use std::alloc::{AllocError, Global};
 
@@ -58,22 +58,20 @@ fn client<'a>(alloc: Global) -> Arg<'a> {
         .help("Writes those of this client alone")
 }
 
-/// The request of `explain`, or none where a word is missing.
-pub(crate) fn explain_of<'a>(given: &ArgMatches<'a>) -> Option<Request<'a>> {
-    Some(Request::Explain {
-        script: given.get_str(SCRIPT)?,
+/// What `explain` is to write.
+pub(crate) fn explanation_of<'a>(given: &ArgMatches<'a>) -> Wanted<'a> {
+    Wanted::Explanation {
         turns: turns_of(given),
         client: given.get_str(CLIENT),
         is_whole: given.get_flag(ALL),
         is_json: given.get_flag(JSON),
-    })
+    }
 }
 
-/// The request of `picture`, or none where a word is missing.
-pub(crate) fn picture_of<'a>(given: &ArgMatches<'a>) -> Option<Request<'a>> {
-    Some(Request::Picture {
-        script: given.get_str(SCRIPT)?,
+/// What `picture` is to write.
+pub(crate) fn picture_of<'a>(given: &ArgMatches<'a>) -> Wanted<'a> {
+    Wanted::Picture {
         turns: turns_of(given),
         client: given.get_str(CLIENT),
-    })
+    }
 }

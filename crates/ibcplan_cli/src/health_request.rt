@@ -1,5 +1,5 @@
 //! The command line of `health`.
-use crate::request::{Request, SCRIPT, flag, script_command};
+use crate::request::{Wanted, flag, script_command};
 use clap::{ArgMatches, Command};
 use std::alloc::{AllocError, Global};
 
@@ -23,10 +23,9 @@ pub(crate) fn health_command<'a>(alloc: Global) -> Result<Command<'a>, AllocErro
     ))
 }
 
-/// The request of `health`, or none where a word is missing.
-pub(crate) fn health_of<'a>(given: &ArgMatches<'a>) -> Option<Request<'a>> {
-    Some(Request::Health {
-        script: given.get_str(SCRIPT)?,
+/// What `health` is to write.
+pub(crate) fn health_of<'a>(given: &ArgMatches<'_>) -> Wanted<'a> {
+    Wanted::Health {
         are_metrics: given.get_flag(PROMETHEUS),
-    })
+    }
 }

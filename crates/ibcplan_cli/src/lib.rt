@@ -12,6 +12,6 @@ mod setup_request;
 mod worker_count;
 
 pub use command_line::{no_memory, request_of};
-pub use request::{Request, WantedTurns};
+pub use request::{Request, Wanted, WantedTurns};
 pub use setting_up::setup_for;
 pub use worker_count::WorkerCount;

@@ -1,5 +1,5 @@
 //! The command line of `messages`.
-use crate::request::{FOLDER, Request, SCRIPT, path, script_command};
+use crate::request::{FOLDER, Wanted, path, script_command};
 use clap::{ArgMatches, Command};
 use std::alloc::{AllocError, Global};
 
@@ -24,10 +24,9 @@ pub(crate) fn messages_command<'a>(alloc: Global) -> Result<Command<'a>, AllocEr
         .arg(path(alloc, DIR, "The folder that is made"))
 }
 
-/// The request of `messages`, or none where a word is missing.
-pub(crate) fn messages_of<'a>(given: &ArgMatches<'a>) -> Option<Request<'a>> {
-    Some(Request::Messages {
-        script: given.get_str(SCRIPT)?,
+/// What `messages` is to write, or none where a word is missing.
+pub(crate) fn messages_of<'a>(given: &ArgMatches<'a>) -> Option<Wanted<'a>> {
+    Some(Wanted::Messages {
         folder: given.get_str(FOLDER)?,
         output: given.get_str(DIR)?,
     })

@@ -1,6 +1,6 @@
 //! The command line: what the program is asked to do.
 use crate::explain_request::{
-    EXPLAIN, PICTURE, explain_command, explain_of, picture_command, picture_of,
+    EXPLAIN, PICTURE, explain_command, explanation_of, picture_command, picture_of,
 };
 use crate::health_request::{HEALTH, health_command, health_of};
 use crate::messages_request::{MESSAGES, messages_command, messages_of};
@@ -14,49 +14,12 @@ use rb_script_types::MAX_TURNS;
 use std::alloc::{AllocError, Global};
 
 /// What the program is asked to do, with the paths of its files.
-#[derive(Debug, Drop)]
+#[derive(Drop)]
 pub enum Request<'a> {
-    /// Write a script's report, by so many workers.
-    Plan {
+    /// Write something about a script.
+    Script {
         script: &'a str,
-        workers: WorkerCount,
-        is_strict: bool,
-    },
-    /// Write a script's report as JSON, by so many workers.
-    PlanJson {
-        script: &'a str,
-        workers: WorkerCount,
-        is_strict: bool,
-    },
-    /// Write the commands for a script's plans.
-    Commands {
-        script: &'a str,
-        turns: WantedTurns,
-    },
-    /// Write why a script's plans are as they are; of one client, where it is given; all of their steps, or the first ones.
-    Explain {
-        script: &'a str,
-        turns: WantedTurns,
-        client: Option<&'a str>,
-        is_whole: bool,
-        is_json: bool,
-    },
-    /// Draw a turn of a script: the last one, where none is given; of one client, where it is given.
-    Picture {
-        script: &'a str,
-        turns: WantedTurns,
-        client: Option<&'a str>,
-    },
-    /// Write when each client of a script expires; as metrics, or as lines.
-    Health {
-        script: &'a str,
-        are_metrics: bool,
-    },
-    /// Write the client messages of a script's last turn, made of the answers in a folder, into a new folder.
-    Messages {
-        script: &'a str,
-        folder: &'a str,
-        output: &'a str,
+        wanted: Wanted<'a>,
     },
     /// Write the script that a setup and the answers in a folder make; or nothing, where some of them are refused.
     Import {
@@ -91,6 +54,46 @@ pub enum Request<'a> {
     Certify {
         script: &'a str,
         certificate: &'a str,
+    },
+}
+
+/// What is to be written about a script.
+#[derive(Clone, Copy)]
+pub enum Wanted<'a> {
+    /// Its report, by so many workers.
+    Report {
+        workers: WorkerCount,
+        is_strict: bool,
+    },
+    /// Its report as JSON, by so many workers.
+    Json {
+        workers: WorkerCount,
+        is_strict: bool,
+    },
+    /// The commands for its plans.
+    Commands {
+        turns: WantedTurns,
+    },
+    /// Why its plans are as they are; of one client, where it is given; all of their steps, or the first ones.
+    Explanation {
+        turns: WantedTurns,
+        client: Option<&'a str>,
+        is_whole: bool,
+        is_json: bool,
+    },
+    /// A drawing of one of its turns: the last one, where none is given; of one client, where it is given.
+    Picture {
+        turns: WantedTurns,
+        client: Option<&'a str>,
+    },
+    /// When each of its clients expires; as metrics, or as lines.
+    Health {
+        are_metrics: bool,
+    },
+    /// The client messages of its last turn, made of the answers in a folder, into a new folder.
+    Messages {
+        folder: &'a str,
+        output: &'a str,
     },
 }
 
@@ -385,25 +388,54 @@ fn follow_command<'a>(alloc: Global) -> Result<Command<'a>, AllocError> {
         .arg(flag(alloc, JSON, "Writes each answer as JSON"))
 }
 
-fn command_line<'a>(alloc: Global) -> Result<Command<'a>, AllocError> {
+/// The command with one more subcommand.
+fn with_more<'a>(
+    command: Command<'a>,
+    more: Result<Command<'a>, AllocError>,
+) -> Result<Command<'a>, AllocError> {
+    command.subcommand(more?)
+}
+
+fn with_plans<'a>(alloc: Global, command: Command<'a>) -> Result<Command<'a>, AllocError> {
+    let command = with_more(command, plan_command(alloc))?;
+    let command = with_more(command, run_command(alloc))?;
+    with_more(command, commands_command(alloc))
+}
+
+fn with_answers<'a>(alloc: Global, command: Command<'a>) -> Result<Command<'a>, AllocError> {
+    let command = with_more(command, messages_command(alloc))?;
+    let command = with_more(command, setup_command(alloc))?;
+    with_more(command, want_command(alloc))
+}
+
+fn with_explanations<'a>(alloc: Global, command: Command<'a>) -> Result<Command<'a>, AllocError> {
+    let command = with_more(command, explain_command(alloc))?;
+    let command = with_more(command, picture_command(alloc))?;
+    with_more(command, health_command(alloc))
+}
+
+fn with_others<'a>(alloc: Global, command: Command<'a>) -> Result<Command<'a>, AllocError> {
+    let command = with_more(command, import_command(alloc))?;
+    let command = with_more(command, follow_command(alloc))?;
+    with_more(command, certify_command(alloc))
+}
+
+/// The command without its subcommands.
+fn bare_command<'a>(alloc: Global) -> Command<'a> {
     Command::new(alloc, "ibcplan")
         .version("0.1.0")
         .about("Plans the cheapest light-client updates of an IBC relayer")
         .after_help(AFTER_HELP)
         .subcommand_required(true)
         .arg_required_else_help(true)
-        .subcommand(plan_command(alloc)?)?
-        .subcommand(run_command(alloc)?)?
-        .subcommand(commands_command(alloc)?)?
-        .subcommand(messages_command(alloc)?)?
-        .subcommand(setup_command(alloc)?)?
-        .subcommand(want_command(alloc)?)?
-        .subcommand(explain_command(alloc)?)?
-        .subcommand(picture_command(alloc)?)?
-        .subcommand(health_command(alloc)?)?
-        .subcommand(import_command(alloc)?)?
-        .subcommand(follow_command(alloc)?)?
-        .subcommand(certify_command(alloc)?)
+}
+
+/// The subcommands are in the order in which the help lists them.
+fn command_line<'a>(alloc: Global) -> Result<Command<'a>, AllocError> {
+    let command = with_plans(alloc, bare_command(alloc))?;
+    let command = with_answers(alloc, command)?;
+    let command = with_explanations(alloc, command)?;
+    with_others(alloc, command)
 }
 
 /// What is wrong where both files are standard input, which can be read once only.
@@ -445,8 +477,8 @@ fn follow_of<'a>(given: &ArgMatches<'a>) -> Option<Request<'a>> {
     })
 }
 
-/// The request of `plan` or `run`, or none where a word is missing.
-fn plan_of<'a>(name: &str, script: &'a str, given: &ArgMatches<'a>) -> Option<Request<'a>> {
+/// What `plan` or `run` is to write, or none where a word is missing.
+fn plan_of<'a>(name: &str, given: &ArgMatches<'_>) -> Option<Wanted<'a>> {
     let is_strict = given.get_flag(STRICT);
     let workers = if name == RUN {
         WorkerCount::new(given.get_one(WORKERS)?)?
@@ -454,17 +486,9 @@ fn plan_of<'a>(name: &str, script: &'a str, given: &ArgMatches<'a>) -> Option<Re
         WorkerCount::none()
     };
     if given.get_flag(JSON) {
-        return Some(Request::PlanJson {
-            script,
-            workers,
-            is_strict,
-        });
+        return Some(Wanted::Json { workers, is_strict });
     }
-    Some(Request::Plan {
-        script,
-        workers,
-        is_strict,
-    })
+    Some(Wanted::Report { workers, is_strict })
 }
 
 /// The turns whose commands are wanted.
@@ -478,50 +502,71 @@ pub(crate) fn turns_of(given: &ArgMatches<'_>) -> WantedTurns {
     }
 }
 
+/// The request of `import` or `want`, or none where a word is missing.
+fn folder_task_of<'a>(name: &str, given: &ArgMatches<'a>) -> Option<Request<'a>> {
+    let setup = given.get_str(SETUP)?;
+    let folder = given.get_str(FOLDER)?;
+    if name == WANT {
+        return Some(Request::Want { setup, folder });
+    }
+    let is_all_or_nothing = given.get_flag(ALL_OR_NOTHING);
+    Some(Request::Import {
+        setup,
+        folder,
+        is_all_or_nothing,
+    })
+}
+
+/// The request of `certify`, or none where a word is missing.
+fn certify_of<'a>(given: &ArgMatches<'a>) -> Option<Request<'a>> {
+    Some(Request::Certify {
+        script: given.get_str(SCRIPT)?,
+        certificate: given.get_str(CERT)?,
+    })
+}
+
+/// What a command is to write about a script, or none where a word is missing.
+fn wanted_of<'a>(name: &str, given: &ArgMatches<'a>) -> Option<Wanted<'a>> {
+    if name == COMMANDS {
+        let turns = turns_of(given);
+        Some(Wanted::Commands { turns })
+    } else if name == EXPLAIN {
+        Some(explanation_of(given))
+    } else if name == PICTURE {
+        Some(picture_of(given))
+    } else if name == HEALTH {
+        Some(health_of(given))
+    } else if name == MESSAGES {
+        messages_of(given)
+    } else {
+        plan_of(name, given)
+    }
+}
+
+/// The request of a command that takes a script, or none where a word is missing.
+fn script_task_of<'a>(name: &str, given: &ArgMatches<'a>) -> Option<Request<'a>> {
+    let script = given.get_str(SCRIPT)?;
+    let wanted = wanted_of(name, given)?;
+    Some(Request::Script { script, wanted })
+}
+
+/// The request of a command by its name, or none where a word is missing.
+fn named_task_of<'a>(name: &str, given: &ArgMatches<'a>) -> Option<Request<'a>> {
+    if name == IMPORT || name == WANT {
+        folder_task_of(name, given)
+    } else if name == FOLLOW {
+        follow_of(given)
+    } else if name == CERTIFY {
+        certify_of(given)
+    } else {
+        script_task_of(name, given)
+    }
+}
+
 /// The request of words that were parsed, or none where one is missing.
 fn task_of<'a>(matches: &ArgMatches<'a>) -> Option<Request<'a>> {
     let (name, given) = matches.subcommand()?;
-    if name == IMPORT || name == WANT {
-        let setup = given.get_str(SETUP)?;
-        let folder = given.get_str(FOLDER)?;
-        if name == WANT {
-            return Some(Request::Want { setup, folder });
-        }
-        let is_all_or_nothing = given.get_flag(ALL_OR_NOTHING);
-        return Some(Request::Import {
-            setup,
-            folder,
-            is_all_or_nothing,
-        });
-    }
-    if name == EXPLAIN {
-        return explain_of(given);
-    }
-    if name == PICTURE {
-        return picture_of(given);
-    }
-    if name == FOLLOW {
-        return follow_of(given);
-    }
-    if name == HEALTH {
-        return health_of(given);
-    }
-    if name == MESSAGES {
-        return messages_of(given);
-    }
-    let script = given.get_str(SCRIPT)?;
-    if name == CERTIFY {
-        let certificate = given.get_str(CERT)?;
-        Some(Request::Certify {
-            script,
-            certificate,
-        })
-    } else if name == COMMANDS {
-        let turns = turns_of(given);
-        Some(Request::Commands { script, turns })
-    } else {
-        plan_of(name, script, given)
-    }
+    named_task_of(name, given)
 }
 
 /// The request of `setup`, or none where another is asked for.
@@ -536,33 +581,53 @@ fn setup_of<'a>(alloc: Global, matches: &ArgMatches<'a>) -> Result<Option<Reques
     Ok(Some(Request::Setup { config, clients }))
 }
 
+/// What is wrong with a request, where something is: a command that takes two inputs from standard input.
+fn fault_of(alloc: Global, request: &Request<'_>) -> Result<Option<Error>, AllocError> {
+    match request {
+        Request::Certify {
+            script,
+            certificate,
+        } if *script == STANDARD_INPUT && *certificate == STANDARD_INPUT => {
+            Ok(Some(twice_standard_input(alloc)?))
+        }
+        Request::Follow { setup, .. } if *setup == STANDARD_INPUT => {
+            Ok(Some(setup_is_input(alloc)?))
+        }
+        Request::FollowJournal {
+            setup: Some(setup),
+            ..
+        } if *setup == STANDARD_INPUT => Ok(Some(setup_is_input(alloc)?)),
+        _ => Ok(None),
+    }
+}
+
+/// The request, unless something is wrong with it.
+fn sound<'a>(alloc: Global, request: Request<'a>) -> Result<Request<'a>, Error> {
+    match fault_of(alloc, &request)? {
+        Some(fault) => Err(fault),
+        None => Ok(request),
+    }
+}
+
+/// The request of words that were parsed by the command.
+fn request_of_words<'a>(
+    alloc: Global,
+    command: &mut Command<'a>,
+    matches: &ArgMatches<'a>,
+) -> Result<Request<'a>, Error> {
+    if let Some(request) = setup_of(alloc, matches)? {
+        return Ok(request);
+    }
+    match task_of(matches) {
+        Some(request) => sound(alloc, request),
+        None => Err(command.error(ErrorKind::MissingSubcommand, "a command is missing")?),
+    }
+}
+
 /// Reads the command line. An error is the text to show: what is wrong, or the help that was asked
 /// for.
 pub fn read_request<'a>(alloc: Global, words: &'a [String]) -> Result<Request<'a>, Error> {
     let mut command = command_line(alloc)?.bin_name("ibcplan")?;
     let matches = command.try_get_matches_from_mut(words)?;
-    if let Some(request) = setup_of(alloc, &matches)? {
-        return Ok(request);
-    }
-    match task_of(&matches) {
-        Some(
-            Request::Certify {
-                script,
-                certificate,
-            },
-        ) if script == STANDARD_INPUT && certificate == STANDARD_INPUT => {
-            Err(twice_standard_input(alloc)?)
-        }
-        Some(Request::Follow { setup, .. }) if setup == STANDARD_INPUT => {
-            Err(setup_is_input(alloc)?)
-        }
-        Some(
-            Request::FollowJournal {
-                setup: Some(setup),
-                ..
-            },
-        ) if setup == STANDARD_INPUT => Err(setup_is_input(alloc)?),
-        Some(request) => Ok(request),
-        None => Err(command.error(ErrorKind::MissingSubcommand, "a command is missing")?),
-    }
+    request_of_words(alloc, &mut command, &matches)
 }
