@@ -1,28 +1,35 @@
 //! A report as JSON. Identifiers have no character that JSON escapes.
-use crate::commands::timestamp_of;
-use rb_base::{Height, Moment, PathId};
+ghost use Rattle.std.specs.Prelude.{◌≡◌, ◌++◌, [], map, slice_index_or, IfOk, OnOk, string_bytes};
+ghost use Rattle.std.specs.List.{flat_map};
+ghost use Rattle.std.specs.Option.{option_map};
+ghost use Rattle.rb_step.specs.Sent.{sent_view};
+ghost use Rattle.rb_super_turn.specs.Report.{batched, planned as outcome_planned};
+ghost use Rattle.rb_super_turn.specs.Views.{refused_view, priced_view, batch_view, sending_view, plan_view, planned_view, outcome_view, client_report_view, settlement_view, turn_report_view, report_view};
+ghost use Rattle.rb_text_export.specs.Json.{array, json_text, more_text};
+ghost use Rattle.rb_text_export.specs.ReportJson.{address_json, byte_digits, client_json, format_of, goal_json, if_refused, kind_name, label_json, message_json, next_members, outcome_members, plan_members, planned_word, reached_members, refusal_members, refused_json, report_json, report_line, sending_members, settled_members, settlement_json, total_json, transaction_json, turn_json, turn_line, turn_members, update_json, votes_members};
+
+use crate::members::{push_boolean, push_comma, push_name, push_number, push_text};
+use rb_base::{Moment, PathId};
 use rb_batch::Transaction;
+use rb_moments::push_moment;
 use rb_plan::{Cost, Label};
 use rb_plan_client::Message;
 use rb_scan::Kind;
 use rb_script_types::{Goal, Refusal, Version};
 use rb_step::SentVotes;
 use rb_super_turn::{
-    ClientReport, Outcome, PlanReport, PlannedReport, PricedUpdate, RefusedEvent, Report,
-    SendingReport, SettlementReport, TurnReport,
+    BatchReport, ClientReport, Outcome, PlanReport, PlannedReport, PricedUpdate, RefusedEvent,
+    Report, SendingReport, SettlementReport, TurnReport,
 };
 use std::alloc::{AllocError, Global};
 
 /// The report as one object of JSON, and a line feed.
-pub fn json_of(alloc: Global, report: &Report) -> Result<String, AllocError> {
+pub fn json_of(alloc: Global, report: &Report) -> Result<String, AllocError>
+    ensures json { IfOk result (λ text. string_bytes text ≡ report_line report.now.version report.now.paths.items (report_view report.now)) }
+{
     let mut text = String::new(alloc);
-    let format = format_of(report.version);
-    write!(&mut text, "{{\"ibcplan\": {format}, \"turns\": [")?;
-    for (place, turn) in report.turns.iter().enumerate() {
-        push_comma(&mut text, place)?;
-        push_turn(&mut text, report.version, report.paths.as_slice(), turn)?;
-    }
-    text.push_str("]}\n")?;
+    push_report(&mut text, report)?;
+    text.push_str("\n")?;
     Ok(text)
 }
 
@@ -33,7 +40,9 @@ pub fn json_of_turn(
     version: Version,
     paths: &[PathId],
     turn: &TurnReport,
-) -> Result<String, AllocError> {
+) -> Result<String, AllocError>
+    ensures json { IfOk result (λ text. string_bytes text ≡ turn_line version paths.now (turn_report_view turn.now)) }
+{
     let mut text = String::new(alloc);
     push_turn(&mut text, version, paths, turn)?;
     text.push_str("\n")?;
@@ -41,31 +50,47 @@ pub fn json_of_turn(
 }
 
 /// The number of the format: that of versions 1 and 2 is 1.
-fn format_of(version: Version) -> u64 {
+fn format_of(version: Version) -> u64
+    ensures { result ≡ format_of version }
+{
     match version {
         Version::One | Version::Two => 1,
         Version::Three => 3,
     }
 }
 
-/// Adds when a client has a goal next, from version 3 on.
-fn push_next(text: &mut String, version: Version, next: Option<Moment>) -> Result<(), AllocError> {
-    let (Version::Three, Some(moment)) = (version, next) else {
-        return Ok(());
-    };
-    match timestamp_of(moment) {
-        Some(timestamp) => write!(text, ", \"next\": \"{timestamp}\""),
-        None => Ok(()),
-    }
+fn push_report(text: &mut String, report: &Report) -> Result<(), AllocError>
+    ensures { OnOk result (string_bytes text.new
+        ≡ string_bytes text.old ++ json_text (report_json report.now.version report.now.paths.items (report_view report.now))) }
+{
+    let version = report.version;
+    text.push_str("{")?;
+    push_number(text, false, "ibcplan", format_of(version))?;
+    push_name(text, true, "turns")?;
+    push_turns(
+        text,
+        version,
+        report.paths.as_slice(),
+        report.turns.as_slice(),
+    )?;
+    text.push_str("}")
 }
 
-/// Adds what stands between an element and the one before it.
-fn push_comma(text: &mut String, place: usize) -> Result<(), AllocError> {
-    if place == 0 {
-        Ok(())
-    } else {
-        text.push_str(", ")
+fn push_turns(
+    text: &mut String,
+    version: Version,
+    paths: &[PathId],
+    turns: &[TurnReport],
+) -> Result<(), AllocError>
+    ensures { OnOk result (string_bytes text.new
+        ≡ string_bytes text.old ++ json_text (array (map (turn_json version paths.now) (map turn_report_view turns.now)))) }
+{
+    text.push_str("[")?;
+    for (place, turn) in turns.iter().enumerate() {
+        push_comma(text, place > 0)?;
+        push_turn(text, version, paths, turn)?;
     }
+    text.push_str("]")
 }
 
 fn push_turn(
@@ -73,23 +98,42 @@ fn push_turn(
     version: Version,
     paths: &[PathId],
     turn: &TurnReport,
-) -> Result<(), AllocError> {
-    let window_back = turn.window_back;
-    write!(text, "{{\"window_back\": {window_back}, \"refused\": [")?;
-    push_refusals(text, turn.refused.as_slice())?;
-    text.push_str("], \"clients\": [")?;
-    push_clients(text, version, paths, turn.clients.as_slice())?;
-    text.push_str("], \"settlements\": [")?;
-    push_settlements(text, turn.settlements.as_slice())?;
-    text.push_str("]}")
+) -> Result<(), AllocError>
+    ensures { OnOk result (string_bytes text.new ≡ string_bytes text.old ++ json_text (turn_json version paths.now (turn_report_view turn.now))) }
+{
+    text.push_str("{")?;
+    push_boolean(text, false, "window_back", turn.window_back)?;
+    push_turn_members(text, version, paths, turn)?;
+    text.push_str("}")
 }
 
-fn push_refusals(text: &mut String, refusals: &[RefusedEvent]) -> Result<(), AllocError> {
+/// Adds what stands behind whether the window was refused.
+#[tactic(auto, unfolding(crate::specs::ReportJson::turn_members))]
+fn push_turn_members(
+    text: &mut String,
+    version: Version,
+    paths: &[PathId],
+    turn: &TurnReport,
+) -> Result<(), AllocError>
+    ensures { OnOk result (string_bytes text.new ≡ string_bytes text.old ++ more_text (turn_members version paths.now (turn_report_view turn.now))) }
+{
+    push_name(text, true, "refused")?;
+    push_refusals(text, turn.refused.as_slice())?;
+    push_name(text, true, "clients")?;
+    push_clients(text, version, paths, turn.clients.as_slice())?;
+    push_name(text, true, "settlements")?;
+    push_settlements(text, turn.settlements.as_slice())
+}
+
+fn push_refusals(text: &mut String, refusals: &[RefusedEvent]) -> Result<(), AllocError>
+    ensures { OnOk result (string_bytes text.new ≡ string_bytes text.old ++ json_text (array (map refused_json (map refused_view refusals.now)))) }
+{
+    text.push_str("[")?;
     for (place, refused) in refusals.iter().enumerate() {
-        push_comma(text, place)?;
+        push_comma(text, place > 0)?;
         push_refused(text, refused)?;
     }
-    Ok(())
+    text.push_str("]")
 }
 
 fn push_clients(
@@ -97,48 +141,72 @@ fn push_clients(
     version: Version,
     paths: &[PathId],
     clients: &[ClientReport],
-) -> Result<(), AllocError> {
+) -> Result<(), AllocError>
+    ensures { OnOk result (string_bytes text.new
+        ≡ string_bytes text.old ++ json_text (array (map (client_json version paths.now) (map client_report_view clients.now)))) }
+{
+    text.push_str("[")?;
     for (place, client) in clients.iter().enumerate() {
-        push_comma(text, place)?;
+        push_comma(text, place > 0)?;
         push_client(text, version, paths, client)?;
     }
-    Ok(())
+    text.push_str("]")
 }
 
-fn push_settlements(text: &mut String, settlements: &[SettlementReport]) -> Result<(), AllocError> {
+fn push_settlements(text: &mut String, settlements: &[SettlementReport]) -> Result<(), AllocError>
+    ensures { OnOk result (string_bytes text.new
+        ≡ string_bytes text.old ++ json_text (array (map settlement_json (map settlement_view settlements.now)))) }
+{
+    text.push_str("[")?;
     for (place, settlement) in settlements.iter().enumerate() {
-        push_comma(text, place)?;
+        push_comma(text, place > 0)?;
         push_settlement(text, settlement)?;
     }
-    Ok(())
+    text.push_str("]")
 }
 
-fn push_refused(text: &mut String, refused: &RefusedEvent) -> Result<(), AllocError> {
-    let event = refused.event;
-    write!(text, "{{\"event\": {event}")?;
+fn push_refused(text: &mut String, refused: &RefusedEvent) -> Result<(), AllocError>
+    ensures { OnOk result (string_bytes text.new ≡ string_bytes text.old ++ json_text (refused_json (refused_view refused.now))) }
+{
+    text.push_str("{")?;
+    push_number(text, false, "event", refused.event as u64)?;
     push_refusal(text, &refused.refusal)?;
     text.push_str("}")
 }
 
-/// Adds why something is refused, as the last keys of an object.
-fn push_refusal(text: &mut String, refusal: &Refusal) -> Result<(), AllocError> {
-    let number = refusal.number();
-    let name = refusal.name();
-    write!(text, ", \"number\": {number}, \"name\": \"{name}\"")
+/// Adds why something is refused, behind other members.
+fn push_refusal(text: &mut String, refusal: &Refusal) -> Result<(), AllocError>
+    ensures { OnOk result (string_bytes text.new ≡ string_bytes text.old ++ more_text (refusal_members refusal.now)) }
+{
+    push_number(text, true, "number", u64::from(refusal.number()))?;
+    push_text(text, true, "name", refusal.name())
 }
 
-fn push_settlement(text: &mut String, settlement: &SettlementReport) -> Result<(), AllocError> {
-    let id = settlement.id.as_str();
-    let batch = settlement.batch;
-    let done = settlement.done;
-    write!(
-        text,
-        "{{\"client\": \"{id}\", \"batch\": {batch}, \"done\": {done}"
-    )?;
-    if let Some(refusal) = &settlement.refusal {
-        push_refusal(text, refusal)?;
-    }
+fn push_settlement(text: &mut String, settlement: &SettlementReport) -> Result<(), AllocError>
+    ensures { OnOk result (string_bytes text.new ≡ string_bytes text.old ++ json_text (settlement_json (settlement_view settlement.now))) }
+{
+    text.push_str("{")?;
+    push_text(text, false, "client", settlement.id.as_str())?;
+    push_settled(text, settlement)?;
     text.push_str("}")
+}
+
+/// Adds what stands behind the client.
+fn push_settled(text: &mut String, settlement: &SettlementReport) -> Result<(), AllocError>
+    ensures { OnOk result (string_bytes text.new ≡ string_bytes text.old ++ more_text (settled_members (settlement_view settlement.now))) }
+{
+    push_number(text, true, "batch", settlement.batch)?;
+    push_number(text, true, "done", settlement.done as u64)?;
+    push_if_refused(text, &settlement.refusal)
+}
+
+fn push_if_refused(text: &mut String, refusal: &Option<Refusal>) -> Result<(), AllocError>
+    ensures { OnOk result (string_bytes text.new ≡ string_bytes text.old ++ more_text (if_refused refusal.now)) }
+{
+    match refusal {
+        Some(refusal) => push_refusal(text, refusal),
+        None => Ok(()),
+    }
 }
 
 fn push_client(
@@ -146,17 +214,48 @@ fn push_client(
     version: Version,
     paths: &[PathId],
     client: &ClientReport,
-) -> Result<(), AllocError> {
-    let id = client.id.as_str();
-    write!(text, "{{\"id\": \"{id}\", ")?;
-    match &client.outcome {
-        Outcome::Held(batch) => write!(text, "\"outcome\": \"held\", \"batch\": {batch}}}"),
+) -> Result<(), AllocError>
+    ensures { OnOk result (string_bytes text.new ≡ string_bytes text.old ++ json_text (client_json version paths.now (client_report_view client.now))) }
+{
+    text.push_str("{")?;
+    push_text(text, false, "id", client.id.as_str())?;
+    push_outcome(text, version, paths, &client.outcome)?;
+    text.push_str("}")
+}
+
+fn push_outcome(
+    text: &mut String,
+    version: Version,
+    paths: &[PathId],
+    outcome: &Outcome,
+) -> Result<(), AllocError>
+    ensures { OnOk result (string_bytes text.new ≡ string_bytes text.old ++ more_text (outcome_members version paths.now (outcome_view outcome.now))) }
+{
+    match outcome {
+        Outcome::Held(batch) => {
+            push_text(text, true, "outcome", "held")?;
+            push_number(text, true, "batch", *batch)
+        }
         Outcome::Idle(next) => {
-            text.push_str("\"outcome\": \"idle\"")?;
-            push_next(text, version, *next)?;
-            text.push_str("}")
+            push_text(text, true, "outcome", "idle")?;
+            push_next(text, version, *next)
         }
         Outcome::Planned(planned) => push_planned(text, version, paths, planned),
+    }
+}
+
+/// Adds when a client has a goal next, from version 3 on.
+fn push_next(text: &mut String, version: Version, next: Option<Moment>) -> Result<(), AllocError>
+    ensures { OnOk result (string_bytes text.new ≡ string_bytes text.old ++ more_text (next_members version next)) }
+{
+    match (version, next) {
+        (Version::Three, Some(moment)) => {
+            push_name(text, true, "next")?;
+            text.push_str("\"")?;
+            push_moment(text, moment)?;
+            text.push_str("\"")
+        }
+        _ => Ok(()),
     }
 }
 
@@ -165,137 +264,201 @@ fn push_planned(
     version: Version,
     paths: &[PathId],
     planned: &PlannedReport,
-) -> Result<(), AllocError> {
-    push_outcome(text, planned.plan.is_some())?;
+) -> Result<(), AllocError>
+    ensures { OnOk result (string_bytes text.new
+        ≡ string_bytes text.old ++ more_text (outcome_members version paths.now (outcome_planned (planned_view planned.now)))) }
+{
+    push_text(text, true, "outcome", planned_word(&planned.plan))?;
+    push_name(text, true, "goal")?;
     push_goal(text, planned.goal)?;
-    text.push_str(", \"labels\": [")?;
+    push_name(text, true, "labels")?;
     push_labels(text, planned.labelling.labels())?;
-    text.push_str("]")?;
-    match &planned.plan {
-        Some(plan) => {
-            push_next(text, version, planned.next)?;
-            push_plan(text, paths, plan)
-        }
-        None => text.push_str("}"),
+    push_reached(text, version, paths, planned.next, &planned.plan)
+}
+
+/// The word that a report has for a client with a goal.
+fn planned_word(plan: &Option<PlanReport>) -> &'static str
+    ensures { result.now ≡ planned_word (option_map plan_view plan.now) }
+{
+    match plan {
+        Some(_) => "plan",
+        None => "unreachable",
     }
 }
 
-fn push_outcome(text: &mut String, is_plan: bool) -> Result<(), AllocError> {
-    let outcome = if is_plan { "plan" } else { "unreachable" };
-    write!(text, "\"outcome\": \"{outcome}\", \"goal\": ")
+fn push_goal(text: &mut String, goal: Goal) -> Result<(), AllocError>
+    ensures { OnOk result (string_bytes text.new ≡ string_bytes text.old ++ json_text (goal_json goal)) }
+{
+    text.push_str("{")?;
+    match goal {
+        Goal::AtLeast(height) => push_number(text, false, "at_least", height.get())?,
+        Goal::Exactly(height) => push_number(text, false, "exactly", height.get())?,
+    }
+    text.push_str("}")
 }
 
-fn push_labels(text: &mut String, labels: &[Label]) -> Result<(), AllocError> {
+fn push_labels(text: &mut String, labels: &[Label]) -> Result<(), AllocError>
+    ensures { OnOk result (string_bytes text.new ≡ string_bytes text.old ++ json_text (array (map label_json labels.now))) }
+{
+    text.push_str("[")?;
     for (place, label) in labels.iter().enumerate() {
-        push_comma(text, place)?;
+        push_comma(text, place > 0)?;
         push_label(text, label)?;
     }
-    Ok(())
+    text.push_str("]")
 }
 
-fn push_goal(text: &mut String, goal: Goal) -> Result<(), AllocError> {
-    match goal {
-        Goal::AtLeast(height) => write!(text, "{{\"at_least\": {height}}}"),
-        Goal::Exactly(height) => write!(text, "{{\"exactly\": {height}}}"),
+fn push_label(text: &mut String, label: &Label) -> Result<(), AllocError>
+    ensures { OnOk result (string_bytes text.new ≡ string_bytes text.old ++ json_text (label_json label.now)) }
+{
+    text.push_str("{")?;
+    push_number(text, false, "height", label.height.get())?;
+    push_number(text, true, "fee", label.cost.fee)?;
+    push_number(text, true, "count", label.cost.count)?;
+    text.push_str("}")
+}
+
+/// Adds what stands behind the labels: when a client has a goal next, and the plan, if there is one.
+fn push_reached(
+    text: &mut String,
+    version: Version,
+    paths: &[PathId],
+    next: Option<Moment>,
+    plan: &Option<PlanReport>,
+) -> Result<(), AllocError>
+    ensures { OnOk result (string_bytes text.new
+        ≡ string_bytes text.old ++ more_text (reached_members version paths.now next (option_map plan_view plan.now))) }
+{
+    match plan {
+        Some(plan) => {
+            push_next(text, version, next)?;
+            push_plan(text, paths, plan)
+        }
+        None => Ok(()),
     }
 }
 
-fn push_label(text: &mut String, label: &Label) -> Result<(), AllocError> {
-    let height = label.height;
-    let fee = label.cost.fee;
-    let count = label.cost.count;
-    write!(
-        text,
-        "{{\"height\": {height}, \"fee\": {fee}, \"count\": {count}}}"
-    )
-}
-
-fn push_plan(text: &mut String, paths: &[PathId], plan: &PlanReport) -> Result<(), AllocError> {
-    text.push_str(", \"updates\": [")?;
+fn push_plan(text: &mut String, paths: &[PathId], plan: &PlanReport) -> Result<(), AllocError>
+    ensures { OnOk result (string_bytes text.new ≡ string_bytes text.old ++ more_text (plan_members paths.now (plan_view plan.now))) }
+{
+    push_name(text, true, "updates")?;
     push_updates(text, plan.updates.as_slice())?;
+    push_name(text, true, "total")?;
     push_total(text, plan.total)?;
+    push_name(text, true, "messages")?;
     push_messages(text, paths, plan.messages.as_slice())?;
-    text.push_str("]")?;
     push_sending(text, &plan.sending)
 }
 
-fn push_updates(text: &mut String, updates: &[PricedUpdate]) -> Result<(), AllocError> {
+fn push_updates(text: &mut String, updates: &[PricedUpdate]) -> Result<(), AllocError>
+    ensures { OnOk result (string_bytes text.new ≡ string_bytes text.old ++ json_text (array (map update_json (map priced_view updates.now)))) }
+{
+    text.push_str("[")?;
     for (place, update) in updates.iter().enumerate() {
-        push_comma(text, place)?;
+        push_comma(text, place > 0)?;
         push_update(text, update)?;
     }
-    Ok(())
+    text.push_str("]")
 }
 
-/// Adds what stands between a plan's updates and its messages.
-fn push_total(text: &mut String, total: Cost) -> Result<(), AllocError> {
-    let Cost { fee, count } = total;
-    write!(
-        text,
-        "], \"total\": {{\"fee\": {fee}, \"updates\": {count}}}, \"messages\": ["
-    )
-}
-
-fn push_messages(
-    text: &mut String,
-    paths: &[PathId],
-    messages: &[Message],
-) -> Result<(), AllocError> {
-    for (place, message) in messages.iter().enumerate() {
-        push_comma(text, place)?;
-        push_message(text, paths, message)?;
-    }
-    Ok(())
-}
-
-fn push_update(text: &mut String, priced: &PricedUpdate) -> Result<(), AllocError> {
-    let height = priced.update.height();
-    let trusted = priced.update.trusted();
-    let fee = priced.fee;
-    write!(
-        text,
-        "{{\"height\": {height}, \"trusted\": {trusted}, \"fee\": {fee}"
-    )?;
+fn push_update(text: &mut String, priced: &PricedUpdate) -> Result<(), AllocError>
+    ensures { OnOk result (string_bytes text.new ≡ string_bytes text.old ++ json_text (update_json (priced_view priced.now))) }
+{
+    text.push_str("{")?;
+    push_number(text, false, "height", priced.update.height().get())?;
+    push_number(text, true, "trusted", priced.update.trusted().get())?;
+    push_number(text, true, "fee", priced.fee)?;
     push_votes(text, &priced.votes)?;
     text.push_str("}")
 }
 
 /// Adds the votes that an update carries, where it carries only those that it needs.
-fn push_votes(text: &mut String, votes: &Option<SentVotes>) -> Result<(), AllocError> {
+fn push_votes(text: &mut String, votes: &Option<SentVotes>) -> Result<(), AllocError>
+    ensures { OnOk result (string_bytes text.new ≡ string_bytes text.old ++ more_text (votes_members (option_map sent_view votes.now))) }
+{
     let Some(votes) = votes else {
         return Ok(());
     };
-    let commits = votes.commits;
-    write!(text, ", \"commits\": {commits}, \"votes\": [")?;
-    for (place, address) in votes.senders.iter().enumerate() {
-        push_comma(text, place)?;
+    push_number(text, true, "commits", votes.commits as u64)?;
+    push_name(text, true, "votes")?;
+    push_addresses(text, votes.senders.as_slice())
+}
+
+fn push_addresses(text: &mut String, addresses: &[[u8; 20]]) -> Result<(), AllocError>
+    ensures { OnOk result (string_bytes text.new ≡ string_bytes text.old ++ json_text (array (map address_json addresses.now))) }
+{
+    text.push_str("[")?;
+    for (place, address) in addresses.iter().enumerate() {
+        push_comma(text, place > 0)?;
         push_address(text, address)?;
     }
     text.push_str("]")
 }
 
 /// Adds an address as nodes write it, in capital hexadecimal digits.
-fn push_address(text: &mut String, address: &[u8; 20]) -> Result<(), AllocError> {
+fn push_address(text: &mut String, address: &[u8; 20]) -> Result<(), AllocError>
+    ensures { OnOk result (string_bytes text.new ≡ string_bytes text.old ++ json_text (address_json address.now)) }
+{
     text.push_str("\"")?;
-    for byte in address {
-        write!(text, "{byte:02X}")?;
-    }
+    push_digits(text, address)?;
     text.push_str("\"")
 }
 
-fn push_message(text: &mut String, paths: &[PathId], message: &Message) -> Result<(), AllocError> {
+fn push_digits(text: &mut String, bytes: &[u8]) -> Result<(), AllocError>
+    ensures { OnOk result (string_bytes text.new ≡ string_bytes text.old ++ flat_map byte_digits bytes.now) }
+{
+    for byte in bytes {
+        push_byte(text, *byte)?;
+    }
+    Ok(())
+}
+
+#[tactic(auto, using(std::proofs::lemmas::Fmt::hex_byte))]
+fn push_byte(text: &mut String, byte: u8) -> Result<(), AllocError>
+    ensures { OnOk result (string_bytes text.new ≡ string_bytes text.old ++ byte_digits byte) }
+{
+    write!(text, "{byte:02X}")
+}
+
+fn push_total(text: &mut String, total: Cost) -> Result<(), AllocError>
+    ensures { OnOk result (string_bytes text.new ≡ string_bytes text.old ++ json_text (total_json total)) }
+{
+    text.push_str("{")?;
+    push_number(text, false, "fee", total.fee)?;
+    push_number(text, true, "updates", total.count)?;
+    text.push_str("}")
+}
+
+fn push_messages(
+    text: &mut String,
+    paths: &[PathId],
+    messages: &[Message],
+) -> Result<(), AllocError>
+    ensures { OnOk result (string_bytes text.new ≡ string_bytes text.old ++ json_text (array (map (message_json paths.now) messages.now))) }
+{
+    text.push_str("[")?;
+    for (place, message) in messages.iter().enumerate() {
+        push_comma(text, place > 0)?;
+        push_message(text, paths, message)?;
+    }
+    text.push_str("]")
+}
+
+fn push_message(text: &mut String, paths: &[PathId], message: &Message) -> Result<(), AllocError>
+    ensures { OnOk result (string_bytes text.new ≡ string_bytes text.old ++ json_text (message_json paths.now message.now)) }
+{
     let packet = message.packet();
-    let kind = kind_name(packet.kind);
-    let path = id_of(paths, message.path());
-    let sequence = packet.sequence;
-    write!(
-        text,
-        "{{\"kind\": \"{kind}\", \"path\": \"{path}\", \"sequence\": {sequence}}}"
-    )
+    text.push_str("{")?;
+    push_text(text, false, "kind", kind_name(packet.kind))?;
+    push_text(text, true, "path", id_of(paths, message.path()))?;
+    push_number(text, true, "sequence", packet.sequence.get())?;
+    text.push_str("}")
 }
 
 /// The word that a report has for a message of this kind.
-fn kind_name(kind: Kind) -> &'static str {
+fn kind_name(kind: Kind) -> &'static str
+    ensures { result.now ≡ kind_name kind }
+{
     match kind {
         Kind::Receive => "recv",
         Kind::Acknowledge => "ack",
@@ -304,44 +467,52 @@ fn kind_name(kind: Kind) -> &'static str {
 }
 
 /// The identifier of the path at a place.
-fn id_of(paths: &[PathId], path: usize) -> &str {
+fn id_of(paths: &[PathId], path: usize) -> &str
+    ensures { result.now ≡ slice_index_or paths.now path [] }
+{
     match paths.get(path) {
         Some(id) => id.as_str(),
         None => "",
     }
 }
 
-fn push_sending(text: &mut String, sending: &SendingReport) -> Result<(), AllocError> {
+fn push_sending(text: &mut String, sending: &SendingReport) -> Result<(), AllocError>
+    ensures { OnOk result (string_bytes text.new ≡ string_bytes text.old ++ more_text (sending_members (sending_view sending.now))) }
+{
     match sending {
-        SendingReport::Nothing => text.push_str("}"),
-        SendingReport::TooBig(index) => write!(text, ", \"too_big\": {index}}}"),
-        SendingReport::Batch(batch) => {
-            push_batch(text, batch.number, batch.proof)?;
-            push_transactions(text, batch.transactions.as_slice())?;
-            text.push_str("]}")
-        }
+        SendingReport::Nothing => Ok(()),
+        SendingReport::TooBig(index) => push_number(text, true, "too_big", *index as u64),
+        SendingReport::Batch(batch) => push_batch(text, batch),
     }
 }
 
-fn push_batch(text: &mut String, number: u64, proof: Height) -> Result<(), AllocError> {
-    write!(
-        text,
-        ", \"batch\": {number}, \"proof\": {proof}, \"transactions\": ["
-    )
+fn push_batch(text: &mut String, batch: &BatchReport) -> Result<(), AllocError>
+    ensures { OnOk result (string_bytes text.new ≡ string_bytes text.old ++ more_text (sending_members (batched (batch_view batch.now)))) }
+{
+    push_number(text, true, "batch", batch.number)?;
+    push_number(text, true, "proof", batch.proof.get())?;
+    push_name(text, true, "transactions")?;
+    push_transactions(text, batch.transactions.as_slice())
 }
 
-fn push_transactions(text: &mut String, transactions: &[Transaction]) -> Result<(), AllocError> {
+fn push_transactions(text: &mut String, transactions: &[Transaction]) -> Result<(), AllocError>
+    ensures { OnOk result (string_bytes text.new ≡ string_bytes text.old ++ json_text (array (map transaction_json transactions.now))) }
+{
+    text.push_str("[")?;
     for (place, transaction) in transactions.iter().enumerate() {
-        push_comma(text, place)?;
+        push_comma(text, place > 0)?;
         push_transaction(text, transaction)?;
     }
-    Ok(())
+    text.push_str("]")
 }
 
-fn push_transaction(text: &mut String, transaction: &Transaction) -> Result<(), AllocError> {
+fn push_transaction(text: &mut String, transaction: &Transaction) -> Result<(), AllocError>
+    ensures { OnOk result (string_bytes text.new ≡ string_bytes text.old ++ json_text (transaction_json transaction.now)) }
+{
     let Transaction { first, count, gas } = *transaction;
-    write!(
-        text,
-        "{{\"first\": {first}, \"count\": {count}, \"gas\": {gas}}}"
-    )
+    text.push_str("{")?;
+    push_number(text, false, "first", first as u64)?;
+    push_number(text, true, "count", count as u64)?;
+    push_number(text, true, "gas", gas)?;
+    text.push_str("}")
 }

@@ -1,0 +1,153 @@
+-- The report as JSON (own choice): the members of each object, in order.
+use Rattle.std.specs.Prelude.{ℕ, ◌/◌, ◌%◌, true, List, [], ◌∷◌, ◌++◌, codes, map, Option, Some, None, slice_index_or}
+use Rattle.std.specs.Fmt.{digit_glyph}
+use Rattle.std.specs.List.{flat_map}
+use Rattle.rb_batch.specs.declared.transaction.Transaction.{Transaction}
+use Rattle.rb_moments.specs.Moments.{moment_text}
+use Rattle.rb_plan.specs.declared.cost.Cost.{Cost}
+use Rattle.rb_plan.specs.declared.labelling.Label.{Label}
+use Rattle.rb_plan_client.specs.Task.{Message}
+use Rattle.rb_scan.specs.declared.message.Kind.{Kind}
+use Rattle.rb_scan.specs.declared.message.Kind.TheVariants.{Receive, Acknowledge, Timeout}
+use Rattle.rb_script_types.specs.Refusal.{number_of, name_of}
+use Rattle.rb_script_types.specs.declared.goal.Goal.{Goal}
+use Rattle.rb_script_types.specs.declared.goal.Goal.TheVariants.{Exactly, AtLeast}
+use Rattle.rb_script_types.specs.declared.refusal.Refusal.{Refusal}
+use Rattle.rb_script_types.specs.declared.version.Version.{Version}
+use Rattle.rb_script_types.specs.declared.version.Version.TheVariants.{One, Two, Three}
+use Rattle.rb_step.specs.Sent.{SentVotes}
+use Rattle.rb_super_turn.specs.Report.{RefusedEvent, PricedUpdate, SendingReport, nothing, too_big, batched, PlanReport, Outcome, held, idle, planned, ClientReport, SettlementReport, TurnReport, Report}
+use Rattle.rb_text_export.specs.Json.{Json, number, boolean, string, array, object, ◌is◌, json_text}
+
+abbrev pub Member : Type 0
+Member = List ℕ × Json
+
+-- ---- refusals and settlements
+
+-- why something was refused
+abbrev pub refusal_members : Refusal → List Member
+refusal_members refusal = codes "number" is number (number_of refusal) ∷ codes "name" is string (name_of refusal) ∷ []
+
+abbrev pub refused_json : RefusedEvent → Json
+refused_json r = object (codes "event" is number r.event ∷ refusal_members r.refusal)
+
+abbrev pub if_refused : Option Refusal → List Member
+if_refused None = []
+if_refused (Some refusal) = refusal_members refusal
+
+abbrev pub settled_members : SettlementReport → List Member
+settled_members x = codes "batch" is number x.batch ∷ codes "done" is number x.done ∷ if_refused x.refusal
+
+abbrev pub settlement_json : SettlementReport → Json
+settlement_json x = object (codes "client" is string x.id ∷ settled_members x)
+
+-- ---- plans
+
+abbrev pub goal_json : Goal → Json
+goal_json (AtLeast height) = object (codes "at_least" is number height ∷ [])
+goal_json (Exactly height) = object (codes "exactly" is number height ∷ [])
+
+abbrev pub label_json : Label → Json
+label_json l = object (codes "height" is number l.height ∷ codes "fee" is number l.cost.fee ∷ codes "count" is number l.cost.count ∷ [])
+
+-- a byte in two hexadecimal digits, with capital letters (RFC 4648, section 8)
+abbrev pub byte_digits : ℕ → List ℕ
+byte_digits byte = digit_glyph true (byte / 16) ∷ digit_glyph true (byte % 16) ∷ []
+
+-- an address as nodes write it
+abbrev pub address_json : List ℕ → Json
+address_json address = string (flat_map byte_digits address)
+
+-- the votes that an update carries, where it carries only those that it needs
+abbrev pub votes_members : Option SentVotes → List Member
+votes_members None = []
+votes_members (Some s) = codes "commits" is number s.commits ∷ codes "votes" is array (map address_json s.senders) ∷ []
+
+abbrev pub update_json : PricedUpdate → Json
+update_json u =
+    object (codes "height" is number u.update.height ∷ codes "trusted" is number u.update.trusted ∷ codes "fee" is number u.fee ∷ votes_members u.votes)
+
+abbrev pub total_json : Cost → Json
+total_json total = object (codes "fee" is number total.fee ∷ codes "updates" is number total.count ∷ [])
+
+abbrev pub kind_name : Kind → List ℕ
+kind_name Receive = codes "recv"
+kind_name Acknowledge = codes "ack"
+kind_name Timeout = codes "timeout"
+
+-- a packet message, its path by its identifier
+abbrev pub message_json : List (List ℕ) → Message → Json
+message_json paths m =
+    object (codes "kind" is string (kind_name m.packet.kind) ∷ codes "path" is string (slice_index_or paths m.path [])
+    ∷ codes "sequence" is number m.packet.sequence ∷ [])
+
+abbrev pub transaction_json : Transaction → Json
+transaction_json t = object (codes "first" is number t.first ∷ codes "count" is number t.count ∷ codes "gas" is number t.gas ∷ [])
+
+abbrev pub sending_members : SendingReport → List Member
+sending_members nothing = []
+sending_members (too_big index) = codes "too_big" is number index ∷ []
+sending_members (batched b) =
+    codes "batch" is number b.number ∷ codes "proof" is number b.proof ∷ codes "transactions" is array (map transaction_json b.transactions) ∷ []
+
+abbrev pub plan_members : List (List ℕ) → PlanReport → List Member
+plan_members paths p =
+    codes "updates" is array (map update_json p.updates) ∷ codes "total" is total_json p.total
+    ∷ codes "messages" is array (map (message_json paths) p.messages) ∷ sending_members p.sending
+
+-- ---- clients
+
+-- when a client has a goal next, from version 3 on
+abbrev pub next_members : Version → Option ℕ → List Member
+next_members One next = []
+next_members Two next = []
+next_members Three None = []
+next_members Three (Some moment) = codes "next" is string (moment_text moment) ∷ []
+
+-- what stands behind the labels: the plan, if there is one
+abbrev pub reached_members : Version → List (List ℕ) → Option ℕ → Option PlanReport → List Member
+reached_members version paths next None = []
+reached_members version paths next (Some p) = next_members version next ++ plan_members paths p
+
+abbrev pub planned_word : Option PlanReport → List ℕ
+planned_word None = codes "unreachable"
+planned_word (Some p) = codes "plan"
+
+abbrev pub outcome_members : Version → List (List ℕ) → Outcome → List Member
+outcome_members version paths (held batch) = codes "outcome" is string (codes "held") ∷ codes "batch" is number batch ∷ []
+outcome_members version paths (idle next) = codes "outcome" is string (codes "idle") ∷ next_members version next
+outcome_members version paths (planned p) =
+    codes "outcome" is string (planned_word p.plan) ∷ codes "goal" is goal_json p.goal ∷ codes "labels" is array (map label_json p.labels)
+    ∷ reached_members version paths p.next p.plan
+
+abbrev pub client_json : Version → List (List ℕ) → ClientReport → Json
+client_json version paths c = object (codes "id" is string c.id ∷ outcome_members version paths c.outcome)
+
+-- ---- turns
+
+unfoldable pub turn_members : Version → List (List ℕ) → TurnReport → List Member
+turn_members version paths t =
+    codes "refused" is array (map refused_json t.refused) ∷ codes "clients" is array (map (client_json version paths) t.clients)
+    ∷ codes "settlements" is array (map settlement_json t.settlements) ∷ []
+
+abbrev pub turn_json : Version → List (List ℕ) → TurnReport → Json
+turn_json version paths t = object (codes "window_back" is boolean t.window_back ∷ turn_members version paths t)
+
+-- the format of versions 1 and 2 is one
+abbrev pub format_of : Version → ℕ
+format_of One = 1
+format_of Two = 1
+format_of Three = 3
+
+-- with the identifiers of the paths by their places
+abbrev pub report_json : Version → List (List ℕ) → Report → Json
+report_json version paths turns =
+    object (codes "ibcplan" is number (format_of version) ∷ codes "turns" is array (map (turn_json version paths) turns) ∷ [])
+
+-- ---- lines
+
+abbrev pub turn_line : Version → List (List ℕ) → TurnReport → List ℕ
+turn_line version paths t = json_text (turn_json version paths t) ++ codes "\n"
+
+abbrev pub report_line : Version → List (List ℕ) → Report → List ℕ
+report_line version paths turns = json_text (report_json version paths turns) ++ codes "\n"
