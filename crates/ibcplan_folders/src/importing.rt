@@ -124,6 +124,16 @@ fn refused<'a>(text: Result<String, AllocError>) -> ProgramError<'a> {
     }
 }
 
+/// A setup without answers.
+fn without_answers(alloc: Global, setup: Setup) -> Fleet {
+    let answers = SavedAnswers {
+        chains: Vec::new(alloc),
+        clients: Vec::new(alloc),
+        paths: Vec::new(alloc),
+    };
+    Fleet { setup, answers }
+}
+
 /// Reads the answers of the chains that clients track, of the clients and of the paths, each from the folder of its
 /// identifier.
 fn read_fleet<'a, R: FileSystem>(
@@ -132,20 +142,46 @@ fn read_fleet<'a, R: FileSystem>(
     answers: Answers<'_>,
     left_out: &mut LeftOut<'a>,
 ) -> Result<Fleet, ProgramError<'a>> {
-    let mut fleet = Fleet {
-        setup,
-        answers: SavedAnswers {
-            chains: Vec::new(rt.alloc()),
-            clients: Vec::new(rt.alloc()),
-            paths: Vec::new(rt.alloc()),
-        },
-    };
+    let fleet = without_answers(rt.alloc(), setup);
+    let fleet = with_chains(rt, fleet, answers, left_out)?;
+    let fleet = with_clients(rt, fleet, answers, left_out)?;
+    with_paths(rt, fleet, answers, left_out)
+}
+
+/// The fleet with the answers of its chains, without what goes with those that are refused.
+fn with_chains<'a, R: FileSystem>(
+    rt: &R,
+    fleet: Fleet,
+    answers: Answers<'_>,
+    left_out: &mut LeftOut<'a>,
+) -> Result<Fleet, ProgramError<'a>> {
+    let mut fleet = fleet;
     let mut failures = Vec::new(rt.alloc());
     fleet.answers.chains = chain_answers(rt, &fleet.setup, answers, &mut failures)?;
-    let mut fleet = without_all(rt.alloc(), fleet, failures, left_out)?;
+    without_all(rt.alloc(), fleet, failures, left_out)
+}
+
+/// The same of its clients.
+fn with_clients<'a, R: FileSystem>(
+    rt: &R,
+    fleet: Fleet,
+    answers: Answers<'_>,
+    left_out: &mut LeftOut<'a>,
+) -> Result<Fleet, ProgramError<'a>> {
+    let mut fleet = fleet;
     let mut failures = Vec::new(rt.alloc());
     fleet.answers.clients = client_answers(rt, &fleet.setup, answers, &mut failures)?;
-    let mut fleet = without_all(rt.alloc(), fleet, failures, left_out)?;
+    without_all(rt.alloc(), fleet, failures, left_out)
+}
+
+/// The same of its paths.
+fn with_paths<'a, R: FileSystem>(
+    rt: &R,
+    fleet: Fleet,
+    answers: Answers<'_>,
+    left_out: &mut LeftOut<'a>,
+) -> Result<Fleet, ProgramError<'a>> {
+    let mut fleet = fleet;
     let mut failures = Vec::new(rt.alloc());
     fleet.answers.paths = path_answers(rt, &fleet.setup, answers, &mut failures)?;
     without_all(rt.alloc(), fleet, failures, left_out)

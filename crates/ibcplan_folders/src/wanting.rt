@@ -59,35 +59,59 @@ fn read_folders<'a, R: FileSystem>(
     setup: &Setup,
     folder: &str,
 ) -> Result<Folders, ProgramError<'a>> {
-    let mut chains = Vec::new(rt.alloc());
+    Ok(Folders {
+        chains: chain_folders(rt, setup, folder)?,
+        clients: client_folders(rt, setup, folder)?,
+        paths: path_folders(rt, setup, folder)?,
+    })
+}
+
+fn chain_folders<'a, R: FileSystem>(
+    rt: &R,
+    setup: &Setup,
+    folder: &str,
+) -> Result<Vec<Folder>, ProgramError<'a>> {
+    let mut folders = Vec::new(rt.alloc());
     for (place, chain) in setup.chains.iter().enumerate() {
         let read = if is_tracked(setup, place) {
             read_folder(rt, folder, chain.as_str(), 0)?
         } else {
             empty(rt.alloc())
         };
-        add(&mut chains, read)?;
+        add(&mut folders, read)?;
     }
-    let mut clients = Vec::new(rt.alloc());
+    Ok(folders)
+}
+
+fn client_folders<'a, R: FileSystem>(
+    rt: &R,
+    setup: &Setup,
+    folder: &str,
+) -> Result<Vec<Folder>, ProgramError<'a>> {
+    let mut folders = Vec::new(rt.alloc());
     for client in &setup.clients {
         let since = tracked_revision(setup.chains.as_slice(), client);
         let read = read_folder(rt, folder, client.id.as_str(), since)?;
-        add(&mut clients, read)?;
+        add(&mut folders, read)?;
     }
-    let mut paths = Vec::new(rt.alloc());
+    Ok(folders)
+}
+
+fn path_folders<'a, R: FileSystem>(
+    rt: &R,
+    setup: &Setup,
+    folder: &str,
+) -> Result<Vec<Folder>, ProgramError<'a>> {
+    let mut folders = Vec::new(rt.alloc());
     for path in &setup.paths {
         let read = if path.counterparty.is_some() {
             read_folder(rt, folder, path.config.id.as_str(), 0)?
         } else {
             empty(rt.alloc())
         };
-        add(&mut paths, read)?;
+        add(&mut folders, read)?;
     }
-    Ok(Folders {
-        chains,
-        clients,
-        paths,
-    })
+    Ok(folders)
 }
 
 /// A folder with nothing in it.
@@ -145,21 +169,43 @@ fn read_named<'a, R: FileSystem>(
     if name != "status" && !name.ends_with(".json") {
         return Ok(());
     }
+    let content = read_content(rt, path, name, since)?;
+    add_content(rt.alloc(), name, content, read)
+}
+
+/// Reads what a file of a folder holds.
+fn read_content<'a, R: FileSystem>(
+    rt: &R,
+    path: &str,
+    name: &str,
+    since: u64,
+) -> Result<Content, ProgramError<'a>> {
     let file = path_in(rt.alloc(), path, name)?;
-    let bytes = match read_bytes(rt, file.as_str()) {
-        Ok(bytes) => bytes,
-        Err(error) => return Err(ProgramError::of_file(rt.alloc(), file.as_str(), error)),
-    };
-    match content_of(rt.alloc(), bytes.as_slice(), since) {
-        Ok(content) => {
-            if let Content::Search(_) = &content {
-                let request = name.strip_suffix(".json").unwrap_or(name);
-                add_name(rt.alloc(), &mut read.searched, request)?;
-            }
-            add(&mut read.contents, content)
-        }
+    match read_bytes(rt, file.as_str()) {
+        Ok(bytes) => contents_of(rt.alloc(), bytes.as_slice(), since),
+        Err(error) => Err(ProgramError::of_file(rt.alloc(), file.as_str(), error)),
+    }
+}
+
+fn contents_of<'a>(alloc: Global, bytes: &[u8], since: u64) -> Result<Content, ProgramError<'a>> {
+    match content_of(alloc, bytes, since) {
+        Ok(content) => Ok(content),
         Err(_) => Err(ProgramError::NoMemory),
     }
+}
+
+/// Adds what a file holds, and its name, if it is an answer of a search.
+fn add_content<'a>(
+    alloc: Global,
+    name: &str,
+    content: Content,
+    read: &mut Folder,
+) -> Result<(), ProgramError<'a>> {
+    if let Content::Search(_) = &content {
+        let request = name.strip_suffix(".json").unwrap_or(name);
+        add_name(alloc, &mut read.searched, request)?;
+    }
+    add(&mut read.contents, content)
 }
 
 /// Adds the name of a request.
