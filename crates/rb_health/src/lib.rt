@@ -5,7 +5,6 @@
 mod expiry;
 mod health;
 mod json;
-mod length;
 mod metrics;
 mod text;
 

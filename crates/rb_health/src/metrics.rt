@@ -5,8 +5,8 @@ ghost use Rattle.rb_health.specs.Metrics.{head, name_text, label, value_text, ga
 
 use crate::expiry::Expiry;
 use crate::health::ClientHealth;
-use crate::length::SECOND;
 use rb_base::ChainId;
+use rb_moments::SECOND;
 use rb_script_types::ClientConfig;
 use std::alloc::{AllocError, Global};
 
