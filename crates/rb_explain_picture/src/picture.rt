@@ -9,9 +9,8 @@ use crate::svg::{
 };
 use rb_base::{Height, Window};
 use rb_explain::{ClientExplanation, PricedList, TurnExplanation, Why};
-use rb_explain_text::{
-    message_lines, push_client, push_count, push_heading, push_moment, push_time,
-};
+use rb_explain_text::{message_lines, push_client, push_count, push_heading, push_time};
+use rb_moments::push_instant;
 use rb_script_types::Config;
 use rb_super_turn::{ClientReport, Outcome, PlanReport, SendingReport};
 use std::alloc::{AllocError, Global};
@@ -186,7 +185,7 @@ fn push_words(
 fn push_window(text: &mut String, window: &Window) -> Result<(), AllocError> {
     let from = window.from().nanoseconds();
     text.push_str("window: ")?;
-    push_moment(text, from)?;
+    push_instant(text, from)?;
     text.push_str(" to ")?;
     push_time(text, window.until().nanoseconds(), from)
 }

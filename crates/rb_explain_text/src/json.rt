@@ -1,5 +1,4 @@
 //! An explanation as JSON. Identifiers have no character that JSON escapes.
-use crate::moments::push_moment;
 use crate::names::{answer_name, chain_name, client_name, path_name};
 use crate::pieces::{put, put_long};
 use crate::text::next_of;
@@ -8,6 +7,7 @@ use rb_explain::{
     Charges, ClientExplanation, IdleReason, PlanExplanation, Power, PricedList, StepExplanation,
     Subject, TurnExplanation, UnreachableExplanation, WaitingMessage, Why,
 };
+use rb_moments::push_moment;
 use rb_plan::{Label, Update};
 use rb_plan_client::Message;
 use rb_scan::Kind;
@@ -251,7 +251,7 @@ fn push_next(text: &mut String, version: Version, outcome: &Outcome) -> Result<(
     match (version, next_of(outcome)) {
         (Version::Three, Some(moment)) => {
             text.push_str("\"next\": \"")?;
-            push_moment(text, moment.nanoseconds())?;
+            push_moment(text, moment)?;
             text.push_str("\", ")
         }
         _ => Ok(()),

@@ -11,7 +11,7 @@ mod steps;
 mod text;
 
 pub use json::{put_json, put_json_beginning, put_json_end};
-pub use moments::{push_moment, push_time};
+pub use moments::push_time;
 pub use names::answer_name;
 pub use packets::message_lines;
 pub use pieces::put;

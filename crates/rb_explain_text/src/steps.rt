@@ -1,7 +1,7 @@
 //! Steps as text.
-use crate::moments::push_moment;
 use rb_base::Window;
 use rb_explain::{Charges, Power, StepExplanation};
+use rb_moments::{push_instant, push_moment};
 use rb_plan::Update;
 use rb_step::{Reason, Verdict};
 use std::alloc::AllocError;
@@ -124,7 +124,7 @@ fn push_reason(
         Reason::HeightOrder => write!(text, "{height} isn't higher than {trusted}"),
         Reason::Expired => {
             write!(text, "the consensus state of {trusted} has expired since ")?;
-            push_moment(text, step.expiry)?;
+            push_instant(text, step.expiry)?;
             if step.expiry > window.from().nanoseconds() {
                 text.push_str(", within the window")?;
             }
@@ -138,7 +138,7 @@ fn push_reason(
         }
         Reason::FromFuture => {
             write!(text, "the time of {height}, ")?;
-            push_moment(text, step.time.nanoseconds())?;
+            push_moment(text, step.time)?;
             text.push_str(", is ahead of the window's first moment by the clock drift or more")
         }
         Reason::TrustedSetUnknown => {

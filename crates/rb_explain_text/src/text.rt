@@ -1,5 +1,5 @@
 //! An explanation as text.
-use crate::moments::{push_length, push_moment, push_time};
+use crate::moments::push_time;
 use crate::names::client_name;
 use crate::packets::{packets_of, push_messages, push_waiting};
 use crate::pieces::{put, put_long};
@@ -10,6 +10,7 @@ use rb_explain::{
     ClientExplanation, IdleReason, PlanExplanation, PricedList, StepExplanation, StoredHeight,
     TurnExplanation, UnreachableExplanation, Why,
 };
+use rb_moments::{push_instant, push_length};
 use rb_plan::Label;
 use rb_script_types::{Config, Goal, Version};
 use rb_step::Verdict;
@@ -167,7 +168,7 @@ fn push_stored_height(
 ) -> Result<(), AllocError> {
     let height = stored.height;
     write!(text, "{height} (expires ")?;
-    push_moment(text, stored.expiry)?;
+    push_instant(text, stored.expiry)?;
     if stored.expiry > until {
         text.push_str(", ")?;
         push_length(text, stored.expiry - until)?;
