@@ -1,28 +1,33 @@
 -- What an error names of answers.
-use Rattle.std.proofs.Common.{◌≡◌, ℕ, zero, suc, ◌+◌, ◌<◌, ◌≤◌, List, [], ◌∷◌, ◌++◌, length, get_or, take, map, inl, inr, refl, sym, subst, ap, ◌∙◌, arith}
-use Rattle.std.specs.Prelude.{Any, slice_index, string_bytes}
+use Rattle.std.proofs.Common.{◌≡◌, ◌≢◌, ◌⊎◌, ℕ, zero, suc, ◌+◌, ◌<◌, ◌≤◌, List, [], ◌∷◌, ◌++◌, length, get_or, take, map, Option, Some, None, inl, inr, refl, sym, subst, ap, ◌∙◌, arith}
+use Rattle.std.specs.Prelude.{⊤, Any, Contains, IfSome, IsSomeAnd, slice_get, slice_index, string_bytes}
 use Rattle.std.specs.List.{flat_map}
+use Rattle.std.specs.Option.{unwrap_or}
 use Rattle.std.specs.List.Sorted.{IsNonDecreasingBy, IsPermutation}
 use Rattle.std.proofs.lemmas.List.{get_or_default, length-map}
 use Rattle.std.proofs.lemmas.List.Sorted.{IsPermutation-cons, IsPermutation-map, IsPermutation-refl, IsPermutation-swap, IsPermutation-trans}
+use Rattle.std.proofs.lemmas.Option.{none-some, same_Some}
 use Rattle.rb_import_answers.specs.Revisions.{IsRevision}
 use Rattle.rb_import_answers.specs.declared.answer.NodeAnswer.{NodeAnswer}
 use Rattle.rb_import_answers.specs.declared.commit.SignedHeader.{SignedHeader}
 use Rattle.rb_import_check.specs.declared.chain.Commit.{Commit}
+use Rattle.rb_import_check.specs.declared.chain.Page.{Page}
 use Rattle.rb_import_check.specs.declared.client.Stored.{Stored}
 use Rattle.rb_import_check.specs.declared.error.CheckErrorName.{CheckErrorName}
 use Rattle.rb_import_check.specs.declared.error.ImportError.{ImportError}
 use Rattle.rb_import_check.specs.declared.error.ImportError.TheVariants as errors
 use Rattle.rb_import_check.specs.declared.saved.Saved.{Saved}
 use Rattle.rb_import_check.specs.declared.sets.SeenSet.{SeenSet}
-use Rattle.rb_import_check.specs.Chains.{AreOfFiles, Filed, filed, filed_of, headers_in, pages_at}
+use Rattle.rb_import_check.specs.Chains.{AreOfFiles, Filed, HaveHeaders, HaveSets, IsAmong, filed, filed_of, headers_in, headers_of, pages_at}
 use Rattle.rb_import_check.specs.Clients.{AreStatesOfFiles, FiledState, filed_state, filed_states_of}
 use Rattle.rb_import_check.specs.Errors.{AreTwoAmong, IsAt, IsBetween, IsBetweenTwo, IsIn, IsTold, IsToldBy}
-use Rattle.rb_import_check.specs.Named.{Names, NamesByName, NamesFall, NamesForeign, NamesIn, NamesOf, NamesOtherHeader, NamesOtherRecord, ShowsHeader, with_files}
-use Rattle.rb_import_check.specs.Refusals.{RefusesCommit, RefusesPages}
+use Rattle.rb_import_check.specs.Named.{FiledPage, IsOfPage, Names, NamesByName, NamesCommit, NamesCommitBy, NamesDiscord, NamesFall, NamesForeign, NamesHeaderAndPage, NamesHeaderWithoutSet, NamesIn, NamesOf, NamesOfPages, NamesOtherHeader, NamesOtherRecord, NamesPages, NamesSomePages, ShowsHeader, filed_page, filed_pages_at, with_files}
+use Rattle.rb_import_check.specs.Refusals.{RefusesPages}
+use Rattle.rb_import_check.specs.Sets.{WasSeen}
 use Rattle.rb_import_check.specs.Verdicts.{TellsOtherVotes, verdict_list, verdicts_of}
-use Rattle.rb_import_check.proofs.ChainReasons.{any_viewed}
+use Rattle.rb_import_check.proofs.ChainReasons.{any_map, any_viewed}
 use Rattle.rb_import_check.proofs.ReasonsLemmas.{any_one}
+use Rattle.rb_import_check.proofs.SetReasons.{any_of, discord, seen_at}
 use Rattle.rb_import_check.proofs.Sorting.{assoc, taken}
 
 -- ---- two of a list
@@ -140,67 +145,165 @@ pub two_filed : {A : Type 0} (told : NodeAnswer → List A) (saved : List Saved)
 two_filed {A} told saved i s a b earlier small is before there =
     two_held (λ (t : Saved). map (λ (x : A). (x, string_bytes t.file)) (told t.answer)) saved i s (a, earlier) (b, string_bytes s.file) small is before (ap (map (λ (x : A). (x, string_bytes s.file))) there)
 
--- ---- names of which nothing more is told
+-- ---- pages of a height
 
-of_pages : (id : List ℕ) (saved : List Saved) (headers : List SignedHeader) (e : ImportError) (name : CheckErrorName) → (height : ℕ) × RefusesPages name headers height (pages_at saved height) → Names name id saved e
-of_pages id saved headers e CheckErrorName.WrongFolder w = absurd w.1
-of_pages id saved headers e CheckErrorName.OtherChain w = absurd w.1
-of_pages id saved headers e CheckErrorName.OtherRevision w = tt
-of_pages id saved headers e CheckErrorName.TwoAnswers w = absurd w.1
-of_pages id saved headers e CheckErrorName.OtherTotal w = tt
-of_pages id saved headers e CheckErrorName.MissingPage w = tt
-of_pages id saved headers e CheckErrorName.TooManyValidators w = tt
-of_pages id saved headers e CheckErrorName.BadSet w = tt
-of_pages id saved headers e CheckErrorName.OtherSet w = tt
-of_pages id saved headers e CheckErrorName.MissingSet w = tt
-of_pages id saved headers e CheckErrorName.OtherHeader w = absurd w.1
-of_pages id saved headers e CheckErrorName.SignatureCount w = tt
-of_pages id saved headers e CheckErrorName.OtherSigner w = tt
-of_pages id saved headers e CheckErrorName.MissingClientState w = tt
-of_pages id saved headers e CheckErrorName.MissingConsensusStates w = tt
-of_pages id saved headers e CheckErrorName.OtherRecord w = tt
-of_pages id saved headers e CheckErrorName.MissingCommitments w = tt
-of_pages id saved headers e CheckErrorName.MissingTransactions w = tt
-of_pages id saved headers e CheckErrorName.TwoChannels w = tt
-of_pages id saved headers e CheckErrorName.MissingSend w = tt
-of_pages id saved headers e CheckErrorName.MissingReceive w = tt
-of_pages id saved headers e CheckErrorName.OtherVerdict w = absurd w.1
-of_pages id saved headers e CheckErrorName.ScriptTooBig w = tt
+-- a page tells another total than one before it
+pub names_totals : (before : Option Page) (pages : List Page) (page : Page) (i : ℕ) (e : ImportError) → i < length pages → page ≡ get_or pages i page → IfSome before (Contains pages)
+    → IsTold CheckErrorName.OtherTotal (IsSomeAnd before (λ (lower : Page). lower.page.now.total ≢ page.page.now.total)) e
+    → IsSomeAnd before (λ (lower : Page). IsAt lower.page.now.height e × IsBetween lower.file.now page.file.now e) → NamesOfPages 0 [] (map filed_page pages) e
+names_totals before pages page i errors.NoMemory small is there told named = tt
+names_totals None pages page i (errors.CheckError p) small is there told named = absurd told.1
+names_totals (Some lower) pages page i (errors.CheckError p) small is (k, within, at) told named =
+    let e : ImportError = errors.CheckError p in
+    let Two : FiledPage → FiledPage → Type 0 = λ q r. (q.0.total ≢ r.0.total) × IsAt q.0.height e × IsBetween q.1 r.1 e in
+    let here : Any (Two (filed_page lower)) (map filed_page pages) = any_map filed_page (Two (filed_page lower)) pages (i, page, small, sym is, (told.1, named.0, named.1)) in
+    subst (λ name. NamesPages name 0 [] (map filed_page pages) e) (sym told.0)
+    (any_map filed_page (λ q. Any (Two q) (map filed_page pages)) pages (k, lower, within, at, here))
 
-pub names_pages : (id : List ℕ) (saved : List Saved) (headers : List SignedHeader) (e : ImportError)
-    → IsToldBy (λ name. (height : ℕ) × RefusesPages name headers height (pages_at saved height)) e → NamesOf id saved e
-names_pages id saved headers (errors.CheckError p) w = of_pages id saved headers (errors.CheckError p) p.name w
-names_pages id saved headers errors.NoMemory w = tt
+-- two of the pages have too many validators
+pub names_many : (pages : List Page) (lower page : Page) (e : ImportError) → Contains pages lower → Contains pages page → IsTold CheckErrorName.TooManyValidators ⊤ e
+    → IsAt lower.page.now.height e → IsBetween lower.file.now page.file.now e → NamesOfPages 0 [] (map filed_page pages) e
+names_many pages lower page errors.NoMemory first second told at between = tt
+names_many pages lower page (errors.CheckError p) (i, small, is) (k, within, there) told at between =
+    let e : ImportError = errors.CheckError p in
+    let Two : FiledPage → FiledPage → Type 0 = λ q r. IsAt q.0.height e × IsBetween q.1 r.1 e in
+    let here : Any (Two (filed_page lower)) (map filed_page pages) = any_map filed_page (Two (filed_page lower)) pages (k, page, within, there, (at, between)) in
+    subst (λ name. NamesPages name 0 [] (map filed_page pages) e) (sym told.0)
+    (any_map filed_page (λ q. Any (Two q) (map filed_page pages)) pages (i, lower, small, is, here))
 
-of_commit : (id : List ℕ) (saved : List Saved) (sets : List SeenSet) (commits : List Commit) (e : ImportError) (name : CheckErrorName) → Any (RefusesCommit name sets) commits → Names name id saved e
-of_commit id saved sets commits e CheckErrorName.WrongFolder (k, c, small, is, (s, there, hash, differ)) = absurd differ
-of_commit id saved sets commits e CheckErrorName.OtherChain (k, c, small, is, (s, there, hash, differ)) = absurd differ
-of_commit id saved sets commits e CheckErrorName.OtherRevision w = tt
-of_commit id saved sets commits e CheckErrorName.TwoAnswers (k, c, small, is, (s, there, hash, differ)) = absurd differ
-of_commit id saved sets commits e CheckErrorName.OtherTotal w = tt
-of_commit id saved sets commits e CheckErrorName.MissingPage w = tt
-of_commit id saved sets commits e CheckErrorName.TooManyValidators w = tt
-of_commit id saved sets commits e CheckErrorName.BadSet w = tt
-of_commit id saved sets commits e CheckErrorName.OtherSet w = tt
-of_commit id saved sets commits e CheckErrorName.MissingSet w = tt
-of_commit id saved sets commits e CheckErrorName.OtherHeader (k, c, small, is, (s, there, hash, differ)) = absurd differ
-of_commit id saved sets commits e CheckErrorName.SignatureCount w = tt
-of_commit id saved sets commits e CheckErrorName.OtherSigner w = tt
-of_commit id saved sets commits e CheckErrorName.MissingClientState w = tt
-of_commit id saved sets commits e CheckErrorName.MissingConsensusStates w = tt
-of_commit id saved sets commits e CheckErrorName.OtherRecord w = tt
-of_commit id saved sets commits e CheckErrorName.MissingCommitments w = tt
-of_commit id saved sets commits e CheckErrorName.MissingTransactions w = tt
-of_commit id saved sets commits e CheckErrorName.TwoChannels w = tt
-of_commit id saved sets commits e CheckErrorName.MissingSend w = tt
-of_commit id saved sets commits e CheckErrorName.MissingReceive w = tt
-of_commit id saved sets commits e CheckErrorName.OtherVerdict (k, c, small, is, (s, there, hash, differ)) = absurd differ
-of_commit id saved sets commits e CheckErrorName.ScriptTooBig w = tt
+-- the page before, or this one where there is none
+pub lower_among : (before : Option Page) (pages : List Page) (page lower : Page) → IfSome before (Contains pages) → Contains pages page → lower ≡ unwrap_or before page → Contains pages lower
+lower_among None pages page lower there here is = subst (Contains pages) (sym is) here
+lower_among (Some x) pages page lower there here is = subst (Contains pages) (sym is) there
 
-pub names_set : (id : List ℕ) (saved : List Saved) (sets : List SeenSet) (commits : List Commit) (e : ImportError)
-    → IsToldBy (λ name. Any (RefusesCommit name sets) commits) e → NamesOf id saved e
-names_set id saved sets commits (errors.CheckError p) w = of_commit id saved sets commits (errors.CheckError p) p.name w
-names_set id saved sets commits errors.NoMemory w = tt
+-- what is told of the totals needs no header
+pub names_members : (height : ℕ) (headers : List Filed) (pages : List FiledPage) (P Q : Type 0) (e : ImportError) → IsTold CheckErrorName.OtherTotal P e ⊎ IsTold CheckErrorName.TooManyValidators Q e
+    → NamesOfPages 0 [] pages e → NamesOfPages height headers pages e
+names_members height headers pages P Q errors.NoMemory told named = tt
+names_members height headers pages P Q (errors.CheckError p) (inl told) named =
+    subst (λ name. NamesPages name height headers pages (errors.CheckError p)) (sym told.0) (subst (λ name. NamesPages name 0 [] pages (errors.CheckError p)) told.0 named)
+names_members height headers pages P Q (errors.CheckError p) (inr told) named =
+    subst (λ name. NamesPages name height headers pages (errors.CheckError p)) (sym told.0) (subst (λ name. NamesPages name 0 [] pages (errors.CheckError p)) told.0 named)
+
+first_page : (P : FiledPage → Type 0) (pages : List Page) (first : Page) → Some first ≡ slice_get pages 0 → P (filed_page first) → Any P (map filed_page pages)
+first_page P [] first is w = absurd (none-some first (sym is))
+first_page P (q ∷ qs) first is w = (0, filed_page q, omega arith, refl, subst (λ (x : Page). P (filed_page x)) (same_Some first q is) w)
+
+-- a header of the height of pages, and their first one
+header_page : (commits : List Commit) (commit : Option Commit) (height : ℕ) (pages : List Page) (first : Page) (e : ImportError) → IfSome commit (IsAmong commits height)
+    → Some first ≡ slice_get pages 0 → IsSomeAnd commit (λ (c : Commit). IsAt first.page.now.height e × IsBetween c.file.now first.file.now e)
+    → NamesHeaderAndPage height (map filed commits) (map filed_page pages) e
+header_page commits None height pages first e among is named = absurd named
+header_page commits (Some c) height pages first e among is named =
+    any_map filed (λ (f : Filed). (f.0.height ≡ height) × Any (λ (q : FiledPage). IsAt q.0.height e × IsBetween f.2 q.1 e) (map filed_page pages)) commits
+    (among.0.0, c, among.0.1, among.0.2, (among.1, first_page (λ (q : FiledPage). IsAt q.0.height e × IsBetween c.file.now q.1 e) pages first is named))
+
+pub names_missing : (commits : List Commit) (commit : Option Commit) (height : ℕ) (pages : List Page) (first : Page) (R : Type 0) (e : ImportError) → IfSome commit (IsAmong commits height)
+    → Some first ≡ slice_get pages 0 → IsTold CheckErrorName.MissingPage R e → IsSomeAnd commit (λ (c : Commit). IsAt first.page.now.height e × IsBetween c.file.now first.file.now e)
+    → NamesOfPages height (map filed commits) (map filed_page pages) e
+names_missing commits commit height pages first R errors.NoMemory among is told named = tt
+names_missing commits commit height pages first R (errors.CheckError p) among is told named =
+    subst (λ name. NamesPages name height (map filed commits) (map filed_page pages) (errors.CheckError p)) (sym told.0)
+    (header_page commits commit height pages first (errors.CheckError p) among is named)
+
+pub names_other : (commits : List Commit) (commit : Option Commit) (height : ℕ) (pages : List Page) (first : Page) (R : Type 0) (e : ImportError) → IfSome commit (IsAmong commits height)
+    → Some first ≡ slice_get pages 0 → IsTold CheckErrorName.OtherSet R e → IsSomeAnd commit (λ (c : Commit). IsAt first.page.now.height e × IsBetween c.file.now first.file.now e)
+    → NamesOfPages height (map filed commits) (map filed_page pages) e
+names_other commits commit height pages first R errors.NoMemory among is told named = tt
+names_other commits commit height pages first R (errors.CheckError p) among is told named =
+    subst (λ name. NamesPages name height (map filed commits) (map filed_page pages) (errors.CheckError p)) (sym told.0)
+    (header_page commits commit height pages first (errors.CheckError p) among is named)
+
+pub names_bad : (headers : List Filed) (height : ℕ) (pages : List Page) (first : Page) (R : Type 0) (e : ImportError) → Some first ≡ slice_get pages 0
+    → IsTold CheckErrorName.BadSet R e → IsOfPage first e → NamesOfPages height headers (map filed_page pages) e
+names_bad headers height pages first R errors.NoMemory is told named = tt
+names_bad headers height pages first R (errors.CheckError p) is told named =
+    subst (λ name. NamesPages name height headers (map filed_page pages) (errors.CheckError p)) (sym told.0)
+    (first_page (λ (q : FiledPage). IsAt q.0.height (errors.CheckError p) × IsIn q.1 (errors.CheckError p)) pages first is named)
+
+pub names_at : (headers : List Filed) (saved : List Saved) (height : ℕ) (pages : List FiledPage) (e : ImportError) → pages ≡ filed_pages_at saved height
+    → NamesOfPages height headers pages e → NamesSomePages headers saved e
+names_at headers saved height pages errors.NoMemory are named = tt
+names_at headers saved height pages (errors.CheckError p) are named = (height, subst (λ l. NamesOfPages height headers l (errors.CheckError p)) are named)
+
+-- ---- the pages and the signatures of a chain
+
+module _ (id : List ℕ) (saved : List Saved) (commits : List Commit) (same : AreOfFiles (filed_of saved) commits) where
+  headers_too : (height : ℕ) (pages : List FiledPage) (e : ImportError) → NamesHeaderAndPage height (map filed commits) pages e → NamesHeaderAndPage height (filed_of saved) pages e
+  headers_too height pages e =
+      any_of (λ (f : Filed). (f.0.height ≡ height) × Any (λ (q : FiledPage). IsAt q.0.height e × IsBetween f.2 q.1 e) pages) (filed_of saved) (map filed commits) same
+
+  abbrev Pages : CheckErrorName → ImportError → Type 0
+  Pages name e = (height : ℕ) × NamesPages name height (map filed commits) (filed_pages_at saved height) e
+
+  of_pages : (headers : List SignedHeader) (e : ImportError) (name : CheckErrorName) → (height : ℕ) × RefusesPages name headers height (pages_at saved height) → Pages name e → Names name id saved e
+  of_pages headers e CheckErrorName.WrongFolder w named = absurd w.1
+  of_pages headers e CheckErrorName.OtherChain w named = absurd w.1
+  of_pages headers e CheckErrorName.OtherRevision w named = absurd w.1
+  of_pages headers e CheckErrorName.TwoAnswers w named = absurd w.1
+  of_pages headers e CheckErrorName.OtherTotal w named = named
+  of_pages headers e CheckErrorName.MissingPage w named = (named.0, headers_too named.0 (filed_pages_at saved named.0) e named.1)
+  of_pages headers e CheckErrorName.TooManyValidators w named = named
+  of_pages headers e CheckErrorName.BadSet w named = named
+  of_pages headers e CheckErrorName.OtherSet w named = (named.0, headers_too named.0 (filed_pages_at saved named.0) e named.1)
+  of_pages headers e CheckErrorName.MissingSet w named = absurd w.1
+  of_pages headers e CheckErrorName.OtherHeader w named = absurd w.1
+  of_pages headers e CheckErrorName.SignatureCount w named = absurd w.1
+  of_pages headers e CheckErrorName.OtherSigner w named = absurd w.1
+  of_pages headers e CheckErrorName.MissingClientState w named = absurd w.1
+  of_pages headers e CheckErrorName.MissingConsensusStates w named = absurd w.1
+  of_pages headers e CheckErrorName.OtherRecord w named = absurd w.1
+  of_pages headers e CheckErrorName.MissingCommitments w named = absurd w.1
+  of_pages headers e CheckErrorName.MissingTransactions w named = absurd w.1
+  of_pages headers e CheckErrorName.TwoChannels w named = absurd w.1
+  of_pages headers e CheckErrorName.MissingSend w named = absurd w.1
+  of_pages headers e CheckErrorName.MissingReceive w named = absurd w.1
+  of_pages headers e CheckErrorName.OtherVerdict w named = absurd w.1
+  of_pages headers e CheckErrorName.ScriptTooBig w named = absurd w.1
+
+  pub names_pages : (headers : List SignedHeader) (e : ImportError) → IsToldBy (λ name. (height : ℕ) × RefusesPages name headers height (pages_at saved height)) e
+      → NamesSomePages (map filed commits) saved e → NamesOf id saved e
+  names_pages headers (errors.CheckError p) w named = of_pages headers (errors.CheckError p) p.name w named
+  names_pages headers errors.NoMemory w named = tt
+
+  module _ (sets : List SeenSet) (headers : HaveHeaders (headers_of saved) commits) (have : HaveSets saved sets) where
+    abbrev Commits : CheckErrorName → ImportError → Type 0
+    Commits name e = Any (λ c. NamesCommitBy name sets c e) commits
+
+    of_commit : (e : ImportError) (name : CheckErrorName) → Commits name e → Names name id saved e
+    of_commit e CheckErrorName.WrongFolder (k, c, small, is, ((s, there, hash, differ), at, begins)) = absurd differ
+    of_commit e CheckErrorName.OtherChain (k, c, small, is, ((s, there, hash, differ), at, begins)) = absurd differ
+    of_commit e CheckErrorName.OtherRevision (k, c, small, is, ((s, there, hash, differ), at, begins)) = absurd differ
+    of_commit e CheckErrorName.TwoAnswers (k, c, small, is, ((s, there, hash, differ), at, begins)) = absurd differ
+    of_commit e CheckErrorName.OtherTotal (k, c, small, is, ((s, there, hash, differ), at, begins)) = absurd differ
+    of_commit e CheckErrorName.MissingPage (k, c, small, is, ((s, there, hash, differ), at, begins)) = absurd differ
+    of_commit e CheckErrorName.TooManyValidators (k, c, small, is, ((s, there, hash, differ), at, begins)) = absurd differ
+    of_commit e CheckErrorName.BadSet (k, c, small, is, ((s, there, hash, differ), at, begins)) = absurd differ
+    of_commit e CheckErrorName.OtherSet (k, c, small, is, ((s, there, hash, differ), at, begins)) = absurd differ
+    of_commit e CheckErrorName.MissingSet (k, c, small, is, (none, at, inside)) =
+        any_viewed filed (λ (f : Filed). NamesHeaderWithoutSet saved f e) (filed_of saved) commits same
+        (k, c, small, is, ((λ height whole hash. none (subst (WasSeen sets) hash (seen_at saved sets height have whole))), at, inside))
+    of_commit e CheckErrorName.OtherHeader (k, c, small, is, ((s, there, hash, differ), at, begins)) = absurd differ
+    of_commit e CheckErrorName.SignatureCount (k, c, small, is, ((s, there, hash, differ), at, begins)) =
+        any_viewed filed (λ (f : Filed). NamesDiscord CheckErrorName.SignatureCount saved f e) (filed_of saved) commits same
+        (k, c, small, is, (discord id saved commits sets headers have CheckErrorName.SignatureCount c.header.now s there hash differ, at, begins))
+    of_commit e CheckErrorName.OtherSigner (k, c, small, is, ((s, there, hash, differ), at, begins)) =
+        any_viewed filed (λ (f : Filed). NamesDiscord CheckErrorName.OtherSigner saved f e) (filed_of saved) commits same
+        (k, c, small, is, (discord id saved commits sets headers have CheckErrorName.OtherSigner c.header.now s there hash differ, at, begins))
+    of_commit e CheckErrorName.MissingClientState (k, c, small, is, ((s, there, hash, differ), at, begins)) = absurd differ
+    of_commit e CheckErrorName.MissingConsensusStates (k, c, small, is, ((s, there, hash, differ), at, begins)) = absurd differ
+    of_commit e CheckErrorName.OtherRecord (k, c, small, is, ((s, there, hash, differ), at, begins)) = absurd differ
+    of_commit e CheckErrorName.MissingCommitments (k, c, small, is, ((s, there, hash, differ), at, begins)) = absurd differ
+    of_commit e CheckErrorName.MissingTransactions (k, c, small, is, ((s, there, hash, differ), at, begins)) = absurd differ
+    of_commit e CheckErrorName.TwoChannels (k, c, small, is, ((s, there, hash, differ), at, begins)) = absurd differ
+    of_commit e CheckErrorName.MissingSend (k, c, small, is, ((s, there, hash, differ), at, begins)) = absurd differ
+    of_commit e CheckErrorName.MissingReceive (k, c, small, is, ((s, there, hash, differ), at, begins)) = absurd differ
+    of_commit e CheckErrorName.OtherVerdict (k, c, small, is, ((s, there, hash, differ), at, begins)) = absurd differ
+    of_commit e CheckErrorName.ScriptTooBig (k, c, small, is, ((s, there, hash, differ), at, begins)) = absurd differ
+
+    pub names_set : (e : ImportError) → Any (λ c. NamesCommit sets c e) commits → NamesOf id saved e
+    names_set (errors.CheckError p) w = of_commit (errors.CheckError p) p.name w
+    names_set errors.NoMemory w = tt
 
 -- ---- a client's answers
 

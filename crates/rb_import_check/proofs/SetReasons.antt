@@ -33,7 +33,7 @@ page_of p = p.page.now
 abbrev pub header_of : Commit → SignedHeader
 header_of c = c.header.now
 
-any_of : {A : Type 0} (P : A → Type 0) (all bs : List A) → IsPermutation all bs → Any P bs → Any P all
+pub any_of : {A : Type 0} (P : A → Type 0) (all bs : List A) → IsPermutation all bs → Any P bs → Any P all
 any_of P all bs same (k, a, small, is, p) =
     let there = Contains-permutation bs all a (IsPermutation-sym all bs same) (k, small, is) in
     (there.0, a, there.1, there.2, p)
@@ -88,12 +88,12 @@ set_at : (saved : List Saved) (sets : List SeenSet) (s : SeenSet) → HaveSets s
 unfolding HaveSets
 set_at saved sets s ((heights, (rises, each)), all) there = zip_at (λ height (x : SeenSet). IsSetAt saved height x.set) heights sets s each there
 
-seen_at : (saved : List Saved) (sets : List SeenSet) (height : ℕ) → HaveSets saved sets → AreWhole saved height → WasSeen sets (set_hash (in_set_order (validators_at saved height)))
+pub seen_at : (saved : List Saved) (sets : List SeenSet) (height : ℕ) → HaveSets saved sets → AreWhole saved height → WasSeen sets (set_hash (in_set_order (validators_at saved height)))
 unfolding HaveSets
 seen_at saved sets height (some, all) whole = all height whole
 
 module _ (id : List ℕ) (saved : List Saved) (commits : List Commit) (sets : List SeenSet) (same : HaveHeaders (headers_of saved) commits) (have : HaveSets saved sets) where
-  discord : (name : CheckErrorName) (h : SignedHeader) (s : SeenSet) → Contains sets s → set_hash s.set ≡ h.set → Differ name h.signatures.items s.set
+  pub discord : (name : CheckErrorName) (h : SignedHeader) (s : SeenSet) → Contains sets s → set_hash s.set ≡ h.set → Differ name h.signatures.items s.set
       → (height : ℕ) × AreWhole saved height × (set_hash (in_set_order (validators_at saved height)) ≡ h.set) × Differ name h.signatures.items (in_set_order (validators_at saved height))
   discord name h s there hash differ =
       let (height, (whole, is)) = set_at saved sets s have there in

@@ -1,8 +1,12 @@
 -- What sorting keeps, and what an element more brings.
-use Rattle.std.proofs.Common.{◌≡◌, ℕ, ◌+◌, ◌<◌, List, [], ◌∷◌, ◌++◌, length, get_or, take, map, filter, Bool, if◌then◌else◌, ap, sym, ◌∙◌, refl}
+use Rattle.std.proofs.Common.{◌≡◌, ℕ, ◌+◌, ◌<◌, ◌≤◌, List, [], ◌∷◌, ◌++◌, length, get_or, take, map, filter, Bool, true, Option, Some, None, All, if◌then◌else◌, ap, subst, sym, ◌∙◌, refl, arith}
+use Rattle.std.specs.Prelude.{IfSome, option_map, option_to_list}
 use Rattle.std.specs.List.{flat_map}
 use Rattle.std.proofs.lemmas.List.{take_more, map_push}
-use Rattle.std.proofs.lemmas.List.Elements.{filter-append, filter_more}
+use Rattle.std.proofs.lemmas.List.Elements.{All-more, All-nil, All-push, filter-append, filter_more}
+use Rattle.rb_import_check.specs.declared.saved.Saved.{Saved}
+use Rattle.rb_import_check.specs.Clients.{AreOfClient, is_of_client}
+use Rattle.rb_import_check.specs.Refusals.{AreOfChain, is_of_chain}
 use Rattle.std.proofs.lemmas.List.Sorted.{All-permutation, IsPermutation-map, IsPermutation-trans}
 
 append_nil : {A : Type 0} (xs : List A) → xs ++ [] ≡ xs
@@ -53,9 +57,31 @@ seen_more p view before done after xs i x small is was now =
     now ∙ ap (λ l. l ++ (if p (view x) then view x ∷ [] else [])) was ∙ sym (assoc before (filter p (map view (take i xs))) (if p (view x) then view x ∷ [] else []))
     ∙ ap (λ l. before ++ l) (sym (ap (filter p) next ∙ filter-append p (map view (take i xs)) (view x ∷ [])))
 
-pub ruleset taking = (taken, pushed_more, nothing_more, added_more)
+-- the answers so far belong into their folder
+pub of_chain_none : AreOfChain []
+unfolding AreOfChain
+of_chain_none = All-nil _
 
-pub ruleset filtering = (filtered_more, wanted_more)
+pub of_chain_more : (saved : List Saved) (i : ℕ) (s : Saved) → i < length saved → s ≡ get_or saved i s → AreOfChain (take i saved) → is_of_chain s.answer ≡ true → AreOfChain (take (i + 1) saved)
+unfolding AreOfChain
+of_chain_more saved i s small is were here = All-more (λ (t : Saved). is_of_chain t.answer ≡ true) saved i s small were (subst (λ t. is_of_chain t.answer ≡ true) is here)
+
+pub of_client_none : AreOfClient []
+unfolding AreOfClient
+of_client_none = All-nil _
+
+pub of_client_more : (saved : List Saved) (i : ℕ) (s : Saved) → i < length saved → s ≡ get_or saved i s → AreOfClient (take i saved) → is_of_client s.answer ≡ true → AreOfClient (take (i + 1) saved)
+unfolding AreOfClient
+of_client_more saved i s small is were here = All-more (λ (t : Saved). is_of_client t.answer ≡ true) saved i s small were (subst (λ t. is_of_client t.answer ≡ true) is here)
+
+-- what is there at most once
+pub one_of : {X A : Type 0} (view : X → A) (P : A → Type 0) (found : Option X) (all : List A) → option_to_list (option_map view found) ≡ all → IfSome found (λ x. P (view x)) → (length all ≤ 1) × All P all
+one_of view P None all is holds = subst (λ l. (length l ≤ 1) × All P l) is (omega arith, All-nil P)
+one_of view P (Some x) all is holds = subst (λ l. (length l ≤ 1) × All P l) is (omega arith, All-push P [] (view x) (All-nil P) holds)
+
+pub ruleset taking = (taken, pushed_more, nothing_more, added_more, of_chain_none)
+
+pub ruleset filtering = (filtered_more, wanted_more, of_client_none)
 
 pub ruleset filing = (filtered_more, wanted_more, seen_more)
 

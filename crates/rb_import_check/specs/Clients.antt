@@ -1,5 +1,5 @@
 -- What was seen of a client (ibc-go's `client_states/ID` and `consensus_states/ID`).
-use Rattle.std.specs.Prelude.{option_map, ◌≡◌, ◌≢◌, ◌⊎◌, ◌+◌, ◌<◌, ◌≤◌, ⊤, ℕ, List, [], ◌∷◌, Bool, true, false, Option, Some, None, Any, length, map, filter, count_by, ◌==◌, nat_le, slice_index, string_bytes}
+use Rattle.std.specs.Prelude.{option_map, ◌≡◌, ◌≢◌, ◌⊎◌, ◌+◌, ◌<◌, ◌≤◌, ⊤, ℕ, List, [], ◌∷◌, Bool, true, false, Option, Some, None, All, Any, length, map, filter, count_by, ◌==◌, nat_le, slice_index, string_bytes}
 use Rattle.std.specs.List.{flat_map, list_any}
 use Rattle.std.specs.List.Sorted.{IsPermutation}
 use Rattle.rb_import_answers.specs.declared.answer.NodeAnswer.{NodeAnswer}
@@ -122,6 +122,18 @@ is_of_client (answers.Transactions page) = false
 is_of_client (answers.Pending p) = false
 is_of_client (answers.Verdicts v) = false
 is_of_client (answers.Other query) = true
+
+-- each answer belongs into a client's folder
+unfoldable pub AreOfClient : List Saved → Type 0
+AreOfClient saved = All (λ s. is_of_client s.answer ≡ true) saved
+
+-- a client state is on this chain, and of its revision (ICS 7: a client tracks one chain)
+unfoldable pub IsOnChain : List ℕ → ClientState → Type 0
+IsOnChain tracked s = (s.chain ≡ tracked) × IsRevision tracked s.revision
+
+-- one answer at most tells the client's state, on this chain
+abbrev pub AreStatesOn : List ℕ → List Saved → Type 0
+AreStatesOn tracked saved = (length (client_states_of saved) ≤ 1) × All (IsOnChain tracked) (client_states_of saved)
 
 -- a client state is of another revision than the tracked chain's, or a record of a later one
 abbrev pub HasOtherRevision : List ℕ → List Saved → Type 0

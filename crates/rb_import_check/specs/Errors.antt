@@ -37,6 +37,11 @@ abbrev pub IsIn : List ℕ → ImportError → Type 0
 IsIn file (errors.CheckError p) = (option_map (λ f. f.now) p.file ≡ Some file) × (option_map (λ f. f.now) p.other ≡ None)
 IsIn file errors.NoMemory = ⊥
 
+-- this is the first file of the problem, which may have a second one
+abbrev pub BeginsWith : List ℕ → ImportError → Type 0
+BeginsWith file (errors.CheckError p) = option_map (λ f. f.now) p.file ≡ Some file
+BeginsWith file errors.NoMemory = ⊥
+
 -- it is at this height
 abbrev pub IsAt : ℕ → ImportError → Type 0
 IsAt height (errors.CheckError p) = p.number ≡ Some height
@@ -54,7 +59,8 @@ NamesChain chain errors.NoMemory = ⊥
 
 -- it shows this hash of a header, and this one of a block
 abbrev pub ShowsHashes : List ℕ → List ℕ → ImportError → Type 0
-ShowsHashes header block (errors.CheckError p) = (option_map (λ h. h.header) p.hashes ≡ Some header) × (option_map (λ h. h.block) p.hashes ≡ Some block)
+ShowsHashes header block (errors.CheckError p) =
+    (option_map (λ h. h.header) p.hashes ≡ Some header) × (option_map (λ h. h.block) p.hashes ≡ Some block)
 ShowsHashes header block errors.NoMemory = ⊥
 
 -- these are two of them, at two places

@@ -1,5 +1,5 @@
 -- Why a chain's answers aren't taken (CometBFT's `/commit` and `/validators`, and the verdicts on commits).
-use Rattle.std.specs.Prelude.{◌≡◌, ◌≢◌, ◌⊎◌, ◌<◌, ◌==◌, ℕ, List, Bool, true, false, Any, Contains, IsSome, length, count_by}
+use Rattle.std.specs.Prelude.{◌≡◌, ◌≢◌, ◌⊎◌, ◌<◌, ◌==◌, ℕ, List, Bool, true, false, All, Any, Contains, IsSome, length, count_by}
 use Rattle.rb_valset.specs.Refusal.{set_refusal}
 use Rattle.rb_valset.specs.ValidatorSet.{set_hash, in_set_order}
 use Rattle.rb_import_answers.specs.declared.answer.NodeAnswer.{NodeAnswer}
@@ -26,6 +26,10 @@ is_of_chain (answers.Transactions page) = false
 is_of_chain (answers.Pending p) = false
 is_of_chain (answers.Verdicts v) = true
 is_of_chain (answers.Other query) = true
+
+-- each answer belongs into a chain's folder
+unfoldable pub AreOfChain : List Saved → Type 0
+AreOfChain saved = All (λ s. is_of_chain s.answer ≡ true) saved
 
 -- a header or a verdict is of another chain
 abbrev pub TellsOtherChain : List ℕ → List Saved → Type 0

@@ -1,5 +1,5 @@
 -- Verdicts on the signatures of a chain's commits.
-use Rattle.std.specs.Prelude.{◌≡◌, ◌≢◌, ⊤, ℕ, List, [], ◌∷◌, Bool, true, false, Option, Some, None, All, Any, Contains, if◌then◌else◌, ◌==◌}
+use Rattle.std.specs.Prelude.{◌≡◌, ◌≢◌, ◌≤◌, ⊤, ℕ, List, [], ◌∷◌, Bool, true, false, Option, Some, None, All, Any, Contains, length, if◌then◌else◌, ◌==◌}
 use Rattle.std.specs.List.{flat_map, list_any}
 use Rattle.rb_import_answers.specs.declared.answer.NodeAnswer.{NodeAnswer}
 use Rattle.rb_import_answers.specs.declared.answer.NodeAnswer.TheVariants as answers
@@ -23,6 +23,10 @@ verdicts_in (answers.Other query) = []
 -- the verdicts that a chain's answers hold
 abbrev pub verdicts_of : List Saved → List Verdicts
 verdicts_of saved = flat_map (λ s. verdicts_in s.answer) saved
+
+-- one answer at most has verdicts, and they are on this chain
+abbrev pub AreVerdictsOn : List ℕ → List Saved → Type 0
+AreVerdictsOn id saved = (length (verdicts_of saved) ≤ 1) × All (λ (v : Verdicts). v.chain ≡ id) (verdicts_of saved)
 
 -- the verdicts of the first file that has some; two such files are refused
 abbrev pub verdict_list : List Verdicts → List Verdict

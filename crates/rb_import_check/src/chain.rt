@@ -1,13 +1,13 @@
 //! The sets and headers of a chain: each height once, rising, and each header with its set.
-ghost use Rattle.std.specs.Prelude.{◌≡◌, ◌≢◌, ◌↔◌, ◌⊎◌, ◌<◌, ◌≤◌, ◌==◌, ⊤, ℕ, List, length, map, filter, All, Any, IsSome, IsTrue, IfOk, IfErr, IsSomeAnd, OnOk, Some, None, IfSome, IfNone, option_map, option_to_list, string_bytes};
+ghost use Rattle.std.specs.Prelude.{◌≡◌, ◌≢◌, ◌↔◌, ◌⊎◌, ◌<◌, ◌≤◌, ◌==◌, ⊤, ℕ, List, [], length, map, filter, All, Any, IsSome, IsTrue, IfOk, IfErr, IsSomeAnd, OnOk, Some, None, IfSome, IfNone, option_map, option_to_list, string_bytes};
 ghost use Rattle.std.specs.List.{AllZip};
 ghost use Rattle.std.specs.List.Sorted.{IsNonDecreasingBy, IsStrictlyIncreasing};
 ghost use Rattle.rb_valset.specs.Refusal.{set_refusal};
 ghost use Rattle.rb_valset.specs.ValidatorSet.{set_hash, in_set_order};
 ghost use Rattle.rb_import_check.specs.Errors.{IsAt, IsBetween, IsIn, IsTold, IsToldBy, IsToldOf};
-ghost use Rattle.rb_import_check.specs.Named.{NamesFall, NamesOf, NamesOtherHeader, ShowsHeader};
-ghost use Rattle.rb_import_check.specs.Refusals.{HasReasonOf, HaveTooMany, HaveTwoTotals, RefusesCommit, RefusesPages};
-ghost use Rattle.rb_import_check.specs.Verdicts.{TellsOtherVotes, verdict_list};
+ghost use Rattle.rb_import_check.specs.Named.{IsOfPage, NamesCommit, NamesFall, NamesOf, NamesOfPages, NamesOtherHeader, NamesSomePages, ShowsHeader, filed_page, filed_pages_at, filed_pages_of};
+ghost use Rattle.rb_import_check.specs.Refusals.{AreOfChain, HasReasonOf, HaveTooMany, HaveTwoTotals, RefusesCommit, RefusesPages};
+ghost use Rattle.rb_import_check.specs.Verdicts.{AreVerdictsOn, TellsOtherVotes, verdict_list};
 ghost use Rattle.rb_import_check.specs.Clients.{Falls};
 ghost use Rattle.rb_import_check.specs.Sets.{WasSeen};
 ghost use Rattle.rb_import_check.specs.Chains.{AreAllPages, AreOfFiles, Differ, HaveHeaders, HaveSets, HasItsValidators, HasSet, HasValidators, IsAbsentOrOf, IsAmong, IsJudged, IsJudgedBy, IsOfChain, IsOfItsBlock, TakesSetOf, filed, filed_of, headers_of, pages_at, pages_of, validators_of, without_files};
@@ -62,6 +62,8 @@ pub fn seen_chain<'a>(
     ensures sets { IfOk result (λ chain. All (HasSet chain.sets.sets.items) chain.commits.items) }
     ensures all_sets { IfOk result (λ chain. HaveSets answers.entry.now chain.sets.sets.items) }
     ensures validators { IfOk result (λ chain. All (HasItsValidators answers.entry.now) chain.commits.items) }
+    ensures answers { OnOk result (AreOfChain answers.entry.now) }
+    ensures judged { OnOk result (AreVerdictsOn id.entry.now answers.entry.now) }
     ensures reason { IfErr result (HasReasonOf id.entry.now answers.entry.now) }
     ensures named { IfErr result (NamesOf id.entry.now answers.entry.now) }
     ensures told { IfErr result (IsToldOf id.entry.now) }
@@ -86,6 +88,8 @@ fn commits_of<'a>(
     ensures order { IfOk result (λ commits. IsNonDecreasingBy (λ c. c.header.now.height) commits.items) }
     ensures files { IfOk result (λ commits. AreOfFiles (filed_of answers.entry.now) commits.items) }
     ensures verdicts { IfOk result (λ commits. All (IsJudged answers.entry.now) commits.items) }
+    ensures answers { OnOk result (AreOfChain answers.entry.now) }
+    ensures judged { OnOk result (AreVerdictsOn id.entry.now answers.entry.now) }
     ensures reason { IfErr result (HasReasonOf id.entry.now answers.entry.now) }
     ensures named { IfErr result (NamesOf id.entry.now answers.entry.now) }
     ensures told { IfErr result (IsToldOf id.entry.now) }
@@ -105,6 +109,8 @@ fn all_commits<'a>(
     ensures headers { IfOk result (λ commits. map (λ c. c.header.now) commits.items ≡ headers_of answers.entry.now) }
     ensures files { IfOk result (λ commits. map filed commits.items ≡ filed_of answers.entry.now) }
     ensures verdicts { IfOk result (λ commits. All (IsJudged answers.entry.now) commits.items) }
+    ensures answers { OnOk result (AreOfChain answers.entry.now) }
+    ensures judged { OnOk result (AreVerdictsOn id.entry.now answers.entry.now) }
     ensures reason { IfErr result (HasReasonOf id.entry.now answers.entry.now) }
     ensures named { IfErr result (NamesOf id.entry.now answers.entry.now) }
     ensures told { IfErr result (IsToldOf id.entry.now) }
@@ -260,6 +266,7 @@ fn two_commits<'a>(id: &'a str, commit: &Commit<'a>, other: &Commit<'a>) -> Impo
 fn pages_of<'a>(alloc: Global, answers: &'a [Saved]) -> Result<Vec<Page<'a>>, AllocError>
     ensures order { IfOk result (λ pages. IsNonDecreasingBy (λ p. p.page.now.height) pages.items) }
     ensures same { IfOk result (λ pages. (height : ℕ) → without_files (filter (λ p. p.page.now.height == height) pages.items) ≡ pages_at answers.entry.now height) }
+    ensures files { IfOk result (λ pages. (height : ℕ) → map filed_page (filter (λ p. p.page.now.height == height) pages.items) ≡ filed_pages_at answers.entry.now height) }
 {
     let mut pages = all_pages(alloc, answers)?;
     pages.sort_by_key(|page: &Page| page.page.height)?;
@@ -269,7 +276,8 @@ fn pages_of<'a>(alloc: Global, answers: &'a [Saved]) -> Result<Vec<Page<'a>>, Al
 /// The pages of validators in the order of the answers.
 #[tactic(auto, using(crate::proofs::Sorting::taking))]
 fn all_pages<'a>(alloc: Global, answers: &'a [Saved]) -> Result<Vec<Page<'a>>, AllocError>
-    ensures { IfOk result (λ pages. without_files pages.items ≡ pages_of answers.entry.now) }
+    ensures pages { IfOk result (λ pages. without_files pages.items ≡ pages_of answers.entry.now) }
+    ensures files { IfOk result (λ pages. map filed_page pages.items ≡ filed_pages_of answers.entry.now) }
 {
     let mut pages = Vec::new(alloc);
     for saved in answers {
@@ -316,6 +324,7 @@ fn sets_of<'a>(
     ensures sets { IfOk result (λ sets. HaveSets answers.entry.now sets.sets.items) }
     ensures validators { OnOk result (All (HasItsValidators answers.entry.now) commits.now) }
     ensures reason { IfErr result (IsToldBy (λ name. (height : ℕ) × RefusesPages name (map (λ c. c.header.now) commits.now) height (pages_at answers.entry.now height))) }
+    ensures named { IfErr result (NamesSomePages (map filed commits.now) answers.entry.now) }
     ensures told { IfErr result (IsToldOf id.entry.now) }
 {
     let pages = pages_of(alloc, answers)?;
@@ -348,6 +357,7 @@ fn add_set<'a>(
     ensures seen { OnOk result (AreAllPages (without_files pages.now) → WasSeen sets.new.sets.items (set_hash (in_set_order (validators_of (without_files pages.now))))) }
     ensures validators { OnOk result (0 < length pages.now → All (HasValidators (without_files pages.now) height) commits.now) }
     ensures reason { IfErr result (IsToldBy (λ name. RefusesPages name (map (λ c. c.header.now) commits.now) height (without_files pages.now))) }
+    ensures named { IfErr result (NamesOfPages height (map filed commits.now) (map filed_page pages.now)) }
     ensures told { IfErr result (IsToldOf id.entry.now) }
 {
     let Some(first) = pages.first() else {
@@ -375,6 +385,7 @@ fn missing_page<'a>(
 ) -> Result<(), ImportError<'a>>
     ensures none { OnOk result (commit.entry ≡ None) }
     ensures some { IfErr result (IsTold CheckErrorName.MissingPage (IsSome commit.entry)) }
+    ensures files { IfErr result (λ e. IsSomeAnd commit.entry (λ c. IsAt page.now.page.now.height e × IsBetween c.file.now page.now.file.now e)) }
     ensures told { IfErr result (IsToldOf id.entry.now) }
 {
     match commit {
@@ -399,6 +410,7 @@ fn members_of<'a>(
     ensures total { OnOk result ((total : ℕ) × All (λ p. p.page.now.total ≡ total) pages.now) }
     ensures few { IfOk result (λ members. All (λ p. length members.items ≤ p.page.now.total) pages.now) }
     ensures reason { IfErr result (λ e. IsTold CheckErrorName.OtherTotal (HaveTwoTotals (without_files pages.now)) e ⊎ IsTold CheckErrorName.TooManyValidators (HaveTooMany (without_files pages.now)) e) }
+    ensures named { IfErr result (NamesOfPages 0 [] (map filed_page pages.now)) }
     ensures told { IfErr result (IsToldOf id.entry.now) }
 {
     let mut members = Vec::new(alloc);
@@ -423,6 +435,7 @@ fn judge_total<'a>(
 ) -> Result<(), ImportError<'a>>
     ensures total { OnOk result (IfSome before.entry (λ lower. lower.page.now.total ≡ page.now.page.now.total)) }
     ensures other { IfErr result (IsTold CheckErrorName.OtherTotal (IsSomeAnd before.entry (λ lower. lower.page.now.total ≢ page.now.page.now.total))) }
+    ensures files { IfErr result (λ e. IsSomeAnd before.entry (λ lower. IsAt lower.page.now.height e × IsBetween lower.file.now page.now.file.now e)) }
     ensures told { IfErr result (IsToldOf id.entry.now) }
 {
     match before {
@@ -441,6 +454,7 @@ fn two_pages<'a>(
 ) -> ImportError<'a>
     ensures name { IsTold name ⊤ result }
     ensures files { IsBetween page.now.file.now other.now.file.now result }
+    ensures height { IsAt page.now.page.now.height result }
     ensures told { IsToldOf id.entry.now result }
 {
     ImportError::between(name, id, page.page.height.get(), page.file, other.file)
@@ -454,6 +468,7 @@ fn set_of<'a>(
 ) -> Result<ValidatorSet, ImportError<'a>>
     ensures set { IfOk result (λ set. set ≡ in_set_order members.items) }
     ensures refused { IfErr result (IsTold CheckErrorName.BadSet (IsSome (set_refusal members.items))) }
+    ensures file { IfErr result (IsOfPage page.now) }
     ensures told { IfErr result (IsToldOf id.entry.now) }
 {
     match ValidatorSet::new(alloc, members) {
@@ -475,6 +490,7 @@ fn judge_set<'a>(
 ) -> Result<(), ImportError<'a>>
     ensures set { OnOk result (IfSome commit.entry (λ c. c.header.now.set ≡ set_hash set.now)) }
     ensures other { IfErr result (IsTold CheckErrorName.OtherSet (IsSomeAnd commit.entry (λ c. c.header.now.set ≢ set_hash set.now))) }
+    ensures files { IfErr result (λ e. IsSomeAnd commit.entry (λ c. IsAt page.now.page.now.height e × IsBetween c.file.now page.now.file.now e)) }
     ensures told { IfErr result (IsToldOf id.entry.now) }
 {
     match commit {
@@ -497,6 +513,7 @@ fn judge_signatures<'a>(
 ) -> Result<(), ImportError<'a>>
     ensures sets { OnOk result (All (HasSet sets.now.sets.items) commits.now) }
     ensures reason { IfErr result (IsToldBy (λ name. Any (RefusesCommit name sets.now.sets.items) commits.now)) }
+    ensures named { IfErr result (λ e. Any (λ c. NamesCommit sets.now.sets.items c e) commits.now) }
     ensures told { IfErr result (IsToldOf id.entry.now) }
 {
     for commit in commits {
@@ -514,6 +531,7 @@ fn judge_commit<'a>(
 ) -> Result<(), ImportError<'a>>
     ensures set { OnOk result (HasSet sets.now.sets.items commit.now) }
     ensures reason { IfErr result (IsToldBy (λ name. RefusesCommit name sets.now.sets.items commit.now)) }
+    ensures named { IfErr result (NamesCommit sets.now.sets.items commit.now) }
     ensures told { IfErr result (IsToldOf id.entry.now) }
 {
     let height = commit.header.height.get();

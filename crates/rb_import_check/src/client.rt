@@ -3,7 +3,7 @@ ghost use Rattle.std.specs.Prelude.{◌≡◌, ◌≢◌, ◌↔◌, ◌++◌, �
 ghost use Rattle.rb_import_check.specs.Errors.{IsAt, IsBetween, IsTold, IsToldOf};
 ghost use Rattle.rb_import_check.specs.Named.{NamesFall, NamesForeign, NamesIn, NamesOtherRecord};
 ghost use Rattle.std.specs.List.Sorted.{IsNonDecreasingBy, IsStrictlyIncreasing};
-ghost use Rattle.rb_import_check.specs.Clients.{AreStatesOfFiles, IsOfRevision, JudgesAs, level_of, AtRevision, HaveStates, HasReason, Falls, client_states_of, current_of, filed_state, filed_states_of, is_of_client, is_last_in, has_last};
+ghost use Rattle.rb_import_check.specs.Clients.{AreOfClient, AreStatesOfFiles, AreStatesOn, IsOfRevision, JudgesAs, level_of, AtRevision, HaveStates, HasReason, Falls, client_states_of, current_of, filed_state, filed_states_of, is_of_client, is_last_in, has_last};
 
 use crate::error::{CheckErrorName, ImportError};
 use crate::repeat::repeated;
@@ -44,6 +44,8 @@ pub fn seen_client<'a>(
     ensures latest { IfOk result (λ client. option_to_list client.latest ≡ map (λ s. s.latest) (client_states_of answers.entry.now)) }
     ensures states { IfOk result (λ client. AtRevision tracked.now (λ revision. HaveStates (current_of revision answers.entry.now) client.stored.items)) }
     ensures files { IfOk result (λ client. AtRevision tracked.now (λ revision. AreStatesOfFiles (filed_states_of revision answers.entry.now) client.stored.items)) }
+    ensures answers { OnOk result (AreOfClient answers.entry.now) }
+    ensures state { OnOk result (AreStatesOn tracked.now answers.entry.now) }
     ensures last { OnOk result (has_last answers.entry.now ≡ true) }
     ensures reason { IfErr result (HasReason setup.entry.now tracked.now answers.entry.now) }
     ensures named { IfErr result (NamesIn tracked.now answers.entry.now) }
@@ -80,12 +82,14 @@ fn level_of(level: TrustSetup) -> TrustLevel
 }
 
 /// The state of a client, of which there is at most one answer, on the chain that it tracks.
+#[tactic(auto, unfolding(crate::specs::Clients::IsOnChain))]
 fn state_of<'a>(
     setup: &'a ClientSetup,
     tracked: &ChainId,
     answers: &'a [Saved],
 ) -> Result<Option<&'a ClientState>, ImportError<'a>>
     ensures state { IfOk result (λ state. option_to_list (option_map (λ s. s.now) state) ≡ client_states_of answers.entry.now) }
+    ensures chain { OnOk result (AreStatesOn tracked.now answers.entry.now) }
     ensures reason { IfErr result (HasReason setup.entry.now tracked.now answers.entry.now) }
     ensures named { IfErr result (NamesIn tracked.now answers.entry.now) }
     ensures told { IfErr result (IsToldOf setup.entry.now.id) }
@@ -132,6 +136,7 @@ fn stored_of<'a>(
     ensures revision { IfOk result (λ stored. All (IsOfRevision tracked.now) stored.items) }
     ensures states { IfOk result (λ stored. AtRevision tracked.now (λ revision. HaveStates (current_of revision answers.entry.now) stored.items)) }
     ensures files { IfOk result (λ stored. AtRevision tracked.now (λ revision. AreStatesOfFiles (filed_states_of revision answers.entry.now) stored.items)) }
+    ensures answers { OnOk result (AreOfClient answers.entry.now) }
     ensures last { OnOk result (has_last answers.entry.now ≡ true) }
     ensures reason { IfErr result (HasReason setup.entry.now tracked.now answers.entry.now) }
     ensures named { IfErr result (NamesIn tracked.now answers.entry.now) }
@@ -192,6 +197,7 @@ fn current_of<'a>(
 ) -> Result<Vec<Stored<'a>>, ImportError<'a>>
     ensures states { IfOk result (λ stored. map (λ s. s.state.now) stored.items ≡ current_of revision answers.entry.now) }
     ensures files { IfOk result (λ stored. map filed_state stored.items ≡ filed_states_of revision answers.entry.now) }
+    ensures answers { OnOk result (AreOfClient answers.entry.now) }
     ensures foreign { IfErr result (IsTold CheckErrorName.WrongFolder (Any (λ s. is_of_client s.answer ≡ false) answers.entry.now)) }
     ensures named { IfErr result (NamesForeign answers.entry.now) }
     ensures told { IfErr result (IsToldOf id.entry.now) }

@@ -1,10 +1,10 @@
 //! The verdicts on the signatures of a chain's commits.
-ghost use Rattle.std.specs.Prelude.{◌≡◌, ◌↔◌, ◌<◌, IsTrue, false, length, IfOk, IfErr, option_map, option_to_list, string_bytes};
+ghost use Rattle.std.specs.Prelude.{◌≡◌, ◌↔◌, ◌<◌, IsTrue, false, length, IfOk, IfErr, OnOk, option_map, option_to_list, string_bytes};
 ghost use Rattle.rb_import_answers.specs.Votes.{letter_of};
 ghost use Rattle.rb_import_check.specs.Errors.{IsAt, IsIn, IsTold, IsToldOf};
 ghost use Rattle.rb_import_check.specs.Named.{NamesOf};
 ghost use Rattle.rb_import_check.specs.Refusals.{HasReasonOf};
-ghost use Rattle.rb_import_check.specs.Verdicts.{IsOnOther, IsVerdictOn, HasVotes, TellsOtherVotes, has_verdicts, is_among, is_verdicts, verdict_list, verdicts_of, vote_letter};
+ghost use Rattle.rb_import_check.specs.Verdicts.{AreVerdictsOn, IsOnOther, IsVerdictOn, HasVotes, TellsOtherVotes, has_verdicts, is_among, is_verdicts, verdict_list, verdicts_of, vote_letter};
 
 use crate::error::{CheckErrorName, ImportError};
 use crate::saved::Saved;
@@ -17,6 +17,7 @@ pub fn verdicts_in<'a>(
     answers: &'a [Saved],
 ) -> Result<Option<&'a Verdicts>, ImportError<'a>>
     ensures verdicts { IfOk result (λ found. option_to_list (option_map (λ v. v.now) found) ≡ verdicts_of answers.entry.now) }
+    ensures chain { OnOk result (AreVerdictsOn id.entry.now answers.entry.now) }
     ensures reason { IfErr result (HasReasonOf id.entry.now answers.entry.now) }
     ensures named { IfErr result (NamesOf id.entry.now answers.entry.now) }
     ensures told { IfErr result (IsToldOf id.entry.now) }

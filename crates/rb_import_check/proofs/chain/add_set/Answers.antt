@@ -1,8 +1,10 @@
 use Rattle.std.proofs.Common.{◌≡◌, ◌<◌, ◌≤◌, All, None, length, map, rules, arith, ap, ◌∙◌}
 use Rattle.std.specs.Prelude.{Result, Ok, Err, IfErr, OnOk}
 use Rattle.rb_valset.specs.ValidatorSet.{set_hash, in_set_order}
-use Rattle.rb_import_check.specs.Chains.{AreAllPages, HasValidators, validators_of, without_files}
+use Rattle.rb_import_check.specs.Chains.{AreAllPages, HasValidators, filed, validators_of, without_files}
 use Rattle.rb_import_check.specs.Errors.{IsToldBy}
+use Rattle.rb_import_check.specs.Named.{NamesOfPages, filed_page}
+use Rattle.rb_import_check.proofs.Naming.{names_bad, names_members, names_missing, names_other}
 use Rattle.rb_import_check.specs.Refusals.{RefusesPages}
 use Rattle.rb_import_check.specs.Sets.{WasSeen}
 use Rattle.rb_import_check.proofs.Pages.{are_all, not_all, stays_seen, takes_all, takes_none, takes_set}
@@ -20,6 +22,10 @@ on_ok_more (Err e) p more = tt
 on_err_more : {T E : Type 0} {P Q : E → Type 0} (r : Result T E) → IfErr r P → ((e : E) → P e → Q e) → IfErr r Q
 on_err_more (Ok x) p more = tt
 on_err_more (Err e) p more = more e p
+
+on_err_both : {T E : Type 0} {P Q R : E → Type 0} (r : Result T E) → IfErr r P → IfErr r Q → ((e : E) → P e → Q e → R e) → IfErr r R
+on_err_both (Ok x) p q more = tt
+on_err_both (Err e) p q more = more e p q
 
 pub returns-then-len-first-clause-seen : goal.returns-then-len-first-clause-seen
 returns-then-len-first-clause-seen c =
@@ -83,4 +89,28 @@ returns-in_err-judge_set-clause-reason c =
     let reason : IsToldBy (λ name. RefusesPages name (map header_of c.args.commits.now) c.args.height (without_files c.args.pages.now)) c.in_err-judge_set.field-0.0 =
     refuses_other c.args.commits.now c.commit_of-commit.result c.args.height (without_files c.args.pages.now) c.in_ok-set.set _ c.commit_of-commit.ensures.found all
     (c.in_ok-set.ensures.set ∙ ap in_set_order c.in_ok-members.ensures.members) c.in_err-judge_set.ensures.other in
+    search rules
+
+pub returns-in_err-members-clause-named : goal.returns-in_err-members-clause-named
+returns-in_err-members-clause-named c =
+    let named : NamesOfPages c.args.height (map filed c.args.commits.now) (map filed_page c.args.pages.now) c.in_err-members.field-0.0 =
+    names_members c.args.height (map filed c.args.commits.now) (map filed_page c.args.pages.now) _ _ _ c.in_err-members.ensures.reason c.in_err-members.ensures.named in
+    search rules
+
+pub returns-then-len-first-clause-named : goal.returns-then-len-first-clause-named
+returns-then-len-first-clause-named c =
+    on_err_both _ c.missing_page.ensures.some c.missing_page.ensures.files (λ e told files.
+    names_missing c.args.commits.now c.commit_of-commit.result c.args.height c.args.pages.now c.in-Some.first.now _ e c.commit_of-commit.ensures.found c.in-Some.ensures.value told files)
+
+pub returns-in_err-set-clause-named : goal.returns-in_err-set-clause-named
+returns-in_err-set-clause-named c =
+    let named : NamesOfPages c.args.height (map filed c.args.commits.now) (map filed_page c.args.pages.now) c.in_err-set.field-0.0 =
+    names_bad (map filed c.args.commits.now) c.args.height c.args.pages.now c.in-Some.first.now _ _ c.in-Some.ensures.value c.in_err-set.ensures.refused c.in_err-set.ensures.file in
+    search rules
+
+pub returns-in_err-judge_set-clause-named : goal.returns-in_err-judge_set-clause-named
+returns-in_err-judge_set-clause-named c =
+    let named : NamesOfPages c.args.height (map filed c.args.commits.now) (map filed_page c.args.pages.now) c.in_err-judge_set.field-0.0 =
+    names_other c.args.commits.now c.commit_of-commit.result c.args.height c.args.pages.now c.in-Some.first.now _ _ c.commit_of-commit.ensures.found c.in-Some.ensures.value
+    c.in_err-judge_set.ensures.other c.in_err-judge_set.ensures.files in
     search rules

@@ -1,5 +1,8 @@
-use Rattle.std.proofs.Common.{◌≡◌, ◌<◌, All, Some, length, false, get_or, arith, rules, ap, refl, subst, sym}
+use Rattle.std.proofs.Common.{◌≡◌, ◌<◌, ◌++◌, List, [], ◌∷◌, All, Some, length, false, get_or, arith, rules, ap, refl, subst, sym}
+use Rattle.std.specs.Prelude.{option_map, option_to_list}
+use Rattle.std.proofs.lemmas.List.Elements.{All-push}
 use Rattle.std.proofs.lemmas.Grind.{common_steps}
+use Rattle.rb_import_answers.specs.declared.verdicts.Verdicts.{Verdicts}
 use Rattle.rb_import_check.specs.declared.error.CheckErrorName.{CheckErrorName}
 use Rattle.rb_import_check.specs.Chains.{IsJudgedBy, headers_in}
 use Rattle.rb_import_check.specs.Errors.{IsTold}
@@ -8,7 +11,41 @@ use Rattle.rb_import_check.specs.Refusals.{HasReasonOf, is_of_chain}
 use Rattle.rb_import_check.specs.Verdicts.{TellsOtherVotes, verdict_list, verdicts_of}
 use Rattle.rb_import_check.proofs.ChainReasons.{is_elsewhere, tells_votes}
 use Rattle.rb_import_check.proofs.Naming.{names_votes}
+use Rattle.rb_import_check.proofs.Sorting.{of_chain_more, taking}
+use Rattle.rb_import_check.proofs.chain.all_commits.Goals.{in-Commit+in_ok-commit-in-Commit+in_ok-push-in-Commit, in-Validators-1, in-Verdicts-1, in-Other-1}
 use Rattle.rb_import_check.proofs.chain.all_commits.Goals as goal
+
+pub loop-saved-preserved : goal.loop-saved-preserved
+loop-saved-preserved c =
+    let small : c.loop-saved.saved-index < length c.args.answers.now = search rules in
+    let is : c.saved-item.result ≡ get_or c.args.answers.now c.loop-saved.saved-index c.saved-item.result = search rules in
+    let those : List Verdicts = option_to_list (option_map (λ v. v.now) c.in_ok-verdicts.verdicts) in
+    elim c.match-saved.branch [
+      | in-Commit+in_ok-commit-in-Commit+in_ok-push-in-Commit w ↦ record {
+        answers = of_chain_more c.args.answers.now c.loop-saved.saved-index c.saved-item.result small is c.loop-saved.invariant.answers (grind (arith, common_steps));
+        headers = search (rules, taking);
+        files = search (rules, taking);
+        verdicts = (let items : c.match-saved.commits.items ≡ c.loop-saved.commits.items ++ w.in_ok-commit-in-Commit.commit ∷ [] = search rules in subst (All (IsJudgedBy those)) (sym items) (All-push (IsJudgedBy those) c.loop-saved.commits.items w.in_ok-commit-in-Commit.commit c.loop-saved.invariant.verdicts w.in_ok-commit-in-Commit.ensures.verdict));
+      }
+      | in-Validators-1 w ↦ record {
+        answers = of_chain_more c.args.answers.now c.loop-saved.saved-index c.saved-item.result small is c.loop-saved.invariant.answers (grind (arith, common_steps));
+        headers = search (rules, taking);
+        files = search (rules, taking);
+        verdicts = search (rules, taking);
+      }
+      | in-Verdicts-1 w ↦ record {
+        answers = of_chain_more c.args.answers.now c.loop-saved.saved-index c.saved-item.result small is c.loop-saved.invariant.answers (grind (arith, common_steps));
+        headers = search (rules, taking);
+        files = search (rules, taking);
+        verdicts = search (rules, taking);
+      }
+      | in-Other-1 w ↦ record {
+        answers = of_chain_more c.args.answers.now c.loop-saved.saved-index c.saved-item.result small is c.loop-saved.invariant.answers (grind (arith, common_steps));
+        headers = search (rules, taking);
+        files = search (rules, taking);
+        verdicts = search (rules, taking);
+      }
+    ]
 
 pub returns-clause-verdicts : goal.returns-clause-verdicts
 returns-clause-verdicts c =

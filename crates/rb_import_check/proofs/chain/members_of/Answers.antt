@@ -1,5 +1,5 @@
-use Rattle.std.proofs.Common.{◌≡◌, ◌<◌, ◌⊎◌, ◌++◌, length, inl, inr, get_or, take, arith, rules, ap, sym, subst, ◌∙◌}
-use Rattle.std.specs.Prelude.{⊤}
+use Rattle.std.proofs.Common.{◌≡◌, ◌<◌, ◌⊎◌, ◌++◌, [], length, map, inl, inr, get_or, take, arith, rules, ap, sym, subst, ◌∙◌}
+use Rattle.std.specs.Prelude.{⊤, Contains}
 use Rattle.std.specs.List.{flat_map}
 use Rattle.std.proofs.lemmas.Grind.{common_steps}
 use Rattle.std.proofs.lemmas.List.{take_all}
@@ -12,6 +12,8 @@ use Rattle.rb_import_check.specs.declared.error.CheckErrorName.{CheckErrorName}
 use Rattle.rb_import_check.specs.Chains.{without_files}
 use Rattle.rb_import_check.specs.Errors.{IsTold}
 use Rattle.rb_import_check.specs.Refusals.{HaveTooMany, HaveTwoTotals}
+use Rattle.rb_import_check.specs.Named.{NamesOfPages, filed_page}
+use Rattle.rb_import_check.proofs.Naming.{lower_among, names_many, names_totals}
 use Rattle.rb_import_check.proofs.SetReasons.{told_so, too_many, two_totals}
 use Rattle.rb_import_check.proofs.chain.members_of.Goals as goal
 
@@ -61,3 +63,20 @@ returns-then-len-page-clause-reason c =
     let many : HaveTooMany (without_files c.args.pages.now) =
     too_many c.args.pages.now c.page-item.result c.loop-page.page-index c.extend_from_slice.new.self.items c.loop-page.members.items small is c.loop-page.invariant.members now more in
     inr (told_so CheckErrorName.TooManyValidators ⊤ (HaveTooMany (without_files c.args.pages.now)) c.two_pages.result (λ t. many) c.two_pages.ensures.name)
+
+pub returns-in_err-judge_total-clause-named : goal.returns-in_err-judge_total-clause-named
+returns-in_err-judge_total-clause-named c =
+    let small : c.loop-page.page-index < length c.args.pages.now = search rules in
+    let is : c.page-item.result ≡ get_or c.args.pages.now c.loop-page.page-index c.page-item.result = search rules in
+    let e = c.in_err-judge_total.field-0.0 in
+    let named : NamesOfPages 0 [] (map filed_page c.args.pages.now) e =
+    names_totals c.loop-page.before c.args.pages.now c.page-item.result c.loop-page.page-index e small is c.loop-page.invariant.before c.in_err-judge_total.ensures.other c.in_err-judge_total.ensures.files in
+    search rules
+
+pub returns-then-len-page-clause-named : goal.returns-then-len-page-clause-named
+returns-then-len-page-clause-named c =
+    let small : c.loop-page.page-index < length c.args.pages.now = search rules in
+    let is : c.page-item.result ≡ get_or c.args.pages.now c.loop-page.page-index c.page-item.result = search rules in
+    let second : Contains c.args.pages.now c.page-item.result = (c.loop-page.page-index, small, sym is) in
+    let first : Contains c.args.pages.now c.unwrap_or-lower.result = lower_among c.loop-page.before c.args.pages.now c.page-item.result c.unwrap_or-lower.result c.loop-page.invariant.before second c.unwrap_or-lower.ensures in
+    names_many c.args.pages.now c.unwrap_or-lower.result c.page-item.result c.two_pages.result first second c.two_pages.ensures.name c.two_pages.ensures.height c.two_pages.ensures.files

@@ -5,7 +5,7 @@ use Rattle.rb_import_check.specs.declared.error.CheckErrorName.{CheckErrorName}
 use Rattle.rb_import_check.specs.Chains.{IsOfChain, IsOfItsBlock, filed}
 use Rattle.rb_import_check.specs.Clients.{Falls}
 use Rattle.rb_import_check.specs.Errors.{IsTold, IsToldBy}
-use Rattle.rb_import_check.specs.Named.{NamesFall, NamesOf, NamesOtherHeader, ShowsHeader}
+use Rattle.rb_import_check.specs.Named.{NamesCommit, NamesFall, NamesOf, NamesOtherHeader, NamesSomePages, ShowsHeader}
 use Rattle.rb_import_check.specs.Refusals.{HasReasonOf, RefusesCommit}
 use Rattle.rb_import_check.proofs.ChainReasons.{tells_block, tells_chain, tells_twice}
 use Rattle.rb_import_check.proofs.Naming.{names_block, names_chain, names_pages, names_set, names_twice}
@@ -88,11 +88,18 @@ returns-in_err-judge_heights-clause-named c =
 pub returns-in_err-sets-clause-named : goal.returns-in_err-sets-clause-named
 returns-in_err-sets-clause-named c =
     let e = c.in_err-sets.field-0.0 in
-    let named : NamesOf c.args.id.now c.args.answers.now e = names_pages c.args.id.now c.args.answers.now _ e c.in_err-sets.ensures.reason in
+    let all : List Commit = c.in_ok-commits.commits.items in
+    let which : NamesSomePages (map filed all) c.args.answers.now e =
+    subst (λ (l : List Commit). NamesSomePages (map filed l) c.args.answers.now e) c.as_slice-4.ensures.value c.in_err-sets.ensures.named in
+    let named : NamesOf c.args.id.now c.args.answers.now e = names_pages c.args.id.now c.args.answers.now all c.in_ok-commits.ensures.files _ e c.in_err-sets.ensures.reason which in
     search rules
 
 pub returns-in_err-judge_signatures-clause-named : goal.returns-in_err-judge_signatures-clause-named
 returns-in_err-judge_signatures-clause-named c =
     let e = c.in_err-judge_signatures.field-0.0 in
-    let named : NamesOf c.args.id.now c.args.answers.now e = names_set c.args.id.now c.args.answers.now _ _ e c.in_err-judge_signatures.ensures.reason in
+    let all : List Commit = c.in_ok-commits.commits.items in
+    let which : Any (λ x. NamesCommit c.in_ok-sets.sets.sets.items x e) all =
+    subst (λ (l : List Commit). Any (λ x. NamesCommit c.in_ok-sets.sets.sets.items x e) l) c.as_slice-5.ensures.value c.in_err-judge_signatures.ensures.named in
+    let named : NamesOf c.args.id.now c.args.answers.now e =
+    names_set c.args.id.now c.args.answers.now all c.in_ok-commits.ensures.files c.in_ok-sets.sets.sets.items c.in_ok-commits.ensures.headers c.in_ok-sets.ensures.sets e which in
     search rules

@@ -3,11 +3,13 @@ use Rattle.std.specs.Prelude.{Some}
 use Rattle.std.proofs.lemmas.List.{take_all}
 use Rattle.rb_import_check.specs.declared.chain.Page.{Page}
 use Rattle.rb_import_check.specs.declared.sets.SeenSets.{SeenSets}
-use Rattle.rb_import_check.specs.Chains.{pages_at}
+use Rattle.rb_import_check.specs.Chains.{filed, pages_at}
 use Rattle.std.specs.List.Sorted.{IsNonDecreasingBy}
 use Rattle.rb_import_check.proofs.Heights.{is_last, is_other}
 use Rattle.rb_import_check.proofs.Pages.{AreSoFar, AreTaken, IsReached, have_sets, have_validators, height_of, next_height, none_so_far, none_taken, reached_more, reached_next, same_height, taken_at, taken_next}
 use Rattle.rb_import_check.specs.Errors.{IsToldBy}
+use Rattle.rb_import_check.specs.Named.{NamesSomePages, filed_page, filed_pages_at}
+use Rattle.rb_import_check.proofs.Naming.{names_at}
 use Rattle.rb_import_check.proofs.SetReasons.{RefusesSome, header_of, refuses_at}
 use Rattle.rb_import_check.proofs.chain.sets_of.Goals as goal
 use Rattle.rb_import_check.proofs.chain.sets_of.Goals.{then-ne+in_ok-add_set, else-ne}
@@ -75,4 +77,14 @@ returns-in_err-add_set-clause-reason c =
     ap (map (λ (p : Page). p.page.now)) group ∙ c.in_ok-pages.ensures.same height in
     let reason : IsToldBy (RefusesSome (map header_of c.args.commits.now) c.args.answers.now) c.in_err-add_set.field-0.0 =
     refuses_at (map header_of c.args.commits.now) c.args.answers.now height _ _ these c.in_err-add_set.ensures.reason in
+    search rules
+
+pub returns-in_err-add_set-clause-named : goal.returns-in_err-add_set-clause-named
+returns-in_err-add_set-clause-named c =
+    let height = c.page-item.result.page.now.height in
+    let group : c.of_height-same.result.now ≡ filter (λ (p : Page). p.page.now.height == height) c.in_ok-pages.pages.items =
+    c.of_height-same.ensures ∙ ap (filter (λ (p : Page). p.page.now.height == height)) c.as_slice.ensures.value in
+    let these : map filed_page c.of_height-same.result.now ≡ filed_pages_at c.args.answers.now height = ap (map filed_page) group ∙ c.in_ok-pages.ensures.files height in
+    let named : NamesSomePages (map filed c.args.commits.now) c.args.answers.now c.in_err-add_set.field-0.0 =
+    names_at (map filed c.args.commits.now) c.args.answers.now height _ _ these c.in_err-add_set.ensures.named in
     search rules

@@ -8,7 +8,7 @@ use Rattle.rb_import_check.specs.Clients.{FiledState, filed_state, filed_states_
 use Rattle.rb_import_check.specs.Errors.{IsTold, IsToldOf}
 use Rattle.rb_import_check.specs.Named.{NamesForeign}
 use Rattle.rb_import_check.proofs.ReasonsLemmas.{is_foreign}
-use Rattle.rb_import_check.proofs.Sorting.{filtered_more}
+use Rattle.rb_import_check.proofs.Sorting.{filtered_more, of_client_more}
 use Rattle.rb_import_check.proofs.client.current_of.Goals.{in-ConsensusStates+in_ok-add_states-in-ConsensusStates, in-ClientState-1, in-Other-1}
 use Rattle.rb_import_check.proofs.client.current_of.Goals as goal
 
@@ -20,6 +20,7 @@ returns-in_default c =
     record {
       states = tt;
       files = tt;
+      answers = tt;
       foreign = subst (IsTold CheckErrorName.WrongFolder (Any (λ (s : Saved). is_of_client s.answer ≡ false) c.args.answers.now)) (sym c.in_file.ensures) (refl, (c.loop-saved.saved-index, c.saved-item.result, small, sym is, other));
       named = subst (NamesForeign c.args.answers.now) (sym c.in_file.ensures) (c.loop-saved.saved-index, c.saved-item.result, small, sym is, (other, refl, (ap Some c.as_str-file.ensures.value, refl)));
       told = subst (IsToldOf c.args.id.now) (sym c.in_file.ensures) refl;
@@ -37,14 +38,17 @@ loop-saved-preserved c =
     let filed : FiledState → Bool = λ f. nat_le c.args.revision f.0.revision in
     elim c.match-saved.branch [
       | in-ConsensusStates+in_ok-add_states-in-ConsensusStates w ↦ record {
+        answers = of_client_more c.args.answers.now c.loop-saved.saved-index c.saved-item.result small is c.loop-saved.invariant.answers (grind (arith, common_steps));
         states = filtered_more current (λ s. stored_in s.answer) _ _ c.args.answers.now c.loop-saved.saved-index c.saved-item.result small is c.loop-saved.invariant.states (grind (arith, common_steps));
         files = filtered_more filed filed_states_in _ _ c.args.answers.now c.loop-saved.saved-index c.saved-item.result small is c.loop-saved.invariant.files (filed_by filed (map filed_state c.loop-saved.stored.items) (map filed_state w.add_states.new.stored.items) _ c.as_str-file.result.now (string_bytes c.saved-item.result.file) w.as_slice.result.now _ (search rules) (grind (arith, common_steps)) (grind (arith, common_steps)) (search rules));
       }
       | in-ClientState-1 w ↦ record {
+        answers = of_client_more c.args.answers.now c.loop-saved.saved-index c.saved-item.result small is c.loop-saved.invariant.answers (grind (arith, common_steps));
         states = filtered_more current (λ s. stored_in s.answer) _ _ c.args.answers.now c.loop-saved.saved-index c.saved-item.result small is c.loop-saved.invariant.states (grind (arith, common_steps));
         files = filtered_more filed filed_states_in _ _ c.args.answers.now c.loop-saved.saved-index c.saved-item.result small is c.loop-saved.invariant.files (grind (arith, common_steps));
       }
       | in-Other-1 w ↦ record {
+        answers = of_client_more c.args.answers.now c.loop-saved.saved-index c.saved-item.result small is c.loop-saved.invariant.answers (grind (arith, common_steps));
         states = filtered_more current (λ s. stored_in s.answer) _ _ c.args.answers.now c.loop-saved.saved-index c.saved-item.result small is c.loop-saved.invariant.states (grind (arith, common_steps));
         files = filtered_more filed filed_states_in _ _ c.args.answers.now c.loop-saved.saved-index c.saved-item.result small is c.loop-saved.invariant.files (grind (arith, common_steps));
       }

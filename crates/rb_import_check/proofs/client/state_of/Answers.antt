@@ -1,10 +1,13 @@
 use Rattle.std.proofs.Common.{◌≡◌, ◌≢◌, ◌<◌, [], ◌∷◌, Some, length, take, get_or, false, arith, inl, rules, ap, refl, subst, sym, ◌∙◌}
 use Rattle.std.proofs.lemmas.Bool.{true≢false}
+use Rattle.std.specs.Prelude.{option_map, option_to_list}
+use Rattle.std.proofs.lemmas.List.{take_all}
 use Rattle.std.proofs.lemmas.Grind.{common_steps}
-use Rattle.rb_import_check.specs.Clients.{HasReason, client_states_in, client_states_of}
+use Rattle.rb_import_check.specs.Clients.{HasReason, IsOnChain, client_states_in, client_states_of}
 use Rattle.rb_import_check.specs.Named.{NamesIn, filed_client_states_of}
 use Rattle.rb_import_check.proofs.Naming.{any_filed, two_filed}
 use Rattle.rb_import_check.proofs.ReasonsLemmas.{other_chain, other_revision, other_state, two_states}
+use Rattle.rb_import_check.proofs.Sorting.{one_of}
 use Rattle.rb_import_check.proofs.client.state_of.Goals as goal
 
 pub returns-then-not-is_of_chain-clause-reason : goal.returns-then-not-is_of_chain-clause-reason
@@ -57,3 +60,9 @@ returns-in-Some-clause-named c =
     let before : (c.in-Some.field-0-1.now, c.in-Some.earlier.now) ∷ [] ≡ filed_client_states_of (take c.loop-saved.saved-index c.args.answers.now) = grind (arith, common_steps) in
     subst (NamesIn c.args.tracked.now c.args.answers.now) (sym c.in_files.ensures)
     (inl (_, _, two_filed client_states_in c.args.answers.now c.loop-saved.saved-index c.saved-item.result c.in-Some.field-0-1.now c.in-ClientState.state _ small is before (ap client_states_in c.in-ClientState.is), refl, (refl, ap Some c.as_str-file.ensures.value)))
+
+pub returns-clause-chain : goal.returns-clause-chain
+returns-clause-chain c =
+    let all : take c.loop-saved.saved-index c.args.answers.now ≡ c.args.answers.now = take_all _ _ (search rules) in
+    one_of (λ p. p.1.now) (IsOnChain c.args.tracked.now) c.loop-saved.found (client_states_of c.args.answers.now)
+    (subst (λ l. option_to_list (option_map (λ p. p.1.now) c.loop-saved.found) ≡ client_states_of l) all c.loop-saved.invariant.states) c.loop-saved.invariant.chain

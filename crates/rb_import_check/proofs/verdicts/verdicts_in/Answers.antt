@@ -1,11 +1,14 @@
 use Rattle.std.proofs.Common.{◌≡◌, ◌≢◌, ◌<◌, [], ◌∷◌, Some, length, take, get_or, false, ◌∙◌, arith, inl, inr, rules, ap, refl, subst, sym}
 use Rattle.std.proofs.lemmas.Bool.{true≢false}
+use Rattle.std.specs.Prelude.{option_map, option_to_list}
+use Rattle.std.proofs.lemmas.List.{take_all}
 use Rattle.std.proofs.lemmas.Grind.{common_steps}
 use Rattle.rb_import_check.specs.Named.{NamesOf, filed_verdicts_of}
 use Rattle.rb_import_check.specs.Refusals.{HasReasonOf}
 use Rattle.rb_import_check.specs.Verdicts.{verdicts_in, verdicts_of}
 use Rattle.rb_import_check.proofs.ChainReasons.{other_verdicts, two_files}
 use Rattle.rb_import_check.proofs.Naming.{any_filed, two_filed}
+use Rattle.rb_import_check.proofs.Sorting.{one_of}
 use Rattle.rb_import_check.proofs.verdicts.verdicts_in.Goals as goal
 
 pub returns-then-not-are_on_chain-clause-reason : goal.returns-then-not-are_on_chain-clause-reason
@@ -41,3 +44,9 @@ returns-in-Some-clause-named c =
     let before : (c.in-Some.field-0-1.now, c.in-Some.earlier.now) ∷ [] ≡ filed_verdicts_of (take c.loop-saved.saved-index c.args.answers.now) = grind (arith, common_steps) in
     subst (NamesOf c.args.id.now c.args.answers.now) (sym c.in_files.ensures)
     (inr (_, _, two_filed verdicts_in c.args.answers.now c.loop-saved.saved-index c.saved-item.result c.in-Some.field-0-1.now c.in-Verdicts.verdicts _ small is before (ap verdicts_in c.in-Verdicts.is), refl, (refl, ap Some c.as_str-file.ensures.value)))
+
+pub returns-clause-chain : goal.returns-clause-chain
+returns-clause-chain c =
+    let all : take c.loop-saved.saved-index c.args.answers.now ≡ c.args.answers.now = take_all _ _ (search rules) in
+    one_of (λ p. p.1.now) (λ v. v.chain ≡ c.args.id.now) c.loop-saved.found (verdicts_of c.args.answers.now)
+    (subst (λ l. option_to_list (option_map (λ p. p.1.now) c.loop-saved.found) ≡ verdicts_of l) all c.loop-saved.invariant.verdicts) c.loop-saved.invariant.chain
