@@ -90,24 +90,24 @@ any_of_filter P p [] w = w
 any_of_filter P p (x ∷ xs) w = any_at P (p x) x (filter p xs) xs (any_of_filter P p xs) w
 
 -- a commit among the highest ones is of a file of the chain's answers
-named_header : (tracked : List Saved) (chain : SeenChain) (e : ImportError) (s : Stored) → IsSeenChain tracked chain → Any (λ (c : Commit). DiffersFrom c s e) chain.commits.items
+named_header : (id : List ℕ) (tracked : List Saved) (chain : SeenChain) (e : ImportError) (s : Stored) → IsSeenChain id tracked chain → Any (λ (c : Commit). DiffersFrom c s e) chain.commits.items
     → Any (NamesRecord e (filed_state s)) (filed_of tracked)
-named_header tracked chain e s ((commits, have, files, judged, rises, room), sets) w =
+named_header id tracked chain e s ((commits, (have, files, judged, rises, on_chain, blocks, members, validators), room), sets, belong, judging) w =
     let Names : Filed → Type 0 = NamesRecord e (filed_state s) in
     let kept : Any (λ (c : Commit). Names (filed c)) (drop (length commits - 4096) commits) = subst (Any (λ (c : Commit). Names (filed c))) room.1 w in
     any_viewed filed Names (filed_of tracked) commits files (any_rest (λ (c : Commit). Names (filed c)) commits (length commits - 4096) kept)
 
-named_record : (saved tracked : List Saved) (revision : ℕ) (chain : SeenChain) (stored : List Stored) (e : ImportError) → IsSeenChain tracked chain → AreStatesOfFiles (filed_states_of revision saved) stored
+named_record : (id : List ℕ) (saved tracked : List Saved) (revision : ℕ) (chain : SeenChain) (stored : List Stored) (e : ImportError) → IsSeenChain id tracked chain → AreStatesOfFiles (filed_states_of revision saved) stored
     → Any (λ (s : Stored). Any (λ (c : Commit). DiffersFrom c s e) chain.commits.items) stored → Any (λ (s : FiledState). Any (NamesRecord e s) (filed_of tracked)) (flat_map filed_states_in saved)
-named_record saved tracked revision chain stored e seen states w =
+named_record id saved tracked revision chain stored e seen states w =
     let Names : FiledState → Type 0 = λ s. Any (NamesRecord e s) (filed_of tracked) in
     let each : Any (λ (s : Stored). Names (filed_state s)) stored =
-    any_more (λ (s : Stored). Any (λ (c : Commit). DiffersFrom c s e) chain.commits.items) (λ (s : Stored). Names (filed_state s)) stored (λ s other. named_header tracked chain e s seen other) w in
+    any_more (λ (s : Stored). Any (λ (c : Commit). DiffersFrom c s e) chain.commits.items) (λ (s : Stored). Names (filed_state s)) stored (λ s other. named_header id tracked chain e s seen other) w in
     any_of_filter Names (λ (f : FiledState). nat_le revision f.0.revision) (flat_map filed_states_in saved) (any_viewed filed_state Names (filed_states_of revision saved) stored states each)
 
 pub record_refused : (setup : Setup) (answers : SavedAnswers) (i : ℕ) (client : ClientSetup) (tracked : List ℕ) (saved : List Saved) (chains : List SeenChain) (stored : List Stored) (e : ImportError)
     → i < length setup.clients.items → client ≡ get_or setup.clients.items i client → slice_get setup.chains.items client.tracks ≡ Some tracked → saved ≡ answers_at answers.clients.items i
-    → AtEachPlace (λ (k : ℕ) (id : List ℕ) (chain : SeenChain). IsSeenChain (answers_at answers.chains.items k) chain) setup.chains.items chains
+    → AtEachPlace (λ (k : ℕ) (id : List ℕ) (chain : SeenChain). IsSeenChain id (answers_at answers.chains.items k) chain) setup.chains.items chains
     → AtRevision tracked (λ revision. AreStatesOfFiles (filed_states_of revision saved) stored)
     → IsToldOf client.id e → IsOfDifference chains client stored e → HasReasonIn setup answers e
 record_refused setup answers i client tracked saved chains stored errors.NoMemory small is there these each states told w = tt
@@ -117,7 +117,7 @@ record_refused setup answers i client tracked saved chains stored (errors.CheckE
     other : (o : Option SeenChain) → slice_get chains client.tracks ≡ o → IsSomeAnd o (λ (chain : SeenChain). NamesDifference chain.commits.items stored (errors.CheckError p))
         → Any (λ (s : FiledState). Any (NamesRecord (errors.CheckError p) s) (filed_of (answers_at answers.chains.items client.tracks))) (flat_map filed_states_in saved)
     other (Some chain) at some =
-        named_record saved (answers_at answers.chains.items client.tracks) revision chain stored (errors.CheckError p) (each.1 client.tracks tracked chain there at) states some
+        named_record tracked saved (answers_at answers.chains.items client.tracks) revision chain stored (errors.CheckError p) (each.1 client.tracks tracked chain there at) states some
     other None at some = absurd some
 
 -- ---- no problem of answers is that a script would be too big

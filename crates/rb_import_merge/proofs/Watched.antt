@@ -48,7 +48,7 @@ surplus_is saved commits n same is =
     is ∙ ap (λ k. k - 4096) (sym each ∙ long)
 
 pub seen_in : (setup : Setup) (answers : SavedAnswers) (seen : Seen)
-    → AtEachPlace (λ (i : ℕ) (id : List ℕ) (chain : SeenChain). IsSeenChain (answers_at answers.chains.items i) chain) setup.chains.items seen.chains.items
+    → AtEachPlace (λ (i : ℕ) (id : List ℕ) (chain : SeenChain). IsSeenChain id (answers_at answers.chains.items i) chain) setup.chains.items seen.chains.items
     → AtEachPlace (λ (i : ℕ) (id : List ℕ) (surplus : ℕ). surplus ≡ surplus_of (answers_at answers.chains.items i)) setup.chains.items seen.surplus.items
     → AreSeenClients setup answers.clients.items seen.chains.items seen.clients.items → FitBooks setup seen.chains.items seen.clients.items seen.records.items
     → AtEachPlace (AreKeptSets setup seen.records.items) seen.chains.items seen.sets.items → AreSeenPaths setup answers.paths.items seen.paths.items → IsSeenIn setup answers seen

@@ -1,10 +1,12 @@
 -- What was seen in the answers that a script is made of.
-use Rattle.std.specs.Prelude.{◌≡◌, ◌-◌, ℕ, Bool, false, List, [], Vec, Option, Some, None, IfSome, IsSomeAnd, All, Any, length, map, slice_get}
+use Rattle.std.specs.Prelude.{◌≡◌, ◌-◌, ℕ, Bool, true, false, List, [], Vec, Option, Some, None, IfSome, IsSomeAnd, All, Any, length, map, option_to_list, slice_get}
 use Rattle.std.specs.Global.{Global}
 use Rattle.std.specs.List.{list_any}
 use Rattle.std.specs.List.Sorted.{IsSorted, IsStrictlyIncreasing}
 use Rattle.std.specs.Str.{bytes_eq}
 use Rattle.rb_valset.specs.ValidatorSet.{set_hash}
+use Rattle.rb_import_answers.specs.declared.client.ClientState.{ClientState}
+use Rattle.rb_import_answers.specs.declared.packets.PacketPage.{PacketPage}
 use Rattle.rb_import_setup.specs.declared.setup.ClientSetup.{ClientSetup}
 use Rattle.rb_import_setup.specs.declared.setup.PathSetup.{PathSetup}
 use Rattle.rb_import_setup.specs.declared.setup.Setup.{Setup}
@@ -16,18 +18,21 @@ use Rattle.rb_import_check.specs.declared.saved.Saved.{Saved}
 use Rattle.rb_import_check.specs.declared.saved.SavedAnswers.{SavedAnswers}
 use Rattle.rb_import_check.specs.declared.sets.SeenSet.{SeenSet}
 use Rattle.rb_import_check.specs.Accord.{AgreesWith}
-use Rattle.rb_import_check.specs.Chains.{AreOfFiles, HaveHeaders, HaveSets, IsJudged, filed_of, headers_of}
-use Rattle.rb_import_check.specs.Clients.{AreStatesOfFiles, AtRevision, HaveStates, JudgesAs, client_states_of, current_of, filed_states_of}
+use Rattle.rb_import_check.specs.Chains.{AreOfFiles, HasItsValidators, HasSet, HaveHeaders, HaveSets, IsJudged, IsOfChain, IsOfItsBlock, filed_of, headers_of}
+use Rattle.rb_import_check.specs.Clients.{AreOfClient, AreStatesOfFiles, AreStatesOn, AtRevision, HaveStates, IsOfRevision, JudgesAs, client_states_of, current_of, filed_states_of, has_last}
+use Rattle.rb_import_check.specs.Refusals.{AreOfChain}
 use Rattle.rb_import_check.specs.Sets.{IsPlaceOf, WasSeen}
+use Rattle.rb_import_check.specs.Verdicts.{AreVerdictsOn}
 use Rattle.rb_import_merge.specs.declared.kept.KeptSets.{KeptSets}
 use Rattle.rb_import_merge.specs.declared.packets.SeenPacket.{SeenPacket}
 use Rattle.rb_import_merge.specs.declared.seen.Seen.{Seen}
 use Rattle.rb_import_merge.specs.Committed.{HaveCommitted}
 use Rattle.rb_import_merge.specs.Lowest.{kind_cmp}
 use Rattle.rb_import_merge.specs.Ways.{HasBefore}
-use Rattle.rb_import_merge.specs.Packets.{Expires, HaveEvents, IsOfFile}
+use Rattle.rb_import_merge.specs.Packets.{AreFromOne, Expires, HaveEvents, IsOfFile, is_on_packets}
 use Rattle.rb_import_merge.specs.Room.{AtEachPlace, FitBooks, FitsHeaders}
 use Rattle.rb_import_merge.specs.Sets.{AreKeptSets}
+use Rattle.rb_import_merge.specs.Totals.{is_whole, pages_of}
 
 abbrev items_of : Option (Vec Saved Global) → List Saved
 items_of (Some saved) = saved.items
@@ -37,30 +42,45 @@ items_of None = []
 abbrev pub answers_at : List (Vec Saved Global) → ℕ → List Saved
 answers_at answers place = items_of (slice_get answers place)
 
--- of the headers that a chain's answers tell of, each once and rising, with the verdict on its file, these are the highest, as many as a
--- book has room for
-abbrev pub AreHighestHeaders : List Saved → List Commit → Type 0
-AreHighestHeaders saved kept =
-    (commits : List Commit) × HaveHeaders (headers_of saved) commits × AreOfFiles (filed_of saved) commits × All (IsJudged saved) commits
+-- these are the headers that a chain's answers tell of, by rising heights, each of its file, with the verdict on that. Each is of the chain, and
+-- of the block that its commit is for; its set is one of these, and of the validators of its height, where the answers have some
+abbrev pub AreHeadersOf : List ℕ → List Saved → List SeenSet → List Commit → Type 0
+AreHeadersOf id saved sets commits =
+    HaveHeaders (headers_of saved) commits × AreOfFiles (filed_of saved) commits × All (IsJudged saved) commits
     × IsStrictlyIncreasing (map (λ (c : Commit). c.header.now.height) commits)
-    × FitsHeaders commits kept
+    × All (IsOfChain id) commits × All IsOfItsBlock commits × All (HasSet sets) commits × All (HasItsValidators saved) commits
 
--- of what a chain's answers tell of, these are the highest headers, and all sets
-abbrev pub IsSeenChain : List Saved → SeenChain → Type 0
-IsSeenChain saved chain = AreHighestHeaders saved chain.commits.items × HaveSets saved chain.sets.sets.items
+-- of those headers these are the highest, as many as a book has room for
+abbrev pub AreHighestHeaders : List ℕ → List Saved → List SeenSet → List Commit → Type 0
+AreHighestHeaders id saved sets kept = (commits : List Commit) × AreHeadersOf id saved sets commits × FitsHeaders commits kept
+
+-- of what the answers of the chain of this identifier tell of, these are the highest headers, and all sets; each answer belongs there, and the
+-- verdicts are on the chain
+abbrev pub IsSeenChain : List ℕ → List Saved → SeenChain → Type 0
+IsSeenChain id saved chain =
+    AreHighestHeaders id saved chain.sets.sets.items chain.commits.items × HaveSets saved chain.sets.sets.items
+    × AreOfChain saved × AreVerdictsOn id saved
 
 -- each of a client's records agrees with the headers of the chain that it tracks
 abbrev pub AgreesWithChain : List SeenChain → ClientSetup → List Stored → Type 0
 AgreesWithChain seen c stored = IfSome (slice_get seen c.tracks) (λ (chain : SeenChain). All (AgreesWith chain.commits.items) stored)
 
--- the client judges headers as the setup says, or else its state, and its records are those that its answers tell of, each of its file,
--- without those of a revision before that of the chain that it tracks, and agree with that chain's headers
+-- these are the records that the answers of a client of this chain tell of, each of its file, by rising heights, without those of a revision
+-- before the chain's; they are of that revision, and the last page of them is among the answers
+abbrev pub AreRecordsOf : List ℕ → List Saved → List Stored → Type 0
+AreRecordsOf tracked saved stored =
+    AtRevision tracked (λ revision. HaveStates (current_of revision saved) stored)
+    × AtRevision tracked (λ revision. AreStatesOfFiles (filed_states_of revision saved) stored)
+    × IsStrictlyIncreasing (map (λ (s : Stored). s.state.now.height) stored) × All (IsOfRevision tracked) stored × (has_last saved ≡ true)
+
+-- the client judges headers as the setup says, or else its state, which is on the chain that it tracks, and has the latest height of that; its
+-- records are those that its answers tell of, and agree with the headers of that chain; each answer belongs there
 abbrev pub IsSeenClient : List (List ℕ) → List SeenChain → ClientSetup → List Saved → SeenClient → Type 0
 IsSeenClient chains seen c saved client =
     JudgesAs c (client_states_of saved) client
-    × IsSomeAnd (slice_get chains c.tracks) (λ tracked. AtRevision tracked (λ revision. HaveStates (current_of revision saved) client.stored.items))
-    × IsSomeAnd (slice_get chains c.tracks) (λ tracked. AtRevision tracked (λ revision. AreStatesOfFiles (filed_states_of revision saved) client.stored.items))
-    × AgreesWithChain seen c client.stored.items
+    × (option_to_list client.latest ≡ map (λ (s : ClientState). s.latest) (client_states_of saved))
+    × IsSomeAnd (slice_get chains c.tracks) (λ tracked. AreStatesOn tracked saved × AreRecordsOf tracked saved client.stored.items)
+    × AgreesWithChain seen c client.stored.items × AreOfClient saved
 
 -- each of these is what was seen of the client at its place
 abbrev pub AreSeenClients : Setup → List (Vec Saved Global) → List SeenChain → List SeenClient → Type 0
@@ -71,13 +91,20 @@ AreSeenClients setup answers seen clients =
 abbrev pub surplus_of : List Saved → ℕ
 surplus_of saved = length (headers_of saved) - 4096
 
+-- a path may have these answers, and all transactions of each of their searches are there
+abbrev pub AreWholeSearches : List Saved → Type 0
+AreWholeSearches saved =
+    All (λ (s : Saved). is_on_packets s.answer ≡ true) saved × All (λ (p : PacketPage). is_whole p.total (pages_of saved) ≡ true) (pages_of saved)
+
 -- these are the path's packets that its answers tell of, each of its file, with the height of its destination, a chain of the setup, from which
--- on it isn't received, and with the event before it; each packet with a commitment has its events; and they stand by kind, block and sequence
+-- on it isn't received, and with the event before it; each packet with a commitment has its events; they stand by kind, block and sequence,
+-- and are of one source, where the setup names none; and all searches are whole
 abbrev pub IsSeenPath : List (List ℕ) → PathSetup → List Saved → List SeenPacket → Type 0
 IsSeenPath chains path saved packets =
     HaveEvents path saved packets × All (IsOfFile saved) packets
     × IsSomeAnd (slice_get chains path.config.destination) (λ dest. All (Expires dest) packets)
     × All (HasBefore packets) packets × HaveCommitted path saved packets × IsSorted kind_cmp packets
+    × (path.source_channel ≡ None → AreFromOne packets) × AreWholeSearches saved
 
 -- each of these is what was seen of the path at its place
 abbrev pub AreSeenPaths : Setup → List (Vec Saved Global) → List (Vec SeenPacket Global) → Type 0
@@ -87,7 +114,7 @@ AreSeenPaths setup answers paths =
 -- this was seen of the setup's chains, clients and paths in their answers; books have room for the records, and for the sets that are kept
 unfoldable pub IsSeenIn : Setup → SavedAnswers → Seen → Type 0
 IsSeenIn setup answers seen =
-    AtEachPlace (λ i id chain. IsSeenChain (answers_at answers.chains.items i) chain) setup.chains.items seen.chains.items
+    AtEachPlace (λ i id chain. IsSeenChain id (answers_at answers.chains.items i) chain) setup.chains.items seen.chains.items
     × AtEachPlace (λ i id surplus. surplus ≡ surplus_of (answers_at answers.chains.items i)) setup.chains.items seen.surplus.items
     × AreSeenClients setup answers.clients.items seen.chains.items seen.clients.items
     × FitBooks setup seen.chains.items seen.clients.items seen.records.items

@@ -149,7 +149,7 @@ fn seen_chains<'a>(
     answers: &'a SavedAnswers,
 ) -> Result<(Vec<SeenChain<'a>>, Vec<usize>), ImportError<'a>>
     ensures fit { IfOk result (λ seen. All (λ c. length c.commits.items ≤ 4096) seen.0.items) }
-    ensures seen { IfOk result (λ seen. AtEachPlace (λ i id chain. IsSeenChain (answers_at answers.entry.now.chains.items i) chain) setup.entry.now.chains.items seen.0.items) }
+    ensures seen { IfOk result (λ seen. AtEachPlace (λ i id chain. IsSeenChain id (answers_at answers.entry.now.chains.items i) chain) setup.entry.now.chains.items seen.0.items) }
     ensures surplus { IfOk result (λ seen. AtEachPlace (λ i id surplus. surplus ≡ surplus_of (answers_at answers.entry.now.chains.items i)) setup.entry.now.chains.items seen.1.items) }
     ensures reason { IfErr result (HasReasonIn setup.entry.now answers.entry.now) }
     ensures told { IfErr result (IsToldIn setup.entry.now) }
@@ -181,7 +181,7 @@ fn seen_clients<'a>(
     answers: &'a SavedAnswers,
     chains: &[SeenChain<'a>],
 ) -> Result<Vec<SeenClient<'a>>, ImportError<'a>>
-    requires { AtEachPlace (λ i id chain. IsSeenChain (answers_at answers.now.chains.items i) chain) setup.now.chains.items chains.now }
+    requires { AtEachPlace (λ i id chain. IsSeenChain id (answers_at answers.now.chains.items i) chain) setup.now.chains.items chains.now }
     ensures seen { IfOk result (λ clients. AreSeenClients setup.entry.now answers.entry.now.clients.items chains.now clients.items) }
     ensures reason { IfErr result (HasReasonIn setup.entry.now answers.entry.now) }
     ensures told { IfErr result (IsToldIn setup.entry.now) }

@@ -8,5 +8,5 @@ use Rattle.rb_import_merge.proofs.seen.seen_chains.Given as goal
 abbrev pub invariant-loop-place : goal.invariant-loop-place
 invariant-loop-place l =
     All (λ (c : SeenChain). length c.commits.items ≤ 4096) l.chains.items
-    × AtEachBefore l.place (λ (i : ℕ) (id : List ℕ) (chain : SeenChain). IsSeenChain (answers_at l.answers.chains.items i) chain) l.setup.chains.items l.chains.items
+    × AtEachBefore l.place (λ (i : ℕ) (id : List ℕ) (chain : SeenChain). IsSeenChain id (answers_at l.answers.chains.items i) chain) l.setup.chains.items l.chains.items
     × AtEachBefore l.place (λ (i : ℕ) (id : List ℕ) (surplus : ℕ). surplus ≡ surplus_of (answers_at l.answers.chains.items i)) l.setup.chains.items l.surplus.items

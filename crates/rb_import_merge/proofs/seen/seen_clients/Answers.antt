@@ -2,9 +2,9 @@ use Rattle.std.proofs.Common.{ℕ, List, rules, sym, subst}
 use Rattle.rb_import_setup.specs.declared.setup.ClientSetup.{ClientSetup}
 use Rattle.rb_import_check.specs.declared.client.SeenClient.{SeenClient}
 use Rattle.rb_import_check.specs.declared.client.Stored.{Stored}
-use Rattle.rb_import_check.specs.Clients.{AreStatesOfFiles, AtRevision, HaveStates, current_of, filed_states_of}
 use Rattle.rb_import_merge.specs.Reasons.{HasReasonIn, IsOfDifference}
-use Rattle.rb_import_merge.specs.Seen.{AgreesWithChain, IsSeenClient, answers_at}
+use Rattle.rb_import_check.specs.Clients.{AreStatesOn}
+use Rattle.rb_import_merge.specs.Seen.{AgreesWithChain, AreRecordsOf, IsSeenClient, answers_at}
 use Rattle.rb_import_merge.proofs.Reasoning.{record_refused}
 use Rattle.rb_import_merge.proofs.Rooms.{AtEachBefore, at_all, at_none, at_one_more}
 use Rattle.rb_import_merge.proofs.Watched.{client_within, of_tracked}
@@ -18,10 +18,11 @@ loop-place-init c =
 pub loop-place-preserved : goal.loop-place-preserved
 loop-place-preserved c =
     let Holds : ℕ → ClientSetup → SeenClient → Type 0 = λ i x client. IsSeenClient c.args.setup.now.chains.items c.args.chains.now x (answers_at c.args.answers.now.clients.items i) client in
-    let Has : List ℕ → Type 0 = λ tracked. AtRevision tracked (λ revision. HaveStates (current_of revision c.answers_at-saved.result.now) c.in_ok-seen.seen.stored.items) in
-    let Files : List ℕ → Type 0 = λ tracked. AtRevision tracked (λ revision. AreStatesOfFiles (filed_states_of revision c.answers_at-saved.result.now) c.in_ok-seen.seen.stored.items) in
+    let Has : List ℕ → Type 0 = λ tracked. AreStatesOn tracked c.answers_at-saved.result.now × AreRecordsOf tracked c.answers_at-saved.result.now c.in_ok-seen.seen.stored.items in
+    let records : AreRecordsOf c.chain_at-tracked.result.now c.answers_at-saved.result.now c.in_ok-seen.seen.stored.items =
+    (c.in_ok-seen.ensures.states, c.in_ok-seen.ensures.files, c.in_ok-seen.ensures.rising, c.in_ok-seen.ensures.revision, c.in_ok-seen.ensures.last) in
     at_one_more Holds c.args.setup.now.clients.items c.loop-place.place c.client-item.result c.in_ok-seen.seen c.loop-place.clients.items _ (search rules) (search rules)
-    (subst (λ saved. IsSeenClient c.args.setup.now.chains.items c.args.chains.now c.client-item.result saved c.in_ok-seen.seen) c.answers_at-saved.ensures (c.in_ok-seen.ensures.judging, of_tracked Has c.args.setup.now.chains.items c.client-item.result.tracks {tracked = c.chain_at-tracked.result.now} c.in_ok-seen.ensures.states c.chain_at-tracked.ensures, of_tracked Files c.args.setup.now.chains.items c.client-item.result.tracks {tracked = c.chain_at-tracked.result.now} c.in_ok-seen.ensures.files c.chain_at-tracked.ensures, subst (AgreesWithChain c.args.chains.now c.client-item.result) c.as_slice.ensures.value c.in_ok-judge_client.ensures.accord)) c.in_ok-push.ensures.items c.loop-place.invariant
+    (subst (λ saved. IsSeenClient c.args.setup.now.chains.items c.args.chains.now c.client-item.result saved c.in_ok-seen.seen) c.answers_at-saved.ensures (c.in_ok-seen.ensures.judging, c.in_ok-seen.ensures.latest, of_tracked Has c.args.setup.now.chains.items c.client-item.result.tracks {tracked = c.chain_at-tracked.result.now} (c.in_ok-seen.ensures.state, records) c.chain_at-tracked.ensures, subst (AgreesWithChain c.args.chains.now c.client-item.result) c.as_slice.ensures.value c.in_ok-judge_client.ensures.accord, c.in_ok-seen.ensures.answers)) c.in_ok-push.ensures.items c.loop-place.invariant
 
 pub chain_at-tracked-requires : goal.chain_at-tracked-requires
 chain_at-tracked-requires c = client_within c.args.setup.now c.client-item.result c.loop-place.place (search rules) (search rules)

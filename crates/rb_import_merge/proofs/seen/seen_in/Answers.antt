@@ -17,5 +17,5 @@ returns-clause-seen c =
 
 pub seen_clients-requires : goal.seen_clients-requires
 seen_clients-requires c =
-    subst (λ (l : List SeenChain). AtEachPlace (λ (i : ℕ) (id : List ℕ) (chain : SeenChain). IsSeenChain (answers_at c.args.answers.now.chains.items i) chain) c.args.setup.now.chains.items l)
+    subst (λ (l : List SeenChain). AtEachPlace (λ (i : ℕ) (id : List ℕ) (chain : SeenChain). IsSeenChain id (answers_at c.args.answers.now.chains.items i) chain) c.args.setup.now.chains.items l)
     (sym c.as_slice.ensures.value) c.in_ok-fitting.ensures.seen

@@ -18,7 +18,7 @@ loop-place-preserved c =
     let Holds : ℕ → PathSetup → Vec SeenPacket Global → Type 0 = λ i x packets. IsSeenPath c.args.setup.now.chains.items x (answers_at c.args.answers.now.paths.items i) packets.items in
     let Received : List ℕ → Type 0 = λ dest. All (Expires dest) c.in_ok-seen.seen.items in
     at_one_more Holds c.args.setup.now.paths.items c.loop-place.place c.path-item.result c.in_ok-seen.seen c.loop-place.paths.items _ (search rules) (search rules)
-    (subst (λ saved. IsSeenPath c.args.setup.now.chains.items c.path-item.result saved c.in_ok-seen.seen.items) c.answers_at-saved.ensures (c.in_ok-seen.ensures.events, c.in_ok-seen.ensures.files, of_tracked Received c.args.setup.now.chains.items c.path-item.result.config.destination {tracked = c.chain_at-dest.result.now} c.in_ok-seen.ensures.expiry c.chain_at-dest.ensures, c.in_ok-seen.ensures.before, c.in_ok-seen.ensures.pending, c.in_ok-seen.ensures.order)) c.in_ok-push.ensures.items c.loop-place.invariant
+    (subst (λ saved. IsSeenPath c.args.setup.now.chains.items c.path-item.result saved c.in_ok-seen.seen.items) c.answers_at-saved.ensures (c.in_ok-seen.ensures.events, c.in_ok-seen.ensures.files, of_tracked Received c.args.setup.now.chains.items c.path-item.result.config.destination {tracked = c.chain_at-dest.result.now} c.in_ok-seen.ensures.expiry c.chain_at-dest.ensures, c.in_ok-seen.ensures.before, c.in_ok-seen.ensures.pending, c.in_ok-seen.ensures.order, c.in_ok-seen.ensures.source, (c.in_ok-seen.ensures.answers, c.in_ok-seen.ensures.whole))) c.in_ok-push.ensures.items c.loop-place.invariant
 
 pub chain_at-dest-requires : goal.chain_at-dest-requires
 chain_at-dest-requires c = path_within c.args.setup.now c.path-item.result c.loop-place.place (search rules) (search rules)
