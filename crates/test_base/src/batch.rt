@@ -107,7 +107,7 @@ const REFUSALS: &[(BatchError, &str)] = &[
 fn prints_its_refusals(rt: HostRuntime) -> Result<(), Fail> {
     for (error, text) in REFUSALS {
         let printed = format!(in rt.alloc(); "{error}")?;
-        assert_same(&rt, "text", &printed.as_str(), text);
+        assert_same(&rt, "text", printed.as_str(), *text);
     }
     Ok(())
 }
