@@ -2,7 +2,7 @@
 use crate::names::{answer_name, chain_name, client_name, path_name};
 use crate::pieces::{put, put_long};
 use crate::text::next_of;
-use rb_base::Sink;
+use rb_base::{Height, Sink};
 use rb_explain::{
     Charges, ClientExplanation, IdleReason, PlanExplanation, Power, PricedList, StepExplanation,
     Subject, TurnExplanation, UnreachableExplanation, WaitingMessage, Why,
@@ -10,10 +10,11 @@ use rb_explain::{
 use rb_moments::push_moment;
 use rb_plan::{Label, Update};
 use rb_plan_client::Message;
-use rb_scan::Kind;
+use rb_scan::{Kind, Sequence};
 use rb_script_types::{Config, Goal, Refusal, Version};
 use rb_super_turn::{
-    ClientReport, Outcome, PlanReport, RefusedEvent, SendingReport, SettlementReport,
+    BatchReport, ClientReport, Outcome, PlanReport, PlannedReport, RefusedEvent, SendingReport,
+    SettlementReport,
 };
 use std::alloc::{AllocError, Global};
 
@@ -147,58 +148,73 @@ fn push_refused(
     }
 }
 
+/// Adds what happened to a packet.
+fn push_packet(
+    text: &mut String,
+    config: &Config,
+    kind: &str,
+    path: usize,
+    sequence: Sequence,
+) -> Result<(), AllocError> {
+    let path = path_name(config, path);
+    write!(
+        text,
+        "\"kind\": \"{kind}\", \"path\": \"{path}\", \"sequence\": {sequence}"
+    )
+}
+
+fn push_set(text: &mut String, config: &Config, chain: usize) -> Result<(), AllocError> {
+    let chain = chain_name(config, chain);
+    write!(text, "\"kind\": \"set\", \"chain\": \"{chain}\"")
+}
+
+fn push_header(
+    text: &mut String,
+    config: &Config,
+    chain: usize,
+    height: Height,
+) -> Result<(), AllocError> {
+    let chain = chain_name(config, chain);
+    write!(
+        text,
+        "\"kind\": \"header\", \"chain\": \"{chain}\", \"height\": {height}"
+    )
+}
+
+fn push_stored(
+    text: &mut String,
+    config: &Config,
+    client: usize,
+    height: Height,
+) -> Result<(), AllocError> {
+    let client = client_name(config, client);
+    write!(
+        text,
+        "\"kind\": \"stored\", \"client\": \"{client}\", \"height\": {height}"
+    )
+}
+
+fn push_closed(text: &mut String, config: &Config, path: usize) -> Result<(), AllocError> {
+    let path = path_name(config, path);
+    write!(text, "\"kind\": \"closed\", \"path\": \"{path}\"")
+}
+
 fn push_subject(text: &mut String, config: &Config, subject: &Subject) -> Result<(), AllocError> {
     match subject {
-        Subject::Set { chain } => {
-            let chain = chain_name(config, *chain);
-            write!(text, "\"kind\": \"set\", \"chain\": \"{chain}\"")
-        }
-        Subject::Header { chain, height } => {
-            let chain = chain_name(config, *chain);
-            write!(
-                text,
-                "\"kind\": \"header\", \"chain\": \"{chain}\", \"height\": {height}"
-            )
-        }
-        Subject::Stored { client, height } => {
-            let client = client_name(config, *client);
-            write!(
-                text,
-                "\"kind\": \"stored\", \"client\": \"{client}\", \"height\": {height}"
-            )
-        }
-        Subject::Sent { path, sequence } => {
-            let path = path_name(config, *path);
-            write!(
-                text,
-                "\"kind\": \"sent\", \"path\": \"{path}\", \"sequence\": {sequence}"
-            )
-        }
+        Subject::Set { chain } => push_set(text, config, *chain),
+        Subject::Header { chain, height } => push_header(text, config, *chain, *height),
+        Subject::Stored { client, height } => push_stored(text, config, *client, *height),
+        Subject::Sent { path, sequence } => push_packet(text, config, "sent", *path, *sequence),
         Subject::Received { path, sequence } => {
-            let path = path_name(config, *path);
-            write!(
-                text,
-                "\"kind\": \"received\", \"path\": \"{path}\", \"sequence\": {sequence}"
-            )
+            push_packet(text, config, "received", *path, *sequence)
         }
         Subject::AckWritten { path, sequence } => {
-            let path = path_name(config, *path);
-            write!(
-                text,
-                "\"kind\": \"ack\", \"path\": \"{path}\", \"sequence\": {sequence}"
-            )
+            push_packet(text, config, "ack", *path, *sequence)
         }
         Subject::Cleared { path, sequence } => {
-            let path = path_name(config, *path);
-            write!(
-                text,
-                "\"kind\": \"cleared\", \"path\": \"{path}\", \"sequence\": {sequence}"
-            )
+            push_packet(text, config, "cleared", *path, *sequence)
         }
-        Subject::Closed { path } => {
-            let path = path_name(config, *path);
-            write!(text, "\"kind\": \"closed\", \"path\": \"{path}\"")
-        }
+        Subject::Closed { path } => push_closed(text, config, *path),
     }
 }
 
@@ -208,19 +224,42 @@ fn push_client(
     report: &ClientReport,
     client: &ClientExplanation,
 ) -> Result<(), AllocError> {
+    push_client_window(text, config, client)?;
+    push_stored_heights(text, client)?;
+    push_charges(text, client)?;
+    push_reach(text, client)?;
+    push_waits(text, config, client)?;
+    push_next(text, config.version, &report.outcome)?;
+    push_outcome(text, config, &report.outcome)?;
+    push_why(text, &client.why)
+}
+
+/// Adds a client's identifier, and its window.
+fn push_client_window(
+    text: &mut String,
+    config: &Config,
+    client: &ClientExplanation,
+) -> Result<(), AllocError> {
     let id = client_name(config, client.client);
     let from = client.window.from().nanoseconds();
     let until = client.window.until().nanoseconds();
     write!(
         text,
         "{{\"id\": \"{id}\", \"from_ns\": {from}, \"until_ns\": {until}, \"stored\": ["
-    )?;
+    )
+}
+
+fn push_stored_heights(text: &mut String, client: &ClientExplanation) -> Result<(), AllocError> {
     for (place, stored) in client.stored.iter().enumerate() {
         push_comma(text, place)?;
         let height = stored.height;
         let expiry = stored.expiry;
         write!(text, "{{\"height\": {height}, \"expiry_ns\": {expiry}}}")?;
     }
+    Ok(())
+}
+
+fn push_charges(text: &mut String, client: &ClientExplanation) -> Result<(), AllocError> {
     let is_asked = client.is_asked;
     let Charges {
         base,
@@ -230,20 +269,28 @@ fn push_client(
     write!(
         text,
         "], \"charges\": [{base}, {signature}, {validator}], \"asked\": {is_asked}, \"reach\": "
-    )?;
+    )
+}
+
+fn push_reach(text: &mut String, client: &ClientExplanation) -> Result<(), AllocError> {
     match client.reach {
-        Some(height) => write!(text, "{height}")?,
-        None => text.push_str("null")?,
+        Some(height) => write!(text, "{height}"),
+        None => text.push_str("null"),
     }
+}
+
+/// Adds the messages that wait.
+fn push_waits(
+    text: &mut String,
+    config: &Config,
+    client: &ClientExplanation,
+) -> Result<(), AllocError> {
     text.push_str(", \"waits\": [")?;
     for (place, message) in client.waiting.iter().enumerate() {
         push_comma(text, place)?;
         push_message(text, config, message)?;
     }
-    text.push_str("], ")?;
-    push_next(text, config.version, &report.outcome)?;
-    push_outcome(text, config, &report.outcome)?;
-    push_why(text, &client.why)
+    text.push_str("], ")
 }
 
 /// Adds when the client has a goal next, from version 3 on.
@@ -290,21 +337,32 @@ fn push_outcome(text: &mut String, config: &Config, outcome: &Outcome) -> Result
     match outcome {
         Outcome::Held(batch) => write!(text, "\"outcome\": \"held\", \"batch\": {batch}"),
         Outcome::Idle(_) => text.push_str("\"outcome\": \"idle\""),
-        Outcome::Planned(planned) => {
-            let outcome = match planned.plan {
-                Some(_) => "plan",
-                None => "unreachable",
-            };
-            write!(text, "\"outcome\": \"{outcome}\", \"goal\": ")?;
-            match planned.goal {
-                Goal::AtLeast(height) => write!(text, "{{\"at_least\": {height}}}")?,
-                Goal::Exactly(height) => write!(text, "{{\"exactly\": {height}}}")?,
-            }
-            match &planned.plan {
-                Some(plan) => push_sends(text, config, plan),
-                None => push_reached(text, planned.labelling.labels()),
-            }
-        }
+        Outcome::Planned(planned) => push_planned(text, config, planned),
+    }
+}
+
+fn push_planned(
+    text: &mut String,
+    config: &Config,
+    planned: &PlannedReport,
+) -> Result<(), AllocError> {
+    push_goal(text, planned)?;
+    match &planned.plan {
+        Some(plan) => push_sends(text, config, plan),
+        None => push_reached(text, planned.labelling.labels()),
+    }
+}
+
+/// Adds whether the goal can be reached, and the goal.
+fn push_goal(text: &mut String, planned: &PlannedReport) -> Result<(), AllocError> {
+    let outcome = match planned.plan {
+        Some(_) => "plan",
+        None => "unreachable",
+    };
+    write!(text, "\"outcome\": \"{outcome}\", \"goal\": ")?;
+    match planned.goal {
+        Goal::AtLeast(height) => write!(text, "{{\"at_least\": {height}}}"),
+        Goal::Exactly(height) => write!(text, "{{\"exactly\": {height}}}"),
     }
 }
 
@@ -315,21 +373,28 @@ fn push_sends(text: &mut String, config: &Config, plan: &PlanReport) -> Result<(
     match &plan.sending {
         SendingReport::Nothing => text.push_str("null"),
         SendingReport::TooBig(message) => write!(text, "{{\"too_big\": {message}}}"),
-        SendingReport::Batch(batch) => {
-            let number = batch.number;
-            let proof = batch.proof;
-            let count = batch.transactions.len();
-            write!(
-                text,
-                "{{\"batch\": {number}, \"proof\": {proof}, \"transactions\": {count}, \"messages\": ["
-            )?;
-            for (place, message) in plan.messages.iter().enumerate() {
-                push_comma(text, place)?;
-                push_sent(text, config, message)?;
-            }
-            text.push_str("]}")
-        }
+        SendingReport::Batch(batch) => push_batch(text, config, batch, plan.messages.as_slice()),
     }
+}
+
+fn push_batch(
+    text: &mut String,
+    config: &Config,
+    batch: &BatchReport,
+    messages: &[Message],
+) -> Result<(), AllocError> {
+    let number = batch.number;
+    let proof = batch.proof;
+    let count = batch.transactions.len();
+    write!(
+        text,
+        "{{\"batch\": {number}, \"proof\": {proof}, \"transactions\": {count}, \"messages\": ["
+    )?;
+    for (place, message) in messages.iter().enumerate() {
+        push_comma(text, place)?;
+        push_sent(text, config, message)?;
+    }
+    text.push_str("]}")
 }
 
 fn push_sent(text: &mut String, config: &Config, message: &Message) -> Result<(), AllocError> {
@@ -408,9 +473,17 @@ fn push_steps(text: &mut String, steps: &[Option<StepExplanation>]) -> Result<()
 }
 
 fn push_step(text: &mut String, step: &Option<StepExplanation>) -> Result<(), AllocError> {
-    let Some(step) = step else {
-        return text.push_str("null");
-    };
+    match step {
+        Some(step) => {
+            push_answer(text, step)?;
+            push_powers(text, step)?;
+            push_fee(text, step)
+        }
+        None => text.push_str("null"),
+    }
+}
+
+fn push_answer(text: &mut String, step: &StepExplanation) -> Result<(), AllocError> {
     let height = step.height;
     let trusted = step.trusted;
     let answer = answer_name(step.answer);
@@ -419,14 +492,20 @@ fn push_step(text: &mut String, step: &Option<StepExplanation>) -> Result<(), Al
     write!(
         text,
         "{{\"height\": {height}, \"trusted\": {trusted}, \"answer\": \"{answer}\", \"expiry_ns\": {expiry}, \"time_ns\": {time}, "
-    )?;
+    )
+}
+
+fn push_powers(text: &mut String, step: &StepExplanation) -> Result<(), AllocError> {
     text.push_str("\"trusted_power\": ")?;
     match &step.trusted_power {
         Some(power) => push_power(text, power)?,
         None => text.push_str("null")?,
     }
     text.push_str(", \"own_power\": ")?;
-    push_power(text, &step.own_power)?;
+    push_power(text, &step.own_power)
+}
+
+fn push_fee(text: &mut String, step: &StepExplanation) -> Result<(), AllocError> {
     let fee = step.fee;
     let votes = step.votes;
     let validators = step.validators;

@@ -129,6 +129,48 @@ fn chosen(
     Ok(chosen)
 }
 
+/// Adds those messages that wait for others, or for a height that was asked for.
+fn push_ready(
+    alloc: Global,
+    text: &mut String,
+    config: &Config,
+    client: &ClientExplanation,
+) -> Result<(), AllocError> {
+    let ready = chosen(alloc, client.waiting.as_slice(), true)?;
+    let Some(moment) = ready.iter().filter_map(|message| message.presses).min() else {
+        return Ok(());
+    };
+    text.push_str("  waits: ")?;
+    push_messages(text, config, ready.as_slice())?;
+    push_end(text, client, moment)
+}
+
+/// Adds until when messages wait.
+fn push_end(text: &mut String, client: &ClientExplanation, moment: u128) -> Result<(), AllocError> {
+    if client.is_asked {
+        return text.push_str(" for a turn in which no height is asked for\n");
+    }
+    text.push_str(" until ")?;
+    push_time(text, moment, client.window.until().nanoseconds())?;
+    text.push_str("\n")
+}
+
+/// Adds those messages that no height proves to which the client can be brought.
+fn push_unproved(
+    alloc: Global,
+    text: &mut String,
+    config: &Config,
+    client: &ClientExplanation,
+) -> Result<(), AllocError> {
+    let unproved = chosen(alloc, client.waiting.as_slice(), false)?;
+    let Some(floor) = unproved.iter().map(|message| message.packet.floor).min() else {
+        return Ok(());
+    };
+    text.push_str("  waits: ")?;
+    push_messages(text, config, unproved.as_slice())?;
+    writeln!(text, " for a height from {floor} on")
+}
+
 /// Adds the packet messages that are owed and not sent: first those that wait for others, or for a height that was asked for, then
 /// those that no height proves to which the client can be brought.
 pub(crate) fn push_waiting(
@@ -137,24 +179,6 @@ pub(crate) fn push_waiting(
     config: &Config,
     client: &ClientExplanation,
 ) -> Result<(), AllocError> {
-    let waiting = client.waiting.as_slice();
-    let ready = chosen(alloc, waiting, true)?;
-    if let Some(moment) = ready.iter().filter_map(|message| message.presses).min() {
-        text.push_str("  waits: ")?;
-        push_messages(text, config, ready.as_slice())?;
-        if client.is_asked {
-            text.push_str(" for a turn in which no height is asked for\n")?;
-        } else {
-            text.push_str(" until ")?;
-            push_time(text, moment, client.window.until().nanoseconds())?;
-            text.push_str("\n")?;
-        }
-    }
-    let unproved = chosen(alloc, waiting, false)?;
-    if let Some(floor) = unproved.iter().map(|message| message.packet.floor).min() {
-        text.push_str("  waits: ")?;
-        push_messages(text, config, unproved.as_slice())?;
-        writeln!(text, " for a height from {floor} on")?;
-    }
-    Ok(())
+    push_ready(alloc, text, config, client)?;
+    push_unproved(alloc, text, config, client)
 }

@@ -1,6 +1,8 @@
 //! Refused events as text.
 use crate::names::{chain_name, client_name, path_name};
+use rb_base::Height;
 use rb_explain::{Subject, TurnExplanation};
+use rb_scan::Sequence;
 use rb_script_types::{Config, Refusal};
 use rb_super_turn::{RefusedEvent, SettlementReport};
 use std::alloc::AllocError;
@@ -85,6 +87,38 @@ fn push_refused(
     }
 }
 
+/// Adds what happened to a packet.
+fn push_packet(
+    text: &mut String,
+    config: &Config,
+    what: &str,
+    path: usize,
+    sequence: Sequence,
+) -> Result<(), AllocError> {
+    let path = path_name(config, path);
+    write!(text, "{what} {sequence} of {path}")
+}
+
+fn push_header(
+    text: &mut String,
+    config: &Config,
+    chain: usize,
+    height: Height,
+) -> Result<(), AllocError> {
+    let chain = chain_name(config, chain);
+    write!(text, "header {height} of {chain}")
+}
+
+fn push_stored(
+    text: &mut String,
+    config: &Config,
+    client: usize,
+    height: Height,
+) -> Result<(), AllocError> {
+    let client = client_name(config, client);
+    write!(text, "stored consensus state {height} of {client}")
+}
+
 /// Adds what an event tells of.
 fn push_subject(text: &mut String, config: &Config, subject: &Subject) -> Result<(), AllocError> {
     match subject {
@@ -92,29 +126,19 @@ fn push_subject(text: &mut String, config: &Config, subject: &Subject) -> Result
             let chain = chain_name(config, *chain);
             write!(text, "a set of {chain}")
         }
-        Subject::Header { chain, height } => {
-            let chain = chain_name(config, *chain);
-            write!(text, "header {height} of {chain}")
-        }
-        Subject::Stored { client, height } => {
-            let client = client_name(config, *client);
-            write!(text, "stored consensus state {height} of {client}")
-        }
+        Subject::Header { chain, height } => push_header(text, config, *chain, *height),
+        Subject::Stored { client, height } => push_stored(text, config, *client, *height),
         Subject::Sent { path, sequence } => {
-            let path = path_name(config, *path);
-            write!(text, "sent packet {sequence} of {path}")
+            push_packet(text, config, "sent packet", *path, *sequence)
         }
         Subject::Received { path, sequence } => {
-            let path = path_name(config, *path);
-            write!(text, "received packet {sequence} of {path}")
+            push_packet(text, config, "received packet", *path, *sequence)
         }
         Subject::AckWritten { path, sequence } => {
-            let path = path_name(config, *path);
-            write!(text, "acknowledgement of packet {sequence} of {path}")
+            push_packet(text, config, "acknowledgement of packet", *path, *sequence)
         }
         Subject::Cleared { path, sequence } => {
-            let path = path_name(config, *path);
-            write!(text, "cleared packet {sequence} of {path}")
+            push_packet(text, config, "cleared packet", *path, *sequence)
         }
         Subject::Closed { path } => {
             let path = path_name(config, *path);

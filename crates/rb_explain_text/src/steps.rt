@@ -112,6 +112,34 @@ fn push_too_little(text: &mut String, step: &StepExplanation) -> Result<(), Allo
     }
 }
 
+fn push_expired(
+    text: &mut String,
+    window: &Window,
+    step: &StepExplanation,
+) -> Result<(), AllocError> {
+    let trusted = step.trusted;
+    write!(text, "the consensus state of {trusted} has expired since ")?;
+    push_instant(text, step.expiry)?;
+    if step.expiry > window.from().nanoseconds() {
+        text.push_str(", within the window")?;
+    }
+    Ok(())
+}
+
+fn push_ahead(text: &mut String, step: &StepExplanation) -> Result<(), AllocError> {
+    let height = step.height;
+    write!(text, "the time of {height}, ")?;
+    push_moment(text, step.time)?;
+    text.push_str(", is ahead of the window's first moment by the clock drift or more")
+}
+
+/// Adds how much power of the own set is missing.
+fn push_own_short(text: &mut String, step: &StepExplanation) -> Result<(), AllocError> {
+    text.push_str("own set: ")?;
+    push_power(text, &step.own_power)?;
+    push_short(text, &step.own_power)
+}
+
 fn push_reason(
     text: &mut String,
     window: &Window,
@@ -122,25 +150,14 @@ fn push_reason(
     let height = step.height;
     match reason {
         Reason::HeightOrder => write!(text, "{height} isn't higher than {trusted}"),
-        Reason::Expired => {
-            write!(text, "the consensus state of {trusted} has expired since ")?;
-            push_instant(text, step.expiry)?;
-            if step.expiry > window.from().nanoseconds() {
-                text.push_str(", within the window")?;
-            }
-            Ok(())
-        }
+        Reason::Expired => push_expired(text, window, step),
         Reason::TimeNotLater => {
             write!(
                 text,
                 "the time of {height} isn't later than that of {trusted}"
             )
         }
-        Reason::FromFuture => {
-            write!(text, "the time of {height}, ")?;
-            push_moment(text, step.time)?;
-            text.push_str(", is ahead of the window's first moment by the clock drift or more")
-        }
+        Reason::FromFuture => push_ahead(text, step),
         Reason::TrustedSetUnknown => {
             write!(text, "the light store hasn't the set that {trusted} names")
         }
@@ -150,10 +167,6 @@ fn push_reason(
                 "the set of {height} isn't the one that {trusted} names"
             )
         }
-        Reason::NotTwoThirds => {
-            text.push_str("own set: ")?;
-            push_power(text, &step.own_power)?;
-            push_short(text, &step.own_power)
-        }
+        Reason::NotTwoThirds => push_own_short(text, step),
     }
 }

@@ -8,13 +8,13 @@ use crate::steps::{push_answer, push_count, push_fee, push_powers, push_route};
 use rb_base::{Height, Moment, Sink};
 use rb_explain::{
     ClientExplanation, IdleReason, PlanExplanation, PricedList, StepExplanation, StoredHeight,
-    TurnExplanation, UnreachableExplanation, Why,
+    TurnExplanation, UnreachableExplanation, WaitingMessage, Why,
 };
 use rb_moments::{push_instant, push_length};
 use rb_plan::Label;
 use rb_script_types::{Config, Goal, Version};
 use rb_step::Verdict;
-use rb_super_turn::{ClientReport, Outcome, PlanReport, PlannedReport, SendingReport};
+use rb_super_turn::{BatchReport, ClientReport, Outcome, PlanReport, PlannedReport, SendingReport};
 use std::alloc::{AllocError, Global};
 
 /// So many heights are told in a line.
@@ -195,6 +195,16 @@ fn push_plan(
     push_count(text, report.updates.len(), "update")?;
     writeln!(text, ", fee {fee}")?;
     push_steps(text, client, plan.steps.as_slice(), most)?;
+    push_lists(text, client, plan)?;
+    push_sending(alloc, text, config, report)
+}
+
+/// Adds what else there is beside a plan: the one step, and other lists of updates.
+fn push_lists(
+    text: &mut String,
+    client: &ClientExplanation,
+    plan: &PlanExplanation,
+) -> Result<(), AllocError> {
     push_direct(text, client, plan)?;
     push_list(text, "fewest updates", &plan.fewest)?;
     if plan.direct.is_some() {
@@ -204,7 +214,7 @@ fn push_plan(
             &plan.bisection,
         )?;
     }
-    push_sending(alloc, text, config, report)
+    Ok(())
 }
 
 /// Adds what the client answers to the one step from the highest height that is stored and live, unless that is the plan.
@@ -226,6 +236,21 @@ fn push_direct(
     text.push_str("\n")
 }
 
+/// Adds the two lines of a step.
+fn push_step(
+    text: &mut String,
+    client: &ClientExplanation,
+    step: &StepExplanation,
+) -> Result<(), AllocError> {
+    let trusted = step.trusted;
+    let height = step.height;
+    write!(text, "    {trusted} -> {height}: ")?;
+    push_fee(text, &client.charges, step)?;
+    text.push_str("\n      ")?;
+    push_powers(text, step)?;
+    text.push_str("\n")
+}
+
 /// Adds two lines a step, of the first ones.
 fn push_steps(
     text: &mut String,
@@ -236,13 +261,7 @@ fn push_steps(
     let shown = steps.len().min(most / 2);
     for step in steps.iter().take(shown) {
         if let Some(step) = step {
-            let trusted = step.trusted;
-            let height = step.height;
-            write!(text, "    {trusted} -> {height}: ")?;
-            push_fee(text, &client.charges, step)?;
-            text.push_str("\n      ")?;
-            push_powers(text, step)?;
-            text.push_str("\n")?;
+            push_step(text, client, step)?;
         }
     }
     if shown < steps.len() {
@@ -267,6 +286,25 @@ fn push_list(text: &mut String, what: &str, list: &Option<PricedList>) -> Result
     text.push_str("\n")
 }
 
+/// Adds a batch, and the packets of its messages.
+fn push_batch(
+    text: &mut String,
+    config: &Config,
+    batch: &BatchReport,
+    packets: &[WaitingMessage],
+) -> Result<(), AllocError> {
+    let number = batch.number;
+    let count = batch.transactions.len();
+    write!(text, "  sends: batch {number}, transactions: {count}")?;
+    if !packets.is_empty() {
+        text.push_str("; ")?;
+        push_messages(text, config, packets)?;
+        let proof = batch.proof;
+        write!(text, ", proved at {proof}")?;
+    }
+    text.push_str("\n")
+}
+
 fn push_sending(
     alloc: Global,
     text: &mut String,
@@ -280,19 +318,27 @@ fn push_sending(
             "  sends nothing: message {message} (from 0, the updates first) is over the gas limit alone"
         ),
         SendingReport::Batch(batch) => {
-            let number = batch.number;
-            let count = batch.transactions.len();
-            let proof = batch.proof;
             let packets = packets_of(alloc, report.messages.as_slice())?;
-            write!(text, "  sends: batch {number}, transactions: {count}")?;
-            if !packets.is_empty() {
-                text.push_str("; ")?;
-                push_messages(text, config, packets.as_slice())?;
-                write!(text, ", proved at {proof}")?;
-            }
-            text.push_str("\n")
+            push_batch(text, config, batch, packets.as_slice())
         }
     }
+}
+
+/// Adds what the client answers to each of these steps.
+fn push_tried(
+    text: &mut String,
+    client: &ClientExplanation,
+    steps: &[Option<StepExplanation>],
+) -> Result<(), AllocError> {
+    for step in steps {
+        if let Some(step) = step {
+            let trusted = step.trusted;
+            write!(text, "    from {trusted}: ")?;
+            push_answer(text, &client.window, step)?;
+            text.push_str("\n")?;
+        }
+    }
+    Ok(())
 }
 
 fn push_unreachable(
@@ -313,14 +359,7 @@ fn push_unreachable(
         );
     }
     writeln!(text, "  {wanted}, the lowest header that is wanted:")?;
-    for step in &why.steps {
-        if let Some(step) = step {
-            let trusted = step.trusted;
-            write!(text, "    from {trusted}: ")?;
-            push_answer(text, &client.window, step)?;
-            text.push_str("\n")?;
-        }
-    }
+    push_tried(text, client, why.steps.as_slice())?;
     push_gap(text, wanted, why.steps.as_slice())
 }
 
