@@ -2,7 +2,9 @@
 use Rattle.std.proofs.Common.{◌≡◌, ℕ, ◌+◌, Bool, true, false, List, [], ◌∷◌, ◌++◌, map, All, Option, Some, None, Result, Ok, Err, IfOk, OnOk, OnErr, refl, sym, ap, subst, ◌∙◌, append_assoc, arith, if◌then◌else◌}
 use Rattle.std.proofs.lemmas.List.{append-nil}
 use Rattle.std.proofs.lemmas.List.Elements.{All-cons, All-append}
+use Rattle.std.specs.Io.KnownBytes.{Appends}
 use Rattle.std.specs.declared.alloc.Global.{Global}
+use Rattle.rb_base.specs.Sink.{AppendsBeginning}
 use Rattle.rb_core_model.specs.Forgetting.{floors_of, rest_at_floors}
 use Rattle.rb_script_types.specs.Config.{Config}
 use Rattle.rb_script_types.specs.Script.{Turn}
@@ -13,38 +15,14 @@ use Rattle.rb_super.specs.AsEvents.{turn_as_events}
 use Rattle.rb_super_turn.specs.Report.{TurnReport}
 use Rattle.rb_super_turn.specs.Script.{IsTurn}
 use Rattle.rb_super_turn.specs.Turns.{after_turn}
-use Rattle.rb_text.proofs.Beginnings.{appends-then, appends-none, beginning-none, beginning-first, beginning-then}
+use Rattle.rb_text.proofs.Beginnings.{appends-then, appends-none, beginning-none, beginning-then}
 use Rattle.rb_follow.specs.declared.told.Form.{Form}
-use Rattle.rb_follow.specs.declared.told.Form.TheVariants.{Text, Json}
 use Rattle.rb_follow.specs.Documents.{Document}
 use Rattle.rb_follow.specs.Followers.{Following, Answer, planned, refused, most_events, tidied, after_report, turn_in, IsAnswerFor, IsRight}
 use Rattle.rb_follow.specs.Tidying.{forgets, raised}
-use Rattle.rb_follow.specs.Answers.{answer_text, Takes, TakesBeginning}
+use Rattle.rb_follow.specs.Answers.{answer_text}
 use Rattle.rb_follow.specs.Journals.{Outs, StoresAll, whole_of, accepted}
 use Rattle.rb_follow.specs.Headline.{AreAnswers, Answered, answers_text, Told, BeginsTelling}
-
--- ---- what a writer takes
-
-pub takes-none : (form : Form) (old : Option (List ℕ)) → Takes form old old []
-takes-none Text old = appends-none old
-takes-none Json old = tt
-
-pub takes-then : (form : Form) (old mid new : Option (List ℕ)) (a b : List ℕ) → Takes form old mid a → Takes form mid new b → Takes form old new (a ++ b)
-takes-then Text old mid new a b p q = appends-then old mid new a b p q
-takes-then Json old mid new a b p q = tt
-
-pub begins-none : (form : Form) (old : Option (List ℕ)) (text : List ℕ) → TakesBeginning form old old text
-begins-none Text old text = beginning-none old text
-begins-none Json old text = tt
-
-pub begins-first : (form : Form) (old new : Option (List ℕ)) (a b : List ℕ) → TakesBeginning form old new a → TakesBeginning form old new (a ++ b)
-begins-first Text old new a b h = beginning-first old new a b h
-begins-first Json old new a b h = tt
-
-pub begins-then : (form : Form) (old mid new : Option (List ℕ)) (a b : List ℕ) → Takes form old mid a → TakesBeginning form mid new b
-    → TakesBeginning form old new (a ++ b)
-begins-then Text old mid new a b p h = beginning-then old mid new a b p h
-begins-then Json old mid new a b p h = tt
 
 -- ---- answers
 
@@ -83,9 +61,9 @@ answers-then f (d ∷ ds) (planned number r ∷ rest) (t ∷ ts) g es more us k 
     (h.0, h.1, h.2, h.3, answers-then (after_report f (t, h.0) r) ds rest ts g es more us k h.4 p)
 answers-then f (d ∷ ds) (refused fault ∷ rest) ts g es more us k h p = (h.0, answers-then f ds rest ts g es more us k h.1 p)
 
-pub answers_text-then : (c : Config) (answers more : List Answer) → answers_text c (answers ++ more) ≡ answers_text c answers ++ answers_text c more
-answers_text-then c [] more = refl
-answers_text-then c (a ∷ rest) more = ap (λ text. answer_text c.version (path_ids c.paths) a ++ text) (answers_text-then c rest more) ∙ sym (append_assoc (answer_text c.version (path_ids c.paths) a) (answers_text c rest) (answers_text c more))
+pub answers_text-then : (form : Form) (c : Config) (answers more : List Answer) → answers_text form c (answers ++ more) ≡ answers_text form c answers ++ answers_text form c more
+answers_text-then form c [] more = refl
+answers_text-then form c (a ∷ rest) more = ap (λ text. answer_text form c.version (path_ids c.paths) a ++ text) (answers_text-then form c rest more) ∙ sym (append_assoc (answer_text form c.version (path_ids c.paths) a) (answers_text form c rest) (answers_text form c more))
 
 pub as_events-then : (ts us : List (Turn Global)) → map turn_as_events (ts ++ us) ≡ map turn_as_events ts ++ map turn_as_events us
 as_events-then [] us = refl
@@ -133,14 +111,14 @@ accepted-then f (d ∷ ds) (refused fault ∷ rest) ts g es more h = accepted-th
 -- ---- one answer
 
 -- the answer to one document, and its text
-pub record IsOne (f : Following) (d : Document) (a : Answer) (g : Following) : Type 0 where
+pub record IsOne (form : Form) (f : Following) (d : Document) (a : Answer) (g : Following) : Type 0 where
   pub all : Answered f (d ∷ []) g
   pub one : all.answers ≡ a ∷ []
-  pub text : answers_text f.config all.answers ≡ answer_text g.config.version (path_ids g.config.paths) a
+  pub text : answers_text form f.config all.answers ≡ answer_text form g.config.version (path_ids g.config.paths) a
 
-pub one_by : (f : Following) (d : Document) (r : Result (Turn Global × Reading) Fault) (a : Answer) (g : Following) → turn_in f d ≡ r → IsAnswerFor f r a g → IsRight f r
-    → IsOne f d a g
-one_by f d (Ok x) (planned number report) g e h right = record {
+pub one_by : (form : Form) (f : Following) (d : Document) (r : Result (Turn Global × Reading) Fault) (a : Answer) (g : Following) → turn_in f d ≡ r → IsAnswerFor f r a g → IsRight f r
+    → IsOne form f d a g
+one_by form f d (Ok x) (planned number report) g e h right = record {
   all = record {
     answers = planned number report ∷ [];
     turns = x.0 ∷ [];
@@ -150,11 +128,11 @@ one_by f d (Ok x) (planned number report) g e h right = record {
   one = refl;
   text =
       append-nil _
-      ∙ ap (λ (c : Config). answer_text c.version (path_ids c.paths) (planned number report)) (sym (after-config f x report) ∙ ap (λ (y : Following). y.config) (sym h.2));
+      ∙ ap (λ (c : Config). answer_text form c.version (path_ids c.paths) (planned number report)) (sym (after-config f x report) ∙ ap (λ (y : Following). y.config) (sym h.2));
 }
-one_by f d (Ok x) (refused fault) g e h right = absurd h
-one_by f d (Err x) (planned number report) g e h right = absurd h
-one_by f d (Err x) (refused fault) g e h right = record {
+one_by form f d (Ok x) (refused fault) g e h right = absurd h
+one_by form f d (Err x) (planned number report) g e h right = absurd h
+one_by form f d (Err x) (refused fault) g e h right = record {
   all = record {
     answers = refused fault ∷ [];
     turns = [];
@@ -162,41 +140,41 @@ one_by f d (Err x) (refused fault) g e h right = record {
     right = none_right f.config;
   };
   one = refl;
-  text = append-nil _ ∙ ap (λ (y : Following). answer_text y.config.version (path_ids y.config.paths) (refused fault)) (sym h.1);
+  text = append-nil _ ∙ ap (λ (y : Following). answer_text form y.config.version (path_ids y.config.paths) (refused fault)) (sym h.1);
 }
 
-stored-one : (f : Following) (d : Document) (a : Answer) (g : Following) (one : IsOne f d a g) (old new : Outs)
+stored-one : (form : Form) (f : Following) (d : Document) (a : Answer) (g : Following) (one : IsOne form f d a g) (old new : Outs)
     → StoresAll old.stored new.stored (accepted (d ∷ []) (a ∷ [])) → StoresAll old.stored new.stored (accepted (d ∷ []) one.all.answers)
-stored-one f d a g one old new s = subst (λ (xs : List Answer). StoresAll old.stored new.stored (accepted (d ∷ []) xs)) (sym one.one) s
+stored-one form f d a g one old new s = subst (λ (xs : List Answer). StoresAll old.stored new.stored (accepted (d ∷ []) xs)) (sym one.one) s
 
 pub told-one : (form : Form) (f : Following) (d : Document) (a : Answer) (g : Following) (old new : Outs)
     → IsAnswerFor f (turn_in f d) a g → IsRight f (turn_in f d) → StoresAll old.stored new.stored (accepted (d ∷ []) (a ∷ []))
-    → Takes form old.taken new.taken (answer_text g.config.version (path_ids g.config.paths) a)
+    → Appends old.taken new.taken (answer_text form g.config.version (path_ids g.config.paths) a)
     → Told form f (d ∷ []) old new g
 told-one form f d a g old new h right s w =
-    let one = one_by f d (turn_in f d) a g refl h right in
-    record { all = one.all; stored = stored-one f d a g one old new s; written = subst (Takes form old.taken new.taken) (sym one.text) w }
+    let one = one_by form f d (turn_in f d) a g refl h right in
+    record { all = one.all; stored = stored-one form f d a g one old new s; written = subst (Appends old.taken new.taken) (sym one.text) w }
 
 pub begins-one : (form : Form) (f : Following) (d : Document) (a : Answer) (g : Following) (old new : Outs)
     → IsAnswerFor f (turn_in f d) a g → IsRight f (turn_in f d) → StoresAll old.stored new.stored (accepted (d ∷ []) (a ∷ []))
-    → TakesBeginning form old.taken new.taken (answer_text g.config.version (path_ids g.config.paths) a)
+    → AppendsBeginning old.taken new.taken (answer_text form g.config.version (path_ids g.config.paths) a)
     → BeginsTelling form f (d ∷ []) old new
 begins-one form f d a g old new h right s w =
-    let one = one_by f d (turn_in f d) a g refl h right in
+    let one = one_by form f d (turn_in f d) a g refl h right in
     record {
       first = d ∷ [];
       later = [];
       are_first = refl;
       last = g;
       all = one.all;
-      stored = stored-one f d a g one old new s;
-      begun = subst (TakesBeginning form old.taken new.taken) (sym one.text) w;
+      stored = stored-one form f d a g one old new s;
+      begun = subst (AppendsBeginning old.taken new.taken) (sym one.text) w;
     }
 
 -- ---- several
 
 pub told-none : (form : Form) (f : Following) (old : Outs) → Told form f [] old old f
-told-none form f old = record { all = answered-none f; stored = stores_none old.stored; written = takes-none form old.taken }
+told-none form f old = record { all = answered-none f; stored = stores_none old.stored; written = appends-none old.taken }
 
 pub told-then : (form : Form) (f : Following) (ds es : List Document) (old mid new : Outs) (g k : Following)
     → Told form f ds old mid g → Told form g es mid new k → Told form f (ds ++ es) old new k
@@ -204,9 +182,9 @@ told-then form f ds es old mid new g k p q = record {
   all = answered-then f ds es g k p.all q.all;
   stored = subst (StoresAll old.stored new.stored) (sym (accepted-then f ds p.all.answers p.all.turns g es q.all.answers p.all.answered))
       (stores-then old.stored mid.stored new.stored (accepted ds p.all.answers) (accepted es q.all.answers) p.stored q.stored);
-  written = subst (Takes form old.taken new.taken) (sym (answers_text-then f.config p.all.answers q.all.answers))
-      (takes-then form old.taken mid.taken new.taken (answers_text f.config p.all.answers) (answers_text f.config q.all.answers) p.written
-      (subst (λ (c : Config). Takes form mid.taken new.taken (answers_text c q.all.answers)) (answers-config f ds p.all.answers p.all.turns g p.all.answered) q.written));
+  written = subst (Appends old.taken new.taken) (sym (answers_text-then form f.config p.all.answers q.all.answers))
+      (appends-then old.taken mid.taken new.taken (answers_text form f.config p.all.answers) (answers_text form f.config q.all.answers) p.written
+      (subst (λ (c : Config). Appends mid.taken new.taken (answers_text form c q.all.answers)) (answers-config f ds p.all.answers p.all.turns g p.all.answered) q.written));
 }
 
 pub begins-nothing : (form : Form) (f : Following) (ds : List Document) (old : Outs) → BeginsTelling form f ds old old
@@ -217,7 +195,7 @@ begins-nothing form f ds old = record {
   last = f;
   all = answered-none f;
   stored = stores_none old.stored;
-  begun = begins-none form old.taken [];
+  begun = beginning-none old.taken [];
 }
 
 pub begins-later : (form : Form) (f : Following) (ds es : List Document) (old new : Outs) → BeginsTelling form f ds old new → BeginsTelling form f (ds ++ es) old new
@@ -241,9 +219,9 @@ begins-after form f ds es old mid new g p b = record {
   all = answered-then f ds b.first g b.last p.all b.all;
   stored = subst (StoresAll old.stored new.stored) (sym (accepted-then f ds p.all.answers p.all.turns g b.first b.all.answers p.all.answered))
       (stores-then old.stored mid.stored new.stored (accepted ds p.all.answers) (accepted b.first b.all.answers) p.stored b.stored);
-  begun = subst (TakesBeginning form old.taken new.taken) (sym (answers_text-then f.config p.all.answers b.all.answers))
-      (begins-then form old.taken mid.taken new.taken (answers_text f.config p.all.answers) (answers_text f.config b.all.answers) p.written
-      (subst (λ (c : Config). TakesBeginning form mid.taken new.taken (answers_text c b.all.answers)) (answers-config f ds p.all.answers p.all.turns g p.all.answered) b.begun));
+  begun = subst (AppendsBeginning old.taken new.taken) (sym (answers_text-then form f.config p.all.answers b.all.answers))
+      (beginning-then old.taken mid.taken new.taken (answers_text form f.config p.all.answers) (answers_text form f.config b.all.answers) p.written
+      (subst (λ (c : Config). AppendsBeginning mid.taken new.taken (answers_text form c b.all.answers)) (answers-config f ds p.all.answers p.all.turns g p.all.answered) b.begun));
 }
 
 -- all that was told is a beginning
@@ -260,13 +238,13 @@ on_err (Err e) p = p
 
 pub told-tell : {X E : Type 0} (see : X → Following) (form : Form) (f : Following) (d : Document) (a : Answer) (k : X) (old new : Outs) (r : Result X E)
     → IsAnswerFor f (turn_in f d) a (see k) → IsRight f (turn_in f d) → StoresAll old.stored new.stored (accepted (d ∷ []) (a ∷ [])) → IfOk r (λ g. g ≡ k)
-    → OnOk r (Takes form old.taken new.taken (answer_text (see k).config.version (path_ids (see k).config.paths) a)) → IfOk r (λ g. Told form f (d ∷ []) old new (see g))
+    → OnOk r (Appends old.taken new.taken (answer_text form (see k).config.version (path_ids (see k).config.paths) a)) → IfOk r (λ g. Told form f (d ∷ []) old new (see g))
 told-tell see form f d a k old new (Ok g) h right stored s w = subst (λ x. Told form f (d ∷ []) old new (see x)) (sym s) (told-one form f d a (see k) old new h right stored w)
 told-tell see form f d a k old new (Err e) h right stored s w = tt
 
 pub begins-tell : {X E : Type 0} (form : Form) (f : Following) (d : Document) (a : Answer) (k : Following) (old new : Outs) (r : Result X E)
     → IsAnswerFor f (turn_in f d) a k → IsRight f (turn_in f d) → StoresAll old.stored new.stored (accepted (d ∷ []) (a ∷ []))
-    → OnErr r (TakesBeginning form old.taken new.taken (answer_text k.config.version (path_ids k.config.paths) a)) → OnErr r (BeginsTelling form f (d ∷ []) old new)
+    → OnErr r (AppendsBeginning old.taken new.taken (answer_text form k.config.version (path_ids k.config.paths) a)) → OnErr r (BeginsTelling form f (d ∷ []) old new)
 begins-tell form f d a k old new (Ok g) h right stored w = tt
 begins-tell form f d a k old new (Err e) h right stored w = begins-one form f d a k old new h right stored w
 

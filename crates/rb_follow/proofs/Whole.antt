@@ -1,25 +1,27 @@
 -- A whole input: from the setup to the end.
-use Rattle.std.proofs.Common.{◌≡◌, ℕ, List, [], ◌++◌, codes, Bool, true, false, Option, Some, None, IfSome, Result, Ok, Err, ◌↔◌, refl, sym, subst, ◌∙◌}
+use Rattle.std.proofs.Common.{◌≡◌, ℕ, List, [], ◌++◌, Bool, true, false, Option, Some, None, IfSome, Result, Ok, Err, ◌↔◌, refl, sym, subst, ◌∙◌}
 use Rattle.std.proofs.lemmas.Bool.{true≢false}
 use Rattle.std.proofs.lemmas.List.{append-nil}
+use Rattle.std.specs.Io.KnownBytes.{Appends}
+use Rattle.rb_base.specs.Sink.{AppendsBeginning}
 use Rattle.rb_script_types.specs.Config.{Config}
 use Rattle.rb_script_toml.specs.Faults.{Fault, ◌>>=◌, fault_view, Fails}
 use Rattle.rb_script_toml.specs.declared.fault.Fault.{Fault as CodeFault}
 use Rattle.rb_script_toml.specs.declared.fault.RunError.{RunError}
 use Rattle.rb_script_toml.specs.declared.fault.RunError.TheVariants as errors
 use Rattle.rb_core_model.specs.Config.{IsSetUp}
-use Rattle.rb_text.specs.Report.{first_line}
 use Rattle.rb_follow.specs.declared.error.FollowError.{FollowError}
 use Rattle.rb_follow.specs.declared.error.FollowError.TheVariants.{Run}
 use Rattle.rb_follow.specs.declared.told.Form.{Form}
 use Rattle.rb_follow.specs.Setups.{setup_of}
 use Rattle.rb_follow.specs.Documents.{Document, documents}
 use Rattle.rb_follow.specs.Followers.{Following, begun_with, beginning}
-use Rattle.rb_follow.specs.Answers.{Takes, TakesBeginning}
+use Rattle.rb_follow.specs.Answers.{head_text, end_text}
 use Rattle.rb_follow.specs.Journals.{outs}
 use Rattle.rb_follow.specs.Headline.{Answered, answers_text, Told, BeginsTelling, IsFollowed, Follows, BeginsFollowing}
 use Rattle.rb_follow.proofs.LawsLemmas.{answers_reports}
-use Rattle.rb_follow.proofs.Telling.{stores_none, takes-then, begins-then, begins-first, answered-none}
+use Rattle.rb_follow.proofs.Telling.{stores_none, answered-none}
+use Rattle.rb_text.proofs.Beginnings.{appends-then, beginning-first, beginning-then}
 
 -- ---- the setup
 
@@ -75,25 +77,25 @@ followed_by setup c ds g read s p = record {
 }
 
 pub follows : (form : Form) (setup : List ℕ) (f : Following) (known : Option (List ℕ)) (old mid last new : Option (List ℕ)) (before after : Option (List (List ℕ))) (g : Following) → IsBegun setup f
-    → Takes form old mid (first_line f.config.version) → IfSome known (λ (bytes : List ℕ). Told form f (documents bytes) (outs mid before) (outs last after) g) → Takes form last new (codes "end\n")
+    → Appends old mid (head_text form f.config.version) → IfSome known (λ (bytes : List ℕ). Told form f (documents bytes) (outs mid before) (outs last after) g) → Appends last new (end_text form)
     → IfSome known (λ (bytes : List ℕ). Follows form setup bytes (outs old before) (outs new after))
 follows form setup f None old mid last new before after g b h t e = tt
 follows form setup f (Some bytes) old mid last new before after g b h t e =
     let c = b.config in
-    let head : Takes form old mid (first_line c.version) = subst (λ (x : Following). Takes form old mid (first_line x.config.version)) b.is h in
+    let head : Appends old mid (head_text form c.version) = subst (λ (x : Following). Appends old mid (head_text form x.config.version)) b.is h in
     let told : Told form (begun_with c) (documents bytes) (outs mid before) (outs last after) g = subst (λ (x : Following). Told form x (documents bytes) (outs mid before) (outs last after) g) b.is t in
     record {
       config = c;
       answers = told.all.answers;
       followed = followed_by setup c (documents bytes) g b.read b.set_up told.all;
       stored = told.stored;
-      written = takes-then form old mid new (first_line c.version) (answers_text c told.all.answers ++ codes "end\n") head
-          (takes-then form mid last new (answers_text c told.all.answers) (codes "end\n") told.written e);
+      written = appends-then old mid new (head_text form c.version) (answers_text form c told.all.answers ++ end_text form) head
+          (appends-then mid last new (answers_text form c told.all.answers) (end_text form) told.written e);
     }
 
 -- the first line failed
 pub follows-head : (form : Form) (setup : List ℕ) (f : Following) (known : Option (List ℕ)) (old new : Option (List ℕ)) (before : Option (List (List ℕ))) → IsBegun setup f
-    → TakesBeginning form old new (first_line f.config.version) → IfSome known (λ (bytes : List ℕ). BeginsFollowing form setup bytes (outs old before) (outs new before))
+    → AppendsBeginning old new (head_text form f.config.version) → IfSome known (λ (bytes : List ℕ). BeginsFollowing form setup bytes (outs old before) (outs new before))
 follows-head form setup f None old new before b h = tt
 follows-head form setup f (Some bytes) old new before b h =
     let c = b.config in
@@ -105,18 +107,18 @@ follows-head form setup f (Some bytes) old new before b h =
       answers = [];
       followed = followed_by setup c [] (begun_with c) b.read b.set_up (answered-none (begun_with c));
       stored = stores_none before;
-      begun = begins-first form old new (first_line c.version) (answers_text c [] ++ codes "end\n")
-          (subst (λ (x : Following). TakesBeginning form old new (first_line x.config.version)) b.is h);
+      begun = beginning-first old new (head_text form c.version) (answers_text form c [] ++ end_text form)
+          (subst (λ (x : Following). AppendsBeginning old new (head_text form x.config.version)) b.is h);
     }
 
 -- an answer failed, or the input
 pub follows-begins : (form : Form) (setup : List ℕ) (f : Following) (known : Option (List ℕ)) (old mid new : Option (List ℕ)) (before after : Option (List (List ℕ))) → IsBegun setup f
-    → Takes form old mid (first_line f.config.version) → IfSome known (λ (bytes : List ℕ). BeginsTelling form f (documents bytes) (outs mid before) (outs new after))
+    → Appends old mid (head_text form f.config.version) → IfSome known (λ (bytes : List ℕ). BeginsTelling form f (documents bytes) (outs mid before) (outs new after))
     → IfSome known (λ (bytes : List ℕ). BeginsFollowing form setup bytes (outs old before) (outs new after))
 follows-begins form setup f None old mid new before after b h t = tt
 follows-begins form setup f (Some bytes) old mid new before after b h t =
     let c = b.config in
-    let head : Takes form old mid (first_line c.version) = subst (λ (x : Following). Takes form old mid (first_line x.config.version)) b.is h in
+    let head : Appends old mid (head_text form c.version) = subst (λ (x : Following). Appends old mid (head_text form x.config.version)) b.is h in
     let told : BeginsTelling form (begun_with c) (documents bytes) (outs mid before) (outs new after) = subst (λ (x : Following). BeginsTelling form x (documents bytes) (outs mid before) (outs new after)) b.is t in
     record {
       config = c;
@@ -126,18 +128,18 @@ follows-begins form setup f (Some bytes) old mid new before after b h t =
       answers = told.all.answers;
       followed = followed_by setup c told.first told.last b.read b.set_up told.all;
       stored = told.stored;
-      begun = begins-then form old mid new (first_line c.version) (answers_text c told.all.answers ++ codes "end\n") head
-          (begins-first form mid new (answers_text c told.all.answers) (codes "end\n") told.begun);
+      begun = beginning-then old mid new (head_text form c.version) (answers_text form c told.all.answers ++ end_text form) head
+          (beginning-first mid new (answers_text form c told.all.answers) (end_text form) told.begun);
     }
 
 -- the last line failed
 pub follows-end : (form : Form) (setup : List ℕ) (f : Following) (known : Option (List ℕ)) (old mid last new : Option (List ℕ)) (before after : Option (List (List ℕ))) (g : Following) → IsBegun setup f
-    → Takes form old mid (first_line f.config.version) → IfSome known (λ (bytes : List ℕ). Told form f (documents bytes) (outs mid before) (outs last after) g)
-    → TakesBeginning form last new (codes "end\n") → IfSome known (λ (bytes : List ℕ). BeginsFollowing form setup bytes (outs old before) (outs new after))
+    → Appends old mid (head_text form f.config.version) → IfSome known (λ (bytes : List ℕ). Told form f (documents bytes) (outs mid before) (outs last after) g)
+    → AppendsBeginning last new (end_text form) → IfSome known (λ (bytes : List ℕ). BeginsFollowing form setup bytes (outs old before) (outs new after))
 follows-end form setup f None old mid last new before after g b h t e = tt
 follows-end form setup f (Some bytes) old mid last new before after g b h t e =
     let c = b.config in
-    let head : Takes form old mid (first_line c.version) = subst (λ (x : Following). Takes form old mid (first_line x.config.version)) b.is h in
+    let head : Appends old mid (head_text form c.version) = subst (λ (x : Following). Appends old mid (head_text form x.config.version)) b.is h in
     let told : Told form (begun_with c) (documents bytes) (outs mid before) (outs last after) g = subst (λ (x : Following). Told form x (documents bytes) (outs mid before) (outs last after) g) b.is t in
     record {
       config = c;
@@ -147,6 +149,6 @@ follows-end form setup f (Some bytes) old mid last new before after g b h t e =
       answers = told.all.answers;
       followed = followed_by setup c (documents bytes) g b.read b.set_up told.all;
       stored = told.stored;
-      begun = begins-then form old mid new (first_line c.version) (answers_text c told.all.answers ++ codes "end\n") head
-          (begins-then form mid last new (answers_text c told.all.answers) (codes "end\n") told.written e);
+      begun = beginning-then old mid new (head_text form c.version) (answers_text form c told.all.answers ++ end_text form) head
+          (beginning-then mid last new (answers_text form c told.all.answers) (end_text form) told.written e);
     }

@@ -1,17 +1,18 @@
--- Answers as texts (own choice): the lines of a report, or of a fault, and a line `---`.
-use Rattle.std.specs.Prelude.{ℕ, List, [], ◌∷◌, ◌++◌, codes, Option}
-use Rattle.std.specs.Io.KnownBytes.{Appends}
-use Rattle.rb_base.specs.Sink.{AppendsBeginning}
+-- Answers as they are written (own choice): as lines of a report, with a line `---` after each, or as objects of JSON, each on a line.
+use Rattle.std.specs.Prelude.{ℕ, List, [], ◌∷◌, ◌++◌, codes}
 use Rattle.rb_script_types.specs.declared.version.Version.{Version}
 use Rattle.rb_script_toml.specs.Faults.{fault_line, fault_view}
 use Rattle.rb_super_turn.specs.Report.{Report}
 use Rattle.rb_super_turn.specs.Views.{turn_report_view}
-use Rattle.rb_text.specs.Report.{turn_text}
+use Rattle.rb_text.specs.Report.{first_line, turn_text}
+use Rattle.rb_text_export.specs.Json.{json_text}
+use Rattle.rb_text_export.specs.ReportJson.{turn_line}
 use Rattle.rb_follow.specs.declared.answer.Answer.{Answer as CodeAnswer}
 use Rattle.rb_follow.specs.declared.answer.Answer.TheVariants as code
 use Rattle.rb_follow.specs.declared.told.Form.{Form}
 use Rattle.rb_follow.specs.declared.told.Form.TheVariants.{Text, Json}
 use Rattle.rb_follow.specs.Followers.{Answer, planned, refused}
+use Rattle.rb_follow.specs.FaultJson.{fault_json}
 
 abbrev pub answer_view : CodeAnswer → Answer
 answer_view (code.Planned number report) = planned number (turn_report_view report)
@@ -26,10 +27,12 @@ abbrev pub report_lines : Version → List (List ℕ) → Answer → List ℕ
 report_lines version paths (planned number r) = turn_text version paths number r
 report_lines version paths (refused fault) = []
 
--- the lines of an answer
-abbrev pub answer_text : Version → List (List ℕ) → Answer → List ℕ
-answer_text version paths (planned number r) = turn_text version paths number r ++ mark
-answer_text version paths (refused fault) = fault_line fault ++ codes "\n" ++ mark
+-- an answer as text: the lines of a report, or of a fault, and the mark; as JSON: an object on a line
+abbrev pub answer_text : Form → Version → List (List ℕ) → Answer → List ℕ
+answer_text Text version paths (planned number r) = turn_text version paths number r ++ mark
+answer_text Text version paths (refused fault) = fault_line fault ++ codes "\n" ++ mark
+answer_text Json version paths (planned number r) = turn_line version paths r
+answer_text Json version paths (refused fault) = json_text (fault_json fault) ++ codes "\n"
 
 -- the reports among answers
 abbrev pub reports_in : List Answer → Report
@@ -37,14 +40,14 @@ reports_in [] = []
 reports_in (planned number r ∷ rest) = r ∷ reports_in rest
 reports_in (refused fault ∷ rest) = reports_in rest
 
--- ---- what a writer takes of them
+-- ---- what stands around the answers
 
--- the writer took the bytes, in lines of a report; of JSON nothing is said
-abbrev pub Takes : Form → Option (List ℕ) → Option (List ℕ) → List ℕ → Type 0
-Takes Text old new bytes = Appends old new bytes
-Takes Json old new bytes = Unit {0}
+-- the first line of a report
+abbrev pub head_text : Form → Version → List ℕ
+head_text Text version = first_line version
+head_text Json version = []
 
--- the writer took a beginning of them
-abbrev pub TakesBeginning : Form → Option (List ℕ) → Option (List ℕ) → List ℕ → Type 0
-TakesBeginning Text old new bytes = AppendsBeginning old new bytes
-TakesBeginning Json old new bytes = Unit {0}
+-- its last line
+abbrev pub end_text : Form → List ℕ
+end_text Text = codes "end\n"
+end_text Json = []

@@ -1,7 +1,9 @@
 -- What following an input promises.
-use Rattle.std.specs.Prelude.{◌≡◌, ℕ, ◌+◌, Bool, false, List, [], ◌∷◌, ◌++◌, codes, map, All, Ok, Err}
+use Rattle.std.specs.Prelude.{◌≡◌, ℕ, ◌+◌, Bool, false, List, [], ◌∷◌, ◌++◌, map, All, Ok, Err}
 use Rattle.std.specs.List.{flat_map}
+use Rattle.std.specs.Io.KnownBytes.{Appends}
 use Rattle.std.specs.declared.alloc.Global.{Global}
+use Rattle.rb_base.specs.Sink.{AppendsBeginning}
 use Rattle.rb_core_model.specs.Standing.{opening_standing}
 use Rattle.rb_script_types.specs.Config.{Config}
 use Rattle.rb_script_types.specs.Script.{Script, Turn}
@@ -10,7 +12,6 @@ use Rattle.rb_script_read.specs.Turns.{Reading}
 use Rattle.rb_super.specs.AsEvents.{turn_as_events, as_events}
 use Rattle.rb_super_turn.specs.Script.{IsTurn, IsScript}
 use Rattle.rb_super_turn.specs.Turns.{IsTurnReport}
-use Rattle.rb_text.specs.Report.{first_line}
 use Rattle.rb_text.specs.Written.{IsWriteError}
 use Rattle.rb_follow.specs.declared.error.FollowError.{FollowError}
 use Rattle.rb_follow.specs.declared.error.FollowError.TheVariants.{Run, Input, Journal}
@@ -20,7 +21,7 @@ use Rattle.rb_follow.specs.Followers.{Following, Answer, planned, refused, begun
 use Rattle.rb_follow.specs.Reports.{AreReportsIn}
 use Rattle.rb_follow.specs.Journals.{Outs, StoresAll, accepted}
 use Rattle.rb_follow.specs.declared.told.Form.{Form}
-use Rattle.rb_follow.specs.Answers.{answer_text, reports_in, Takes, TakesBeginning}
+use Rattle.rb_follow.specs.Answers.{answer_text, reports_in, head_text, end_text}
 
 -- one answer for each document, in their order, the turns that were taken, and the follower then; a fault leaves all as it was
 abbrev pub AreAnswers : Following → List Document → List Answer → List (Turn Global) → Following → Type 0
@@ -41,15 +42,15 @@ pub record Answered (f : Following) (documents : List Document) (g : Following) 
   pub answered : AreAnswers f documents answers turns g
   pub right : All (IsTurn f.config) (map turn_as_events turns)
 
--- the lines of answers
-abbrev pub answers_text : Config → List Answer → List ℕ
-answers_text c answers = flat_map (answer_text c.version (path_ids c.paths)) answers
+-- the text of answers
+abbrev pub answers_text : Form → Config → List Answer → List ℕ
+answers_text form c answers = flat_map (answer_text form c.version (path_ids c.paths)) answers
 
 -- documents were answered, the journal has stored those that were accepted, and the writer took the answers
 pub record Told (form : Form) (f : Following) (documents : List Document) (old new : Outs) (g : Following) : Type 0 where
   pub all : Answered f documents g
   pub stored : StoresAll old.stored new.stored (accepted documents all.answers)
-  pub written : Takes form old.taken new.taken (answers_text f.config all.answers)
+  pub written : Appends old.taken new.taken (answers_text form f.config all.answers)
 
 -- the first of the documents were answered, the journal has stored those that were accepted, and the writer took a beginning of the answers
 pub record BeginsTelling (form : Form) (f : Following) (documents : List Document) (old new : Outs) : Type 0 where
@@ -59,7 +60,7 @@ pub record BeginsTelling (form : Form) (f : Following) (documents : List Documen
   pub last : Following
   pub all : Answered f first last
   pub stored : StoresAll old.stored new.stored (accepted first all.answers)
-  pub begun : TakesBeginning form old.taken new.taken (answers_text f.config all.answers)
+  pub begun : AppendsBeginning old.taken new.taken (answers_text form f.config all.answers)
 
 -- a piece of an input was gone through up to this rest: the documents that ended were told, and what is read of the next goes on with
 -- the rest and what comes behind the piece
@@ -79,8 +80,8 @@ IsFollowError (Journal e) has_failed = has_failed ≡ false
 -- ---- a whole input
 
 -- what is written of the answers to an input that ended
-abbrev pub followed_text : Config → List Answer → List ℕ
-followed_text c answers = first_line c.version ++ (answers_text c answers ++ codes "end\n")
+abbrev pub followed_text : Form → Config → List Answer → List ℕ
+followed_text form c answers = head_text form c.version ++ (answers_text form c answers ++ end_text form)
 
 -- the script that consists of a setup and the turns that were taken
 abbrev pub script_with : Config → List (Turn Global) → Script Global
@@ -103,7 +104,7 @@ pub record Follows (form : Form) (setup input : List ℕ) (old new : Outs) : Typ
   pub answers : List Answer
   pub followed : IsFollowed setup (documents input) config answers
   pub stored : StoresAll old.stored new.stored (accepted (documents input) answers)
-  pub written : Takes form old.taken new.taken (followed_text config answers)
+  pub written : Appends old.taken new.taken (followed_text form config answers)
 
 -- the writer took a beginning of the text of answers to the first documents of an input, and the journal has stored those of them that were
 -- accepted: no turn is answered that it doesn't have
@@ -115,4 +116,4 @@ pub record BeginsFollowing (form : Form) (setup input : List ℕ) (old new : Out
   pub answers : List Answer
   pub followed : IsFollowed setup first config answers
   pub stored : StoresAll old.stored new.stored (accepted first answers)
-  pub begun : TakesBeginning form old.taken new.taken (followed_text config answers)
+  pub begun : AppendsBeginning old.taken new.taken (followed_text form config answers)

@@ -11,5 +11,6 @@ pub mod Journals
 pub mod Seen
 pub mod Views
 pub mod Answers
+pub mod FaultJson
 pub mod Headline
 pub mod Laws

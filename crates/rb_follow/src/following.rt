@@ -1,13 +1,14 @@
 //! Following an input to its end.
-ghost use Rattle.std.specs.Prelude.{◌≡◌, ◌≤◌, ◌++◌, ◌∷◌, ◌↔◌, ◌⊎◌, List, ℕ, [], true, false, Err, IfOk, IfErr, IfSome, OnOk, OnErr, IsErrOf, codes};
+ghost use Rattle.std.specs.Prelude.{◌≡◌, ◌≤◌, ◌++◌, ◌∷◌, ◌↔◌, ◌⊎◌, List, ℕ, [], true, false, Err, IfOk, IfErr, IfSome, OnOk, OnErr, IsErrOf};
+ghost use Rattle.std.specs.Io.KnownBytes.{Appends};
+ghost use Rattle.rb_base.specs.Sink.{AppendsBeginning};
 ghost use Rattle.rb_script_config.specs.Paths.{path_ids};
 ghost use Rattle.rb_script_toml.specs.declared.fault.Fault.{Fault as CodeFault};
 ghost use Rattle.rb_script_toml.specs.Faults.{fault_view};
-ghost use Rattle.rb_text.specs.Report.{first_line};
 ghost use Rattle.rb_text.specs.Written.{IsWriteError};
 ghost use Rattle.rb_follow.specs.Setups.{setup_of};
 ghost use Rattle.rb_follow.specs.Documents.{nothing_read, all_read, document, documents_from, last_of, documents};
-ghost use Rattle.rb_follow.specs.Answers.{answer_view, answer_text, Takes, TakesBeginning};
+ghost use Rattle.rb_follow.specs.Answers.{answer_view, answer_text, head_text, end_text};
 ghost use Rattle.rb_follow.specs.Journals.{StoresAll, accepted, outs};
 ghost use Rattle.rb_follow.specs.Views.{following};
 ghost use Rattle.rb_follow.specs.Headline.{Told, ToldPiece, BeginsTelling, IsFollowError, Follows, BeginsFollowing};
@@ -54,9 +55,9 @@ impl<N: Watcher> Teller<'_, N> {
         writer: &mut W,
     ) -> Result<(), RunError>
         requires { W.is_broken writer.old ≡ false }
-        ensures written { OnOk result (Takes self.now.form (W.taken writer.old) (W.taken writer.new) (answer_text (following follower.now).config.version (path_ids (following follower.now).config.paths) (answer_view answer.now))) }
+        ensures written { OnOk result (Appends (W.taken writer.old) (W.taken writer.new) (answer_text self.now.form (following follower.now).config.version (path_ids (following follower.now).config.paths) (answer_view answer.now))) }
         ensures works { OnOk result (W.is_broken writer.new ≡ false) }
-        ensures begun { OnErr result (TakesBeginning self.now.form (W.taken writer.old) (W.taken writer.new) (answer_text (following follower.now).config.version (path_ids (following follower.now).config.paths) (answer_view answer.now))) }
+        ensures begun { OnErr result (AppendsBeginning (W.taken writer.old) (W.taken writer.new) (answer_text self.now.form (following follower.now).config.version (path_ids (following follower.now).config.paths) (answer_view answer.now))) }
         ensures failed { IfErr result (λ e. IsWriteError e (W.is_broken writer.new)) }
     {
         let paths = follower.paths();
@@ -90,9 +91,9 @@ where
     N: Watcher,
     requires { W.is_broken writer.old ≡ false }
     ensures same { IfOk result (λ g. g ≡ follower) }
-    ensures written { OnOk result (Takes teller.now.form (W.taken writer.old) (W.taken writer.new) (answer_text (following follower).config.version (path_ids (following follower).config.paths) (answer_view answer.now))) }
+    ensures written { OnOk result (Appends (W.taken writer.old) (W.taken writer.new) (answer_text teller.now.form (following follower).config.version (path_ids (following follower).config.paths) (answer_view answer.now))) }
     ensures works { OnOk result (W.is_broken writer.new ≡ false) }
-    ensures begun { OnErr result (TakesBeginning teller.now.form (W.taken writer.old) (W.taken writer.new) (answer_text (following follower).config.version (path_ids (following follower).config.paths) (answer_view answer.now))) }
+    ensures begun { OnErr result (AppendsBeginning (W.taken writer.old) (W.taken writer.new) (answer_text teller.now.form (following follower).config.version (path_ids (following follower).config.paths) (answer_view answer.now))) }
     ensures failed { IfErr result (λ e. IsFollowError e (W.is_broken writer.new)) }
 {
     match teller.put(&follower, answer, writer) {
@@ -308,9 +309,9 @@ fn put_head<W: Sink, G: Gate + Send + Sync + Drop + 'static>(
     writer: &mut W,
 ) -> Result<(), RunError>
     requires { W.is_broken writer.old ≡ false }
-    ensures written { OnOk result (Takes form (W.taken writer.old) (W.taken writer.new) (first_line (following follower.now).config.version)) }
+    ensures written { OnOk result (Appends (W.taken writer.old) (W.taken writer.new) (head_text form (following follower.now).config.version)) }
     ensures works { OnOk result (W.is_broken writer.new ≡ false) }
-    ensures begun { OnErr result (TakesBeginning form (W.taken writer.old) (W.taken writer.new) (first_line (following follower.now).config.version)) }
+    ensures begun { OnErr result (AppendsBeginning (W.taken writer.old) (W.taken writer.new) (head_text form (following follower.now).config.version)) }
     ensures failed { IfErr result (λ e. IsWriteError e (W.is_broken writer.new)) }
 {
     match form {
@@ -328,9 +329,9 @@ fn begin<R: Threads + Wait, G: Gate + Send + Sync + Drop + 'static, W: Sink>(
 ) -> Result<Follower<G>, RunError>
     requires { W.is_broken writer.old ≡ false }
     ensures same { IfOk result (λ g. g ≡ follower) }
-    ensures written { OnOk result (Takes form (W.taken writer.old) (W.taken writer.new) (first_line (following follower).config.version)) }
+    ensures written { OnOk result (Appends (W.taken writer.old) (W.taken writer.new) (head_text form (following follower).config.version)) }
     ensures works { OnOk result (W.is_broken writer.new ≡ false) }
-    ensures begun { OnErr result (TakesBeginning form (W.taken writer.old) (W.taken writer.new) (first_line (following follower).config.version)) }
+    ensures begun { OnErr result (AppendsBeginning (W.taken writer.old) (W.taken writer.new) (head_text form (following follower).config.version)) }
     ensures failed { IfErr result (λ e. IsWriteError e (W.is_broken writer.new)) }
 {
     match put_head(&follower, form, writer) {
@@ -345,9 +346,9 @@ fn begin<R: Threads + Wait, G: Gate + Send + Sync + Drop + 'static, W: Sink>(
 /// The last line of a report, where lines of one are written.
 fn put_end<W: Sink>(form: Form, writer: &mut W) -> Result<(), RunError>
     requires { W.is_broken writer.old ≡ false }
-    ensures written { OnOk result (Takes form (W.taken writer.old) (W.taken writer.new) (codes "end\n")) }
+    ensures written { OnOk result (Appends (W.taken writer.old) (W.taken writer.new) (end_text form)) }
     ensures works { OnOk result (W.is_broken writer.new ≡ false) }
-    ensures begun { OnErr result (TakesBeginning form (W.taken writer.old) (W.taken writer.new) (codes "end\n")) }
+    ensures begun { OnErr result (AppendsBeginning (W.taken writer.old) (W.taken writer.new) (end_text form)) }
     ensures failed { IfErr result (λ e. IsWriteError e (W.is_broken writer.new)) }
 {
     match form {
