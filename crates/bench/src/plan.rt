@@ -3,7 +3,8 @@ use crate::view::{height, view_of};
 use anyhow::{Context, Result, bail};
 use rb_base::Height;
 use rb_graph::Graph;
-use rb_plan::{Answer, Labelling, plan};
+use rb_plan::plan;
+use rb_plan_types::{Answer, Labelling};
 use rb_script_types::Goal;
 use std::alloc::Global;
 

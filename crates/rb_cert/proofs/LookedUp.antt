@@ -6,10 +6,10 @@ use Rattle.std.proofs.lemmas.Option.{same_Some, slice_get_within, slice_get-get_
 use Rattle.rb_book.specs.Book.{RecordAt}
 use Rattle.rb_step.specs.LightClient.{IsOrderly}
 use Rattle.rb_step.specs.View.{View, client_of}
-use Rattle.rb_plan.specs.declared.cost.Cost.{Cost}
-use Rattle.rb_plan.specs.Labelling.{Labels}
-use Rattle.rb_plan.specs.Order.{CostsAtMost, after_update}
-use Rattle.rb_plan.proofs.Costs.{CostsAtMost-trans, CostsAtMost-fee}
+use Rattle.rb_plan_types.specs.declared.cost.Cost.{Cost}
+use Rattle.rb_plan_types.specs.Labelling.{Labels}
+use Rattle.rb_plan_types.specs.Order.{CostsAtMost, after_update}
+use Rattle.rb_plan_types.proofs.Costs.{CostsAtMost-trans, CostsAtMost-fee}
 use Rattle.rb_cert.specs.Refusal.{IsTooHigh}
 use Rattle.rb_cert.specs.declared.trusted.Trusted.{Trusted}
 use Rattle.rb_cert.specs.Trusted.{IsLookedUp, AreLookedUp, LeadsLower}

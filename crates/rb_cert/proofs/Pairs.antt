@@ -4,7 +4,7 @@ use Rattle.std.specs.Prelude.{MatchBool}
 use Rattle.std.specs.Option.{IfSome}
 use Rattle.rb_book.specs.Header.{Header}
 use Rattle.rb_step.specs.View.{View, IsView, client_of}
-use Rattle.rb_plan.specs.Labelling.{Labels}
+use Rattle.rb_plan_types.specs.Labelling.{Labels}
 use Rattle.rb_cert.specs.Checks.{IsLowAt, AreStepsLow, AreStepsIntoLow}
 use Rattle.rb_cert.proofs.Rising.{EachBefore}
 use Rattle.rb_cert.proofs.Walks.{IsLowInto, steps_low}

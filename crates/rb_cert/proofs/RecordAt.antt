@@ -12,8 +12,8 @@ use Rattle.rb_step.specs.KnownStep.{step_at}
 use Rattle.rb_step.specs.StepRule.{Step, AcceptsWithin}
 use Rattle.rb_step.specs.View.{View, IsView, client_of}
 use Rattle.rb_step.proofs.Orderly.{bind_some}
-use Rattle.rb_plan.proofs.Lookups.{find-some, pairs_from_increasing}
-use Rattle.rb_plan.proofs.Tops.{stored_of_view}
+use Rattle.rb_plan_types.proofs.Lookups.{find-some, pairs_from_increasing}
+use Rattle.rb_plan_types.proofs.Tops.{stored_of_view}
 use Rattle.rb_cert.specs.Places.{IsPlaceOf}
 use Rattle.rb_cert.proofs.Rising.{at_place, one_place}
 

@@ -16,7 +16,7 @@ use Rattle.rb_step.specs.KnownStep.{◌>>=◌, step_at}
 use Rattle.rb_step.specs.SignedPower.{signed_power}
 use Rattle.rb_step.specs.StepRule.{Step, step_of, Accepts, AcceptsWithin}
 use Rattle.rb_step.specs.View.{View, IsView, client_of}
-use Rattle.rb_plan.proofs.Lookups.{find-at, find-some, pairs_from_increasing}
+use Rattle.rb_plan_types.proofs.Lookups.{find-at, find-some, pairs_from_increasing}
 use Rattle.rb_cert.specs.Places.{IsMarked}
 use Rattle.rb_cert.specs.Refused.{IsJudgedBy, AreRefused}
 use Rattle.rb_step.proofs.Orderly.{bind_some}

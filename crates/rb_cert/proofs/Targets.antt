@@ -17,8 +17,8 @@ use Rattle.rb_step.specs.SignedPower.{signed_power}
 use Rattle.rb_step.specs.StepRule.{Step, step_of, Accepts, AcceptsWithin}
 use Rattle.rb_step.specs.View.{View, IsView, client_of}
 use Rattle.rb_step.proofs.Orderly.{bind_some, found}
-use Rattle.rb_plan.specs.Labelling.{Labels}
-use Rattle.rb_plan.proofs.Lookups.{find-at}
+use Rattle.rb_plan_types.specs.Labelling.{Labels}
+use Rattle.rb_plan_types.proofs.Lookups.{find-at}
 use Rattle.rb_cert.specs.Checks.{AreStepsIntoLow}
 use Rattle.rb_cert.specs.Places.{IsMarked}
 use Rattle.rb_cert.specs.Refused.{IsJudgedBy, AreRefused}

@@ -1,11 +1,11 @@
 pub use Rattle.rb_step.specs.View
 pub use Rattle.rb_step.specs.Machine
-pub use Rattle.rb_plan.specs.Goal
-pub use Rattle.rb_plan.specs.Order
-pub use Rattle.rb_plan.specs.Least
-pub use Rattle.rb_plan.specs.Labelling
-pub use Rattle.rb_plan.specs.Answer
-pub use Rattle.rb_plan.specs.Laws as PlanLaws
+pub use Rattle.rb_plan_types.specs.Goal
+pub use Rattle.rb_plan_types.specs.Order
+pub use Rattle.rb_plan_types.specs.Least
+pub use Rattle.rb_plan_types.specs.Labelling
+pub use Rattle.rb_plan_types.specs.Answer
+pub use Rattle.rb_plan_types.specs.Laws as PlanLaws
 pub mod Reasons
 pub mod Refusal
 pub mod Judgement

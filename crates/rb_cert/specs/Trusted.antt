@@ -2,9 +2,9 @@
 use Rattle.std.specs.Prelude.{◌≡◌, ℕ, ◌<◌, ◌^◌, ◌↔◌, List, Option, Some, IfSome, IsSomeAnd, position, slice_get}
 use Rattle.rb_book.specs.Book.{RecordAt, has_hash}
 use Rattle.rb_step.specs.View.{View, client_of}
-use Rattle.rb_plan.specs.declared.cost.Cost.{Cost}
-use Rattle.rb_plan.specs.Labelling.{Labels}
-use Rattle.rb_plan.specs.Order.{CostsAtMost, after_update}
+use Rattle.rb_plan_types.specs.declared.cost.Cost.{Cost}
+use Rattle.rb_plan_types.specs.Labelling.{Labels}
+use Rattle.rb_plan_types.specs.Order.{CostsAtMost, after_update}
 use Rattle.rb_cert.specs.declared.trusted.Trusted.{Trusted}
 
 -- the place in the book's sets of the record's next set

@@ -1,9 +1,9 @@
 //! What is looked up of the known records, once for all steps that trust them.
-ghost use Rattle.rb_plan.specs.Labelling.{label_of};
+ghost use Rattle.rb_plan_types.specs.Labelling.{label_of};
 ghost use Rattle.rb_cert.specs.Trusted.{IsLookedUp, AreLookedUp};
 
 use rb_book::RecordAt;
-use rb_plan::{Cost, Labelling};
+use rb_plan_types::{Cost, Labelling};
 use rb_step::ClientView;
 use std::alloc::Allocator;
 

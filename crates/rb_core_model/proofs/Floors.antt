@@ -4,8 +4,8 @@ use Rattle.std.specs.List.{fold, AllByRecursion}
 use Rattle.std.specs.Option.{option_map, option_or}
 use Rattle.std.proofs.lemmas.Option.{same_Some}
 use Rattle.std.proofs.lemmas.List.Elements.{All-from_recursion}
-use Rattle.rb_plan.specs.Goal.{Meets}
-use Rattle.rb_plan.specs.ProofHeight.{IsProofHeight}
+use Rattle.rb_plan_types.specs.Goal.{Meets}
+use Rattle.rb_plan_types.specs.ProofHeight.{IsProofHeight}
 use Rattle.rb_script_types.specs.declared.goal.Goal.{Goal}
 use Rattle.rb_script_types.specs.declared.goal.Goal.TheVariants.{AtLeast}
 use Rattle.rb_scan.specs.Owed.{wanted}

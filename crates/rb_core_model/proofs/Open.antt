@@ -5,7 +5,7 @@ use Rattle.std.specs.Option.{option_map, option_map_or, option_and_then, MatchOp
 use Rattle.std.proofs.lemmas.Bool.{cases_Bool, eqb-true, ltb-true, not-false}
 use Rattle.std.proofs.lemmas.Option.{none-some, same_Some, slice_get-map}
 use Rattle.rb_script_types.specs.declared.goal.Goal.{Goal}
-use Rattle.rb_plan.specs.Least.{IsUnreachable}
+use Rattle.rb_plan_types.specs.Least.{IsUnreachable}
 use Rattle.rb_scan.specs.Laws.{SettledIsNotOwed}
 use Rattle.rb_scan.specs.Owed.{expires_for, floor_of, message_of, messages, owed_part, ready}
 use Rattle.rb_scan.specs.Packet.{Packet}

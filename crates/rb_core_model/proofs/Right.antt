@@ -4,7 +4,7 @@ use Rattle.std.specs.List.{flat_map}
 use Rattle.std.specs.Option.{option_and_then}
 use Rattle.std.proofs.lemmas.Option.{none-some, same_Some}
 use Rattle.rb_script_types.specs.declared.goal.Goal.{Goal}
-use Rattle.rb_plan.specs.Least.{IsUnreachable}
+use Rattle.rb_plan_types.specs.Least.{IsUnreachable}
 use Rattle.rb_scan.specs.Laws.{ReadyReceivesAreConsecutive}
 use Rattle.rb_scan.specs.Path.{Path}
 use Rattle.rb_scan.specs.declared.path.Order.TheVariants.{Ordered}

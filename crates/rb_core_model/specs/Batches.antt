@@ -4,8 +4,8 @@ use Rattle.std.specs.List.{range_with_len}
 use Rattle.rb_base.specs.Window.{Span}
 use Rattle.rb_batch.specs.Cut.{IsLeastCut}
 use Rattle.rb_script_types.specs.declared.goal.Goal.{Goal}
-use Rattle.rb_plan.specs.Least.{IsLeast}
-use Rattle.rb_plan.specs.ProofHeight.{IsProofHeight}
+use Rattle.rb_plan_types.specs.Least.{IsLeast}
+use Rattle.rb_plan_types.specs.ProofHeight.{IsProofHeight}
 use Rattle.rb_scan.specs.Owed.{next_sequence, same_kind}
 use Rattle.rb_scan.specs.Path.{Path}
 use Rattle.rb_scan.specs.declared.message.Kind.{Kind}

@@ -11,8 +11,8 @@ ghost use Rattle.rb_core_model.specs.Standing.{new_client, open_batch, settled_r
 
 use crate::opened::{OpenBatch, batch_of};
 use rb_base::Height;
-use rb_plan::Update;
 use rb_plan_client::Planned;
+use rb_plan_types::Update;
 use rb_script_types::{ClientConfig, Goal, Refusal};
 use std::alloc::{AllocError, Allocator, Global};
 use std::marker::Model;

@@ -16,7 +16,7 @@ use crate::path::PathState;
 use crate::paths::has_many_over;
 use rb_base::{Height, Moment, Period, Window};
 use rb_book::{ChainBook, SharedBook};
-use rb_plan::Update;
+use rb_plan_types::Update;
 use rb_scan::{Order, Packet};
 use std::alloc::{AllocError, Allocator};
 

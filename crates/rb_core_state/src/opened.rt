@@ -4,8 +4,8 @@ ghost use Rattle.rb_core_model.specs.Standing.{batch_of};
 
 use rb_base::Height;
 use rb_batch::Transaction;
-use rb_plan::Update;
 use rb_plan_client::{Batch, Message, Planned, Sending};
+use rb_plan_types::Update;
 use std::alloc::{AllocError, Allocator, Global};
 use std::marker::Model;
 

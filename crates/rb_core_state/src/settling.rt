@@ -5,8 +5,8 @@ ghost use Rattle.rb_core_model.specs.Standing.{count_in, settled_updates, settle
 
 use crate::opened::OpenBatch;
 use rb_batch::Transaction;
-use rb_plan::Update;
 use rb_plan_client::Message;
+use rb_plan_types::Update;
 use std::alloc::Allocator;
 
 /// The first items, if there are so many.

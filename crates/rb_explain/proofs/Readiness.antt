@@ -6,7 +6,7 @@ use Rattle.std.proofs.lemmas.List.Elements.{All-more}
 use Rattle.rb_plan_client.specs.Reach.{IsReach}
 use Rattle.rb_plan_client.specs.Task.{PathTask, Task, view_of}
 use Rattle.rb_step.specs.View.{client_of}
-use Rattle.rb_plan.specs.ProofHeight.{IsProofHeight}
+use Rattle.rb_plan_types.specs.ProofHeight.{IsProofHeight}
 use Rattle.rb_plan_client.specs.Task.{is_due}
 use Rattle.std.proofs.lemmas.Bool.{true≢false, false≢true}
 use Rattle.rb_explain.specs.Idle.{HasSource, IsReadyOn, IsIdleReason, OwesAny}

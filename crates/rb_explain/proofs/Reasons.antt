@@ -3,13 +3,13 @@ use Rattle.std.proofs.Common.{◌≡◌, ℕ, ◌+◌, ◌≤◌, List, [], ◌�
 use Rattle.std.specs.List.{Any}
 use Rattle.std.specs.Option.{option_map}
 use Rattle.std.proofs.lemmas.Option.{none-some, same_Some}
-use Rattle.rb_plan.specs.Labelling.{IsExact, label_of}
-use Rattle.rb_plan.specs.Least.{IsLeast, IsUnreachable}
-use Rattle.rb_plan.specs.declared.labelling.Label.{Label}
+use Rattle.rb_plan_types.specs.Labelling.{IsExact, label_of}
+use Rattle.rb_plan_types.specs.Least.{IsLeast, IsUnreachable}
+use Rattle.rb_plan_types.specs.declared.labelling.Label.{Label}
 use Rattle.rb_plan_client.specs.Draft.{Plan, IsPlan}
 use Rattle.rb_plan_client.specs.Reach.{IsReach}
 use Rattle.rb_plan_client.specs.Task.{Task, view_of, messages_of}
-use Rattle.rb_plan_client.proofs.RightAnswers.{reach_from_top}
+use Rattle.rb_drafting.proofs.RightAnswers.{reach_from_top}
 use Rattle.rb_step.specs.View.{client_of}
 use Rattle.rb_script_types.specs.declared.goal.Goal.{Goal}
 use Rattle.rb_step.specs.LightClient.{Update}

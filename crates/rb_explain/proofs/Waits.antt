@@ -6,7 +6,7 @@ use Rattle.std.proofs.lemmas.List.{map-append, take_all, take_more}
 use Rattle.std.proofs.lemmas.List.FromFn.{length-enumerate_from, get_or-enumerate_from}
 use Rattle.std.proofs.lemmas.Option.{none-some, same_Some}
 use Rattle.rb_plan_client.specs.Draft.{Plan, IsPlan}
-use Rattle.rb_plan.specs.Least.{IsUnreachable}
+use Rattle.rb_plan_types.specs.Least.{IsUnreachable}
 use Rattle.rb_plan_client.specs.Task.{Message, PathTask, Task, due_messages, message_on, messages_of, ready_on, sending_reach, view_of}
 use Rattle.rb_scan.specs.Owed.{is_ready, run_end, same_kind}
 use Rattle.rb_scan.specs.declared.message.Kind.{Kind}

@@ -15,8 +15,8 @@ use rb_explain_plan::{
     Charges, PlanExplanation, UnreachableExplanation, charges_of, explain_plan, explain_unreachable,
 };
 use rb_graph::Graph;
-use rb_plan::{Update, top_reachable};
 use rb_plan_client::JobView;
+use rb_plan_types::{Update, top_reachable};
 use rb_step::ClientView;
 use rb_super_turn::{Outcome, PlannedReport, PricedUpdate};
 use std::alloc::{AllocError, Allocator, Global};

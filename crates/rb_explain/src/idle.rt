@@ -8,8 +8,8 @@ ghost use Rattle.rb_explain.specs.Idle.{IsIdleReason, IsReadyOn, Owes, OwesAny};
 
 use rb_base::Height;
 use rb_book::Record;
-use rb_plan::proof_height;
 use rb_plan_client::{JobView, PathTask};
+use rb_plan_types::proof_height;
 use rb_scan::ready;
 use std::alloc::{AllocError, Allocator};
 

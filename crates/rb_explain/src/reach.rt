@@ -5,7 +5,8 @@ ghost use Rattle.rb_step.specs.View.{client_of};
 
 use rb_base::Height;
 use rb_graph::Graph;
-use rb_plan::{label, top_reachable};
+use rb_plan::label;
+use rb_plan_types::top_reachable;
 use rb_step::ClientView;
 use std::alloc::{AllocError, Allocator};
 

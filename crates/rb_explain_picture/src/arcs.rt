@@ -4,7 +4,7 @@ use crate::svg::{Anchor, Arc, push_arc, push_label};
 use rb_base::Height;
 use rb_explain::{ClientExplanation, PlanExplanation, StepExplanation, Why};
 use rb_explain_text::answer_name;
-use rb_plan::Update;
+use rb_plan_types::Update;
 use rb_step::Verdict;
 use std::alloc::{AllocError, Global};
 

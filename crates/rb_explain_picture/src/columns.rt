@@ -2,7 +2,7 @@
 //! them is counted in one column.
 use rb_base::Height;
 use rb_explain::{ClientExplanation, KnownHeight, PlanExplanation, UnreachableExplanation, Why};
-use rb_plan::Update;
+use rb_plan_types::Update;
 use std::alloc::{AllocError, Global};
 
 /// So many updates from a plan's beginning and from its end are drawn.

@@ -10,7 +10,7 @@ use Rattle.rb_explain_plan.specs.Search.{IsSoFar, IsNearer, target_of}
 use Rattle.rb_explain_plan.specs.Bisection.{Bisects, IsBisection, arrived, accepted, refused, is_between, middle, update_to}
 use Rattle.rb_step.specs.View.{View, client_of}
 use Rattle.rb_graph.specs.StepTable.{IsStepFee}
-use Rattle.rb_plan.proofs.Routes.{Contains-cons_first, stored_at_start}
+use Rattle.rb_plan_types.proofs.Routes.{Contains-cons_first, stored_at_start}
 use Rattle.rb_plan.proofs.Serving.{step_told}
 
 -- ---- what the table tells of a step

@@ -13,8 +13,8 @@ use Rattle.rb_step.specs.KnownStep.{step_at}
 use Rattle.rb_step.specs.LightClient.{Update, Client, Runs, IsAcceptable, IsStoredAfter, total_fee}
 use Rattle.rb_step.specs.StepRule.{Step}
 use Rattle.rb_step.specs.View.{View, client_of}
-use Rattle.rb_plan.specs.Goal.{Meets}
-use Rattle.rb_plan.specs.Least.{IsLeast, IsUnreachable}
+use Rattle.rb_plan_types.specs.Goal.{Meets}
+use Rattle.rb_plan_types.specs.Least.{IsLeast, IsUnreachable}
 use Rattle.rb_explain_plan.specs.Fewest.{IsFewest, IsCheapestOfFewest}
 
 -- the client's view with these fees

@@ -2,7 +2,7 @@
 use Rattle.std.specs.Prelude.{◌≤◌, List, length}
 use Rattle.rb_step.specs.LightClient.{Update, Client, IsAcceptable, total_fee}
 use Rattle.rb_script_types.specs.declared.goal.Goal.{Goal}
-use Rattle.rb_plan.specs.Goal.{Meets}
+use Rattle.rb_plan_types.specs.Goal.{Meets}
 
 -- an acceptable list that meets the goal, and none that does has fewer updates
 pub record IsFewest (client : Client) (goal : Goal) (us : List Update) : Type 0 where

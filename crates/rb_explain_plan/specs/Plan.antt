@@ -5,7 +5,7 @@ use Rattle.std.specs.Option.{option_map}
 use Rattle.rb_step.specs.LightClient.{Update, total_fee}
 use Rattle.rb_step.specs.View.{View, client_of}
 use Rattle.rb_script_types.specs.declared.goal.Goal.{Goal}
-use Rattle.rb_plan.specs.ProofHeight.{IsProofHeight}
+use Rattle.rb_plan_types.specs.ProofHeight.{IsProofHeight}
 use Rattle.rb_explain_plan.specs.Bisection.{IsBisection}
 use Rattle.rb_explain_plan.specs.Fewest.{IsFewest, IsCheapestOfFewest}
 use Rattle.rb_explain_plan.specs.Steps.{IsExplainedUpdate, IsDirect}

@@ -4,7 +4,7 @@ use Rattle.std.specs.List.{AllZip}
 use Rattle.std.specs.Option.{option_map_or}
 use Rattle.rb_book.specs.Book.{Book, record_at}
 use Rattle.rb_book.specs.Header.{Header, Record}
-use Rattle.rb_plan.specs.declared.labelling.Label.{Label}
+use Rattle.rb_plan_types.specs.declared.labelling.Label.{Label}
 use Rattle.rb_script_types.specs.Goal.{Wants}
 use Rattle.rb_script_types.specs.declared.goal.Goal.{Goal}
 use Rattle.rb_step.specs.LightClient.{Update}

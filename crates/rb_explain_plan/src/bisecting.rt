@@ -9,7 +9,7 @@ ghost use Rattle.rb_explain_plan.specs.Bisection.{IsBisection, middle};
 use rb_base::Height;
 use rb_book::{ChainBook, Header, record_place};
 use rb_graph::Graph;
-use rb_plan::Update;
+use rb_plan_types::Update;
 use rb_step::ClientView;
 use std::alloc::{AllocError, Allocator};
 

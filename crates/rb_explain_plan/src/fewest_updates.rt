@@ -4,7 +4,7 @@ ghost use Rattle.rb_valset.specs.Validator.{Member};
 ghost use Rattle.rb_valset.specs.ValidatorSet.{max_members};
 ghost use Rattle.rb_step.specs.LightClient.{total_fee};
 ghost use Rattle.rb_step.specs.View.{client_of};
-ghost use Rattle.rb_plan.specs.Least.{IsLeast, IsUnreachable};
+ghost use Rattle.rb_plan_types.specs.Least.{IsLeast, IsUnreachable};
 ghost use Rattle.rb_explain_plan.specs.Fewest.{IsFewest, IsCheapestOfFewest};
 ghost use Rattle.rb_explain_plan.specs.Greatest.{most_members, most_for_one};
 
@@ -13,7 +13,8 @@ use crate::prices::priced;
 use rb_base::FeeTable;
 use rb_book::ChainBook;
 use rb_graph::Graph;
-use rb_plan::{Answer, Update, plan};
+use rb_plan::plan;
+use rb_plan_types::{Answer, Update};
 use rb_script_types::Goal;
 use rb_step::ClientView;
 use rb_valset::ValidatorSet;

@@ -1,6 +1,6 @@
 //! A plan, and the lists beside it.
 ghost use Rattle.std.specs.Prelude.{◌≡◌, ◌↔◌, IfOk, IsTrue};
-ghost use Rattle.rb_plan.specs.Least.{IsLeast};
+ghost use Rattle.rb_plan_types.specs.Least.{IsLeast};
 ghost use Rattle.rb_step.specs.View.{client_of};
 ghost use Rattle.rb_explain_plan.specs.Plan.{IsBisected, IsFewestPriced, IsOnlyStep, IsPlanExplained, last_height};
 
@@ -11,7 +11,7 @@ use crate::step::StepExplanation;
 use crate::steps::{direct_step, explain_steps};
 use rb_base::Height;
 use rb_graph::Graph;
-use rb_plan::{Update, proof_height};
+use rb_plan_types::{Update, proof_height};
 use rb_script_types::Goal;
 use rb_step::ClientView;
 use std::alloc::{AllocError, Allocator, Global};

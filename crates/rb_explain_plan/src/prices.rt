@@ -3,7 +3,7 @@ ghost use Rattle.std.specs.Prelude.{◌≡◌, ◌<◌, ◌^◌};
 ghost use Rattle.rb_step.specs.LightClient.{total_fee};
 ghost use Rattle.rb_step.specs.View.{client_of};
 
-use rb_plan::Update;
+use rb_plan_types::Update;
 use rb_step::ClientView;
 use std::alloc::{Allocator, Global};
 

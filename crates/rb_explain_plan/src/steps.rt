@@ -5,7 +5,7 @@ ghost use Rattle.rb_explain_plan.specs.Steps.{IsExplainedUpdate, IsDirect};
 
 use crate::step::{StepExplanation, explain_step};
 use rb_base::Height;
-use rb_plan::Update;
+use rb_plan_types::Update;
 use rb_step::ClientView;
 use std::alloc::{AllocError, Allocator};
 

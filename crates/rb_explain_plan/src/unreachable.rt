@@ -6,7 +6,7 @@ use crate::step::StepExplanation;
 use crate::steps::explain_steps;
 use rb_base::Height;
 use rb_book::ChainBook;
-use rb_plan::{Label, Update};
+use rb_plan_types::{Label, Update};
 use rb_script_types::Goal;
 use rb_step::ClientView;
 use std::alloc::{AllocError, Allocator, Global};

@@ -8,8 +8,8 @@ use rb_explain::{
     Subject, TurnExplanation, UnreachableExplanation, WaitingMessage, Why,
 };
 use rb_moments::push_moment;
-use rb_plan::{Label, Update};
 use rb_plan_client::Message;
+use rb_plan_types::{Label, Update};
 use rb_scan::{Kind, Sequence};
 use rb_script_types::{Config, Goal, Refusal, Version};
 use rb_super_turn::{

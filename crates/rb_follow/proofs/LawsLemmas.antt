@@ -4,7 +4,7 @@ use Rattle.std.specs.Option.{option_map, option_map_or}
 use Rattle.std.specs.declared.alloc.Global.{Global}
 use Rattle.rb_base.specs.Window.{Span}
 use Rattle.rb_batch.specs.Laws.{LeastCutIsOne}
-use Rattle.rb_plan.specs.Laws.{AnswersAreOne}
+use Rattle.rb_plan_types.specs.Laws.{AnswersAreOne}
 use Rattle.rb_core_model.specs.Forgetting.{floor, floors_of, rest, rest_at_floors, has_many_to_forget}
 use Rattle.rb_core_model.specs.Standing.{Standing, opening_standing}
 use Rattle.rb_forgetting.specs.Laws.{forgotten, floors_if, ForgettingByFloorsIsUnseen}
@@ -13,12 +13,12 @@ use Rattle.rb_script_types.specs.Script.{Turn as SeenTurn}
 use Rattle.rb_script_types.specs.declared.version.Version.{Version}
 use Rattle.rb_script_types.specs.declared.version.Version.TheVariants.{One, Two, Three}
 use Rattle.rb_script_read.specs.Turns.{Reading}
-use Rattle.rb_super.specs.AsEvents.{turn_as_events}
-use Rattle.rb_super.proofs.OneReport.{one_turn}
+use Rattle.rb_super_scripts.specs.AsEvents.{turn_as_events}
+use Rattle.rb_super_scripts.proofs.OneReport.{one_turn}
 use Rattle.rb_super_turn.specs.Report.{TurnReport, Report}
 use Rattle.rb_super_turn.specs.Script.{Turn}
 use Rattle.rb_super_turn.specs.Turns.{IsTurnReport, AreTurnReports, after_turn}
-use Rattle.rb_text.specs.Report.{turn_text, numbered_lines}
+use Rattle.rb_text_report.specs.Report.{turn_text, numbered_lines}
 use Rattle.rb_follow.specs.Tidying.{least_to_go, forgets, raised}
 use Rattle.rb_follow.specs.Reports.{AreReportsIn}
 use Rattle.rb_follow.specs.Answers.{reports_in}

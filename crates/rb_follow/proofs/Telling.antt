@@ -11,11 +11,11 @@ use Rattle.rb_script_types.specs.Script.{Turn}
 use Rattle.rb_script_config.specs.Paths.{path_ids}
 use Rattle.rb_script_read.specs.Turns.{Reading}
 use Rattle.rb_script_toml.specs.Faults.{Fault}
-use Rattle.rb_super.specs.AsEvents.{turn_as_events}
+use Rattle.rb_super_scripts.specs.AsEvents.{turn_as_events}
 use Rattle.rb_super_turn.specs.Report.{TurnReport}
 use Rattle.rb_super_turn.specs.Script.{IsTurn}
 use Rattle.rb_super_turn.specs.Turns.{after_turn}
-use Rattle.rb_text.proofs.Beginnings.{appends-then, appends-none, beginning-none, beginning-then}
+use Rattle.rb_text_report.proofs.Beginnings.{appends-then, appends-none, beginning-none, beginning-then}
 use Rattle.rb_follow.specs.declared.told.Form.{Form}
 use Rattle.rb_follow.specs.Documents.{Document}
 use Rattle.rb_follow.specs.Followers.{Following, Answer, planned, refused, most_events, tidied, after_report, turn_in, IsAnswerFor, IsRight}

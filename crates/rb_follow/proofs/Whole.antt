@@ -21,7 +21,7 @@ use Rattle.rb_follow.specs.Journals.{outs}
 use Rattle.rb_follow.specs.Headline.{Answered, answers_text, Told, BeginsTelling, IsFollowed, Follows, BeginsFollowing}
 use Rattle.rb_follow.proofs.LawsLemmas.{answers_reports}
 use Rattle.rb_follow.proofs.Telling.{stores_none, answered-none}
-use Rattle.rb_text.proofs.Beginnings.{appends-then, beginning-first, beginning-then}
+use Rattle.rb_text_report.proofs.Beginnings.{appends-then, beginning-first, beginning-then}
 
 -- ---- the setup
 

@@ -4,7 +4,7 @@ use Rattle.rb_script_types.specs.declared.version.Version.{Version}
 use Rattle.rb_script_toml.specs.Faults.{fault_line, fault_view}
 use Rattle.rb_super_turn.specs.Report.{Report}
 use Rattle.rb_super_turn.specs.Views.{turn_report_view}
-use Rattle.rb_text.specs.Report.{first_line, turn_text}
+use Rattle.rb_text_report.specs.Report.{first_line, turn_text}
 use Rattle.rb_text_export.specs.Json.{json_text}
 use Rattle.rb_text_export.specs.ReportJson.{turn_line}
 use Rattle.rb_follow.specs.declared.answer.Answer.{Answer as CodeAnswer}

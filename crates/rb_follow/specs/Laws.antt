@@ -9,11 +9,11 @@ use Rattle.rb_forgetting.specs.Laws.{AreSparedTurns}
 use Rattle.rb_script_types.specs.Script.{Turn as SeenTurn}
 use Rattle.rb_script_types.specs.declared.version.Version.{Version}
 use Rattle.rb_script_types.specs.declared.version.Version.TheVariants.{Three}
-use Rattle.rb_super.specs.AsEvents.{turn_as_events}
+use Rattle.rb_super_scripts.specs.AsEvents.{turn_as_events}
 use Rattle.rb_super_turn.specs.Report.{Report}
 use Rattle.rb_super_turn.specs.Script.{Script, IsScript}
 use Rattle.rb_super_turn.specs.Turns.{IsReportOf}
-use Rattle.rb_text.specs.Report.{turn_text, numbered_lines}
+use Rattle.rb_text_report.specs.Report.{turn_text, numbered_lines}
 use Rattle.rb_follow.specs.Documents.{Document}
 use Rattle.rb_follow.specs.Followers.{Following, Answer}
 use Rattle.rb_follow.specs.Answers.{report_lines, reports_in}

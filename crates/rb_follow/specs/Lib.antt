@@ -1,4 +1,4 @@
-pub use Rattle.rb_text.specs.Report
+pub use Rattle.rb_text_report.specs.Report
 pub use Rattle.rb_super_turn.specs.Turns as PhasesTurns
 pub use Rattle.rb_script_read.specs.NextTurns
 pub mod Setups

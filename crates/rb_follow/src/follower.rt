@@ -9,7 +9,7 @@ ghost use Rattle.rb_script_read.specs.Turns.{reading_view};
 ghost use Rattle.rb_script_read.specs.NextTurns.{next_turn_view, reading_after};
 ghost use Rattle.rb_script_config.specs.Setups.{setup_view};
 ghost use Rattle.rb_script_config.specs.Paths.{path_ids};
-ghost use Rattle.rb_super.specs.AsEvents.{IsTurnFor};
+ghost use Rattle.rb_super_scripts.specs.AsEvents.{IsTurnFor};
 ghost use Rattle.rb_super_turn.specs.Phases.{standing_in};
 ghost use Rattle.rb_follow.specs.Followers.{beginning, turn_after, next_turn, max_turns, most_events, IsAnswerFor, IsAnswer, IsRight, tidied};
 ghost use Rattle.rb_core.specs.Core.{state_in};

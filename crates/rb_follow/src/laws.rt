@@ -3,7 +3,7 @@ ghost use Rattle.rb_follow.specs.Laws.{BeginningsAreReported, AnswersAreReports,
 
 use rb_batch::laws::least_cut_is_one;
 use rb_forgetting::laws::forgetting_by_floors_is_unseen;
-use rb_plan::laws::answers_are_one;
+use rb_plan_types::laws::answers_are_one;
 
 /// The reports of a script's beginnings are beginnings of its report: what was answered stays right, whatever
 /// comes later.

@@ -4,8 +4,8 @@ ghost use Rattle.std.specs.Io.KnownBytes.{Appends};
 ghost use Rattle.rb_base.specs.Sink.{AppendsBeginning};
 ghost use Rattle.rb_script_toml.specs.Faults.{fault_line, fault_view};
 ghost use Rattle.rb_super_turn.specs.Views.{turn_report_view};
-ghost use Rattle.rb_text.specs.Report.{turn_text};
-ghost use Rattle.rb_text.specs.Written.{IsWriteError};
+ghost use Rattle.rb_text_report.specs.Report.{turn_text};
+ghost use Rattle.rb_text_report.specs.Written.{IsWriteError};
 ghost use Rattle.rb_text_export.specs.Json.{escape, escaped, json_text, more_text, string_text};
 ghost use Rattle.rb_follow.specs.Answers.{mark, answer_view, answer_text};
 ghost use Rattle.rb_follow.specs.FaultJson.{fault_json, named_members};
@@ -15,8 +15,8 @@ use rb_base::{Device, PathId, Sink, write_whole};
 use rb_script_toml::{Fault, RunError};
 use rb_script_types::Version;
 use rb_super_turn::TurnReport;
-use rb_text::push_turn;
 use rb_text_export::{json_of_turn, push_name, push_number, push_text};
+use rb_text_report::push_turn;
 use std::alloc::{AllocError, Global};
 
 /// What answers are written as: lines of a report, with a line `---` after each answer, or objects of JSON, each
@@ -148,7 +148,7 @@ pub(crate) fn put<W: Sink>(writer: &mut W, bytes: &[u8]) -> Result<(), RunError>
 /// writer that holds nothing back who reads has it at once. `Device` where the writer fails, and `NoMemory`
 /// where a growth is refused; either way a beginning of the answer was taken. The writer must not have failed
 /// before.
-#[tactic(auto, using(rb_text::proofs::Beginnings::beginnings))]
+#[tactic(auto, using(rb_text_report::proofs::Beginnings::beginnings))]
 pub fn put_answer<W: Sink>(
     alloc: Global,
     version: Version,

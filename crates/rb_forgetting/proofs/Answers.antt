@@ -11,8 +11,8 @@ use Rattle.rb_script_types.specs.declared.goal.Goal.{Goal}
 use Rattle.rb_step.specs.LightClient.{Update, Client, IsAcceptable}
 use Rattle.rb_step.specs.Sent.{sent_of, sent_by, sent_at}
 use Rattle.rb_step.specs.View.{IsView, client_of}
-use Rattle.rb_plan.specs.Labelling.{label_of}
-use Rattle.rb_plan.specs.Least.{IsUnreachable}
+use Rattle.rb_plan_types.specs.Labelling.{label_of}
+use Rattle.rb_plan_types.specs.Least.{IsUnreachable}
 use Rattle.rb_plan_client.specs.Draft.{Sending, nothing, too_big, batched, Plan, Planned, IsSending, IsPlan, IsPlanned, IsIdle}
 use Rattle.rb_plan_client.specs.Next.{IsNext}
 use Rattle.rb_plan_client.specs.Reach.{IsReachable, IsReach}

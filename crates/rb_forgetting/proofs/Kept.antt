@@ -6,7 +6,7 @@ use Rattle.rb_base.specs.Fee.{Fees}
 use Rattle.rb_base.specs.Options.{ClientOptions}
 use Rattle.rb_base.specs.Window.{Span}
 use Rattle.rb_book.specs.Book.{Book}
-use Rattle.rb_plan.specs.Order.{cost_of}
+use Rattle.rb_plan_types.specs.Order.{cost_of}
 use Rattle.rb_step.specs.LightClient.{Update, Runs, IsAcceptable}
 use Rattle.rb_step.specs.View.{client_of}
 use Rattle.rb_forgetting.specs.Alike.{SeesFrom}

@@ -5,13 +5,13 @@ use Rattle.std.specs.Option.{IfSome}
 use Rattle.std.proofs.lemmas.List.Elements.{All-nil, All-cons}
 use Rattle.rb_script_types.specs.declared.goal.Goal.{Goal}
 use Rattle.rb_step.specs.LightClient.{Update, Client, Runs, IsAcceptable, Leaves}
-use Rattle.rb_plan.specs.declared.cost.Cost.{Cost}
-use Rattle.rb_plan.specs.Goal.{Meets}
-use Rattle.rb_plan.specs.Labelling.{Labels, IsExact, IsLabelledAtMost}
-use Rattle.rb_plan.specs.Least.{IsLeast, IsUnreachable}
-use Rattle.rb_plan.specs.Order.{IsCheaper, PrecedesList, cost_of, after_update}
-use Rattle.rb_plan.specs.ProofHeight.{IsProofHeight}
-use Rattle.rb_plan.proofs.Costs.{cost_of-cons}
+use Rattle.rb_plan_types.specs.declared.cost.Cost.{Cost}
+use Rattle.rb_plan_types.specs.Goal.{Meets}
+use Rattle.rb_plan_types.specs.Labelling.{Labels, IsExact, IsLabelledAtMost}
+use Rattle.rb_plan_types.specs.Least.{IsLeast, IsUnreachable}
+use Rattle.rb_plan_types.specs.Order.{IsCheaper, PrecedesList, cost_of, after_update}
+use Rattle.rb_plan_types.specs.ProofHeight.{IsProofHeight}
+use Rattle.rb_plan_types.proofs.Costs.{cost_of-cons}
 use Rattle.rb_forgetting.specs.Alike.{SeesFrom, AreAlike}
 use Rattle.rb_forgetting.proofs.Runs.{Stores, acceptable, leaves, above, stores_more}
 

@@ -8,7 +8,7 @@ use Rattle.rb_base.specs.Window.{Span}
 use Rattle.rb_base.specs.declared.gate.Part.{Part}
 use Rattle.rb_base.specs.declared.gate.Part.TheVariants.{Packets, Channel}
 use Rattle.rb_book.specs.Book.{heights_and_times_of}
-use Rattle.rb_plan.specs.Least.{IsUnreachable}
+use Rattle.rb_plan_types.specs.Least.{IsUnreachable}
 use Rattle.rb_scan.specs.Owed.{owed_part}
 use Rattle.rb_scan.specs.declared.message.PacketMsg.{PacketMsg}
 use Rattle.rb_scan.specs.declared.path.Order.{Order}

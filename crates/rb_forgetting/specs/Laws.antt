@@ -6,7 +6,7 @@ use Rattle.rb_base.specs.Window.{Span}
 use Rattle.rb_book.specs.Invariant.{IsBook}
 use Rattle.rb_script_types.specs.declared.refusal.Refusal.TheVariants.{Full}
 use Rattle.rb_book.specs.Book.{Book}
-use Rattle.rb_plan.specs.Order.{cost_of}
+use Rattle.rb_plan_types.specs.Order.{cost_of}
 use Rattle.rb_step.specs.LightClient.{Update, IsAcceptable}
 use Rattle.rb_step.specs.View.{View, client_of}
 use Rattle.rb_forgetting.specs.Free.{after_freely, turn_freely, AreFreeReports}

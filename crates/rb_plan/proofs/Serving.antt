@@ -34,19 +34,19 @@ use Rattle.rb_step.specs.StepRule.{Step, step_of, Accepts, AcceptsWithin}
 use Rattle.rb_step.specs.LightClient.{Client, IsOrderly, IsSource}
 use Rattle.rb_step.specs.View.{View, IsView, client_of}
 use Rattle.rb_step.proofs.CarriedBy.{carried_same}
-use Rattle.rb_plan.specs.declared.cost.Cost.{Cost}
-use Rattle.rb_plan.specs.declared.labelling.Label.{Label}
+use Rattle.rb_plan_types.specs.declared.cost.Cost.{Cost}
+use Rattle.rb_plan_types.specs.declared.labelling.Label.{Label}
 use Rattle.rb_plan.specs.declared.offers.Offer.{Offer}
-use Rattle.rb_plan.specs.Order.{IsCheaper, CostsAtMost, after_update, no_cost}
-use Rattle.rb_plan.specs.Labelling.{Labels, IsLabelling, IsAttained, LeadsTo, label_of}
-use Rattle.rb_plan.specs.Lookups.{AreAllKnown}
-use Rattle.rb_plan.specs.Raised.{IsRaised}
+use Rattle.rb_plan_types.specs.Order.{IsCheaper, CostsAtMost, after_update, no_cost}
+use Rattle.rb_plan_types.specs.Labelling.{Labels, IsLabelling, IsAttained, LeadsTo, label_of}
+use Rattle.rb_plan_types.specs.Lookups.{AreAllKnown}
+use Rattle.rb_plan_types.specs.Raised.{IsRaised}
 use Rattle.rb_plan.specs.Offers.{IsOffer, NamesSame, Serves, IsTakenIn, IsAdded, IsServed, AreEnough, OffersLead, target_of}
-use Rattle.rb_plan.proofs.Costs.{CostsAtMost-refl, CostsAtMost-trans, CostsAtMost-after, at_most_or_cheaper}
-use Rattle.rb_plan.proofs.Lookups.{find-some, label_of-some, label_of-at, label_of-push_other, pairs_of_labelling}
-use Rattle.rb_plan.proofs.Raise.{AreLabelsSoFar, labels_next, labels_labelling, with_label}
-use Rattle.rb_plan.proofs.Values.{same_value}
-use Rattle.rb_plan.proofs.Views.{step_has_header}
+use Rattle.rb_plan_types.proofs.Costs.{CostsAtMost-refl, CostsAtMost-trans, CostsAtMost-after, at_most_or_cheaper}
+use Rattle.rb_plan_types.proofs.Lookups.{find-some, label_of-some, label_of-at, label_of-push_other, pairs_of_labelling}
+use Rattle.rb_plan_types.proofs.Raise.{AreLabelsSoFar, labels_next, labels_labelling, with_label}
+use Rattle.rb_plan_types.proofs.Values.{same_value}
+use Rattle.rb_plan_types.proofs.Views.{step_has_header}
 
 no_known : RecordAt
 no_known = record { height = 0; record_of = record { time = 0; root = []; next = [] } }

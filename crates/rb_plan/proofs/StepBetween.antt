@@ -7,12 +7,12 @@ use Rattle.rb_book.specs.Book.{RecordAt, height_of, is_at}
 use Rattle.rb_graph.specs.StepTable.{Target, IsStepFee}
 use Rattle.rb_graph.proofs.RecordAt.{no_record}
 use Rattle.rb_step.specs.LightClient.{Client}
-use Rattle.rb_plan.specs.declared.cost.Cost.{Cost}
-use Rattle.rb_plan.specs.declared.labelling.Label.{Label}
-use Rattle.rb_plan.specs.Order.{after_update}
+use Rattle.rb_plan_types.specs.declared.cost.Cost.{Cost}
+use Rattle.rb_plan_types.specs.declared.labelling.Label.{Label}
+use Rattle.rb_plan_types.specs.Order.{after_update}
 use Rattle.rb_plan.specs.Walk.{IsStep}
-use Rattle.rb_plan.proofs.Costs.{same_from_eq, other_from_eq}
-use Rattle.rb_plan.proofs.Lookups.{find-some}
+use Rattle.rb_plan_types.proofs.Costs.{same_from_eq, other_from_eq}
+use Rattle.rb_plan_types.proofs.Lookups.{find-some}
 use Rattle.rb_plan.proofs.Serving.{TellsStep}
 
 module _ (client : Client) (from to : Label) where

@@ -4,11 +4,11 @@ use Rattle.rb_book.specs.Book.{Book, RecordAt, has_hash}
 use Rattle.rb_graph.specs.StepTable.{Target}
 use Rattle.rb_step.specs.LightClient.{Client}
 use Rattle.rb_step.specs.View.{View}
-use Rattle.rb_plan.specs.declared.cost.Cost.{Cost}
+use Rattle.rb_plan_types.specs.declared.cost.Cost.{Cost}
 use Rattle.rb_plan.specs.declared.offers.Offer.{Offer}
-use Rattle.rb_plan.specs.Order.{CostsAtMost, after_update}
-use Rattle.rb_plan.specs.Labelling.{Labels, LeadsTo}
-use Rattle.rb_plan.specs.Raised.{IsCheapestStep, IsRaised}
+use Rattle.rb_plan_types.specs.Order.{CostsAtMost, after_update}
+use Rattle.rb_plan_types.specs.Labelling.{Labels, LeadsTo}
+use Rattle.rb_plan_types.specs.Raised.{IsCheapestStep, IsRaised}
 
 -- the offer's place is that of the record at its height, and its numbers are small
 pub record IsOffer (book : Book) (o : Offer) : Type 0 where

@@ -1,17 +1,16 @@
 //! The exact labelling: known heights in rising order, each labelled from the labels below it.
 ghost use Rattle.std.specs.Prelude.{◌≡◌, ◌<◌, IfOk, IsFalse, IsSomeAnd, All, length, slice_get};
 ghost use Rattle.rb_step.specs.View.{client_of};
-ghost use Rattle.rb_plan.specs.Labelling.{IsLabelling, IsExact, label_of};
-ghost use Rattle.rb_plan.specs.Order.{CostsAtMost};
-ghost use Rattle.rb_plan.specs.Raised.{IsCheaperOf, IsCheapestStep, IsRaised};
+ghost use Rattle.rb_plan_types.specs.Labelling.{IsLabelling, IsExact, label_of};
+ghost use Rattle.rb_plan_types.specs.Order.{CostsAtMost};
+ghost use Rattle.rb_plan_types.specs.Raised.{IsCheaperOf, IsCheapestStep, IsRaised};
 ghost use Rattle.rb_plan.specs.Offers.{IsOffer, IsLowered, IsReached, OffersLead, target_of};
 
-use crate::cost::Cost;
-use crate::labelling::{Label, Labelling};
 use crate::offers::Offer;
 use crate::planner::Planner;
 use rb_base::Height;
 use rb_graph::{Graph, Target};
+use rb_plan_types::{Cost, Label, Labelling};
 use rb_step::ClientView;
 use std::alloc::{AllocError, Allocator};
 

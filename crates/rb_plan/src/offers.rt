@@ -1,12 +1,11 @@
 //! The labelled records from which steps are tried: of those that name one set the cheapest.
 ghost use Rattle.std.specs.Prelude.{◌≡◌, ◌↔◌, ◌<◌, ◌≤◌, IsTrue, All, OnOk, Some, IfSome, IsSomeAnd, length, set, slice_get};
 ghost use Rattle.std.specs.Option.{option_flatten};
-ghost use Rattle.rb_plan.specs.Order.{IsCheaper};
+ghost use Rattle.rb_plan_types.specs.Order.{IsCheaper};
 ghost use Rattle.rb_plan.specs.Offers.{IsOffer, NamesSame, IsTakenIn, IsAdded, next_slot};
 
-use crate::cost::Cost;
-use crate::labelling::Label;
 use crate::planner::Planner;
+use rb_plan_types::{Cost, Label};
 use std::alloc::{AllocError, Allocator};
 
 /// A label, and the place of its record.

@@ -5,7 +5,7 @@ ghost use Rattle.rb_graph.specs.StepTable.{IsStepFee};
 ghost use Rattle.rb_step.specs.Fee.{fee_limit};
 ghost use Rattle.rb_step.specs.LightClient.{IsOrderly, IsSource};
 ghost use Rattle.rb_step.specs.View.{IsView, client_of};
-ghost use Rattle.rb_plan.specs.Lookups.{AreAllKnown};
+ghost use Rattle.rb_plan_types.specs.Lookups.{AreAllKnown};
 ghost use Rattle.rb_plan.specs.Offers.{target_of};
 
 use rb_base::Height;
@@ -29,7 +29,7 @@ impl<'a, A: Allocator> Model for Planner<'a, A> {
     ghost use Rattle.rb_book.specs.Book.{heights_of};
     ghost use Rattle.rb_step.specs.LightClient.{IsOrderly};
     ghost use Rattle.rb_step.specs.View.{View, IsView, client_of};
-    ghost use Rattle.rb_plan.specs.Lookups.{AreAllKnown};
+    ghost use Rattle.rb_plan_types.specs.Lookups.{AreAllKnown};
 
     ghost Value = { View };
 

@@ -1,5 +1,4 @@
 pub mod Ids
-pub mod RightAnswers
 pub mod Far
 pub mod Lowest
 pub mod Waits

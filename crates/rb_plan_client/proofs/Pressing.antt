@@ -5,7 +5,7 @@ use Rattle.std.specs.Option.{option_map, option_map_or, option_or}
 use Rattle.std.proofs.lemmas.Bool.{true≢false}
 use Rattle.std.proofs.lemmas.Option.{none-some, same_Some}
 use Rattle.std.proofs.lemmas.List.Elements.{recursion_from_All}
-use Rattle.rb_plan.specs.Least.{IsUnreachable}
+use Rattle.rb_plan_types.specs.Least.{IsUnreachable}
 use Rattle.rb_scan.specs.Laws.{ReadyIsWithinReach}
 use Rattle.rb_scan.specs.Owed.{ready, wanted}
 use Rattle.rb_scan.specs.declared.message.PacketMsg.{PacketMsg}

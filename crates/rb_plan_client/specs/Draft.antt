@@ -4,10 +4,10 @@ use Rattle.std.specs.Option.{option_map_or}
 use Rattle.rb_batch.specs.Cut.{IsLeastCut, IsFirstTooBig}
 use Rattle.rb_batch.specs.declared.transaction.Transaction.{Transaction}
 use Rattle.rb_script_types.specs.declared.goal.Goal.{Goal}
-use Rattle.rb_plan.specs.declared.labelling.Label.{Label}
-use Rattle.rb_plan.specs.Labelling.{IsLabelling, IsExact, label_of}
-use Rattle.rb_plan.specs.Least.{IsLeast, IsUnreachable}
-use Rattle.rb_plan.specs.ProofHeight.{IsProofHeight}
+use Rattle.rb_plan_types.specs.declared.labelling.Label.{Label}
+use Rattle.rb_plan_types.specs.Labelling.{IsLabelling, IsExact, label_of}
+use Rattle.rb_plan_types.specs.Least.{IsLeast, IsUnreachable}
+use Rattle.rb_plan_types.specs.ProofHeight.{IsProofHeight}
 use Rattle.rb_step.specs.LightClient.{Update}
 use Rattle.rb_step.specs.View.{client_of}
 use Rattle.rb_plan_client.specs.Next.{IsNext}

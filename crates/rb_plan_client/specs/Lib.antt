@@ -3,6 +3,5 @@ pub mod Task
 pub mod Next
 pub mod Draft
 pub mod Sent
-pub mod Planning
 pub mod Same
 pub mod Laws

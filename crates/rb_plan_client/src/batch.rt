@@ -23,7 +23,7 @@ impl<A: Allocator> Model for Batch<A> {
 
 impl<A: Allocator> Batch<A> {
     /// The batch of these transactions, with the height that proves its packets.
-    pub(crate) fn new(proof: Height, transactions: Vec<Transaction, A>) -> Batch<A>
+    pub fn new(proof: Height, transactions: Vec<Transaction, A>) -> Batch<A>
         ensures { result ≡ record { proof = proof; transactions = transactions.items } }
     {
         Batch {

@@ -40,7 +40,7 @@ impl<A: Allocator> Model for Draft<A> {
 impl<A: Allocator> Draft<A> {
     /// The draft of a job, of an answer that is right for it, and of the moment at which its client has a
     /// goal next.
-    pub(crate) fn new(
+    pub fn new(
         alloc: A,
         job: JobView<A>,
         answer: Option<Planned<A>>,

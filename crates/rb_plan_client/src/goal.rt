@@ -102,7 +102,7 @@ fn wanted(messages: &[Message]) -> Option<Height>
 
 /// The goal that was asked for, else the height that proves all messages that go, else the one that
 /// refreshes the client. The reach is the greatest height that the client can be brought to.
-pub(crate) fn first_goal<A: Allocator + Copy>(
+pub fn first_goal<A: Allocator + Copy>(
     job: &JobView<A>,
     reach: &Option<Height>,
     messages: &[Message],

@@ -175,7 +175,7 @@ impl<A: Allocator + Copy> JobView<A> {
     }
 
     /// The allocator of its lists.
-    pub(crate) fn alloc(&self) -> A {
+    pub fn alloc(&self) -> A {
         *self.stored.allocator()
     }
 

@@ -1,10 +1,9 @@
-//! The whole plan of one client: its goal, the least list of updates that meets it, the packet messages
-//! that follow and the batch of them (`answer`, `draft`), from all that such a plan is made from
-//! (`JobView`).
+//! The parts of the whole plan of one client: its goal, the packet messages that go with updates, the plan
+//! and the draft of it, when the client has a goal next, and all that such a plan is made from
+//! (`JobView`). `rb_drafting` puts them together.
 #![tactic(auto)]
 
 mod batch;
-mod drafting;
 mod drafts;
 mod goal;
 mod job;
@@ -12,16 +11,15 @@ pub mod laws;
 mod message;
 mod next;
 mod planned;
-mod planning;
 mod task;
 mod waiting;
 
 pub use batch::{Batch, Sending};
-pub use drafting::draft;
 pub use drafts::{Draft, copy_answer};
+pub use goal::first_goal;
 pub use job::{JobView, NextPlan, same_config, same_heights};
 pub use message::Message;
+pub use next::next_once_taken;
 pub use planned::{Plan, Planned};
-pub use planning::answer;
-pub use task::{PathTask, same_messages};
-pub use waiting::press_moment;
+pub use task::{PathTask, ready_messages, same_messages};
+pub use waiting::{first_press, press_moment, sending_reach};

@@ -11,7 +11,7 @@ use crate::job::JobView;
 use crate::planned::Planned;
 use rb_base::{Height, Moment};
 use rb_book::Record;
-use rb_plan::Update;
+use rb_plan_types::Update;
 use std::alloc::Allocator;
 
 /// The greatest height of updates.
@@ -118,7 +118,7 @@ fn planned_updates<A: Allocator>(planned: &Option<Planned<A>>) -> &[Update]
 }
 
 /// The first moment after the window at which a client has a goal, once what is planned for it is taken.
-pub(crate) fn next_once_taken<A: Allocator + Copy>(
+pub fn next_once_taken<A: Allocator + Copy>(
     job: &JobView<A>,
     reach: &Option<Height>,
     first: &Option<u128>,

@@ -5,7 +5,7 @@ ghost use Rattle.rb_plan_client.specs.Sent.{sending_view};
 
 use crate::batch::Sending;
 use crate::message::Message;
-use rb_plan::{Labelling, Update};
+use rb_plan_types::{Labelling, Update};
 use rb_script_types::Goal;
 use std::alloc::{AllocError, Allocator, Global};
 use std::marker::Model;
@@ -43,11 +43,7 @@ impl<A: Allocator> Model for Plan<A> {
 
 impl<A: Allocator> Plan<A> {
     /// The plan of these updates and messages, sent so.
-    pub(crate) fn new(
-        updates: Vec<Update, A>,
-        messages: Vec<Message, A>,
-        sending: Sending<A>,
-    ) -> Plan<A>
+    pub fn new(updates: Vec<Update, A>, messages: Vec<Message, A>, sending: Sending<A>) -> Plan<A>
         ensures { result ≡ record { updates = updates.items; messages = messages.items; sending = sending_view sending } }
     {
         Plan {
@@ -122,7 +118,7 @@ impl<A: Allocator> Model for Planned<A> {
 
 impl<A: Allocator> Planned<A> {
     /// What is planned for a goal, by the exact labelling.
-    pub(crate) fn new(goal: Goal, labelling: Labelling<A>, plan: Option<Plan<A>>) -> Planned<A>
+    pub fn new(goal: Goal, labelling: Labelling<A>, plan: Option<Plan<A>>) -> Planned<A>
         ensures { result ≡ record { goal = goal; labels = labelling; plan = plan } }
     {
         Planned {

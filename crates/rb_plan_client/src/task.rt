@@ -179,7 +179,7 @@ impl<A: Allocator + Copy> PathTask<A> {
 }
 
 /// The ready messages of all paths, in their order: those that a height up to `reach` proves.
-pub(crate) fn ready_messages<A: Allocator + Copy>(
+pub fn ready_messages<A: Allocator + Copy>(
     alloc: A,
     paths: &[PathTask<A>],
     reach: &Option<Height>,

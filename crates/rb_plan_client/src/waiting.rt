@@ -135,7 +135,7 @@ fn first_on<A: Allocator + Copy>(
 
 /// The first moment, in nanoseconds since 1970-01-01T00:00:00Z, at which a message presses that only an
 /// update brings across.
-pub(crate) fn first_press<A: Allocator + Copy>(
+pub fn first_press<A: Allocator + Copy>(
     alloc: A,
     job: &JobView<A>,
     reach: &Option<Height>,
@@ -151,7 +151,7 @@ pub(crate) fn first_press<A: Allocator + Copy>(
 }
 
 /// The height up to which messages go: the reach where one presses, else the near reach.
-pub(crate) fn sending_reach<A: Allocator + Copy>(
+pub fn sending_reach<A: Allocator + Copy>(
     job: &JobView<A>,
     reach: Option<Height>,
     first: &Option<u128>,

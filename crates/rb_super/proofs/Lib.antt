@@ -1,9 +1,3 @@
-pub mod OneLabelling
-pub mod OneReport
-pub mod Whole
 pub mod Earlier
-pub mod Judged
 pub mod OwnAnswers
-pub mod Runs
 pub mod Ended
-pub mod AsEventsLemmas

@@ -8,17 +8,17 @@ use Rattle.rb_plan_client.specs.Draft.{Plan as SentPlan, Planned as Answer, IsPl
 use Rattle.rb_core_model.specs.Standing.{Standing, opening_standing, task_in}
 use Rattle.rb_plan_client.specs.Task.{Task, view_of, messages_of}
 use Rattle.rb_script_types.specs.declared.goal.Goal.{Goal}
-use Rattle.rb_plan.specs.Answer.{Shows}
-use Rattle.rb_plan.specs.Labelling.{Labels, IsExact, label_of}
-use Rattle.rb_plan.specs.Laws.{AnswersAreOne}
-use Rattle.rb_plan.specs.Least.{IsUnreachable}
+use Rattle.rb_plan_types.specs.Answer.{Shows}
+use Rattle.rb_plan_types.specs.Labelling.{Labels, IsExact, label_of}
+use Rattle.rb_plan_types.specs.Laws.{AnswersAreOne}
+use Rattle.rb_plan_types.specs.Least.{IsUnreachable}
 use Rattle.rb_step.specs.LightClient.{Update}
 use Rattle.rb_step.specs.View.{client_of}
-use Rattle.rb_super.specs.Judging.{Leads, IsPlanPhase, IsWanted, IsPlannedGoal, IsExactAs, claim_in, IsReported}
+use Rattle.rb_super_scripts.specs.Judging.{Leads, IsPlanPhase, IsWanted, IsPlannedGoal, IsExactAs, claim_in, IsReported}
 use Rattle.rb_super_turn.specs.Report.{PlanReport, PlannedReport, planned, TurnReport, Report}
 use Rattle.rb_super_turn.specs.Script.{Turn, Script}
 use Rattle.rb_super_turn.specs.Turns.{update_of, reported, reported_plan, IsOutcome, IsClientReport, IsTurnReport, AreTurnReports, IsReportOf, after_turn}
-use Rattle.rb_super.proofs.OneReport.{one_turn}
+use Rattle.rb_super_scripts.proofs.OneReport.{one_turn}
 use Rattle.rb_super_turn.proofs.Reported.{updates_back}
 
 -- what stands beside an element of the second list

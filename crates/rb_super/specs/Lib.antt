@@ -1,3 +1,1 @@
-pub mod AsEvents
-pub mod Judging
 pub mod Heads

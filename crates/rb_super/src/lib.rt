@@ -8,11 +8,9 @@ mod judging;
 mod orders;
 mod parallel;
 mod run;
-mod scripts;
 mod supervisor;
 
 pub use judging::judge;
 pub use parallel::ParallelSupervisor;
 pub use run::{run_by_team, run_by_workers, run_script, run_to_end};
-pub use scripts::read_scripts_are_scripts;
 pub use supervisor::Supervisor;

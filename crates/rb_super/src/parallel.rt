@@ -10,7 +10,7 @@ ghost use Rattle.rb_core_model.specs.Standing.{goes_back};
 ghost use Rattle.rb_super_turn.specs.Turns.{before_plans, refusals_in, IsTurnReport, after_turn};
 ghost use Rattle.rb_super_turn.specs.Phases.{standing_in, HasLogRoom, IsLater, turn_heard, IsAllScanned, IsPlannable, AreReported};
 ghost use Rattle.rb_super_turn.specs.Views.{refused_view, client_report_view, turn_report_view};
-ghost use Rattle.rb_super.specs.AsEvents.{code_turn_as_events, IsTurnFor, most_events};
+ghost use Rattle.rb_super_scripts.specs.AsEvents.{code_turn_as_events, IsTurnFor, most_events};
 
 use crate::found::FoundByWorkers;
 use crate::head::{Head, close, publish, relayer_over};

@@ -16,7 +16,7 @@ ghost use Rattle.rb_super_turn.specs.Drafts.{AreDrafts};
 ghost use Rattle.rb_super_turn.specs.Turns.{before_plans, refusals_in, IsTurnReport, after_turn};
 ghost use Rattle.rb_super_turn.specs.Phases.{standing_in, HasLogRoom, IsLater, turn_heard, IsPlannable};
 ghost use Rattle.rb_super_turn.specs.Views.{refused_view, turn_report_view};
-ghost use Rattle.rb_super.specs.AsEvents.{code_turn_as_events, IsTurnFor, most_events};
+ghost use Rattle.rb_super_scripts.specs.AsEvents.{code_turn_as_events, IsTurnFor, most_events};
 
 use rb_base::{Gate, Window};
 use rb_core::Core;

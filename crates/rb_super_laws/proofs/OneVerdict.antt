@@ -10,19 +10,19 @@ use Rattle.rb_cert.specs.declared.verdict.Judgement.TheVariants.{Yes, No}
 use Rattle.rb_cert.specs.Judgement.{Judges}
 use Rattle.rb_cert.specs.Refusal.{check_of, IsEarlierPlace, IsJudgedBefore, IsFirst}
 use Rattle.rb_script_types.specs.declared.goal.Goal.{Goal}
-use Rattle.rb_plan.specs.Labelling.{Labels}
-use Rattle.rb_plan.specs.Laws.{AnswersAreOne}
+use Rattle.rb_plan_types.specs.Labelling.{Labels}
+use Rattle.rb_plan_types.specs.Laws.{AnswersAreOne}
 use Rattle.rb_step.specs.LightClient.{Update, Client}
 use Rattle.rb_step.specs.View.{View, client_of}
 use Rattle.rb_core_model.specs.Standing.{ClientState, Standing, opening_standing}
 use Rattle.rb_plan_client.specs.Task.{Task, view_of}
-use Rattle.rb_super.specs.Judging.{Leads, IsPlanPhase, IsPlannedGoal, IsVerdictFor, IsVerdictIn}
+use Rattle.rb_super_scripts.specs.Judging.{Leads, IsPlanPhase, IsPlannedGoal, IsVerdictFor, IsVerdictIn}
 use Rattle.rb_super_laws.specs.Laws.{VerdictIsOne}
 use Rattle.rb_super_turn.specs.Report.{TurnReport}
 use Rattle.rb_super_turn.specs.Script.{Turn, Script}
 use Rattle.rb_super_turn.specs.Turns.{before_plans, after_turn}
-use Rattle.rb_super.proofs.OneReport.{one_turn}
-use Rattle.rb_super.proofs.Judged.{one_known, one_task, one_goal}
+use Rattle.rb_super_scripts.proofs.OneReport.{one_turn}
+use Rattle.rb_super_scripts.proofs.Judged.{one_known, one_task, one_goal}
 
 -- ---- the order of reasons is total
 

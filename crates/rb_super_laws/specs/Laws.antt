@@ -1,11 +1,11 @@
 -- Laws of reports and of verdicts.
 use Rattle.std.specs.Prelude.{◌≡◌, ℕ, List, Option}
 use Rattle.rb_cert.specs.declared.verdict.Judgement.{Judgement}
-use Rattle.rb_plan.specs.Labelling.{Labels}
+use Rattle.rb_plan_types.specs.Labelling.{Labels}
 use Rattle.rb_core_model.specs.Standing.{ClientState, Standing}
 use Rattle.rb_step.specs.LightClient.{Update}
 use Rattle.rb_step.specs.View.{IsView}
-use Rattle.rb_super.specs.Judging.{IsVerdictOn, IsPlanPhase, IsClientIn}
+use Rattle.rb_super_scripts.specs.Judging.{IsVerdictOn, IsPlanPhase, IsClientIn}
 use Rattle.rb_plan_client.specs.Task.{Task, view_of}
 use Rattle.rb_super_turn.specs.Report.{Report}
 use Rattle.rb_super_turn.specs.Script.{Script, IsScript}

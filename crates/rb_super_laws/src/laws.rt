@@ -8,7 +8,7 @@ ghost use Rattle.rb_super_laws.specs.Schedule.{Schedules, OwnDraftsServe};
 use rb_batch::laws::least_cut_is_one;
 use rb_book::laws::{finds_what_was_added, stays_a_book};
 use rb_core_model::laws::judged_by_standing;
-use rb_plan::laws::answers_are_one;
+use rb_plan_types::laws::answers_are_one;
 use rb_step::laws::views_are_orderly;
 
 /// A script has at most one report.
@@ -31,7 +31,7 @@ pub fn verdict_is_one()
 /// What a client is planned by in a turn keeps what every view keeps, for every script whose windows,
 /// sets, fees and references are right. So what is said of views holds of it: that a list is acceptable exactly where each of its updates is allowed whatever
 /// moments of the window they come at (`rb_step::laws::window_is_by_step`), and that sound labels bound
-/// what lists cost from below (`rb_plan::laws`).
+/// what lists cost from below (`rb_plan_types::laws`).
 pub fn planned_views_are_views()
     ensures { PlannedViewsAreViews }
 {

@@ -11,7 +11,7 @@ use Rattle.rb_core_model.specs.Standing.{OpenBatch, ClientState, Standing, batch
 use Rattle.rb_script_types.specs.Config.{Config}
 use Rattle.rb_script_types.specs.declared.config.ClientConfig.{ClientConfig}
 use Rattle.rb_script_types.specs.declared.refusal.Refusal.TheVariants.{UnknownObject}
-use Rattle.rb_plan.specs.Order.{cost_of}
+use Rattle.rb_plan_types.specs.Order.{cost_of}
 use Rattle.rb_step.specs.View.{client_of}
 use Rattle.rb_plan_client.specs.Task.{Task, view_of}
 use Rattle.rb_core_model.proofs.Options.{mapped, chained, passes, some_from}

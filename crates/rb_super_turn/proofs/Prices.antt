@@ -6,15 +6,15 @@ use Rattle.std.proofs.lemmas.List.Elements.{All-head, All-tail}
 use Rattle.std.proofs.lemmas.List.Sums.{sum_by-cons}
 use Rattle.rb_plan_client.specs.Draft.{Plan as SentPlan, Planned as Answer, Draft, IsPlan, IsPlanned, IsAnswer, IsDraft}
 use Rattle.rb_plan_client.specs.Task.{Task, Message, view_of, messages_of}
-use Rattle.rb_plan.specs.declared.cost.Cost.{Cost}
+use Rattle.rb_plan_types.specs.declared.cost.Cost.{Cost}
 use Rattle.rb_script_types.specs.declared.goal.Goal.{Goal}
-use Rattle.rb_plan.specs.declared.labelling.Label.{Label}
-use Rattle.rb_plan.specs.Labelling.{IsLabelling, IsExact, label_of}
-use Rattle.rb_plan.specs.Least.{IsLeast, IsUnreachable}
-use Rattle.rb_plan.specs.Order.{IsCheaper, CostsAtMost, cost_of}
+use Rattle.rb_plan_types.specs.declared.labelling.Label.{Label}
+use Rattle.rb_plan_types.specs.Labelling.{IsLabelling, IsExact, label_of}
+use Rattle.rb_plan_types.specs.Least.{IsLeast, IsUnreachable}
+use Rattle.rb_plan_types.specs.Order.{IsCheaper, CostsAtMost, cost_of}
 use Rattle.rb_step.specs.LightClient.{Update, Client, total_fee}
 use Rattle.rb_step.specs.View.{client_of}
-use Rattle.rb_plan.proofs.Costs.{same_cost}
+use Rattle.rb_plan_types.proofs.Costs.{same_cost}
 use Rattle.rb_super_turn.specs.declared.report.PricedUpdate.{PricedUpdate as CodePriced}
 use Rattle.rb_super_turn.specs.Report.{PricedUpdate, SendingReport, PlanReport}
 use Rattle.rb_super_turn.specs.Turns.{priced, numbered, reported_plan}

@@ -1,9 +1,9 @@
 -- Reports, without where they lie in memory.
 use Rattle.std.specs.Prelude.{ℕ, Bool, List, Option}
 use Rattle.rb_batch.specs.declared.transaction.Transaction.{Transaction}
-use Rattle.rb_plan.specs.declared.cost.Cost.{Cost}
+use Rattle.rb_plan_types.specs.declared.cost.Cost.{Cost}
 use Rattle.rb_script_types.specs.declared.goal.Goal.{Goal}
-use Rattle.rb_plan.specs.declared.labelling.Label.{Label}
+use Rattle.rb_plan_types.specs.declared.labelling.Label.{Label}
 use Rattle.rb_step.specs.LightClient.{Update}
 use Rattle.rb_step.specs.Sent.{SentVotes}
 use Rattle.rb_script_types.specs.declared.refusal.Refusal.{Refusal}

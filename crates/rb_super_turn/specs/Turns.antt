@@ -3,7 +3,7 @@ use Rattle.std.specs.Prelude.{◌≡◌, ℕ, ◌+◌, Bool, List, [], ◌∷◌
 use Rattle.std.specs.List.{AllZip, enumerate_from, range_with_len}
 use Rattle.std.specs.Option.{option_map, option_map_or, option_and_then, option_to_list}
 use Rattle.rb_base.specs.Window.{Span}
-use Rattle.rb_plan.specs.Order.{cost_of}
+use Rattle.rb_plan_types.specs.Order.{cost_of}
 use Rattle.rb_step.specs.LightClient.{Update}
 use Rattle.rb_step.specs.Sent.{sent_at}
 use Rattle.rb_step.specs.View.{client_of}

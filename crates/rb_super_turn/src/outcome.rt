@@ -13,8 +13,8 @@ ghost use Rattle.rb_super_turn.specs.Views.{priced_view, sending_view, plan_view
 use crate::report::{BatchReport, Outcome, PlanReport, PlannedReport, PricedUpdate, SendingReport};
 use rb_base::Moment;
 use rb_core_model::Reply;
-use rb_plan::{Cost, Update};
 use rb_plan_client::{Draft, JobView};
+use rb_plan_types::{Cost, Update};
 use std::alloc::{AllocError, Allocator};
 
 /// Each update with its fee, and the votes that it carries.

@@ -1,8 +1,8 @@
 //! What a run reports.
 use rb_base::{ClientId, Height, Moment, PathId};
 use rb_batch::Transaction;
-use rb_plan::{Cost, Labelling, Update};
 use rb_plan_client::Message;
+use rb_plan_types::{Cost, Labelling, Update};
 use rb_script_types::{Goal, Refusal, Version};
 use rb_step::SentVotes;
 use std::alloc::{Allocator, Global};

@@ -13,9 +13,10 @@ use Rattle.rb_script_toml.specs.declared.fault.FaultName.TheVariants.{NoSuchTurn
 use Rattle.rb_script_toml.specs.declared.fault.RunError.{RunError}
 use Rattle.rb_script_types.specs.declared.config.ClientConfig.{ClientConfig}
 use Rattle.rb_script_types.specs.Script.{Script}
-use Rattle.rb_text.specs.Certificates.{Certificate}
+use Rattle.rb_text_report.specs.Certificates.{Certificate}
 use Rattle.rb_script_config.specs.Named.{known}
-use Rattle.rb_text.specs.Verdicts.{Case, case_in, case_of, is_yes, IsRightCase, IsCertified}
+use Rattle.rb_text_report.specs.VerdictLine.{is_yes}
+use Rattle.rb_text.specs.Verdicts.{Case, case_in, case_of, IsRightCase, IsCertified}
 
 abbrev made : Script Global → Certificate → ℕ → ℕ → Case
 made s k turn client = record { script = s; certificate = k; turn = turn; client = client }

@@ -1,4 +1,1 @@
-pub mod Beginnings
-pub mod Labels
-pub mod Numbered
 pub mod Cases

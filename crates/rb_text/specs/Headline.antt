@@ -8,9 +8,9 @@ use Rattle.rb_script_config.specs.Paths.{path_ids}
 use Rattle.rb_script_read.specs.Scripts.{script_of}
 use Rattle.rb_super_turn.specs.Report.{Report}
 use Rattle.rb_super_turn.specs.Script.{IsScript}
-use Rattle.rb_super.specs.AsEvents.{as_events}
+use Rattle.rb_super_scripts.specs.AsEvents.{as_events}
 use Rattle.rb_super_turn.specs.Turns.{IsReportOf}
-use Rattle.rb_text.specs.Report.{text}
+use Rattle.rb_text_report.specs.Report.{text}
 
 -- the bytes hold the script, which is one of a relayer that is set up, and this is its report: for each client and turn the
 -- least list of updates, with the exact labelling, and the least cut of its messages

@@ -1,50 +1,26 @@
--- What certifying promises, and the line that it writes (own choice): it ends with one LF, its numbers are plain decimals.
-use Rattle.std.specs.Prelude.{◌≡◌, ℕ, ◌-◌, ◌⊎◌, Bool, true, false, nat_lt, List, [], ◌++◌, length, map, codes, Option, Some, None, Result, Ok, Err}
+-- What certifying promises.
+use Rattle.std.specs.Prelude.{◌≡◌, ℕ, ◌-◌, ◌⊎◌, Bool, nat_lt, List, length, map, codes, Option, Some, None, Result, Ok, Err}
 use Rattle.std.specs.declared.alloc.Global.{Global}
-use Rattle.std.specs.Fmt.{decimal}
 use Rattle.std.specs.Io.KnownBytes.{Appends}
 use Rattle.std.specs.List.{position}
 use Rattle.std.specs.Str.{bytes_eq}
 use Rattle.rb_base.specs.Sink.{AppendsBeginning}
-use Rattle.rb_cert.specs.Reasons.{number_of, name_of}
-use Rattle.rb_cert.specs.declared.verdict.Reason.{Reason}
-use Rattle.rb_cert.specs.declared.verdict.Reason.TheVariants.{SourceLabel, LabelTooHigh, PlanNotAccepted, PlanNotTight, NotTheTie, GoalLabelled, GoalMissed}
 use Rattle.rb_cert.specs.declared.verdict.Judgement.{Judgement}
-use Rattle.rb_cert.specs.declared.verdict.Judgement.TheVariants.{Yes, No}
 use Rattle.rb_script_toml.specs.Faults.{Fault, ◌>>=◌, check}
 use Rattle.rb_script_toml.specs.declared.fault.FaultName.TheVariants.{NoSuchTurn, NoGoal}
-use Rattle.rb_plan.specs.Labelling.{label_of}
+use Rattle.rb_plan_types.specs.Labelling.{label_of}
 use Rattle.rb_script_types.specs.declared.config.ClientConfig.{ClientConfig}
-use Rattle.rb_super.specs.Judging.{IsVerdictOn, IsRightIn, IsReported}
+use Rattle.rb_super_scripts.specs.Judging.{IsVerdictOn, IsRightIn, IsReported}
 use Rattle.rb_super_turn.specs.Report.{Report}
-use Rattle.rb_super.specs.AsEvents.{as_events}
+use Rattle.rb_super_scripts.specs.AsEvents.{as_events}
 use Rattle.rb_script_types.specs.Script.{Script, script_view}
 use Rattle.rb_script_toml.specs.declared.fault.RunError.{RunError}
 use Rattle.rb_text.specs.declared.case.Case.{Case as CodeCase}
-use Rattle.rb_text.specs.declared.refusal.CertifyError.{CertifyError}
-use Rattle.rb_text.specs.Certificates.{Certificate, certificate_of, certificate_view}
+use Rattle.rb_text_report.specs.declared.refusal.CertifyError.{CertifyError}
+use Rattle.rb_text_report.specs.VerdictLine.{verdict_line, is_yes}
+use Rattle.rb_text_report.specs.Certificates.{Certificate, certificate_of, certificate_view}
 use Rattle.rb_script_config.specs.Named.{known}
 use Rattle.rb_script_read.specs.Scripts.{script_of}
-
--- ---- the line of a verdict
-
--- the numbers of a reason, each after a blank
-abbrev pub numbers_text : Reason → List ℕ
-numbers_text (SourceLabel h) = codes " " ++ decimal h
-numbers_text (LabelTooHigh t h) = codes " " ++ decimal t ++ codes " " ++ decimal h
-numbers_text (PlanNotAccepted i) = codes " " ++ decimal i
-numbers_text (PlanNotTight i) = codes " " ++ decimal i
-numbers_text (NotTheTie i) = codes " " ++ decimal i
-numbers_text (GoalLabelled h) = codes " " ++ decimal h
-numbers_text GoalMissed = []
-
-abbrev pub verdict_line : Judgement → List ℕ
-verdict_line Yes = codes "yes\n"
-verdict_line (No reason) = codes "no " ++ decimal (number_of reason) ++ codes " " ++ name_of reason ++ numbers_text reason ++ codes "\n"
-
-abbrev pub is_yes : Judgement → Bool
-is_yes Yes = true
-is_yes (No reason) = false
 
 -- ---- what is judged
 

@@ -4,19 +4,18 @@ ghost use Rattle.rb_script_toml.specs.declared.fault.Fault.{Fault as CodeFault};
 ghost use Rattle.rb_script_toml.specs.Faults.{Gives, fault_view};
 ghost use Rattle.rb_super_turn.specs.Report.{Report};
 ghost use Rattle.rb_script_types.specs.Script.{IsReadScript, script_view};
-ghost use Rattle.rb_super.specs.AsEvents.{as_events};
+ghost use Rattle.rb_super_scripts.specs.AsEvents.{as_events};
 ghost use Rattle.rb_super_turn.specs.Turns.{IsReportOf};
-ghost use Rattle.rb_text.specs.Certificates.{certificate_view};
+ghost use Rattle.rb_text_report.specs.Certificates.{certificate_view};
 ghost use Rattle.rb_text.specs.Verdicts.{case_view, case_in, case_of, plain, IsVerdictOf, IsRightCase, IsReportedCase, no_goal};
 
-use crate::certificate::{Certificate, read_certificate};
-use crate::refusal::{CertifyError, Source};
 use rb_cert::Judgement;
 use rb_script_config::place_of;
 use rb_script_read::read_script;
 use rb_script_toml::{FaultName, RunError, fault_at};
 use rb_script_types::Script;
 use rb_super::judge;
+use rb_text_report::{Certificate, CertifyError, Source, read_certificate};
 use std::alloc::Global;
 use std::thread::Threads;
 

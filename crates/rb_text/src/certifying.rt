@@ -5,23 +5,22 @@ ghost use Rattle.rb_base.specs.Sink.{AppendsBeginning};
 ghost use Rattle.rb_script_toml.specs.declared.fault.Fault.{Fault as CodeFault};
 ghost use Rattle.rb_script_toml.specs.Faults.{fault_view};
 ghost use Rattle.rb_super_turn.specs.Report.{Report};
-ghost use Rattle.rb_super.specs.AsEvents.{as_events};
+ghost use Rattle.rb_super_scripts.specs.AsEvents.{as_events};
 ghost use Rattle.rb_super_turn.specs.Turns.{IsReportOf};
-ghost use Rattle.rb_text.specs.Verdicts.{Case, case_of, plain, verdict_line, IsReportedCase, IsFaultFor, WritesVerdict, BeginsVerdict, IsCertified};
-ghost use Rattle.rb_text.specs.Written.{IsWriteError};
+ghost use Rattle.rb_text_report.specs.VerdictLine.{verdict_line};
+ghost use Rattle.rb_text.specs.Verdicts.{Case, case_of, plain, IsReportedCase, IsFaultFor, WritesVerdict, BeginsVerdict, IsCertified};
+ghost use Rattle.rb_text_report.specs.Written.{IsWriteError};
 
 use crate::case::{judge_case, read_case};
-use crate::refusal::{CertifyError, Source};
-use crate::verdict::{is_yes, push_verdict};
-use crate::write::put;
 use rb_base::Sink;
 use rb_cert::Judgement;
 use rb_script_toml::RunError;
+use rb_text_report::{CertifyError, Source, is_yes, push_verdict, put};
 use std::alloc::Global;
 use std::thread::Threads;
 
 /// Writes the line of a verdict.
-#[tactic(auto, using(crate::proofs::Beginnings::beginnings))]
+#[tactic(auto, using(rb_text_report::proofs::Beginnings::beginnings))]
 fn put_verdict<W: Sink>(alloc: Global, verdict: &Judgement, writer: &mut W) -> Result<(), RunError>
     requires { W.is_broken writer.old ≡ false }
     ensures written { OnOk result (Appends (W.taken writer.old) (W.taken writer.new) (verdict_line verdict.now)) }

@@ -4,8 +4,8 @@ use Rattle.std.specs.Fmt.{digit_glyph}
 use Rattle.std.specs.List.{flat_map}
 use Rattle.rb_batch.specs.declared.transaction.Transaction.{Transaction}
 use Rattle.rb_moments.specs.Moments.{moment_text}
-use Rattle.rb_plan.specs.declared.cost.Cost.{Cost}
-use Rattle.rb_plan.specs.declared.labelling.Label.{Label}
+use Rattle.rb_plan_types.specs.declared.cost.Cost.{Cost}
+use Rattle.rb_plan_types.specs.declared.labelling.Label.{Label}
 use Rattle.rb_plan_client.specs.Task.{Message}
 use Rattle.rb_scan.specs.declared.message.Kind.{Kind}
 use Rattle.rb_scan.specs.declared.message.Kind.TheVariants.{Receive, Acknowledge, Timeout}

@@ -3,7 +3,7 @@ use crate::packet_commands::push_packets;
 use crate::words::push_word;
 use jiff::Timestamp;
 use rb_base::{Moment, Window};
-use rb_plan::Cost;
+use rb_plan_types::Cost;
 use rb_script_types::{Config, Refusal, Script};
 use rb_super_turn::{
     ClientReport, Outcome, PlanReport, PricedUpdate, RefusedEvent, Report, SendingReport,

@@ -12,8 +12,8 @@ use crate::members::{push_boolean, push_comma, push_name, push_number, push_text
 use rb_base::{Moment, PathId};
 use rb_batch::Transaction;
 use rb_moments::push_moment;
-use rb_plan::{Cost, Label};
 use rb_plan_client::Message;
+use rb_plan_types::{Cost, Label};
 use rb_scan::Kind;
 use rb_script_types::{Goal, Refusal, Version};
 use rb_step::SentVotes;

@@ -9,7 +9,7 @@ use Rattle.std.proofs.lemmas.List.Sums.{sum_by-cons}
 use Rattle.std.proofs.lemmas.Option.{none-some, same_Some}
 use Rattle.rb_batch.specs.Cut.{FollowOn}
 use Rattle.rb_batch.specs.declared.transaction.Transaction.{Transaction}
-use Rattle.rb_plan.specs.Least.{IsUnreachable}
+use Rattle.rb_plan_types.specs.Least.{IsUnreachable}
 use Rattle.rb_scan.specs.Laws.{SettledIsNotOwed}
 use Rattle.rb_scan.specs.Owed.{same_kind}
 use Rattle.rb_scan.specs.declared.message.PacketMsg.{PacketMsg}

@@ -11,8 +11,8 @@ use Rattle.std.proofs.lemmas.Option.{none-some, same_Some, slice_get-get_or, sli
 use Rattle.rb_book.specs.Book.{Book, RecordAt, height_of, time_of, record_at, is_at}
 use Rattle.rb_book.specs.Header.{Record}
 use Rattle.rb_book.proofs.Rising.{Up, Up-from_increasing}
-use Rattle.rb_plan.specs.Goal.{Meets}
-use Rattle.rb_plan.specs.Least.{IsUnreachable}
+use Rattle.rb_plan_types.specs.Goal.{Meets}
+use Rattle.rb_plan_types.specs.Least.{IsUnreachable}
 use Rattle.rb_scan.specs.Owed.{same_kind, run_end, is_ready, is_near, ready, ready_beyond, wanted}
 use Rattle.rb_scan.specs.declared.message.Kind.{Kind}
 use Rattle.rb_scan.specs.declared.message.Kind.TheVariants.{Receive, Acknowledge, Timeout}

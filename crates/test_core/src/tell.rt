@@ -1,7 +1,7 @@
 //! What the machine answers, as text.
 use rb_core_model::{Reply, Scan};
-use rb_plan::Update;
 use rb_plan_client::{Batch, Message, Plan, Planned, Sending};
+use rb_plan_types::Update;
 use rb_scan::PacketMsg;
 use rb_script_types::{Goal, Refusal};
 use std::alloc::{AllocError, Global};

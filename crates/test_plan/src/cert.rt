@@ -2,7 +2,7 @@ use crate::same::assert_same;
 use rb_base::{FeeTable, Height, Window};
 use rb_book::{ChainBook, Header, Record, Vote};
 use rb_cert::{Judgement, Reason, certify, certify_par};
-use rb_plan::{Answer, Cost, Label, Labelling, Update, are_labels};
+use rb_plan_types::{Answer, Cost, Label, Labelling, Update, are_labels};
 use rb_script_types::Goal;
 use rb_step::{ClientView, are_known};
 use std::alloc::{AllocError, Global};

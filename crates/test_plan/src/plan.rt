@@ -4,9 +4,8 @@ use crate::same::assert_same;
 use rb_base::{FeeTable, Height, Window};
 use rb_book::{ChainBook, Header, Record, Vote};
 use rb_graph::Graph;
-use rb_plan::{
-    Answer, Cost, Label, Labelling, Update, gas_of, label, plan, proof_height, top_reachable,
-};
+use rb_plan::{label, plan};
+use rb_plan_types::{Answer, Cost, Label, Labelling, Update, gas_of, proof_height, top_reachable};
 use rb_script_types::Goal;
 use rb_step::{ClientView, are_known};
 use std::alloc::{AllocError, Global};

@@ -11,7 +11,7 @@ use rb_script_read::read_script;
 use rb_super::run_by_team;
 use rb_super_turn::{Crew, Report};
 use rb_super_worker::{Finding, Findings, Order, Orders, Team, Worker, work};
-use rb_text::write_report;
+use rb_text_report::write_report;
 use rb_wire::{Rx, Tx, lane};
 use std::alloc::{AllocError, Global};
 use std::process::Abort;

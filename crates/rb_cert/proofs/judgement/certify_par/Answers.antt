@@ -3,8 +3,8 @@ use Rattle.std.specs.Prelude.{IfErr, List, Option}
 use Rattle.rb_step.specs.LightClient.{Update}
 use Rattle.rb_step.specs.View.{client_of}
 use Rattle.rb_script_types.specs.declared.goal.Goal.{Goal}
-use Rattle.rb_plan.specs.Labelling.{Labels, label_of}
-use Rattle.rb_plan.specs.Answer.{labels_of, claim_of}
+use Rattle.rb_plan_types.specs.Labelling.{Labels, label_of}
+use Rattle.rb_plan_types.specs.Answer.{labels_of, claim_of}
 use Rattle.rb_cert.specs.Refusal.{IsFirst}
 use Rattle.rb_cert.proofs.Judged.{nothing_against}
 use Rattle.rb_cert.proofs.judgement.certify_par.Goals as goal

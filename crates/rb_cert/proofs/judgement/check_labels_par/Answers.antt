@@ -1,6 +1,6 @@
 use Rattle.std.proofs.lemmas.Result.{err_from_is_err_and, IfErr-weaker, on_ok_weaker}
 use Rattle.rb_step.specs.View.{client_of}
-use Rattle.rb_plan.specs.Labelling.{label_of}
+use Rattle.rb_plan_types.specs.Labelling.{label_of}
 use Rattle.rb_cert.specs.Checks.{AreStepsLow}
 use Rattle.rb_cert.proofs.Judged.{first_of_sources, first_of_steps, sound_from_checks}
 use Rattle.rb_cert.proofs.judgement.check_labels_par.Goals as goal

@@ -2,11 +2,11 @@ use Rattle.std.proofs.Common.{List, Some, None, sym, subst}
 use Rattle.std.proofs.lemmas.Result.{IfErr-weaker, on_ok_weaker}
 use Rattle.rb_step.specs.LightClient.{Update}
 use Rattle.rb_step.specs.View.{client_of}
-use Rattle.rb_plan.specs.declared.answer.Answer.{Answer}
-use Rattle.rb_plan.specs.Least.{IsLeast, IsUnreachable}
-use Rattle.rb_plan.specs.Labelling.{IsSound, IsExact, label_of}
-use Rattle.rb_plan.proofs.Bounds.{unreachable_from_labels}
-use Rattle.rb_plan.specs.Answer.{Shows, labels_of, claim_of}
+use Rattle.rb_plan_types.specs.declared.answer.Answer.{Answer}
+use Rattle.rb_plan_types.specs.Least.{IsLeast, IsUnreachable}
+use Rattle.rb_plan_types.specs.Labelling.{IsSound, IsExact, label_of}
+use Rattle.rb_plan_types.proofs.Bounds.{unreachable_from_labels}
+use Rattle.rb_plan_types.specs.Answer.{Shows, labels_of, claim_of}
 use Rattle.rb_cert.specs.Judgement.{Judges}
 use Rattle.rb_cert.proofs.Judged.{judged, yes_where_none, holds_at_yes, first_of_none, none_holds_of_none, nothing_against_least, nothing_against_none}
 use Rattle.rb_cert.proofs.judgement.judge_claim.Goals as goal

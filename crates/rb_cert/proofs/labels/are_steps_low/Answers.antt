@@ -2,7 +2,7 @@ use Rattle.std.proofs.Common.{◌≡◌, ◌∙◌, ◌+◌, ◌-◌, ◌/◌, �
 use Rattle.std.proofs.lemmas.List.FromFn.{get_or-range_with_len, length-range_with_len}
 use Rattle.rayon.specs.Numbers.{nat_range}
 use Rattle.rb_book.specs.Book.{Book}
-use Rattle.rb_plan.specs.Labelling.{label_of}
+use Rattle.rb_plan_types.specs.Labelling.{label_of}
 use Rattle.rb_cert.specs.Checks.{IsLowAt}
 use Rattle.rb_cert.proofs.Pairs.{when_true, all_low}
 use Rattle.rb_cert.proofs.labels.are_steps_low.Goals as goal

@@ -3,7 +3,7 @@ use Rattle.std.proofs.lemmas.Bool.{iff_false}
 use Rattle.std.proofs.lemmas.Option.{slice_get-get_or}
 use Rattle.rb_base.specs.Options.{ClientOptions}
 use Rattle.rb_book.specs.Book.{Book}
-use Rattle.rb_plan.specs.Labelling.{label_of}
+use Rattle.rb_plan_types.specs.Labelling.{label_of}
 use Rattle.rb_step.specs.Carried.{least_votes}
 use Rattle.rb_step.specs.LightClient.{IsOrderly}
 use Rattle.rb_step.specs.View.{client_of}

@@ -2,8 +2,8 @@ use Rattle.std.proofs.Common.{Option, subst}
 use Rattle.std.specs.Option.{IsSomeAnd}
 use Rattle.std.proofs.lemmas.Bool.{false≢true}
 use Rattle.rb_step.specs.View.{client_of}
-use Rattle.rb_plan.specs.declared.cost.Cost.{Cost}
-use Rattle.rb_plan.specs.Order.{CostsAtMost, after_update}
+use Rattle.rb_plan_types.specs.declared.cost.Cost.{Cost}
+use Rattle.rb_plan_types.specs.Order.{CostsAtMost, after_update}
 use Rattle.rb_cert.specs.Trusted.{LeadsLower}
 use Rattle.rb_cert.proofs.LookedUp.{at_most_more}
 use Rattle.rb_cert.proofs.labels.is_too_high.Goals as goal

@@ -1,6 +1,6 @@
 use Rattle.std.proofs.Common.{◌≡◌, ◌∙◌, ap, Some, slice_get}
 use Rattle.rb_book.specs.Book.{Book}
-use Rattle.rb_plan.specs.Labelling.{label_of}
+use Rattle.rb_plan_types.specs.Labelling.{label_of}
 use Rattle.rb_cert.proofs.LookedUp.{one_more, all_looked_up}
 use Rattle.rb_cert.proofs.Rising.{element_of, past_end}
 use Rattle.rb_cert.proofs.trusted.look_up_all.Goals as goal

@@ -1,4 +1,4 @@
-use Rattle.rb_plan.specs.Labelling.{label_of}
+use Rattle.rb_plan_types.specs.Labelling.{label_of}
 use Rattle.rb_cert.proofs.LookedUp.{AreLookedUpBefore}
 use Rattle.rb_cert.proofs.trusted.look_up_all.Given as goal
 

@@ -1,6 +1,6 @@
 use Rattle.std.proofs.Common.{◌≡◌, List, map, ap, sym, subst, ◌∙◌}
-use Rattle.rb_plan.specs.Least.{IsLeast}
-use Rattle.rb_plan.specs.declared.labelling.Label.{Label}
+use Rattle.rb_plan_types.specs.Least.{IsLeast}
+use Rattle.rb_plan_types.specs.declared.labelling.Label.{Label}
 use Rattle.rb_plan_client.specs.Task.{view_of}
 use Rattle.rb_step.specs.View.{View, client_of}
 use Rattle.rb_super_turn.specs.declared.report.PricedUpdate.{PricedUpdate}

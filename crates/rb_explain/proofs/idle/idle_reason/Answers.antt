@@ -1,6 +1,6 @@
 use Rattle.std.proofs.Common.{Any, List, [], subst}
 use Rattle.std.proofs.lemmas.Bool.{iff_false}
-use Rattle.rb_plan.specs.ProofHeight.{IsProofHeight}
+use Rattle.rb_plan_types.specs.ProofHeight.{IsProofHeight}
 use Rattle.rb_plan_client.specs.Task.{PathTask}
 use Rattle.rb_step.specs.View.{View, client_of}
 use Rattle.rb_explain.specs.Idle.{IsReadyOn, Owes}

@@ -2,8 +2,8 @@ use Rattle.std.proofs.Common.{List, OnErr, OnOk, refl, sym, subst}
 use Rattle.rb_core_model.specs.Standing.{Standing, opening_standing}
 use Rattle.rb_script_types.specs.Config.{config_view}
 use Rattle.rb_script_types.specs.Script.{script_view}
-use Rattle.rb_super.specs.AsEvents.{as_events}
-use Rattle.rb_super.proofs.Runs.{opened_standing, turns_as_events, turns_fit, turns_for}
+use Rattle.rb_super_scripts.specs.AsEvents.{as_events}
+use Rattle.rb_super_scripts.proofs.Runs.{opened_standing, turns_as_events, turns_fit, turns_for}
 use Rattle.rb_super_turn.specs.Script.{Turn}
 use Rattle.rb_explain.specs.Listening.{IsGivenAll, IsGivenSome}
 use Rattle.rb_explain.proofs.Listeners.{begun_none, on_err}

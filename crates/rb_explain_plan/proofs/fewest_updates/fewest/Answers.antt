@@ -1,7 +1,7 @@
 use Rattle.std.proofs.Common.{List, length, subst, sym, ap, arith}
 use Rattle.rb_step.specs.LightClient.{Update}
 use Rattle.rb_step.specs.View.{client_of}
-use Rattle.rb_plan.specs.Least.{IsLeast}
+use Rattle.rb_plan_types.specs.Least.{IsLeast}
 use Rattle.rb_explain_plan.proofs.Shifted.{itself, by_bound}
 use Rattle.rb_explain_plan.proofs.fewest_updates.fewest.Goals as goal
 

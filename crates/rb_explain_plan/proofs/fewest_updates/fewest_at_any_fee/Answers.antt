@@ -1,6 +1,6 @@
 use Rattle.std.proofs.Common.{subst}
 use Rattle.rb_base.specs.Fee.{Fees}
-use Rattle.rb_plan.specs.Least.{IsLeast}
+use Rattle.rb_plan_types.specs.Least.{IsLeast}
 use Rattle.rb_step.specs.View.{client_of}
 use Rattle.rb_explain_plan.proofs.Shifted.{with_fees, fewest_by_free}
 use Rattle.rb_explain_plan.proofs.fewest_updates.fewest_at_any_fee.Goals as goal

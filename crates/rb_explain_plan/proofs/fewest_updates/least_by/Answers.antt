@@ -1,7 +1,7 @@
 use Rattle.std.proofs.Common.{subst}
-use Rattle.rb_plan.specs.Answer.{Answers}
-use Rattle.rb_plan.specs.Least.{IsUnreachable}
-use Rattle.rb_plan.specs.declared.answer.Answer.{Answer}
+use Rattle.rb_plan_types.specs.Answer.{Answers}
+use Rattle.rb_plan_types.specs.Least.{IsUnreachable}
+use Rattle.rb_plan_types.specs.declared.answer.Answer.{Answer}
 use Rattle.rb_step.specs.View.{View, client_of}
 use Rattle.rb_explain_plan.proofs.Shifted.{unreachable_by}
 use Rattle.rb_explain_plan.proofs.fewest_updates.least_by.Goals as goal

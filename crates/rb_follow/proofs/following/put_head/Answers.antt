@@ -1,6 +1,6 @@
 use Rattle.std.proofs.Common.{◌≡◌, List, ℕ, ap, sym, ◌∙◌, subst, OnErr}
 use Rattle.rb_base.specs.Sink.{AppendsBeginning}
-use Rattle.rb_text.specs.Report.{first_line}
+use Rattle.rb_text_report.specs.Report.{first_line}
 use Rattle.rb_follow.specs.Answers.{head_text}
 use Rattle.rb_follow.specs.declared.told.Form.{Form}
 use Rattle.rb_follow.proofs.following.put_head.Goals as goal

@@ -1,9 +1,9 @@
 use Rattle.std.proofs.Common.{◌<◌, sym, subst, arith}
 use Rattle.std.proofs.lemmas.Result.{IfOk-weaker}
 use Rattle.rb_script_types.specs.Script.{script_view}
-use Rattle.rb_plan.specs.Answer.{labels_of, claim_of}
+use Rattle.rb_plan_types.specs.Answer.{labels_of, claim_of}
 use Rattle.rb_super_turn.specs.Phases.{standing_in}
-use Rattle.rb_super.specs.AsEvents.{as_events}
+use Rattle.rb_super_scripts.specs.AsEvents.{as_events}
 use Rattle.rb_super.proofs.OwnAnswers.{own_answer}
 use Rattle.rb_super.proofs.judging.judge.Goals as goal
 

@@ -1,11 +1,11 @@
 use Rattle.std.proofs.Common.{◌≡◌, Some, subst}
 use Rattle.rb_cert.specs.declared.verdict.Judgement.TheVariants.{Yes}
 use Rattle.rb_script_types.specs.declared.goal.Goal.{Goal}
-use Rattle.rb_plan.specs.Answer.{labels_of, claim_of, Shows}
-use Rattle.rb_plan.specs.Labelling.{IsSound, IsExact}
+use Rattle.rb_plan_types.specs.Answer.{labels_of, claim_of, Shows}
+use Rattle.rb_plan_types.specs.Labelling.{IsSound, IsExact}
 use Rattle.rb_step.specs.View.{View, client_of}
-use Rattle.rb_super.specs.Judging.{IsVerdictFor}
-use Rattle.rb_super.proofs.Judged.{judged_there, right_there, accepts_there}
+use Rattle.rb_super_scripts.specs.Judging.{IsVerdictFor}
+use Rattle.rb_super_scripts.proofs.Judged.{judged_there, right_there, accepts_there}
 use Rattle.rb_super.proofs.judging.verdict_unheld.Goals as goal
 
 pub returns-clause-judged : goal.returns-clause-judged

@@ -5,7 +5,7 @@ use Rattle.std.proofs.lemmas.List.{length-map}
 use Rattle.rb_script_toml.specs.declared.fault.FaultName.TheVariants.{UnknownIdentifier}
 use Rattle.rb_script_types.specs.declared.config.ClientConfig.{ClientConfig}
 use Rattle.rb_script_types.specs.Script.{script_view, turn_view}
-use Rattle.rb_text.specs.Certificates.{certificate_view}
+use Rattle.rb_text_report.specs.Certificates.{certificate_view}
 use Rattle.rb_text.proofs.Cases.{case-found, case-unknown}
 use Rattle.rb_script_toml.proofs.Steps.{fails-at}
 use Rattle.rb_text.proofs.case.case_in.Goals as goal

@@ -1,5 +1,5 @@
 use Rattle.rb_step.specs.View.{client_of}
-use Rattle.rb_plan.specs.Labelling.{label_of}
+use Rattle.rb_plan_types.specs.Labelling.{label_of}
 use Rattle.rb_plan.proofs.Walks.{least_from_walk}
 use Rattle.rb_plan.proofs.planner.Planner.plan_by.Goals as goal
 

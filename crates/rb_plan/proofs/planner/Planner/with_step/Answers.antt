@@ -4,9 +4,9 @@ use Rattle.std.specs.List.{slice_get}
 use Rattle.rb_graph.specs.StepTable.{Target, IsStepFee}
 use Rattle.rb_step.specs.Fee.{fee_at}
 use Rattle.rb_step.specs.View.{client_of}
-use Rattle.rb_plan.specs.declared.cost.Cost.{Cost}
+use Rattle.rb_plan_types.specs.declared.cost.Cost.{Cost}
 use Rattle.rb_plan.specs.Offers.{target_of}
-use Rattle.rb_plan.specs.Order.{CostsAtMost, after_update}
+use Rattle.rb_plan_types.specs.Order.{CostsAtMost, after_update}
 use Rattle.rb_plan.proofs.Cheapening.{lowered_skip, lowered_over, lowered_past, lowered_more}
 use Rattle.rb_plan.proofs.Serving.{TellsStep, told_at, least_at, offer_within}
 use Rattle.rb_plan.proofs.planner.Planner.with_step.Goals as goal

@@ -1,0 +1,16 @@
+pub mod Values
+pub mod Costs
+pub mod Orders
+pub mod Routes
+pub mod Bounds
+pub mod Least
+pub mod Exact
+pub mod Converse
+pub mod Lookups
+pub mod Cheapest
+pub mod Raise
+pub mod Existence
+pub mod Search
+pub mod Views
+pub mod Tops
+pub mod OverViews

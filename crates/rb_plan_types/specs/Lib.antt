@@ -1,0 +1,12 @@
+pub use Rattle.rb_step.specs.LightClient
+pub use Rattle.rb_step.specs.Fee
+pub use Rattle.rb_step.specs.View
+pub mod Goal
+pub mod Order
+pub mod Least
+pub mod Labelling
+pub mod Answer
+pub mod Raised
+pub mod Lookups
+pub mod ProofHeight
+pub mod Laws

@@ -1,0 +1,6 @@
+pub mod OneLabelling
+pub mod OneReport
+pub mod Whole
+pub mod Judged
+pub mod Runs
+pub mod AsEventsLemmas

@@ -1,0 +1,2 @@
+pub mod AsEvents
+pub mod Judging
