@@ -11,6 +11,7 @@ mod identifier;
 mod ids;
 mod options;
 mod sink;
+mod ties;
 mod votes;
 mod window;
 
@@ -22,5 +23,6 @@ pub use gate::{Gate, OpenGate, Part, WorkItem};
 pub use ids::{ChainId, ClientId, PathId};
 pub use options::Options;
 pub use sink::{Counted, Device, Sink, write_whole};
+pub use ties::Ties;
 pub use votes::CarriedVotes;
 pub use window::Window;

@@ -4,17 +4,20 @@ ghost use Rattle.rb_base.specs.Fraction.{one_third};
 
 use crate::amount::Period;
 use crate::fraction::Fraction;
+use crate::ties::Ties;
 use crate::votes::CarriedVotes;
 use std::marker::Model;
 
 /// How a client judges headers (ICS 7, `ClientState`): its trusting period, the clock drift that
-/// it allows, in nanoseconds, and its trust level; and which votes its updates carry.
+/// it allows, in nanoseconds, and its trust level; which votes its updates carry; and which heights come first in
+/// lists of updates that are equally cheap.
 #[derive(Clone, Copy, Debug, PartialEq, Eq, Hash)]
 pub struct Options {
     period: Period,
     drift: u64,
     trust: Fraction,
     votes: CarriedVotes,
+    ties: Ties,
 }
 
 impl Model for Options {
@@ -23,24 +26,26 @@ impl Model for Options {
 
     ghost Value = { ClientOptions };
 
-    ghost view = { λ o. record { period = o.period; drift = o.drift; trust = o.trust; votes = o.votes } };
+    ghost view = { λ o. record { period = o.period; drift = o.drift; trust = o.trust; votes = o.votes; ties = o.ties } };
 
     ghost invariant = { λ o. o.drift < 2 ^ 63 };
 
-    ghost inverse = { λ t. record { period = t.period; drift = t.drift; trust = t.trust; votes = t.votes } };
+    ghost inverse = { λ t. record { period = t.period; drift = t.drift; trust = t.trust; votes = t.votes; ties = t.ties } };
 }
 
 impl Options {
-    /// Options with the trust level one third; updates carry all votes, and commit votes are charged.
+    /// Options with the trust level one third; updates carry all votes, and commit votes are charged;
+    /// of ties the lower heights come first.
     pub fn new(period: Period, drift: u64) -> Options
         requires { drift < 2 ^ 63 }
-        ensures { result ≡ record { period = period; drift = drift; trust = one_third; votes = CarriedVotes.Commit } }
+        ensures { result ≡ record { period = period; drift = drift; trust = one_third; votes = CarriedVotes.Commit; ties = Ties.Lower } }
     {
         Options {
             period,
             drift,
             trust: Fraction::one_third(),
             votes: CarriedVotes::Commit,
+            ties: Ties::Lower,
         }
     }
 
@@ -56,6 +61,13 @@ impl Options {
         ensures { result ≡ record self { votes = votes } }
     {
         Options { votes, ..self }
+    }
+
+    /// These options with other heights first.
+    pub fn with_ties(self, ties: Ties) -> Options
+        ensures { result ≡ record self { ties = ties } }
+    {
+        Options { ties, ..self }
     }
 
     /// How long a stored record may be trusted.
@@ -85,5 +97,12 @@ impl Options {
         ensures { result ≡ self.now.votes }
     {
         self.votes
+    }
+
+    /// Which heights come first in lists of updates that are equally cheap.
+    pub fn ties(&self) -> Ties
+        ensures { result ≡ self.now.ties }
+    {
+        self.ties
     }
 }

@@ -2,6 +2,7 @@
 use Rattle.std.specs.Prelude.{◌≡◌, ℕ, true, false, List, [], ◌∷◌, ◌++◌, map, Option, Some, None, unwrap_or, slice_get}
 use Rattle.std.specs.Option.{option_map, option_and_then}
 use Rattle.rb_base.specs.declared.votes.CarriedVotes.TheVariants.{Commit}
+use Rattle.rb_base.specs.declared.ties.Ties.TheVariants.{Lower}
 use Rattle.rb_base.specs.Fee.{Fees}
 use Rattle.rb_base.specs.Fraction.{one_third}
 use Rattle.rb_book.specs.Header.{Record}
@@ -34,7 +35,7 @@ a_client id host tracks = record {
   id = id;
   host = host;
   tracks = tracks;
-  options = record { period = 1000; drift = 10; trust = one_third; votes = Commit };
+  options = record { period = 1000; drift = 10; trust = one_third; votes = Commit; ties = Lower };
   refresh = 0;
   refresh_to = Lowest;
   fees = no_fees;

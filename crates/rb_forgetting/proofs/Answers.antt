@@ -32,7 +32,7 @@ reachable m c d alike h (us, a, l) = (us, acceptable m c d alike.there us a, (le
 pub reach : (m : ℕ) (c d : Client) → AreAlike m c d → (r : Option ℕ) → IsReach c r → IsReach d r
 reach m c d alike r is = record {
   reached = go r is.reached;
-  greatest = λ h can. is.greatest h (reachable m d c (record { there = alike.back; back = alike.there }) h can);
+  greatest = λ h can. is.greatest h (reachable m d c (record { there = alike.back; back = alike.there; ties = sym alike.ties }) h can);
 }
   where
     go : (o : Option ℕ) → IfSome o (IsReachable c) → IfSome o (IsReachable d)

@@ -1,15 +1,16 @@
 -- Clients that are alike have the same labellings, the same least lists and the same reach.
-use Rattle.std.proofs.Common.{◌≡◌, ℕ, ◌≤◌, List, [], ◌∷◌, Option, Some, None, inl, inr, refl, sym, ◌∙◌, subst}
+use Rattle.std.proofs.Common.{◌≡◌, ℕ, ◌≤◌, List, [], ◌∷◌, reverse, Option, Some, None, inl, inr, refl, sym, ◌∙◌, subst}
 use Rattle.std.specs.List.{All}
 use Rattle.std.specs.Option.{IfSome}
 use Rattle.std.proofs.lemmas.List.Elements.{All-nil, All-cons}
+use Rattle.rb_base.specs.declared.ties.Ties.{Ties}
 use Rattle.rb_script_types.specs.declared.goal.Goal.{Goal}
 use Rattle.rb_step.specs.LightClient.{Update, Client, Runs, IsAcceptable, Leaves}
 use Rattle.rb_plan_types.specs.declared.cost.Cost.{Cost}
 use Rattle.rb_plan_types.specs.Goal.{Meets}
 use Rattle.rb_plan_types.specs.Labelling.{Labels, IsExact, IsLabelledAtMost}
 use Rattle.rb_plan_types.specs.Least.{IsLeast, IsUnreachable}
-use Rattle.rb_plan_types.specs.Order.{IsCheaper, PrecedesList, cost_of, after_update}
+use Rattle.rb_plan_types.specs.Order.{IsCheaper, IsEarlierList, PrecedesList, cost_of, after_update}
 use Rattle.rb_plan_types.specs.ProofHeight.{IsProofHeight}
 use Rattle.rb_plan_types.proofs.Costs.{cost_of-cons}
 use Rattle.rb_forgetting.specs.Alike.{SeesFrom, AreAlike}
@@ -59,7 +60,7 @@ module _ (m : ℕ) (c d : Client) (alike : AreAlike m c d) where
   precedes : (us vs : List Update) → IsAcceptable d us → IsAcceptable d vs → PrecedesList d us vs → PrecedesList c us vs
   precedes us vs a b (inl cheaper) =
       inl (subst (λ (x : Cost). IsCheaper x (cost_of c vs)) (same_cost m d c alike.back us a) (subst (λ (x : Cost). IsCheaper (cost_of d us) x) (same_cost m d c alike.back vs b) cheaper))
-  precedes us vs a b (inr (tie, lower)) = inr (sym (same_cost m d c alike.back us a) ∙ tie ∙ same_cost m d c alike.back vs b, lower)
+  precedes us vs a b (inr (tie, lower)) = inr (sym (same_cost m d c alike.back us a) ∙ tie ∙ same_cost m d c alike.back vs b, subst (λ (x : Ties). IsEarlierList x (reverse us) (reverse vs)) (sym alike.ties) lower)
 
   pub least : (goal : Goal) (us : List Update) → IsLeast c goal us → IsLeast d goal us
   least goal us is = record {

@@ -85,4 +85,5 @@ module _ (o : ClientOptions) (fees : Fees) (w : Span) (ordered : w.from ≤ w.un
         rises = rises c ys;
         trusts_live = trusts_live c ys;
       };
+      ties = refl;
     }

@@ -12,7 +12,8 @@ pub record SeesFrom (m : ℕ) (c d : Client) : Type 0 where
   pub rises : (t h : ℕ) → c.Accepts t h → t < h
   pub trusts_live : (t h : ℕ) → c.Accepts t h → c.IsLive t
 
--- both ways
+-- both ways, with the same heights first
 pub record AreAlike (m : ℕ) (c d : Client) : Type 0 where
   pub there : SeesFrom m c d
   pub back : SeesFrom m d c
+  pub ties : c.ties ≡ d.ties

@@ -2,6 +2,7 @@
 use Rattle.std.specs.Prelude.{◌≡◌, ℕ, List, Some, Contains, IsSomeAnd, length, map, slice_get}
 use Rattle.rb_base.specs.Fraction.{Ratio}
 use Rattle.rb_base.specs.declared.votes.CarriedVotes.{CarriedVotes}
+use Rattle.rb_base.specs.declared.ties.Ties.{Ties}
 use Rattle.rb_base.specs.Window.{Span}
 use Rattle.rb_valset.specs.Validator.{Member}
 use Rattle.rb_valset.specs.ValidatorSet.{set_hash}
@@ -24,7 +25,7 @@ use Rattle.rb_import.specs.declared.steps.Start.{Start}
 abbrev pub judging_of : SeenClient → Span → Judging
 judging_of client window =
     let trust : Ratio = record { numerator = client.trust.numerator; denominator = client.trust.denominator } in
-    record { options = record { period = client.period; drift = client.drift; trust = trust; votes = CarriedVotes.Commit }; window = window }
+    record { options = record { period = client.period; drift = client.drift; trust = trust; votes = CarriedVotes.Commit; ties = Ties.Lower }; window = window }
 
 -- ---- headers and consensus states
 

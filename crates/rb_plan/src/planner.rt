@@ -8,7 +8,7 @@ ghost use Rattle.rb_step.specs.View.{IsView, client_of};
 ghost use Rattle.rb_plan_types.specs.Lookups.{AreAllKnown};
 ghost use Rattle.rb_plan.specs.Offers.{target_of};
 
-use rb_base::Height;
+use rb_base::{Height, Ties};
 use rb_book::{ChainBook, RecordAt, record_place};
 use rb_graph::{Graph, Target};
 use rb_step::ClientView;
@@ -69,6 +69,13 @@ impl<'a, A: Allocator + Copy> Planner<'a, A> {
         ensures view { IsView self.now }
     {
         self.records
+    }
+
+    /// Which heights come first in lists of updates that are equally cheap.
+    pub fn ties(&self) -> Ties
+        ensures { result ≡ (client_of self.now).ties }
+    {
+        self.view.ties()
     }
 
     /// Whether the height is stored and live before any update.

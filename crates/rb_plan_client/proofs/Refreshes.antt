@@ -1,13 +1,16 @@
--- To which height clients are refreshed, and which votes their updates carry, compared by value.
+-- To which height clients are refreshed, which votes their updates carry, and which heights come first, compared by value.
 use Rattle.std.proofs.Common.{◌≡◌, Bool, refl}
 use denote.Enum.Bare.{sameb}
 use Rattle.rb_base.specs.declared.votes.CarriedVotes.{CarriedVotes}
 use Rattle.rb_base.specs.declared.votes.CarriedVotes.TheVariants.{Commit, Cast, Needed}
 use Rattle.rb_base.specs.contracts.votes.CarriedVotes.{the_type as votes_type}
+use Rattle.rb_base.specs.declared.ties.Ties.{Ties}
+use Rattle.rb_base.specs.declared.ties.Ties.TheVariants.{Lower, Higher}
+use Rattle.rb_base.specs.contracts.ties.Ties.{the_type as ties_type}
 use Rattle.rb_script_types.specs.declared.config.RefreshTo.{RefreshTo}
 use Rattle.rb_script_types.specs.declared.config.RefreshTo.TheVariants.{Lowest, Highest}
 use Rattle.rb_script_types.specs.contracts.config.RefreshTo.{the_type}
-use Rattle.rb_plan_client.specs.Same.{same_refresh_to, same_carried}
+use Rattle.rb_plan_client.specs.Same.{same_refresh_to, same_carried, same_ties}
 
 -- as `==` compares them
 abbrev pub is_equal : RefreshTo → RefreshTo → Bool
@@ -32,3 +35,12 @@ same_votes Cast Needed = refl
 same_votes Needed Commit = refl
 same_votes Needed Cast = refl
 same_votes Needed Needed = refl
+
+abbrev pub are_equal_ties : Ties → Ties → Bool
+are_equal_ties a b = sameb ties_type a b
+
+pub equal_ties : (a b : Ties) → are_equal_ties a b ≡ same_ties a b
+equal_ties Lower Lower = refl
+equal_ties Lower Higher = refl
+equal_ties Higher Lower = refl
+equal_ties Higher Higher = refl

@@ -9,7 +9,9 @@ use Rattle.std.specs.Cmp.Lexicographic.{pointwise}
 use Rattle.std.proofs.lemmas.Bool.Decides.{Decides-and, Decides-like}
 use Rattle.std.proofs.lemmas.Slice.Eq.{bytes_eq-Decides, slice_eq-Decides}
 use Rattle.rb_base.specs.Fee.{Fees}
-use Rattle.rb_base.specs.Options.{ClientOptions, carried_number}
+use Rattle.rb_base.specs.declared.ties.Ties.{Ties}
+use Rattle.rb_base.specs.declared.ties.Ties.TheVariants.{Lower, Higher}
+use Rattle.rb_base.specs.Options.{ClientOptions, carried_number, ties_number}
 use Rattle.rb_base.specs.declared.votes.CarriedVotes.{CarriedVotes}
 use Rattle.rb_base.specs.declared.votes.CarriedVotes.TheVariants.{Commit, Cast, Needed}
 use Rattle.rb_base.specs.Window.{Span}
@@ -34,10 +36,13 @@ use Rattle.rb_plan_client.specs.Task.{PathTask, Task}
 abbrev pub same_carried : CarriedVotes → CarriedVotes → Bool
 same_carried v w = carried_number v == carried_number w
 
+abbrev pub same_ties : Ties → Ties → Bool
+same_ties a b = ties_number a == ties_number b
+
 -- Field by field, grouped to the right as the derived comparisons are, so that `==` of two configurations is `same_config`.
 abbrev pub same_options : ClientOptions → ClientOptions → Bool
 same_options o p =
-    (o.period == p.period) && ((o.drift == p.drift) && (((o.trust.numerator == p.trust.numerator) && (o.trust.denominator == p.trust.denominator)) && same_carried o.votes p.votes))
+    (o.period == p.period) && ((o.drift == p.drift) && (((o.trust.numerator == p.trust.numerator) && (o.trust.denominator == p.trust.denominator)) && (same_carried o.votes p.votes && same_ties o.ties p.ties)))
 
 abbrev pub same_fees : Fees → Fees → Bool
 same_fees f g = (f.base == g.base) && ((f.signature == g.signature) && (f.validator == g.validator))
@@ -123,13 +128,19 @@ carried_Decides Needed Commit = (λ e. cc, λ e. cc)
 carried_Decides Needed Cast = (λ e. cc, λ e. cc)
 carried_Decides Needed Needed = (λ _. refl, λ _. refl)
 
+ties_Decides : (a b : Ties) → Decides (same_ties a b) (a ≡ b)
+ties_Decides Lower Lower = (λ _. refl, λ _. refl)
+ties_Decides Lower Higher = (λ e. cc, λ e. cc)
+ties_Decides Higher Lower = (λ e. cc, λ e. cc)
+ties_Decides Higher Higher = (λ _. refl, λ _. refl)
+
 same_options-Decides : (o p : ClientOptions) → Decides (same_options o p) (o ≡ p)
 same_options-Decides o p =
     Decides-like _
-    (λ e i. record { period = e.0 i; drift = e.1.0 i; trust = record { numerator = e.1.1.0.0 i; denominator = e.1.1.0.1 i }; votes = e.1.1.1 i })
-    (λ e. (ap (λ (x : ClientOptions). x.period) e, (ap (λ (x : ClientOptions). x.drift) e, ((ap (λ (x : ClientOptions). x.trust.numerator) e, ap (λ (x : ClientOptions). x.trust.denominator) e), ap (λ (x : ClientOptions). x.votes) e))))
+    (λ e i. record { period = e.0 i; drift = e.1.0 i; trust = record { numerator = e.1.1.0.0 i; denominator = e.1.1.0.1 i }; votes = e.1.1.1.0 i; ties = e.1.1.1.1 i })
+    (λ e. (ap (λ (x : ClientOptions). x.period) e, (ap (λ (x : ClientOptions). x.drift) e, ((ap (λ (x : ClientOptions). x.trust.numerator) e, ap (λ (x : ClientOptions). x.trust.denominator) e), (ap (λ (x : ClientOptions). x.votes) e, ap (λ (x : ClientOptions). x.ties) e)))))
     (Decides-and _ _ (unsigned_Decides o.period p.period) (Decides-and _ _ (unsigned_Decides o.drift p.drift)
-    (Decides-and _ _ (Decides-and _ _ (unsigned_Decides o.trust.numerator p.trust.numerator) (unsigned_Decides o.trust.denominator p.trust.denominator)) (carried_Decides o.votes p.votes))))
+    (Decides-and _ _ (Decides-and _ _ (unsigned_Decides o.trust.numerator p.trust.numerator) (unsigned_Decides o.trust.denominator p.trust.denominator)) (Decides-and _ _ (carried_Decides o.votes p.votes) (ties_Decides o.ties p.ties)))))
 
 same_fees-Decides : (f g : Fees) → Decides (same_fees f g) (f ≡ g)
 same_fees-Decides f g =

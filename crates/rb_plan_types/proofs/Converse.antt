@@ -7,7 +7,7 @@ use Rattle.rb_step.specs.LightClient.{Update, Client, IsOrderly}
 use Rattle.rb_plan_types.specs.declared.cost.Cost.{Cost}
 use Rattle.rb_script_types.specs.declared.goal.Goal.{Goal}
 use Rattle.rb_plan_types.specs.Goal.{Wants}
-use Rattle.rb_plan_types.specs.Order.{IsCheaper, CostsAtMost, IsLowerList, cost_of, after_update}
+use Rattle.rb_plan_types.specs.Order.{IsCheaper, CostsAtMost, ComesFirst, IsEarlierList, cost_of, after_update}
 use Rattle.rb_plan_types.specs.Least.{IsLeast, IsUnreachable}
 use Rattle.rb_plan_types.specs.Labelling.{Labels, IsSound, IsExact, IsFirstTrusted, IsFirstWanted}
 use Rattle.rb_plan_types.proofs.Values.{value_of, same_value}
@@ -35,10 +35,10 @@ module _ (client : Client) (label : Labels) where
       sound : IsSound client label
       sound = sound_from_exact client orderly label exact
 
-      -- before a route that costs its height's label no lower one of the same cost comes only if it takes the first
+      -- before a route that costs its height's label none of the same cost comes only if it takes the first
       -- trusted heights
       ties_back : (p : List Update) (h : ℕ) → IsRoute client h p → label h ≡ Some (cost_of client p)
-          → ((q : List Update) → IsRoute client h q → cost_of client q ≡ cost_of client p → IsLowerList q p → ⊥) → All (IsFirstTrusted client label) p
+          → ((q : List Update) → IsRoute client h q → cost_of client q ≡ cost_of client p → IsEarlierList client.ties q p → ⊥) → All (IsFirstTrusted client label) p
       ties_back [] h route is none = All-nil (IsFirstTrusted client label)
       ties_back (u ∷ r) h route is none =
           All-cons (IsFirstTrusted client label) u r first (ties_back r u.trusted (route_before client orderly u r route.runs) tight.1 rest)
@@ -56,7 +56,7 @@ module _ (client : Client) (label : Labels) where
                   none (v ∷ q) (subst (λ (x : ℕ). IsRoute client x (v ∷ q)) tight.0 (route_more client orderly v q accepted route'))
                   (cost_of-cons client v q ∙ ap (λ (x : Cost). after_update x (client.fee t u.height)) same ∙ sym e ∙ total) (inl (inr (refl, lower)))
 
-          rest : (q : List Update) → IsRoute client u.trusted q → cost_of client q ≡ cost_of client r → IsLowerList q r → ⊥
+          rest : (q : List Update) → IsRoute client u.trusted q → cost_of client q ≡ cost_of client r → IsEarlierList client.ties q r → ⊥
           rest q route' same lower =
               none (u ∷ q) (subst (λ (x : ℕ). IsRoute client x (u ∷ q)) tight.0 (route_more client orderly u q route.runs.1 route'))
               (cost_of-cons client u q ∙ ap (λ (x : Cost). after_update x (client.fee u.trusted u.height)) same ∙ sym (cost_of-cons client u r)) (inr (refl, lower))
@@ -88,15 +88,15 @@ module _ (client : Client) (label : Labels) where
         pub first_trusted_of_least : All (IsFirstTrusted client label) us
         first_trusted_of_least = subst (All (IsFirstTrusted client label)) (reverse-reverse us) (All-permutation (IsFirstTrusted client label) (reverse us) (reverse (reverse us)) (IsPermutation-reverse (reverse us)) back)
           where
-            none : (q : List Update) → IsRoute client least.meets.0 q → cost_of client q ≡ cost_of client (reverse us) → IsLowerList q (reverse us) → ⊥
+            none : (q : List Update) → IsRoute client least.meets.0 q → cost_of client q ≡ cost_of client (reverse us) → IsEarlierList client.ties q (reverse us) → ⊥
             none q route' same lower =
                 least.least (reverse q) (acceptable_route client least.meets.0 q route') (least.meets.0, leaves_route client least.meets.0 q route', least.meets.2)
-                (inr (cost_of-reverse client q ∙ same ∙ cost_of-reverse client us, subst (λ (x : List Update). IsLowerList x (reverse us)) (sym (reverse-reverse q)) lower))
+                (inr (cost_of-reverse client q ∙ same ∙ cost_of-reverse client us, subst (λ (x : List Update). IsEarlierList client.ties x (reverse us)) (sym (reverse-reverse q)) lower))
 
             back : All (IsFirstTrusted client label) (reverse us)
             back = ties_back (reverse us) least.meets.0 route total_back none
 
-        pub first_wanted_of_least : (u : Update) (r : List Update) → reverse us ≡ u ∷ r → IsFirstWanted label goal (cost_of client us) u.height
+        pub first_wanted_of_least : (u : Update) (r : List Update) → reverse us ≡ u ∷ r → IsFirstWanted client.ties label goal (cost_of client us) u.height
         first_wanted_of_least u r e h c is wants before = go (exact.reached h c is) before
           where
             last : u.height ≡ least.meets.0
@@ -105,17 +105,17 @@ module _ (client : Client) (label : Labels) where
             same_end : cost_of client (u ∷ r) ≡ cost_of client us
             same_end = ap (cost_of client) (sym e) ∙ cost_of-reverse client us
 
-            ends : (q : List Update) → IsRoute client h q → cost_of client q ≡ c → c ≡ cost_of client us → h < u.height → IsLowerList q (u ∷ r)
+            ends : (q : List Update) → IsRoute client h q → cost_of client q ≡ c → c ≡ cost_of client us → ComesFirst client.ties h u.height → IsEarlierList client.ties q (u ∷ r)
             ends [] route' same tie lower = absurd (not_empty client u r (same_end ∙ sym tie ∙ sym same))
             ends (v ∷ q) route' same tie lower =
                 let tight : (v.height ≡ h) × (label v.trusted ≡ Some (cost_of client q)) = tight_back client label orderly sound v q h route' (is ∙ ap Some (sym same)) in
-                inl (inl (subst (λ (x : ℕ). x < u.height) (sym tight.0) lower))
+                inl (inl (subst (λ (x : ℕ). ComesFirst client.ties x u.height) (sym tight.0) lower))
 
-            go : IsReached client h c → IsCheaper c (cost_of client us) ⊎ ((c ≡ cost_of client us) × (h < u.height)) → ⊥
+            go : IsReached client h c → IsCheaper c (cost_of client us) ⊎ ((c ≡ cost_of client us) × ComesFirst client.ties h u.height) → ⊥
             go (vs, va, leaves, same) (inl cheaper) = least.least vs va (h, leaves, wants) (inl (subst (λ (x : Cost). IsCheaper x (cost_of client us)) (sym same) cheaper))
             go (vs, va, leaves, same) (inr (tie, lower)) =
                 least.least vs va (h, leaves, wants)
-                (inr (same ∙ tie, subst (IsLowerList (reverse vs)) (sym e) (ends (reverse vs) (route_of client vs h va leaves) (cost_of-reverse client vs ∙ same) tie lower)))
+                (inr (same ∙ tie, subst (IsEarlierList client.ties (reverse vs)) (sym e) (ends (reverse vs) (route_of client vs h va leaves) (cost_of-reverse client vs ∙ same) tie lower)))
 
       -- where no acceptable list meets the goal, no height that it wants is labelled
       pub unlabelled_of_unreachable : (goal : Goal) → IsUnreachable client goal → (h : ℕ) (c : Cost) → label h ≡ Some c → Wants goal h → ⊥

@@ -2,12 +2,13 @@
 use Rattle.std.specs.Prelude.{◌≡◌, ℕ, ◌<◌, ◌^◌, ◌⊎◌, List, Option, Some, All, IsSomeAnd, ◌==◌, find, map}
 use Rattle.std.specs.List.Sorted.{IsStrictlyIncreasing}
 use Rattle.std.specs.Option.{option_map}
+use Rattle.rb_base.specs.declared.ties.Ties.{Ties}
 use Rattle.rb_step.specs.LightClient.{Update, Client, IsSource, IsAcceptable, Leaves}
 use Rattle.rb_plan_types.specs.declared.cost.Cost.{Cost}
 use Rattle.rb_script_types.specs.declared.goal.Goal.{Goal}
 use Rattle.rb_plan_types.specs.declared.labelling.Label.{Label}
 use Rattle.rb_plan_types.specs.Goal.{Wants}
-use Rattle.rb_plan_types.specs.Order.{IsCheaper, CostsAtMost, no_cost, after_update, cost_of}
+use Rattle.rb_plan_types.specs.Order.{IsCheaper, CostsAtMost, ComesFirst, no_cost, after_update, cost_of}
 
 -- heights rise, and numbers have 63 bits
 pub record IsLabelling (labels : List Label) : Type 0 where
@@ -49,12 +50,12 @@ IsAttained client label =
     (h : ℕ) (c : Cost) → label h ≡ Some c
     → (IsSource client h × (c ≡ no_cost)) ⊎ ((t : ℕ) × LeadsTo client label t h c)
 
--- no lower trusted height gives the update's height the same label
+-- no trusted height that comes first gives the update's height the same label
 abbrev pub IsFirstTrusted : Client → Labels → Update → Type 0
 IsFirstTrusted client label u =
-    (t : ℕ) (c : Cost) → t < u.trusted → label u.height ≡ Some c → LeadsTo client label t u.height c → ⊥
+    (t : ℕ) (c : Cost) → ComesFirst client.ties t u.trusted → label u.height ≡ Some c → LeadsTo client label t u.height c → ⊥
 
 -- no height that the goal wants has a label and a height before these
-abbrev pub IsFirstWanted : Labels → Goal → Cost → ℕ → Type 0
-IsFirstWanted label goal total last =
-    (h : ℕ) (c : Cost) → label h ≡ Some c → Wants goal h → IsCheaper c total ⊎ ((c ≡ total) × (h < last)) → ⊥
+abbrev pub IsFirstWanted : Ties → Labels → Goal → Cost → ℕ → Type 0
+IsFirstWanted ties label goal total last =
+    (h : ℕ) (c : Cost) → label h ≡ Some c → Wants goal h → IsCheaper c total ⊎ ((c ≡ total) × ComesFirst ties h last) → ⊥

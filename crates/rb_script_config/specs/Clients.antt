@@ -7,6 +7,8 @@ use Rattle.rb_script_types.specs.declared.config.RefreshTo.{RefreshTo}
 use Rattle.rb_script_types.specs.declared.config.RefreshTo.TheVariants.{Lowest, Highest}
 use Rattle.rb_script_types.specs.declared.version.Version.{Version}
 use Rattle.rb_script_types.specs.declared.version.Version.TheVariants.{One, Two, Three}
+use Rattle.rb_base.specs.declared.ties.Ties.{Ties}
+use Rattle.rb_base.specs.declared.ties.Ties.TheVariants.{Lower}
 use Rattle.rb_base.specs.declared.votes.CarriedVotes.{CarriedVotes}
 use Rattle.rb_base.specs.declared.votes.CarriedVotes.TheVariants.{Commit, Cast, Needed}
 use Rattle.rb_script_toml.specs.Faults.{Fault, ◌>>=◌, check, fault}
@@ -103,6 +105,12 @@ refresh_to One = Lowest
 refresh_to Two = Lowest
 refresh_to Three = Highest
 
+-- which heights come first in lists of updates that are equally cheap: the lower ones in versions 1 to 3
+abbrev pub ties_of : Version → Ties
+ties_of One = Lower
+ties_of Two = Lower
+ties_of Three = Lower
+
 -- a client of these chains, beside those before it
 unfoldable pub client : Version → List Chain → List ClientConfig → Section → Result ClientConfig Fault
 client version chains before s = do
@@ -118,7 +126,7 @@ client version chains before s = do
     id = i.id;
     host = i.host;
     tracks = i.tracks;
-    options = record { period = period; drift = drift; trust = level; votes = votes };
+    options = record { period = period; drift = drift; trust = level; votes = votes; ties = ties_of version };
     refresh = t.refresh;
     refresh_to = refresh_to version;
     fees = t.fees;

@@ -4,7 +4,7 @@ ghost use Rattle.toml.specs.View.{view, items_view};
 ghost use Rattle.rb_script_toml.specs.Faults.{Gives, check};
 ghost use Rattle.rb_script_toml.specs.Fields.{field_view, section_view, number, fee_table, max_number, at_element, elements};
 ghost use Rattle.rb_script_toml.specs.declared.fault.FaultName.TheVariants.{OutOfRange, SameChain};
-ghost use Rattle.rb_script_config.specs.Clients.{carried, limits, identity, terms, client, own, shared_by, refresh_to, votes_in};
+ghost use Rattle.rb_script_config.specs.Clients.{carried, limits, identity, terms, client, own, shared_by, refresh_to, ties_of, votes_in};
 
 use crate::chain::Chain;
 use crate::client_keys::{
@@ -14,7 +14,7 @@ use crate::defaults::{Defaults, read_drift, read_period, trust_or};
 use crate::directory::Directory;
 use crate::drift::Drift;
 use crate::named::{Named, new_identifier, reference};
-use rb_base::{CarriedVotes, ClientId, FeeTable, Options, Period};
+use rb_base::{CarriedVotes, ClientId, FeeTable, Options, Period, Ties};
 use rb_batch::Limits;
 use rb_script_toml::{FaultName, Field, MAX_NUMBER, RunError, Section, element_path, section_at};
 use rb_script_types::{ClientConfig, RefreshTo, Version};
@@ -205,6 +205,15 @@ fn refresh_to(version: Version) -> RefreshTo
     }
 }
 
+/// Which heights come first in lists of updates that are equally cheap.
+fn ties_of(version: Version) -> Ties
+    ensures { result ≡ ties_of version }
+{
+    match version {
+        Version::One | Version::Two | Version::Three => Ties::Lower,
+    }
+}
+
 #[tactic(auto, using(rb_script_toml::proofs::Steps::steps), unfolding(crate::specs::Clients::client))]
 fn read_client(
     version: Version,
@@ -228,7 +237,8 @@ fn read_client(
         tracks: identity.tracks,
         options: Options::new(period, drift.nanoseconds())
             .with_trust(trust)
-            .with_votes(votes),
+            .with_votes(votes)
+            .with_ties(ties_of(version)),
         refresh: terms.refresh,
         refresh_to: refresh_to(version),
         fees: terms.fees,

@@ -1,5 +1,6 @@
 -- A light client in a window, and the lists of updates that it takes (ICS 2, client updates; ICS 7).
 use Rattle.std.specs.Prelude.{◌≡◌, ℕ, ◌<◌, ◌^◌, ◌⊎◌, List, [], ◌∷◌, sum_by, Contains}
+use Rattle.rb_base.specs.declared.ties.Ties.{Ties}
 
 -- store the header at a height, on the word of the record at a trusted height
 pub record Update : Type 0 where
@@ -7,12 +8,14 @@ pub record Update : Type 0 where
   pub trusted : ℕ
 
 -- A client in its window: the heights that it has stored, which heights are live, and which steps, from a
--- trusted height to the height of a header, it accepts at every moment of the window, and for what fee.
+-- trusted height to the height of a header, it accepts at every moment of the window, and for what fee; and which
+-- heights come first in lists of updates that are equally cheap.
 pub record Client : Type 1 where
   pub stored : List ℕ
   pub IsLive : ℕ → Type 0
   pub Accepts : ℕ → ℕ → Type 0
   pub fee : ℕ → ℕ → ℕ
+  pub ties : Ties
 
 -- each update in turn trusts a stored height, its step is accepted, and its height is stored from then on
 abbrev pub Runs : Client → List ℕ → List Update → Type 0

@@ -41,4 +41,5 @@ client_of v = record {
   IsLive = IsLive v;
   Accepts = IsAcceptedWithin v.options v.book v.window;
   fee = fee_at v.options v.fees v.book;
+  ties = v.options.ties;
 }

@@ -11,7 +11,7 @@ ghost use Rattle.rb_step.specs.View.{client_of, AreKnown, IsView};
 
 use crate::sent::SentVotes;
 use crate::step::Step;
-use rb_base::{CarriedVotes, FeeTable, Height, Options, Window};
+use rb_base::{CarriedVotes, FeeTable, Height, Options, Ties, Window};
 use rb_book::ChainBook;
 use rb_valset::MAX_MEMBERS;
 use std::alloc::{AllocError, Allocator, Global};
@@ -96,6 +96,14 @@ impl<'a, A: Allocator + Copy> ClientView<'a, A> {
         ensures { result ≡ self.now.options }
     {
         self.options
+    }
+
+    /// Which heights come first in lists of updates that are equally cheap.
+    #[tactic(auto, unfolding(crate::specs::View::client_of))]
+    pub fn ties(&self) -> Ties
+        ensures { result ≡ (client_of self.now).ties }
+    {
+        self.options.ties()
     }
 
     /// What an update of the client costs.

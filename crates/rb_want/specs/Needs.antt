@@ -8,6 +8,7 @@ use Rattle.std.specs.Str.{bytes_eq}
 use Rattle.rb_base.specs.Options.{ClientOptions}
 use Rattle.rb_base.specs.Window.{Span}
 use Rattle.rb_base.specs.declared.votes.CarriedVotes.TheVariants as carried
+use Rattle.rb_base.specs.declared.ties.Ties.TheVariants as ties
 use Rattle.rb_import_answers.specs.Revisions.{IsRevision}
 use Rattle.rb_import_answers.specs.declared.client.ClientState.{ClientState}
 use Rattle.rb_import_answers.specs.declared.client.ConsensusState.{ConsensusState}
@@ -120,7 +121,7 @@ first_ends t =
 abbrev pub options_with : Option ℕ → Option ℕ → Option TrustLevel → Option ClientOptions
 options_with (Some period) (Some drift) (Some level) =
     if nat_lt 0 level.denominator && nat_le level.denominator (3 * level.numerator) && nat_le level.numerator level.denominator && nat_lt drift (2 ^ 63)
-    then Some (record { period = period; drift = drift; trust = record { numerator = level.numerator; denominator = level.denominator }; votes = carried.Commit })
+    then Some (record { period = period; drift = drift; trust = record { numerator = level.numerator; denominator = level.denominator }; votes = carried.Commit; ties = ties.Lower })
     else None
 options_with _ _ _ = None
 

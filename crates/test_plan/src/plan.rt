@@ -1,7 +1,7 @@
 ghost use Rattle.std.specs.Prelude.{◌≡◌, IfOk};
 
 use crate::same::assert_same;
-use rb_base::{FeeTable, Height, Window};
+use rb_base::{FeeTable, Height, Ties, Window};
 use rb_book::{ChainBook, Header, Record, Vote};
 use rb_graph::Graph;
 use rb_plan::{label, plan};
@@ -58,6 +58,7 @@ struct World {
     stored: &'static [u64],
     headers: &'static [(u64, Members)],
     seconds: u64,
+    ties: Ties,
 }
 
 /// The fewest updates to height 10 go by 5, whose hundred validators make them dear.
@@ -65,6 +66,7 @@ const FIVE: World = World {
     stored: &[1],
     headers: &[(1, A), (3, AP), (5, HUNDRED), (7, PZ), (10, Z)],
     seconds: 200,
+    ties: Ties::Lower,
 };
 
 /// Heights 3 and 4 cost the same, and so does 10 by either.
@@ -72,6 +74,13 @@ const TIED: World = World {
     stored: &[1],
     headers: &[(1, A), (3, AP), (4, AP), (10, PQ)],
     seconds: 200,
+    ties: Ties::Lower,
+};
+
+/// So do they, and the higher heights come first.
+const TIED_HIGHER: World = World {
+    ties: Ties::Higher,
+    ..TIED
 };
 
 /// The record at 10 s expires.
@@ -79,6 +88,7 @@ const EXPIRED: World = World {
     stored: &[1, 3],
     headers: &[(1, A), (3, A), (5, A)],
     seconds: 1_010,
+    ties: Ties::Lower,
 };
 
 /// Both stored records expire.
@@ -147,7 +157,7 @@ fn make_view<'a>(
     assert!(rt; are_known(stored, book));
     let fees = FeeTable::new(100, 1, 1)?;
     let window = Window::at(second(world.seconds)?);
-    Ok(ClientView::new(options()?, fees, stored, window, book))
+    Ok(ClientView::new(options()?.with_ties(world.ties), fees, stored, window, book))
 }
 
 fn label_text(alloc: Global, label: &Label) -> Result<String, AllocError> {
@@ -307,6 +317,20 @@ const ROWS: &[Row] = &[
         number: 2,
         text: "1:0,0 3:112,1 4:112,1 10:224,2 | 3<1",
         proof: Some(3),
+    },
+    Row {
+        world: TIED_HIGHER,
+        is_exact: false,
+        number: 10,
+        text: "1:0,0 3:112,1 4:112,1 10:224,2 | 4<1 10<4",
+        proof: Some(10),
+    },
+    Row {
+        world: TIED_HIGHER,
+        is_exact: false,
+        number: 2,
+        text: "1:0,0 3:112,1 4:112,1 10:224,2 | 4<1",
+        proof: Some(4),
     },
     Row {
         world: EXPIRED,
