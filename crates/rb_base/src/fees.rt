@@ -48,6 +48,27 @@ impl FeeTable {
         })
     }
 
+    /// What an update costs before its votes and validators.
+    pub fn base(&self) -> u64
+        ensures { result ≡ self.now.base }
+    {
+        self.base
+    }
+
+    /// What each vote that an update carries adds.
+    pub fn signature(&self) -> u64
+        ensures { result ≡ self.now.signature }
+    {
+        self.signature
+    }
+
+    /// What each validator adds whose power is counted.
+    pub fn validator(&self) -> u64
+        ensures { result ≡ self.now.validator }
+    {
+        self.validator
+    }
+
     /// The charge for an update that carries so many votes over so many validators.
     pub fn charge(&self, commits: u64, validators: u64) -> u64
         requires commits { commits < 2 ^ 32 }

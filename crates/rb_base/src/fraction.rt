@@ -65,6 +65,21 @@ impl Fraction {
         }
     }
 
+    /// The number above the line.
+    pub fn numerator(self) -> u64
+        ensures { result ≡ self.numerator }
+    {
+        self.numerator
+    }
+
+    /// The number below the line, which isn't 0.
+    pub fn denominator(self) -> u64
+        ensures { result ≡ self.denominator }
+        ensures positive { 0 < result }
+    {
+        self.denominator
+    }
+
     /// Whether `power` is more than this fraction of `total`. Equality is not more.
     pub fn is_exceeded_by(self, power: u64, total: u64) -> bool
         ensures { IsTrue result ↔ Exceeds power total self }
