@@ -20,7 +20,7 @@ use crate::report::{ClientReport, Outcome};
 use crate::taking::{note, offer};
 use rb_base::{Gate, WorkItem};
 use rb_core_model::{CoreError, Event};
-use rb_drafting::draft;
+use rb_plan_drafting::draft;
 use rb_graph::SharedGraph;
 use rb_plan_client::{Draft, JobView};
 use std::alloc::{AllocError, Allocator};

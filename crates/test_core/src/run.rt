@@ -9,7 +9,7 @@ use rb_base::{FeeTable, Height, Part, Window};
 use rb_book::{ChainBook, Vote};
 use rb_core::{Core, Told};
 use rb_core_model::{CoreError, Event, Reply, scan};
-use rb_drafting::draft;
+use rb_plan_drafting::draft;
 use rb_graph::Graph;
 use rb_plan_client::{Draft, JobView};
 use rb_scan::Sequence;

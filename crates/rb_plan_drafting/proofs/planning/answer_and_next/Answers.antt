@@ -3,8 +3,8 @@ use Rattle.rb_plan_types.specs.Labelling.{IsExact, label_of}
 use Rattle.rb_scan.specs.Owed.{wanted}
 use Rattle.rb_step.specs.View.{View, client_of}
 use Rattle.rb_plan_client.specs.Task.{Message, view_of, first_goal}
-use Rattle.rb_drafting.proofs.RightAnswers.{answer_right, reach_from_top}
-use Rattle.rb_drafting.proofs.planning.answer_and_next.Goals as goal
+use Rattle.rb_plan_drafting.proofs.RightAnswers.{answer_right, reach_from_top}
+use Rattle.rb_plan_drafting.proofs.planning.answer_and_next.Goals as goal
 
 pub returns : goal.returns
 returns g c =

@@ -6,7 +6,7 @@ ghost use Rattle.rb_plan_types.specs.Labelling.{IsExact, IsLabelling, label_of};
 ghost use Rattle.rb_step.specs.View.{client_of};
 ghost use Rattle.rb_plan_client.specs.Draft.{IsSending, IsAnswer, planned_updates};
 ghost use Rattle.rb_plan_client.specs.Next.{IsNext};
-ghost use Rattle.rb_drafting.specs.Planning.{IsPlannedFor, IsPlannedIf};
+ghost use Rattle.rb_plan_drafting.specs.Planning.{IsPlannedFor, IsPlannedIf};
 ghost use Rattle.rb_plan_client.specs.Sent.{sending_view};
 ghost use Rattle.rb_plan_client.specs.Task.{Message, view_of, gas_of, gases, first_press, messages_of};
 

@@ -1,5 +1,5 @@
 use Rattle.std.proofs.Common.{ap, ◌∙◌, Err}
-use Rattle.rb_drafting.proofs.planning.sending.Goals as goal
+use Rattle.rb_plan_drafting.proofs.planning.sending.Goals as goal
 
 pub returns-in-Err-TooBig : goal.returns-in-Err-TooBig
 returns-in-Err-TooBig g c =

@@ -15,7 +15,7 @@ use Rattle.rb_scan.specs.Owed.{wanted}
 use Rattle.rb_step.specs.LightClient.{Client}
 use Rattle.rb_step.specs.View.{client_of}
 use Rattle.rb_plan_client.specs.Draft.{Planned, IsPlan, IsPlanned, IsIdle, IsAnswer}
-use Rattle.rb_drafting.specs.Planning.{IsPlannedFor, IsPlannedIf}
+use Rattle.rb_plan_drafting.specs.Planning.{IsPlannedFor, IsPlannedIf}
 use Rattle.rb_plan_client.specs.Reach.{IsReachable, IsReach}
 use Rattle.rb_plan_client.specs.Task.{Task, Message, view_of, due_messages, refresh_goal, first_goal, goal_of, messages_of}
 
