@@ -14,7 +14,8 @@ use Rattle.rb_plan_client.specs.Draft.{Draft}
 use Rattle.rb_core_model.specs.Entry.{Logged, logged_of, event_of, events_of, log_from}
 use Rattle.rb_core_model.specs.Event.{Event, IsEvent, Window, Asked, SetSeen, HeaderSeen, StoredSeen, Sent, Received, AckWritten, Cleared, Closed, Scanned, Planned, Settled}
 use Rattle.rb_core_model.specs.Log.{accepted_from}
-use Rattle.rb_core_model.specs.Machine.{State, begun, plan_number, is_held, all_scanned, is_view, is_job, client_view, max_events, is_known, refusal_beside, refusal_of, accepted, after, state_of}
+use Rattle.rb_core_model.specs.Machine.{State, begun, plan_number, is_held, all_scanned, is_view, is_job, client_view, is_known, refusal_beside, refusal_of, accepted, after, state_of}
+use Rattle.rb_core_model.specs.Limits.{max_events}
 use Rattle.rb_plan_client.specs.Same.{same_job, same_job-Decides}
 use Rattle.rb_core_model.specs.Scan.{Scan}
 use Rattle.rb_core_model.specs.Snapshot.{Snapshot, Log, followed_by}

@@ -12,7 +12,8 @@ use Rattle.rb_core_model.specs.Entry.{Logged, event_of, logged_of}
 use Rattle.rb_core_model.specs.Scan.{Scan}
 use Rattle.rb_core_model.specs.Event.{Event, Window, Asked, SetSeen, HeaderSeen, StoredSeen, Sent, Received, AckWritten, Cleared, Closed, Scanned, Planned, Settled}
 use Rattle.rb_core_model.specs.Invariant.{HasInvariant}
-use Rattle.rb_core_model.specs.Machine.{State, max_events, is_known, knows_client, knows_path, refusal_of, refusal_beside, accepted}
+use Rattle.rb_core_model.specs.Machine.{State, is_known, knows_client, knows_path, refusal_of, refusal_beside, accepted}
+use Rattle.rb_core_model.specs.Limits.{max_events}
 use Rattle.rb_core_model.specs.Refusal.{refused_if}
 use Rattle.rb_core_model.specs.Refused.{IsRefusal}
 use Rattle.rb_core_model.specs.declared.error.CoreError.{CoreError}

@@ -11,7 +11,8 @@ use Rattle.rb_core_model.specs.Entry as entries
 use Rattle.rb_core_model.specs.Entry.{Logged, logged_of, event_of, log_from}
 use Rattle.rb_core_model.specs.Event.{Event, IsEvent, Received, AckWritten, Cleared, Scanned}
 use Rattle.rb_core_model.specs.Log.{IsLog}
-use Rattle.rb_core_model.specs.Machine.{State, knows_client, knows_path, is_known, max_events, accepted, state_of}
+use Rattle.rb_core_model.specs.Machine.{State, knows_client, knows_path, is_known, accepted, state_of}
+use Rattle.rb_core_model.specs.Limits.{max_events}
 use Rattle.rb_core_model.specs.Refusal.{refused_if}
 use Rattle.rb_core_model.specs.Snapshot.{Snapshot, Log}
 use Rattle.rb_core_model.specs.Standing.{Standing, judged}

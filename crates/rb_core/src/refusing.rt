@@ -4,7 +4,8 @@ ghost use Rattle.rb_script_types.specs.declared.refusal.Refusal.TheVariants as r
 ghost use Rattle.rb_core_model.specs.Invariant.{HasInvariant};
 ghost use Rattle.rb_core.specs.Follower.{refused_first};
 ghost use Rattle.rb_core.specs.State.{standing_view, state_view};
-ghost use Rattle.rb_core_model.specs.Machine.{is_known, knows_client, knows_path, is_held, max_events, scan_refusal, draft_refusal, refusal_beside, refusal_of};
+ghost use Rattle.rb_core_model.specs.Machine.{is_known, knows_client, knows_path, is_held, scan_refusal, draft_refusal, refusal_beside, refusal_of};
+ghost use Rattle.rb_core_model.specs.Limits.{max_events};
 ghost use Rattle.rb_core_model.specs.Refusal.{refused_if};
 ghost use Rattle.rb_core_model.specs.Seen.{event_view};
 ghost use Rattle.rb_core_model.specs.Standing.{judged};

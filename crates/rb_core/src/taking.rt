@@ -3,7 +3,8 @@ ghost use Rattle.std.specs.Prelude.{◌≡◌, ◌<◌, true, None, IfSome, IsSo
 ghost use Rattle.rb_core_model.specs.Event as events;
 ghost use Rattle.rb_core_model.specs.Invariant.{HasInvariant};
 ghost use Rattle.rb_core.specs.State.{standing_view, state_view, HasRoom};
-ghost use Rattle.rb_core_model.specs.Machine.{is_known, max_events, accepted, reply_of};
+ghost use Rattle.rb_core_model.specs.Machine.{is_known, accepted, reply_of};
+ghost use Rattle.rb_core_model.specs.Limits.{max_events};
 ghost use Rattle.rb_core_model.specs.Replied.{reply_view};
 ghost use Rattle.rb_core_model.specs.Seen.{event_view};
 ghost use Rattle.rb_core_model.specs.Standing.{judged};

@@ -14,7 +14,8 @@ use Rattle.rb_core_model.specs.Config.{part_for}
 use Rattle.rb_plan_client.specs.Draft.{Job, Draft}
 use Rattle.rb_core_model.specs.Event.{Event, Window, Asked, SetSeen, HeaderSeen, StoredSeen, Sent, Received, AckWritten, Cleared, Closed, Scanned, Planned, Settled}
 use Rattle.rb_core_model.specs.Scan.{Scan}
-use Rattle.rb_core_model.specs.Machine.{Scans, State, no_scans, scan_of, with_scan, is_view, is_scanned, is_missed, all_scanned, plan_number, job_of, client_view, max_events, is_known, is_held, is_job, refusal_beside, refusal_of, accepted, after}
+use Rattle.rb_core_model.specs.Machine.{Scans, State, no_scans, scan_of, with_scan, is_view, is_scanned, is_missed, all_scanned, plan_number, job_of, client_view, is_known, is_held, is_job, refusal_beside, refusal_of, accepted, after}
+use Rattle.rb_core_model.specs.Limits.{max_events}
 use Rattle.rb_script_types.specs.declared.refusal.Refusal.{Refusal}
 use Rattle.rb_script_types.specs.declared.refusal.Refusal.TheVariants.{UnknownObject, Stale, Busy, Repeat, OutOfOrder, WindowBack, NotOwed, LogFull}
 use Rattle.rb_core_model.specs.Refusal.{refused_if}

@@ -9,7 +9,7 @@ use Rattle.rb_book.specs.Book.{Book, RecordAt, height_of, time_of, heights_and_t
 use Rattle.rb_book.specs.Header.{Record, Header}
 use Rattle.rb_book.specs.Intake.{after_set, after_header, after_record, with_set, with_record, with_header}
 use Rattle.rb_scan.specs.Owed.{packet_at, same_kind}
-use Rattle.rb_scan.specs.Same.{same_order}
+use Rattle.rb_scan.specs.Orders.{same_order}
 use Rattle.rb_scan.specs.declared.path.Order.TheVariants.{Ordered}
 use Rattle.rb_scan.specs.Packet.{Packet, is_cleared}
 use Rattle.rb_scan.specs.Path.{Path}

@@ -19,7 +19,8 @@ use Rattle.rb_script_types.specs.declared.config.RefreshTo.TheVariants.{Lowest}
 use Rattle.rb_script_types.specs.declared.version.Version.TheVariants.{One}
 use Rattle.rb_plan_client.specs.Draft.{batched, Planned as Answer, Job, Draft}
 use Rattle.rb_core_model.specs.Event.{Event, Window, Asked, StoredSeen, Sent, Received, AckWritten, Cleared, Closed, Scanned, Planned, Settled}
-use Rattle.rb_core_model.specs.Machine.{State, Opened, client_view, client_view_refusal, path_view_refusal, max_events, refusal_of, reply_of, state_of}
+use Rattle.rb_core_model.specs.Machine.{State, Opened, client_view, client_view_refusal, path_view_refusal, refusal_of, reply_of, state_of}
+use Rattle.rb_core_model.specs.Limits.{max_events}
 use Rattle.rb_core_model.specs.Snapshot.{from_nothing}
 use Rattle.rb_script_types.specs.declared.refusal.Refusal.{Refusal}
 use Rattle.rb_script_types.specs.declared.refusal.Refusal.TheVariants.{Conflict, UnknownObject, Stale, Busy, Repeat, OutOfOrder, WindowBack, NotOwed, LogFull}

@@ -1,4 +1,5 @@
 pub mod Config
+pub mod Limits
 pub mod Refusal
 pub mod Scan
 pub mod Event

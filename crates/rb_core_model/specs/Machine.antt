@@ -15,6 +15,7 @@ use Rattle.rb_core_model.specs.Event.{Event, Window, Asked, SetSeen, HeaderSeen,
 use Rattle.rb_core_model.specs.Scan.{Scan}
 use Rattle.rb_script_types.specs.declared.refusal.Refusal.{Refusal}
 use Rattle.rb_script_types.specs.declared.refusal.Refusal.TheVariants.{UnknownObject, Stale, Busy, Repeat, OutOfOrder, NotOwed, LogFull}
+use Rattle.rb_core_model.specs.Limits.{max_events}
 use Rattle.rb_core_model.specs.Refusal.{refused_if}
 use Rattle.rb_plan_client.specs.Same.{same_job}
 use Rattle.rb_core_model.specs.Snapshot.{Snapshot, Log, nothing, standing_from}
@@ -95,10 +96,6 @@ client_view s client =
     option_and_then (λ window. option_map (job_of s client window) (slice_get s.standing.clients client)) s.standing.window
 
 -- ---- why an event is refused
-
--- the most events (own choice)
-abbrev pub max_events : ℕ
-max_events = 1000000
 
 abbrev pub knows_chain : State → ℕ → Bool
 knows_chain s chain = nat_lt chain (length s.standing.books)

@@ -11,7 +11,7 @@ use Rattle.rb_script_types.specs.declared.goal.Goal.{Goal}
 use Rattle.rb_scan.specs.Owed.{owed_part, packet_at, next_sequence, same_kind}
 use Rattle.rb_scan.specs.Packet.{Packet, is_cleared}
 use Rattle.rb_scan.specs.Path.{Path}
-use Rattle.rb_scan.specs.Same.{same_order}
+use Rattle.rb_scan.specs.Orders.{same_order}
 use Rattle.rb_scan.specs.declared.message.Kind.{Kind}
 use Rattle.rb_scan.specs.declared.message.Kind.TheVariants.{Receive, Acknowledge, Timeout}
 use Rattle.rb_scan.specs.declared.message.PacketMsg.{PacketMsg}

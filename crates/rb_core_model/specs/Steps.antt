@@ -6,7 +6,8 @@ use Rattle.rb_base.specs.declared.gate.Part.{Part}
 use Rattle.rb_plan_client.specs.Draft.{Draft}
 use Rattle.rb_core_model.specs.Event.{Event, Scanned, Planned}
 use Rattle.rb_core_model.specs.Scan.{Scan}
-use Rattle.rb_core_model.specs.Machine.{State, is_scanned, client_view, max_events, is_known, knows_path, refusal_of, after}
+use Rattle.rb_core_model.specs.Machine.{State, is_scanned, client_view, is_known, knows_path, refusal_of, after}
+use Rattle.rb_core_model.specs.Limits.{max_events}
 use Rattle.rb_core_model.specs.Standing.{ClientState, path_view, task_in, judged, standing_after, with_client, after_answer}
 
 -- the event is neither a scan nor a plan

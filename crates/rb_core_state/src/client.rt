@@ -3,7 +3,7 @@ ghost use Rattle.std.specs.Prelude.{◌≡◌, ◌==◌, ◌≤◌, ◌<◌, ◌
 ghost use Rattle.std.specs.List.Sorted.{IsStrictlyIncreasing};
 ghost use Rattle.std.specs.Option.{option_map, option_map_or, option_copied};
 ghost use Rattle.rb_core_model.specs.Begun.{max_begun};
-ghost use Rattle.rb_core_model.specs.Machine.{max_events};
+ghost use Rattle.rb_core_model.specs.Limits.{max_events};
 ghost use Rattle.rb_book.specs.Search.{IsPlace};
 ghost use Rattle.rb_step.specs.LightClient.{Update};
 ghost use Rattle.rb_core_model.specs.Standing as standings;

@@ -3,7 +3,7 @@ ghost use Rattle.std.specs.Prelude.{◌≡◌, ◌<◌, ◌+◌, ℕ, length, ma
 ghost use Rattle.std.specs.Option.{option_copied, option_map, option_and_then};
 ghost use Rattle.rb_core_model.specs.Begun.{max_begun};
 ghost use Rattle.rb_core_model.specs.Forgetting.{rest_of_client};
-ghost use Rattle.rb_core_model.specs.Machine.{max_events};
+ghost use Rattle.rb_core_model.specs.Limits.{max_events};
 ghost use Rattle.rb_core_state.specs.Floors.{floor_in};
 ghost use Rattle.rb_core_state.specs.Room.{clients_of, HasStoredRoom, HasSettleRoom};
 ghost use Rattle.rb_core_model.specs.Standing as standings;

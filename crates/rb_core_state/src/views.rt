@@ -5,7 +5,8 @@ ghost use Rattle.std.specs.Cmp.Lexicographic.{pointwise};
 ghost use Rattle.std.specs.List.Sorted.{IsStrictlyIncreasing};
 ghost use Rattle.rb_book.specs.Book.{height_of, time_of, heights_and_times_of};
 ghost use Rattle.rb_scan.specs.Path.{heights_of as path_heights, times_of as path_times};
-ghost use Rattle.rb_scan.specs.Same.{same_order, same_packet, same_path, same_record};
+ghost use Rattle.rb_scan.specs.Same.{same_packet, same_path, same_record};
+ghost use Rattle.rb_scan.specs.Orders.{same_order};
 ghost use Rattle.rb_core_state.specs.Room.{books_of};
 ghost use Rattle.rb_core_model.specs.Standing.{book_at, empty_book, view_of_path};
 

@@ -3,7 +3,7 @@ use Rattle.std.proofs.Common.{◌≡◌, ℕ, ◌+◌, ◌<◌, ◌≤◌, true,
 use Rattle.std.specs.declared.alloc.Global.{Global}
 use Rattle.rb_core.specs.Core.{Core, state_in}
 use Rattle.rb_core_model.specs.Forgetting.{floors_of, rest_at_floors}
-use Rattle.rb_core_model.specs.Machine.{max_events}
+use Rattle.rb_core_model.specs.Limits.{max_events}
 use Rattle.rb_core_model.specs.Snapshot.{from_nothing}
 use Rattle.rb_core_model.specs.Standing.{Standing}
 use Rattle.rb_script_types.specs.Config.{Config}

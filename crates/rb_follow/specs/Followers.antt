@@ -2,7 +2,7 @@
 use Rattle.std.specs.Prelude.{◌≡◌, ℕ, ◌+◌, ◌*◌, nat_le, nat_lt, List, [], length, codes, Result, Ok, Err, if◌then◌else◌}
 use Rattle.std.specs.declared.alloc.Global.{Global}
 use Rattle.rb_core_model.specs.Forgetting.{floors_of, rest_at_floors}
-use Rattle.rb_core_model.specs.Machine.{max_events}
+use Rattle.rb_core_model.specs.Limits.{max_events}
 use Rattle.rb_core_model.specs.Over.{firsts_of}
 use Rattle.rb_core_model.specs.Standing.{Standing, opening_standing}
 use Rattle.rb_script_types.specs.Config.{Config}

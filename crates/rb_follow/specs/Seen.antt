@@ -1,7 +1,7 @@
 -- (internal) What a follower keeps in order.
 use Rattle.std.specs.Prelude.{◌≡◌, ℕ, ◌≤◌, List}
 use Rattle.rb_core.specs.Core.{Core, state_in}
-use Rattle.rb_core_model.specs.Machine.{max_events}
+use Rattle.rb_core_model.specs.Limits.{max_events}
 use Rattle.rb_script_types.specs.Config.{Config}
 use Rattle.rb_script_config.specs.Paths.{path_ids}
 use Rattle.rb_follow.specs.Followers.{max_turns}

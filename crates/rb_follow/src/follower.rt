@@ -3,7 +3,7 @@ ghost use Rattle.std.specs.Prelude.{◌≡◌, ◌<◌, ◌≤◌, ◌+◌, Ok, 
 ghost use Rattle.rb_script_types.specs.Script.{turn_view};
 ghost use Rattle.rb_core_model.specs.Config.{IsSetUp};
 ghost use Rattle.rb_core_model.specs.Forgetting.{floors_of};
-ghost use Rattle.rb_core_model.specs.Machine.{max_events};
+ghost use Rattle.rb_core_model.specs.Limits.{max_events};
 ghost use Rattle.rb_script_toml.specs.Faults.{Gives};
 ghost use Rattle.rb_script_read.specs.Turns.{reading_view};
 ghost use Rattle.rb_script_read.specs.NextTurns.{next_turn_view, reading_after};

@@ -14,7 +14,7 @@ use Rattle.rb_book.specs.Intake.{unless, set_refusal_beside, set_refusal, header
 use Rattle.rb_scan.specs.Owed.{packet_at, next_sequence}
 use Rattle.rb_scan.specs.Packet.{Packet}
 use Rattle.rb_scan.specs.Path.{Path}
-use Rattle.rb_scan.specs.Same.{same_order}
+use Rattle.rb_scan.specs.Orders.{same_order}
 use Rattle.rb_scan.specs.declared.message.Kind.TheVariants.{Receive}
 use Rattle.rb_scan.specs.declared.path.Order.{Order}
 use Rattle.rb_scan.specs.declared.path.Order.TheVariants.{Ordered, Unordered}

@@ -8,7 +8,7 @@ use Rattle.rb_book.specs.Book.{Book}
 use Rattle.rb_book.proofs.Lists.{All-insert}
 use Rattle.rb_scan.specs.Owed.{same_kind}
 use Rattle.rb_scan.specs.Packet.{Packet, is_finished, is_cleared, is_in_flight}
-use Rattle.rb_scan.specs.Same.{same_order}
+use Rattle.rb_scan.specs.Orders.{same_order}
 use Rattle.rb_scan.specs.declared.message.Kind.{Kind}
 use Rattle.rb_scan.specs.declared.message.Kind.TheVariants.{Receive, Acknowledge, Timeout}
 use Rattle.rb_scan.specs.declared.message.PacketMsg.{PacketMsg}

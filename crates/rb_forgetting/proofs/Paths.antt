@@ -9,7 +9,7 @@ use Rattle.rb_book.specs.Intake.{placed}
 use Rattle.rb_book.proofs.Rising.{count-step}
 use Rattle.rb_scan.specs.Owed.{same_kind}
 use Rattle.rb_scan.specs.Packet.{Packet, is_finished, is_cleared}
-use Rattle.rb_scan.specs.Same.{same_order}
+use Rattle.rb_scan.specs.Orders.{same_order}
 use Rattle.rb_scan.specs.declared.message.Kind.{Kind}
 use Rattle.rb_scan.specs.declared.message.Kind.TheVariants.{Receive, Acknowledge, Timeout}
 use Rattle.rb_scan.specs.declared.message.PacketMsg.{PacketMsg}

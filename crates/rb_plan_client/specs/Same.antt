@@ -25,7 +25,8 @@ use Rattle.rb_script_types.specs.declared.waits.Waits.{Waits}
 use Rattle.rb_script_types.specs.declared.goal.Goal.{Goal}
 use Rattle.rb_script_types.specs.declared.goal.Goal.TheVariants.{Exactly, AtLeast}
 use Rattle.rb_scan.specs.Owed.{same_kind}
-use Rattle.rb_scan.specs.Same.{same_order, options_Decides, orders_Decides}
+use Rattle.rb_scan.specs.Same.{options_Decides, orders_Decides}
+use Rattle.rb_scan.specs.Orders.{same_order}
 use Rattle.rb_scan.specs.declared.message.Kind.{Kind}
 use Rattle.rb_scan.specs.declared.message.Kind.TheVariants.{Receive, Acknowledge, Timeout}
 use Rattle.rb_scan.specs.declared.message.PacketMsg.{PacketMsg}

@@ -4,5 +4,6 @@ pub mod Path
 pub mod Expiry
 pub mod Owed
 pub mod Ends
+pub mod Orders
 pub mod Same
 pub mod Laws

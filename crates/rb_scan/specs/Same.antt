@@ -9,6 +9,7 @@ use Rattle.std.proofs.lemmas.Bool.Decides.{Decides-and, Decides-like}
 use Rattle.std.proofs.lemmas.Slice.Eq.{slice_eq-Decides}
 use Rattle.rb_scan.specs.Packet.{Packet}
 use Rattle.rb_scan.specs.Path.{Path}
+use Rattle.rb_scan.specs.Orders.{same_order}
 use Rattle.rb_scan.specs.declared.path.Order.{Order}
 use Rattle.rb_scan.specs.declared.path.Order.TheVariants.{Ordered, Unordered}
 
@@ -21,12 +22,6 @@ same_packet p q =
 
 abbrev pub same_record : ℕ × ℕ → ℕ × ℕ → Bool
 same_record r s = (r.0 == s.0) && (r.1 == s.1)
-
-abbrev pub same_order : Order → Order → Bool
-same_order Ordered Ordered = true
-same_order Ordered Unordered = false
-same_order Unordered Ordered = false
-same_order Unordered Unordered = true
 
 abbrev pub same_path : Path → Path → Bool
 same_path path other =

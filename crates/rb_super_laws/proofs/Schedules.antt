@@ -14,7 +14,8 @@ use Rattle.rb_plan_client.specs.Draft.{Draft, IsDraft}
 use Rattle.rb_core_model.specs.Event.{Event, IsEvent, Window, Asked, Scanned, Planned}
 use Rattle.rb_core_model.specs.Scan.{Scan}
 use Rattle.rb_core_model.specs.Snapshot.{from_nothing}
-use Rattle.rb_core_model.specs.Machine.{State, opening, is_scanned, job_of, client_view, max_events, refusal_of, accepted, after, state_of}
+use Rattle.rb_core_model.specs.Machine.{State, opening, is_scanned, job_of, client_view, refusal_of, accepted, after, state_of}
+use Rattle.rb_core_model.specs.Limits.{max_events}
 use Rattle.rb_script_types.specs.declared.refusal.Refusal.{Refusal}
 use Rattle.rb_script_types.specs.declared.refusal.Refusal.TheVariants.{WindowBack}
 use Rattle.rb_core_model.specs.Refusal.{refused_if}

@@ -10,7 +10,8 @@ use Rattle.rb_plan_client.specs.Draft.{Draft, IsDraft}
 use Rattle.rb_core_model.specs.Event.{Event, Window, Asked, Scanned, Planned}
 use Rattle.rb_core_model.specs.Scan.{Scan}
 use Rattle.rb_core_model.specs.Snapshot.{from_nothing}
-use Rattle.rb_core_model.specs.Machine.{State, opening, is_scanned, is_job, client_view, max_events, refusal_of, after, state_of}
+use Rattle.rb_core_model.specs.Machine.{State, opening, is_scanned, is_job, client_view, refusal_of, after, state_of}
+use Rattle.rb_core_model.specs.Limits.{max_events}
 use Rattle.rb_core_model.specs.Standing.{OpenBatch, ClientState, opening_standing, path_view}
 use Rattle.rb_script_types.specs.declared.script.Settlement.{Settlement}
 use Rattle.rb_super_turn.specs.Agenda.{Item, enter, ask, observe, scan, plan, settle, take_open, agenda, empty_report}

@@ -21,7 +21,7 @@ use Rattle.rb_super_turn.specs.Turns.{priced, numbered, reported_plan, reported,
 use Rattle.rb_super_turn.proofs.Reported.{accepted_reported, set_same}
 use Rattle.rb_super_turn.proofs.Sizes.{at_place}
 use Rattle.rb_super_turn.specs.Phases.{standing_in, HasLogRoom, IsPlannable, IsReportedOf, IsOutcomeOf}
-use Rattle.rb_super_turn.specs.Views.{number_of}
+use Rattle.rb_super_turn.specs.Drafts.{number_of}
 use Rattle.rb_super_turn.proofs.Configs.{known_config}
 use Rattle.rb_super_turn.proofs.Steps.{sizes_in}
 

@@ -5,7 +5,8 @@ use Rattle.rb_base.specs.declared.gate.Part.{Part}
 use Rattle.rb_script_types.specs.declared.observation.Observation.{Observation}
 use Rattle.rb_script_types.specs.declared.script.Asked.{Asked as Question}
 use Rattle.rb_core.specs.Core.{Core, state_in}
-use Rattle.rb_core_model.specs.Machine.{is_scanned, max_events}
+use Rattle.rb_core_model.specs.Machine.{is_scanned}
+use Rattle.rb_core_model.specs.Limits.{max_events}
 use Rattle.rb_core_model.specs.Seen.{observed}
 use Rattle.rb_core_model.specs.Standing.{ClientState, Standing, with_client}
 use Rattle.rb_super_turn.specs.Report.{Outcome, ClientReport}

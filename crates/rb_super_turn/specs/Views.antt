@@ -1,7 +1,6 @@
 -- Reports as they lie in memory, without that.
-use Rattle.std.specs.Prelude.{ℕ, map}
+use Rattle.std.specs.Prelude.{map}
 use Rattle.std.specs.Option.{option_map}
-use Rattle.rb_core_model.specs.Machine.{Reply, Noted, Opened}
 use Rattle.rb_step.specs.Sent.{sent_view}
 use Rattle.rb_super_turn.specs.Report.{RefusedEvent, PricedUpdate, BatchReport, SendingReport, nothing, too_big, batched, PlanReport, PlannedReport, Outcome, held, idle, planned, ClientReport, SettlementReport, TurnReport, Report}
 use Rattle.rb_super_turn.specs.declared.report.BatchReport.{BatchReport as CodeBatch}
@@ -59,10 +58,3 @@ turn_report_view t = record {
 
 abbrev pub report_view : {A : Type 0} → CodeReport A → Report
 report_view r = map turn_report_view r.turns.items
-
--- ---- how a report is made
-
--- the number of the batch that a draft opened; 0 where it opened none
-abbrev pub number_of : Reply → ℕ
-number_of Noted = 0
-number_of (Opened number) = number

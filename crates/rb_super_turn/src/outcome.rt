@@ -8,7 +8,8 @@ ghost use Rattle.rb_step.specs.LightClient.{total_fee};
 ghost use Rattle.rb_step.specs.View.{client_of};
 ghost use Rattle.rb_plan_client.specs.Task.{view_of};
 ghost use Rattle.rb_super_turn.specs.Turns.{priced, numbered, reported_plan, reported, outcome_numbered};
-ghost use Rattle.rb_super_turn.specs.Views.{priced_view, sending_view, plan_view, planned_view, outcome_view, number_of};
+ghost use Rattle.rb_super_turn.specs.Views.{priced_view, sending_view, plan_view, planned_view, outcome_view};
+ghost use Rattle.rb_super_turn.specs.Drafts.{number_of};
 
 use crate::report::{BatchReport, Outcome, PlanReport, PlannedReport, PricedUpdate, SendingReport};
 use rb_base::Moment;

@@ -14,7 +14,7 @@ use Rattle.rb_book.specs.Laws.{StaysABook}
 use Rattle.rb_scan.specs.Owed.{packet_at, same_kind}
 use Rattle.rb_scan.specs.Packet.{Packet}
 use Rattle.rb_scan.specs.Path.{Path}
-use Rattle.rb_scan.specs.Same.{same_order}
+use Rattle.rb_scan.specs.Orders.{same_order}
 use Rattle.rb_scan.specs.declared.message.Kind.{Kind}
 use Rattle.rb_scan.specs.declared.message.Kind.TheVariants.{Receive, Acknowledge, Timeout}
 use Rattle.rb_scan.specs.declared.message.PacketMsg.{PacketMsg}

@@ -2,7 +2,7 @@ use Rattle.std.proofs.Common.{◌<◌, ◌+◌, IfSome, sym, ap, ◌∙◌, subs
 use Rattle.std.specs.Option.{option_map, option_and_then}
 use Rattle.rb_core_state.specs.Room.{ClientWithRoom}
 use Rattle.rb_core_model.specs.Begun.{max_begun}
-use Rattle.rb_core_model.specs.Machine.{max_events}
+use Rattle.rb_core_model.specs.Limits.{max_events}
 use Rattle.rb_core_model.specs.Standing.{OpenBatch, ClientState, batch_opened, after_answer}
 use Rattle.rb_core_state.proofs.Places.{found_seen, seen_changed}
 use Rattle.rb_core_state.proofs.clients.open.Goals as goal

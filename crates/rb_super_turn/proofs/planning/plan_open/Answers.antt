@@ -1,7 +1,8 @@
 use Rattle.std.proofs.Common.{◌≡◌, ◌<◌, ◌≤◌, ◌+◌, IfOk, length, sym, ap, ◌∙◌, subst}
 use Rattle.std.proofs.lemmas.Result.{on_ok_weaker}
 use Rattle.rb_script_types.specs.Config.{Config}
-use Rattle.rb_core_model.specs.Machine.{State, max_events}
+use Rattle.rb_core_model.specs.Machine.{State}
+use Rattle.rb_core_model.specs.Limits.{max_events}
 use Rattle.rb_core_model.specs.Standing.{Standing, batch_open}
 use Rattle.rb_super_turn.specs.Phases.{standing_in, IsOutcomeOf}
 use Rattle.rb_super_turn.specs.Views.{outcome_view}

@@ -3,7 +3,8 @@ use Rattle.std.specs.Prelude.{Ok}
 use Rattle.std.proofs.lemmas.Result.{on_ok_weaker}
 use Rattle.rb_core.specs.Core.{state_in}
 use Rattle.rb_script_types.specs.Config.{Config}
-use Rattle.rb_core_model.specs.Machine.{State, is_scanned, max_events}
+use Rattle.rb_core_model.specs.Machine.{State, is_scanned}
+use Rattle.rb_core_model.specs.Limits.{max_events}
 use Rattle.rb_super_turn.proofs.Steps.{later_from}
 use Rattle.rb_super_turn.proofs.scanning.scan_part.Goals as goal
 
