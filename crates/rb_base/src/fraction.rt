@@ -74,7 +74,7 @@ impl Fraction {
 
     /// The number below the line, which isn't 0.
     pub fn denominator(self) -> u64
-        ensures { result ≡ self.denominator }
+        ensures value { result ≡ self.denominator }
         ensures positive { 0 < result }
     {
         self.denominator
