@@ -14,7 +14,7 @@ use std::time::Instant;
 const RUNS: u32 = 3;
 
 /// Who makes the table.
-#[derive(Clone, Copy, Debug, PartialEq, Eq)]
+#[derive(Clone, Copy, PartialEq, Eq)]
 enum Maker {
     /// `Graph::from_book`.
     Alone,

@@ -17,7 +17,7 @@ use std::thread::Threads;
 const MOST_LINES: usize = 20;
 
 /// As what an explanation is written.
-#[derive(Clone, Copy, Debug, PartialEq, Eq)]
+#[derive(Clone, Copy, PartialEq, Eq)]
 pub enum Form {
     /// As text; all steps, or the first ones.
     Text { is_whole: bool },
@@ -42,7 +42,7 @@ impl Form {
 }
 
 /// What is asked for: turns, a client by its identifier, and in which form.
-#[derive(Clone, Copy, Debug)]
+#[derive(Clone, Copy)]
 pub struct AskedExplanation<'a> {
     pub turns: WantedTurns,
     pub client: Option<&'a str>,

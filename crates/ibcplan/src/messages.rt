@@ -15,7 +15,7 @@ use std::alloc::{AllocError, Global};
 use std::thread::Threads;
 
 /// The folder of the answers, and the one that is made.
-#[derive(Clone, Copy, Debug)]
+#[derive(Clone, Copy)]
 pub struct Folders<'f> {
     pub answers: &'f str,
     pub output: &'f str,

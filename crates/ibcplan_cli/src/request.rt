@@ -98,7 +98,7 @@ pub enum Wanted<'a> {
 }
 
 /// The turns of a script that are wanted.
-#[derive(Clone, Copy, Debug)]
+#[derive(Clone, Copy)]
 pub enum WantedTurns {
     /// All of them.
     Every,

@@ -2,7 +2,7 @@
 ghost use Rattle.std.specs.Prelude.{◌≤◌};
 
 /// A number of workers in threads of their own, up to 64.
-#[derive(Clone, Copy, Debug)]
+#[derive(Clone, Copy)]
 pub struct WorkerCount {
     count: usize,
     ghost bound: { count ≤ 64 },

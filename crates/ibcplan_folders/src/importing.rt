@@ -18,7 +18,7 @@ use std::fs::File;
 use std::{fs, io};
 
 /// The folder with the answers of nodes, and whether nothing is written where some of them are refused.
-#[derive(Clone, Copy, Debug)]
+#[derive(Clone, Copy)]
 pub struct Answers<'f> {
     pub folder: &'f str,
     pub is_all_or_nothing: bool,

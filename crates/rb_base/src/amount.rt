@@ -6,7 +6,7 @@ use std::fmt;
 use std::marker::Model;
 
 /// The height of a block: 1 to 2^63 - 1.
-#[derive(Clone, Copy, Debug, PartialEq, Eq, PartialOrd, Ord, Hash)]
+#[derive(Clone, Copy, Debug, PartialEq, Eq, PartialOrd, Ord)]
 pub struct Height {
     number: u64,
 }
@@ -59,7 +59,7 @@ impl fmt::Display for Height {
 }
 
 /// A moment: nanoseconds since 1970-01-01T00:00:00Z, 0 to 10^20.
-#[derive(Clone, Copy, Debug, PartialEq, Eq, PartialOrd, Ord, Hash)]
+#[derive(Clone, Copy, Debug, PartialEq, Eq, PartialOrd, Ord)]
 pub struct Moment {
     nanoseconds: u128,
 }
@@ -101,7 +101,7 @@ impl Moment {
 }
 
 /// A length of time: 1 to 2^63 - 1 nanoseconds.
-#[derive(Clone, Copy, Debug, PartialEq, Eq, PartialOrd, Ord, Hash)]
+#[derive(Clone, Copy, PartialEq, Eq, PartialOrd, Ord)]
 pub struct Period {
     nanoseconds: u64,
 }

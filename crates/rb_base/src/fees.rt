@@ -8,7 +8,7 @@ use std::marker::Model;
 
 /// What an update costs, in fees or in gas: a base, and so much for each vote that it carries and for each
 /// validator whose power is counted.
-#[derive(Clone, Copy, Debug, PartialEq, Eq, Hash)]
+#[derive(Clone, Copy, PartialEq, Eq)]
 pub struct FeeTable {
     base: u64,
     signature: u64,

@@ -8,7 +8,7 @@ use std::marker::Model;
 
 /// A fraction of a voting power, from a third to one: a client's trust level (CometBFT light
 /// client).
-#[derive(Clone, Copy, Debug, PartialEq, Eq, Hash)]
+#[derive(Clone, Copy, PartialEq, Eq)]
 pub struct Fraction {
     numerator: u64,
     denominator: u64,

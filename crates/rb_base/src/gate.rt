@@ -1,7 +1,7 @@
 //! The jobs of a run, and what is called round each of them.
 
 /// A part of the packet messages that a path owes, each of which is scanned by itself.
-#[derive(Clone, Copy, Debug, PartialEq, Eq, Hash)]
+#[derive(Clone, Copy, PartialEq, Eq)]
 pub enum Part {
     /// The receives.
     Packets,
@@ -10,7 +10,7 @@ pub enum Part {
 }
 
 /// A job of a run. Objects are named by their numbers in a script's order, from 0.
-#[derive(Clone, Copy, Debug, PartialEq, Eq)]
+#[derive(Clone, Copy, PartialEq, Eq)]
 pub enum WorkItem {
     /// The row of this number in a step table is made.
     Row(usize),
@@ -31,7 +31,7 @@ pub trait Gate {
 }
 
 /// A gate that does nothing.
-#[derive(Clone, Copy, Debug, PartialEq, Eq)]
+#[derive(Clone, Copy, PartialEq, Eq)]
 pub struct OpenGate;
 
 impl Gate for OpenGate {

@@ -8,7 +8,7 @@ use std::marker::Model;
 const MAX_LENGTH: usize = 64;
 
 /// 1 to 64 characters out of letters, digits and `. _ + - # [ ] < >`.
-#[derive(Clone, Copy, Debug, PartialEq, Eq, PartialOrd, Ord, Hash)]
+#[derive(Clone, Copy, PartialEq, Eq, PartialOrd, Ord)]
 pub struct Identifier {
     bytes: [u8; MAX_LENGTH],
     len: usize,

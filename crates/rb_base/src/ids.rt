@@ -8,7 +8,7 @@ use std::marker::Model;
 
 /// The identifier of a chain: 1 to 64 characters out of letters, digits and
 /// `. _ + - # [ ] < >` (ICS 24 for the characters; own choice of the length).
-#[derive(Clone, Copy, Debug, PartialEq, Eq, PartialOrd, Ord, Hash)]
+#[derive(Clone, Copy, PartialEq, Eq, PartialOrd, Ord)]
 pub struct ChainId {
     text: Identifier,
 }
@@ -53,7 +53,7 @@ impl fmt::Display for ChainId {
 
 /// The identifier of a client: 1 to 64 characters out of letters, digits and
 /// `. _ + - # [ ] < >` (ICS 24 for the characters; own choice of the length).
-#[derive(Clone, Copy, Debug, PartialEq, Eq, PartialOrd, Ord, Hash)]
+#[derive(Clone, Copy, PartialEq, Eq, PartialOrd, Ord)]
 pub struct ClientId {
     text: Identifier,
 }
@@ -98,7 +98,7 @@ impl fmt::Display for ClientId {
 
 /// The identifier of a path: 1 to 64 characters out of letters, digits and
 /// `. _ + - # [ ] < >` (ICS 24 for the characters; own choice of the length).
-#[derive(Clone, Copy, Debug, PartialEq, Eq, PartialOrd, Ord, Hash)]
+#[derive(Clone, Copy, PartialEq, Eq, PartialOrd, Ord)]
 pub struct PathId {
     text: Identifier,
 }

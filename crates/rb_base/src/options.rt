@@ -11,7 +11,7 @@ use std::marker::Model;
 /// How a client judges headers (ICS 7, `ClientState`): its trusting period, the clock drift that
 /// it allows, in nanoseconds, and its trust level; which votes its updates carry; and which heights come first in
 /// lists of updates that are equally cheap.
-#[derive(Clone, Copy, Debug, PartialEq, Eq, Hash)]
+#[derive(Clone, Copy, PartialEq, Eq)]
 pub struct Options {
     period: Period,
     drift: u64,

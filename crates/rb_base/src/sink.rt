@@ -111,7 +111,7 @@ impl<W: Write> Sink for Counted<W> {
 }
 
 /// A write of the sink failed.
-#[derive(Clone, Copy, Debug, PartialEq, Eq)]
+#[derive(Clone, Copy, PartialEq, Eq)]
 pub struct Device;
 
 /// Writes all of the bytes, in as many writes as the sink takes them in. After a write that failed the

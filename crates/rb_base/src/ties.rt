@@ -1,7 +1,7 @@
 //! Which of equally cheap lists of updates comes first.
 
 /// Which of two heights comes first where a cheapest way may take either (own choice).
-#[derive(Clone, Copy, Debug, PartialEq, Eq, Hash)]
+#[derive(Clone, Copy, PartialEq, Eq)]
 pub enum Ties {
     /// The lower height, as in scripts of version 1 to 3.
     Lower,

@@ -3,7 +3,7 @@
 /// Which votes of a header's commit (CometBFT, `Commit`) an update carries, and so what it is charged
 /// for. A vote that isn't carried is marked absent in the update's header: a light client verifies no
 /// hash over the commit.
-#[derive(Clone, Copy, Debug, PartialEq, Eq, Hash)]
+#[derive(Clone, Copy, PartialEq, Eq)]
 pub enum CarriedVotes {
     /// All; only commit votes are charged, as in scripts of version 1 and 2.
     Commit,

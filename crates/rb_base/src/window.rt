@@ -7,7 +7,7 @@ use crate::error::BaseError;
 use std::marker::Model;
 
 /// The moments from one to another, both included.
-#[derive(Clone, Copy, Debug, PartialEq, Eq, Hash)]
+#[derive(Clone, Copy, Debug, PartialEq, Eq)]
 pub struct Window {
     from: Moment,
     until: Moment,

@@ -5,7 +5,7 @@ ghost use Rattle.rb_batch.specs.Limits.{IsLimits};
 use std::marker::Model;
 
 /// What one transaction may carry: so much gas, its own counted, and so many messages.
-#[derive(Clone, Copy, Debug, PartialEq, Eq, Hash)]
+#[derive(Clone, Copy, PartialEq, Eq)]
 pub struct Limits {
     gas: u64,
     count: usize,

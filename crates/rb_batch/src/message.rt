@@ -5,7 +5,7 @@ ghost use Rattle.rb_batch.specs.Limits.{IsMessageGas};
 use std::marker::Model;
 
 /// A message: the gas that it takes, 0 to 10^15.
-#[derive(Clone, Copy, Debug, PartialEq, Eq, Hash)]
+#[derive(Clone, Copy, PartialEq, Eq)]
 pub struct Msg {
     gas: u64,
 }

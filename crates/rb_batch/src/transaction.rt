@@ -5,7 +5,7 @@ use crate::limits::Limits;
 use crate::message::Msg;
 
 /// A transaction, by the run of messages that it carries.
-#[derive(Clone, Copy, Debug, PartialEq, Eq, Hash)]
+#[derive(Clone, Copy, PartialEq, Eq)]
 pub struct Transaction {
     /// The index of its first message.
     pub first: usize,

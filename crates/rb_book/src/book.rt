@@ -41,7 +41,7 @@ const MAX_ADDRESSES: usize = 65_536;
 ///
 /// A new book takes the memory for all that it may ever have, so that only the addresses of its
 /// sets, which are kept to count them, take more: what was judged is put into it without memory.
-#[derive(Debug, Drop)]
+#[derive(Drop)]
 pub struct ChainBook<A: Allocator = Global> {
     limit: usize,
     sets: Vec<ValidatorSet<A>, A>,

@@ -7,7 +7,7 @@ use std::alloc::{AllocError, Allocator};
 use std::sync::Arc;
 
 /// The votes of a header: shared by its copies, or its own where memory was wanting.
-#[derive(Debug, Drop)]
+#[derive(Drop)]
 pub(crate) enum Votes<A: Allocator> {
     Shared(Arc<Vec<Vote, A>, A>),
     Own(Vec<Vote, A>),

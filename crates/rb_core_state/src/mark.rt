@@ -8,7 +8,7 @@ use rb_scan::{Kind, Packet};
 use rb_script_types::BlockHeight;
 
 /// A step in the life cycle of a packet that was sent (ICS 4).
-#[derive(Clone, Copy, Debug)]
+#[derive(Clone, Copy)]
 pub enum Mark {
     /// The destination received it in a block of this height.
     Received(Height),

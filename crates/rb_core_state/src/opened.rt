@@ -12,7 +12,7 @@ use std::marker::Model;
 /// A batch of a client, from when a plan opens it until it is settled: its number, its updates, its
 /// packet messages, which follow them, the height at which these are proved, and the transactions that
 /// carry both.
-#[derive(Debug, Drop)]
+#[derive(Drop)]
 pub struct OpenBatch<A: Allocator = Global> {
     number: u64,
     updates: Vec<Update, A>,

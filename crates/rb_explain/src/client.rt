@@ -22,14 +22,14 @@ use rb_super_turn::{Outcome, PlannedReport, PricedUpdate};
 use std::alloc::{AllocError, Allocator, Global};
 
 /// A stored height, and the moment, in nanoseconds since 1970, from which on its record has expired.
-#[derive(Clone, Copy, Debug, PartialEq, Eq)]
+#[derive(Clone, Copy, PartialEq, Eq)]
 pub struct StoredHeight {
     pub height: Height,
     pub expiry: u128,
 }
 
 /// Why an outcome is as it is.
-#[derive(Debug, Drop)]
+#[derive(Drop)]
 pub enum Why<A: Allocator = Global> {
     /// A batch of the client is open.
     Held,
@@ -166,7 +166,7 @@ fn explain_outcome<A: Allocator + Copy>(
 /// What came of a client in a turn, and why: what it goes by, the heights that it had stored, the greatest height that it can be
 /// brought to, where it has a goal or waits for one with packet messages, the known heights of the chain that it tracks, where these are
 /// wanted, the packet messages that are owed to it and not sent, and why its outcome is as it is.
-#[derive(Debug, Drop)]
+#[derive(Drop)]
 pub struct ClientExplanation<A: Allocator = Global> {
     pub client: usize,
     pub window: Window,

@@ -7,7 +7,7 @@ use rb_book::{ChainBook, RecordAt};
 use std::alloc::{AllocError, Allocator};
 
 /// A known height; where a header of it is known, also the set that signed it, by its place in the book.
-#[derive(Clone, Copy, Debug, PartialEq, Eq)]
+#[derive(Clone, Copy, PartialEq, Eq)]
 pub struct KnownHeight {
     pub height: Height,
     pub set: Option<usize>,

@@ -14,7 +14,7 @@ use rb_scan::ready;
 use std::alloc::{AllocError, Allocator};
 
 /// Why a client has no goal; the first that applies.
-#[derive(Clone, Copy, Debug, PartialEq, Eq)]
+#[derive(Clone, Copy, PartialEq, Eq)]
 pub enum IdleReason {
     /// No stored record is live: none is stored, or all have expired.
     NothingLive,

@@ -9,7 +9,7 @@ use rb_script_types::Observation;
 use std::alloc::{AllocError, Allocator};
 
 /// What an event tells of: an object, by its place in the script, and what of it.
-#[derive(Clone, Copy, Debug, PartialEq, Eq)]
+#[derive(Clone, Copy, PartialEq, Eq)]
 pub enum Subject {
     /// A validator set of a chain.
     Set { chain: usize },

@@ -24,7 +24,7 @@ use std::thread::Threads;
 
 /// A turn, by its number from 1: its window, its report, what its events tell of, and its clients, in the order of the report, each
 /// explained where that is wanted.
-#[derive(Debug, Drop)]
+#[derive(Drop)]
 pub struct TurnExplanation<A: Allocator = Global> {
     pub turn: usize,
     pub window: Window,

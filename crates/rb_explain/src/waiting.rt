@@ -15,7 +15,7 @@ use std::alloc::{AllocError, Allocator};
 
 /// A packet message that isn't sent, and its path by its place; where a height that the client can be brought to proves it, and all
 /// that has to go before it, also the moment, in nanoseconds since 1970, from which on it waits for no other.
-#[derive(Clone, Copy, Debug, PartialEq, Eq)]
+#[derive(Clone, Copy, PartialEq, Eq)]
 pub struct WaitingMessage {
     pub path: usize,
     pub packet: PacketMsg,

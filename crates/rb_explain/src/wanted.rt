@@ -3,14 +3,14 @@ ghost use Rattle.std.specs.Prelude.{◌≡◌, ◌≤◌, ◌↔◌, ℕ, IsTrue
 ghost use Rattle.rb_explain.specs.Wanted.{has_client, has_turn};
 
 /// How much is told of a client: of an unreachable goal up to so many steps, and whether the known heights of the chain are.
-#[derive(Clone, Copy, Debug)]
+#[derive(Clone, Copy)]
 pub struct Detail {
     pub most: usize,
     pub has_heights: bool,
 }
 
 /// What is to be explained: one turn, by its number from 1, or each; one client, by its place, or each; and how much of it.
-#[derive(Clone, Copy, Debug)]
+#[derive(Clone, Copy)]
 pub struct Wanted {
     pub turn: Option<usize>,
     pub client: Option<usize>,

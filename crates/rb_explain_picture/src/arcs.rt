@@ -12,7 +12,7 @@ use std::alloc::{AllocError, Global};
 const MOST_SPAN: usize = 10;
 
 /// What an arc stands for.
-#[derive(Clone, Copy, Debug, PartialEq, Eq)]
+#[derive(Clone, Copy, PartialEq, Eq)]
 pub(crate) enum Meaning {
     /// An update of the plan.
     Update,

@@ -10,7 +10,7 @@ const COLOURS: usize = 6;
 const CLASSES: [&str; COLOURS] = ["s0", "s1", "s2", "s3", "s4", "s5"];
 
 /// Which set signed what a column stands for: none that is known, one, by its number in the order of the heights, or several.
-#[derive(Clone, Copy, Debug, PartialEq, Eq)]
+#[derive(Clone, Copy, PartialEq, Eq)]
 enum Signer {
     Nobody,
     Set(usize),

@@ -24,7 +24,7 @@ pub(crate) const MARGIN: u64 = 24;
 const MOST_SPARE: u64 = 60;
 
 /// A column: a known height and its place, or several neighbours, from the lowest one; the middle, and half of the width.
-#[derive(Clone, Copy, Debug)]
+#[derive(Clone, Copy)]
 pub(crate) struct Column {
     pub height: Height,
     pub first: usize,

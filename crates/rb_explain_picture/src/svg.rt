@@ -2,7 +2,7 @@
 use std::alloc::AllocError;
 
 /// Where a text stands beside its point.
-#[derive(Clone, Copy, Debug, PartialEq, Eq)]
+#[derive(Clone, Copy, PartialEq, Eq)]
 pub(crate) enum Anchor {
     Left,
     Middle,
@@ -10,7 +10,7 @@ pub(crate) enum Anchor {
 }
 
 /// A rectangle by its left upper corner.
-#[derive(Clone, Copy, Debug)]
+#[derive(Clone, Copy)]
 pub(crate) struct Area {
     pub x: u64,
     pub y: u64,
@@ -19,7 +19,7 @@ pub(crate) struct Area {
 }
 
 /// An arc between two points of a line, with how far it rises above the line, or falls below it.
-#[derive(Clone, Copy, Debug)]
+#[derive(Clone, Copy)]
 pub(crate) struct Arc {
     pub from: u64,
     pub to: u64,

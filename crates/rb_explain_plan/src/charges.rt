@@ -5,7 +5,7 @@ ghost use Rattle.rb_explain_plan.specs.Charges.{IsChargesOf};
 use rb_base::FeeTable;
 
 /// What a client's fees are made of.
-#[derive(Clone, Copy, Debug, PartialEq, Eq)]
+#[derive(Clone, Copy, PartialEq, Eq)]
 pub struct Charges {
     pub base: u64,
     pub signature: u64,

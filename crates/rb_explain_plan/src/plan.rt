@@ -19,7 +19,7 @@ use std::alloc::{AllocError, Allocator, Global};
 /// Why a plan is as it is: its updates with their steps, the highest height that was stored and live before them, the one step
 /// from there to the last update's height, the fewest updates that meet the goal, and those by which a light client bisects from
 /// the highest stored and live height to the last update's.
-#[derive(Debug, Drop)]
+#[derive(Drop)]
 pub struct PlanExplanation<A: Allocator = Global> {
     pub steps: Vec<Option<StepExplanation>, A>,
     pub newest: Option<Height>,

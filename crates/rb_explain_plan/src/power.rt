@@ -6,7 +6,7 @@ ghost use Rattle.rb_explain_plan.specs.Power.{IsThreshold, IsPower};
 use rb_base::Fraction;
 
 /// The power that signed, that of the whole set, and the threshold: the rule asks for more than it.
-#[derive(Clone, Copy, Debug, PartialEq, Eq)]
+#[derive(Clone, Copy, PartialEq, Eq)]
 pub struct Power {
     pub signed: u64,
     pub total: u64,

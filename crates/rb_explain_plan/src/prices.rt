@@ -8,7 +8,7 @@ use rb_step::ClientView;
 use std::alloc::{Allocator, Global};
 
 /// Updates in their order, and what they cost in all by the client's fees.
-#[derive(Debug, Drop)]
+#[derive(Drop)]
 pub struct PricedList<A: Allocator = Global> {
     pub updates: Vec<Update, A>,
     pub fee: u128,

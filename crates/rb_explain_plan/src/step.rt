@@ -23,7 +23,7 @@ use std::marker::Model;
 /// the trusted record has expired; the header's time; the power of the header's commit voters in the set that the
 /// trusted record names, where the book knows it, and in the header's own set; and the fee, with the votes and the validators of
 /// both sets that it is charged for.
-#[derive(Clone, Copy, Debug, PartialEq, Eq)]
+#[derive(Clone, Copy, PartialEq, Eq)]
 pub struct StepExplanation {
     pub trusted: Height,
     pub height: Height,

@@ -13,7 +13,7 @@ use std::alloc::{AllocError, Allocator, Global};
 
 /// Why a goal can't be reached: the lowest header that it wants, if the book has one, and the steps that were
 /// tried to it, the highest reached heights first, and behind them what is stored and has expired; up to so many.
-#[derive(Debug, Drop)]
+#[derive(Drop)]
 pub struct UnreachableExplanation<A: Allocator = Global> {
     pub wanted: Option<Height>,
     pub tried: Vec<Update, A>,

@@ -18,7 +18,7 @@ pub trait Journal {
 }
 
 /// No journal: nothing is stored.
-#[derive(Clone, Copy, Debug)]
+#[derive(Clone, Copy)]
 pub struct NoJournal;
 
 impl Journal for NoJournal {

@@ -21,7 +21,7 @@ use std::alloc::{AllocError, Global};
 
 /// What answers are written as: lines of a report, with a line `---` after each answer, or objects of JSON, each
 /// on a line.
-#[derive(Clone, Copy, Debug, PartialEq, Eq)]
+#[derive(Clone, Copy, PartialEq, Eq)]
 pub enum Form {
     Text,
     Json,

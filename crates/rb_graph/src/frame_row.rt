@@ -9,7 +9,7 @@ use std::marker::Model;
 
 /// A row of a step table by itself, with its number among the rows of the frame that made it: so
 /// rows that several threads make in any order can be put together.
-#[derive(Debug, Drop)]
+#[derive(Drop)]
 pub struct FrameRow<A: Allocator = Global> {
     number: usize,
     kept: StoredRow<A>,

@@ -17,7 +17,7 @@ use std::alloc::{AllocError, Allocator};
 /// The members of all sets of a book by column: a column for each address, and one tally for each set,
 /// by its place, with the powers of its members beside their columns. A table that grows has them, so
 /// that a new header is summed without numbering any member again.
-#[derive(Debug, Drop)]
+#[derive(Drop)]
 pub struct Lanes<A: Allocator> {
     pub columns: Columns<A>,
     pub tallies: Vec<Tally<A>, A>,

@@ -9,7 +9,7 @@ use std::marker::Model;
 /// than two thirds of that set's power signed the header, and for each set of the book, by its place,
 /// the power in that set of the header's commit voters. Only sets that a lower record names as its
 /// next have a power, since the light client asks for no other (CometBFT, `VerifyCommitLightTrusting`).
-#[derive(Debug, Drop)]
+#[derive(Drop)]
 pub struct StoredRow<A: Allocator = Global> {
     size: usize,
     is_signed: bool,

@@ -11,7 +11,7 @@ use std::alloc::{AllocError, Allocator};
 
 /// When the newest consensus state that a client has stored expires: its height, the moment from which on it has
 /// expired, and the last moment of the window in force, both in nanoseconds since 1970.
-#[derive(Clone, Copy, Debug, PartialEq, Eq)]
+#[derive(Clone, Copy, PartialEq, Eq)]
 pub struct Expiry {
     pub height: Height,
     pub expires: u128,

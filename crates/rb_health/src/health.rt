@@ -10,7 +10,7 @@ use rb_script_types::ClientConfig;
 use std::alloc::{AllocError, Allocator};
 
 /// A client, and when its newest consensus state expires; None where it has stored none, and before the first window.
-#[derive(Clone, Copy, Debug)]
+#[derive(Clone, Copy)]
 pub struct ClientHealth {
     pub client: ClientConfig,
     pub expiry: Option<Expiry>,

@@ -4,7 +4,7 @@ use rb_script_toml::RunError;
 use std::alloc::{AllocError, AllocFailed};
 
 /// Why no setup is made.
-#[derive(Debug, Drop)]
+#[derive(Drop)]
 pub enum HermesError {
     /// The configuration has a fault.
     Config(RunError),

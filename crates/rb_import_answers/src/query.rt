@@ -6,7 +6,7 @@ ghost use Rattle.rb_import_answers.specs.Queries.{query_of, query_of_gateway, qu
 use rb_import_json::{Key, Object};
 
 /// A query of CometBFT's RPC or of ibc-go's REST gateway whose answers aren't needed.
-#[derive(Clone, Copy, Debug, PartialEq, Eq)]
+#[derive(Clone, Copy, PartialEq, Eq)]
 pub enum Query {
     Status,
     BlockResults,

@@ -16,7 +16,7 @@ const VERSION: u64 = 1;
 /// The verdict on a commit: the SHA-256 of the file that has the commit, how many entries its `signatures` have, how
 /// many of these are valid, and the places of those that aren't and of those that nobody could check, from 0 on and
 /// rising.
-#[derive(Drop)]
+#[derive(Debug, Drop)]
 pub struct Verdict {
     pub digest: [u8; 32],
     pub votes: u64,

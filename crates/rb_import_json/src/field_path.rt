@@ -4,7 +4,7 @@ ghost use Rattle.std.specs.Prelude.{◌≡◌};
 use std::fmt;
 
 /// An object or an array of an answer.
-#[derive(Clone, Copy, Debug)]
+#[derive(Clone, Copy)]
 pub enum Segment {
     Result,
     SignedHeader,
@@ -65,7 +65,7 @@ impl Segment {
 }
 
 /// A field of an object, an attribute of an event, or the whole answer.
-#[derive(Clone, Copy, Debug)]
+#[derive(Clone, Copy)]
 pub enum Key {
     Acknowledgements,
     App,

@@ -10,7 +10,7 @@ use rb_import_setup::PathSetup;
 
 /// Of the destinations that packets of a path's source were sent to the one that is taken, and another one; each is
 /// a port and a channel as `port/channel`.
-#[derive(Clone, Copy, Debug)]
+#[derive(Clone, Copy)]
 pub struct Counterparties<'a> {
     pub taken: &'a str,
     pub other: &'a str,

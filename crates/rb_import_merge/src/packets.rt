@@ -37,7 +37,7 @@ const FIRST_HEIGHT: u64 = 1;
 
 /// Of what a path's answers tell nothing: that packets were sent, that they were received, that they were cleared;
 /// and how many answers tell of no packet at all, as those of a search that found nothing.
-#[derive(Clone, Copy, Debug)]
+#[derive(Clone, Copy)]
 pub struct Searches {
     pub lacks_sent: bool,
     pub lacks_received: bool,

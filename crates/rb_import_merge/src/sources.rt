@@ -9,7 +9,7 @@ use rb_import_setup::PathSetup;
 
 /// The source that a setup names for a path, and that of the first packet that the answers tell of, which is another
 /// one; each is a port and a channel as `port/channel`.
-#[derive(Clone, Copy, Debug)]
+#[derive(Clone, Copy)]
 pub struct OtherSource<'a> {
     pub named: &'a str,
     pub told: &'a str,

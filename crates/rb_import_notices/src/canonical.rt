@@ -10,7 +10,7 @@ use std::fmt;
 
 /// A chain, how many of its commits aren't canonical, and the greatest height of these. A node answers so of its newest
 /// block, whose commit isn't in a next block yet; it has the votes that came in time to that node (CometBFT, `/commit`).
-#[derive(Clone, Copy, Debug)]
+#[derive(Clone, Copy)]
 pub struct NotCanonical<'a> {
     pub chain: &'a str,
     pub count: usize,

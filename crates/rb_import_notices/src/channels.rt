@@ -10,7 +10,7 @@ use std::alloc::{AllocError, Global};
 use std::fmt;
 
 /// A path whose answers tell of packets, but of none from the source that the setup names: that one, and another one.
-#[derive(Clone, Copy, Debug)]
+#[derive(Clone, Copy)]
 pub struct OtherChannel<'a> {
     pub path: &'a str,
     pub sources: OtherSource<'a>,

@@ -11,7 +11,7 @@ use std::fmt;
 
 /// A path, of which the setup doesn't name the counterparty, and packets from its source were sent to several
 /// destinations: the one that is taken, and another one.
-#[derive(Clone, Copy, Debug)]
+#[derive(Clone, Copy)]
 pub struct SeveralCounterparties<'a> {
     pub path: &'a str,
     pub counterparties: Counterparties<'a>,

@@ -10,7 +10,7 @@ use std::alloc::{AllocError, Global};
 use std::fmt;
 
 /// A chain, of whose headers so many are left out, since its book has no room for more.
-#[derive(Clone, Copy, Debug)]
+#[derive(Clone, Copy)]
 pub struct TooManyHeaders<'a> {
     pub chain: &'a str,
     pub left_out: usize,
@@ -33,7 +33,7 @@ impl fmt::Display for TooManyHeaders<'_> {
 }
 
 /// A chain, of whose sets so many are left out, since its book has no room for more, and with them so many headers.
-#[derive(Clone, Copy, Debug)]
+#[derive(Clone, Copy)]
 pub struct TooManySets<'a> {
     pub chain: &'a str,
     pub left_out: usize,
@@ -59,7 +59,7 @@ impl fmt::Display for TooManySets<'_> {
 
 /// A client, of whose stored records so many are left out, since the book of the chain that it tracks has no
 /// room for more.
-#[derive(Clone, Copy, Debug)]
+#[derive(Clone, Copy)]
 pub struct TooManyRecords<'a> {
     pub client: &'a str,
     pub left_out: usize,
@@ -83,7 +83,7 @@ impl fmt::Display for TooManyRecords<'_> {
 
 /// A path, of which so many packets were sent, more than a path holds, so that the others are refused as the script
 /// runs; and the sequence of the first of the last ones that it holds.
-#[derive(Clone, Copy, Debug)]
+#[derive(Clone, Copy)]
 pub struct TooManyPackets<'a> {
     pub path: &'a str,
     pub sent: usize,

@@ -10,7 +10,7 @@ use std::fmt;
 
 /// A client, and the latest height that its state names, of which no answer has the record. Each update stores one (ICS 7),
 /// so that the state and the records are of two moments or of two nodes, or pages of consensus states are missing.
-#[derive(Clone, Copy, Debug)]
+#[derive(Clone, Copy)]
 pub struct MissingLatest<'a> {
     pub client: &'a str,
     pub height: u64,

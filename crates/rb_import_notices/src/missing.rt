@@ -11,7 +11,7 @@ use std::alloc::{AllocError, Global};
 use std::fmt;
 
 /// A chain that a client tracks, of which there is no header.
-#[derive(Clone, Copy, Debug)]
+#[derive(Clone, Copy)]
 pub struct MissingHeaders<'a> {
     pub chain: &'a str,
 }
@@ -34,7 +34,7 @@ impl fmt::Display for MissingHeaders<'_> {
 /// A client, of whose written records some name a next set that isn't written, so that no update starts from them, and
 /// the chain that it tracks. No answer on that chain has the sets of `unseen` of them, that of the highest of which is of
 /// height `next`; those of `left_out` of them were seen, and the chain's book has no room for them.
-#[derive(Clone, Copy, Debug)]
+#[derive(Clone, Copy)]
 pub struct MissingNextSet<'a> {
     pub client: &'a str,
     pub chain: &'a str,

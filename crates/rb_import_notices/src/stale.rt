@@ -11,7 +11,7 @@ use std::fmt;
 
 /// A client that is to be refreshed, and the chain that it tracks: at the window's end each header of that and each
 /// stored record is so old that it doesn't serve.
-#[derive(Clone, Copy, Debug)]
+#[derive(Clone, Copy)]
 pub struct NothingFresh<'a> {
     pub client: &'a str,
     pub chain: &'a str,

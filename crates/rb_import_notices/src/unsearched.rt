@@ -10,7 +10,7 @@ use std::alloc::{AllocError, Global};
 use std::fmt;
 
 /// A path, and what its answers tell nothing of; fewer answers are empty than searches for that.
-#[derive(Clone, Copy, Debug)]
+#[derive(Clone, Copy)]
 pub struct MissingSearches<'a> {
     pub path: &'a str,
     pub searches: Searches,

@@ -14,7 +14,7 @@ use std::alloc::{AllocError, Global};
 use std::fmt;
 
 /// A client none of whose records is trusted to the window's end: each of so many has expired by then.
-#[derive(Clone, Copy, Debug)]
+#[derive(Clone, Copy)]
 pub struct NothingTrusted<'a> {
     pub client: &'a str,
     pub expired: usize,
@@ -54,7 +54,7 @@ fn write_expired<W: fmt::Write>(f: &mut fmt::Formatter<W>, expired: usize) -> fm
 
 /// A client, and the chain that it tracks: so many headers of that, from a height on, are ahead of the window's first
 /// moment by the client's clock drift or more, so that it takes none of them throughout the window.
-#[derive(Clone, Copy, Debug)]
+#[derive(Clone, Copy)]
 pub struct FutureHeaders<'a> {
     pub client: &'a str,
     pub chain: &'a str,
@@ -82,7 +82,7 @@ impl fmt::Display for FutureHeaders<'_> {
 
 /// A goal of the last turn, by its height and by whether it is of that one alone, and the chain that its client
 /// tracks: no header of that is of a height that the goal wants, nor is a stored record.
-#[derive(Clone, Copy, Debug)]
+#[derive(Clone, Copy)]
 pub struct UnseenGoal<'a> {
     pub client: &'a str,
     pub chain: &'a str,

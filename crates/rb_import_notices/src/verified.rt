@@ -11,7 +11,7 @@ use std::alloc::{AllocError, Global};
 use std::fmt;
 
 /// A chain whose answers hold verdicts, and of how many of its headers they have none.
-#[derive(Clone, Copy, Debug)]
+#[derive(Clone, Copy)]
 pub struct NotVerified<'a> {
     pub chain: &'a str,
     pub unverified: usize,

@@ -16,7 +16,7 @@ const MAX_COLUMNS: usize = 65_536;
 
 /// Different addresses, 65,536 at most. The column of each is its place in the order in which they
 /// came, counted from 0.
-#[derive(Debug, Drop)]
+#[derive(Drop)]
 pub struct Columns<A: Allocator = Global> {
     known: IndexSet<[u8; 20], BuildHasherDefault<FoldHasher>, A>,
 }

@@ -7,7 +7,7 @@ use std::marker::Model;
 
 /// A bit for each column: of a header, whether the address in that column is one of its commit
 /// voters. A bit takes a byte, 1 where it is set and else 0, so that a sum reads it without a shift.
-#[derive(Debug, Drop)]
+#[derive(Drop)]
 pub struct Plane<A: Allocator = Global> {
     bytes: Vec<u8, A>,
 }

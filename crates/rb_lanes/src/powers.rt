@@ -9,7 +9,7 @@ use std::marker::Model;
 pub const MAX_TOTAL: u64 = 1_152_921_504_606_846_975;
 
 /// A power for each column. Their sum is at most `MAX_TOTAL`.
-#[derive(Debug, Drop)]
+#[derive(Drop)]
 pub struct Powers<A: Allocator = Global> {
     powers: Vec<u64, A>,
 }

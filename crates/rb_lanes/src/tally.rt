@@ -9,7 +9,7 @@ use std::alloc::{AllocError, Allocator, Global};
 use std::marker::Model;
 
 /// Powers by column, from a first column on.
-#[derive(Debug, Drop)]
+#[derive(Drop)]
 struct Span<A: Allocator> {
     first: usize,
     powers: Powers<A>,
@@ -18,7 +18,7 @@ struct Span<A: Allocator> {
 /// Powers, each beside its column: those of a set's members. Where at least half of the columns from
 /// the lowest to the highest have one, they are kept a second time by column, and summed eight
 /// columns a step.
-#[derive(Debug, Drop)]
+#[derive(Drop)]
 pub struct Tally<A: Allocator = Global> {
     members: Vec<(u32, u64), A>,
     span: Option<Span<A>>,

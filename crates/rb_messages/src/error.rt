@@ -6,7 +6,7 @@ use std::alloc::{AllocError, AllocFailed};
 use std::fmt;
 
 /// Why the message of an update isn't made.
-#[derive(Clone, Copy, Debug)]
+#[derive(Clone, Copy)]
 pub enum MessageError<'a> {
     /// The answers contradict each other, or one is missing.
     Answers(ImportError<'a>),

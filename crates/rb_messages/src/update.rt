@@ -10,7 +10,7 @@ use std::alloc::{AllocError, Global};
 /// An update that is sent: of which client, on which host and to which chain, by their places; in which transaction of the
 /// client, from 1; the heights, and the consensus states that the relayer has of them; and where the client sends only
 /// the votes that the update needs, these.
-#[derive(Debug, Drop)]
+#[derive(Drop)]
 pub struct PlannedUpdate {
     pub client: ClientId,
     pub host: usize,

@@ -9,7 +9,7 @@ use rb_plan_types::{Cost, Label};
 use std::alloc::{AllocError, Allocator};
 
 /// A label, and the place of its record.
-#[derive(Clone, Copy, Debug)]
+#[derive(Clone, Copy)]
 pub struct Offer {
     pub place: usize,
     pub label: Label,

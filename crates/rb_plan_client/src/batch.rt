@@ -7,7 +7,7 @@ use std::alloc::{AllocError, Allocator, Global};
 use std::marker::Model;
 
 /// The transactions of a plan, and the height of the proving chain whose record proves its packets.
-#[derive(Debug, Drop)]
+#[derive(Drop)]
 pub struct Batch<A: Allocator = Global> {
     proof: Height,
     transactions: Vec<Transaction, A>,
@@ -64,7 +64,7 @@ impl<A: Allocator + Copy> Batch<A> {
 
 /// In which transactions the messages of a plan are sent. The messages are numbered from 0, the
 /// updates first.
-#[derive(Debug, Drop)]
+#[derive(Drop)]
 pub enum Sending<A: Allocator = Global> {
     /// In none: there is no message, since the goal is met as it is.
     Nothing,

@@ -8,7 +8,7 @@ use std::marker::Model;
 
 /// A packet message (ICS 4) for one of a client's paths, with the gas that it takes of a transaction, at
 /// most 10^9.
-#[derive(Clone, Copy, Debug, PartialEq, Eq)]
+#[derive(Clone, Copy, PartialEq, Eq)]
 pub struct Message {
     path: usize,
     packet: PacketMsg,

@@ -25,7 +25,7 @@ impl<A: Allocator + Copy> Sending<A> {
 
 /// A plan: the least list of updates that meets a goal, the packet messages that follow them, and in
 /// which transactions both are sent.
-#[derive(Debug, Drop)]
+#[derive(Drop)]
 pub struct Plan<A: Allocator = Global> {
     updates: Vec<Update, A>,
     messages: Vec<Message, A>,
@@ -101,7 +101,7 @@ impl<A: Allocator + Copy> Plan<A> {
 /// What is planned for a client that has a goal: the goal, the exact labelling (the least cost of each
 /// height that the client can be brought to), and the plan; None where no acceptable list of updates
 /// meets the goal.
-#[derive(Debug, Drop)]
+#[derive(Drop)]
 pub struct Planned<A: Allocator = Global> {
     goal: Goal,
     labelling: Labelling<A>,

@@ -16,7 +16,7 @@ use std::marker::Model;
 /// A path as one of its clients has it: its place in the script, in which order its packets are
 /// received (ICS 4), the gas of its messages, how long they may wait, and the messages that are owed to
 /// that client.
-#[derive(Debug, Drop)]
+#[derive(Drop)]
 pub struct PathTask<A: Allocator = Global> {
     path: usize,
     order: Order,

@@ -7,7 +7,7 @@ use crate::update::Update;
 use std::alloc::{AllocError, Allocator, Global};
 
 /// A list of updates that meets a goal, or that there is none; either way with labels that show it.
-#[derive(Debug, Drop)]
+#[derive(Drop)]
 pub enum Answer<A: Allocator = Global> {
     /// The list.
     Plan {

@@ -13,14 +13,14 @@ use std::sync::Arc;
 
 /// The label of a height: what an acceptable list of updates that leaves the height stored and live
 /// costs at least.
-#[derive(Clone, Copy, Debug, PartialEq, Eq)]
+#[derive(Clone, Copy, PartialEq, Eq)]
 pub struct Label {
     pub height: Height,
     pub cost: Cost,
 }
 
 /// Labels by rising height, their numbers at most 2^63 - 1. Its copies share them.
-#[derive(Debug, Drop)]
+#[derive(Drop)]
 pub struct Labelling<A: Allocator = Global> {
     labels: Arc<Vec<Label, A>, A>,
 }

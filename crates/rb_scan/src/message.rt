@@ -3,7 +3,7 @@ use crate::sequence::Sequence;
 use rb_base::{Height, Moment};
 
 /// What a message does (ICS 4): `recvPacket`, `acknowledgePacket` or `timeoutPacket`.
-#[derive(Clone, Copy, Debug, PartialEq, Eq, Hash)]
+#[derive(Clone, Copy, Debug, PartialEq, Eq)]
 pub enum Kind {
     /// Hands the packet to the destination.
     Receive,
@@ -26,7 +26,7 @@ impl Kind {
 
 /// A message that is owed for a packet. It can be proved from the height `floor` of the proving
 /// chain on: the source for a receive, the destination for the others.
-#[derive(Clone, Copy, Debug, PartialEq, Eq, Hash)]
+#[derive(Clone, Copy, Debug, PartialEq, Eq)]
 pub struct PacketMsg {
     /// What it does.
     pub kind: Kind,

@@ -15,7 +15,7 @@ use std::marker::Model;
 ///
 /// The height after a block is the first that proves what the block wrote, so the blocks that sent
 /// it and that wrote its acknowledgement are at most 2^63 - 2.
-#[derive(Clone, Copy, Debug)]
+#[derive(Clone, Copy)]
 pub struct Packet {
     sequence: Sequence,
     sent: Height,

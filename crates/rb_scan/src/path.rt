@@ -12,7 +12,7 @@ use std::alloc::{AllocError, Allocator, Global};
 use std::marker::Model;
 
 /// In which order the destination receives the packets of a path (ICS 4, channel ordering).
-#[derive(Clone, Copy, Debug, PartialEq, Eq, Hash)]
+#[derive(Clone, Copy, PartialEq, Eq)]
 pub enum Order {
     /// One after another, by their sequences.
     Ordered,
@@ -21,7 +21,7 @@ pub enum Order {
 }
 
 /// A path, which is one direction of a channel, as it was observed.
-#[derive(Debug, Drop)]
+#[derive(Drop)]
 pub struct PathView<A: Allocator = Global> {
     order: Order,
     first: Sequence,

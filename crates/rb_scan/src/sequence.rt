@@ -6,7 +6,7 @@ use std::fmt;
 use std::marker::Model;
 
 /// The sequence of a packet on its path (ICS 4): 1 to 2^63 - 1.
-#[derive(Clone, Copy, Debug, PartialEq, Eq, PartialOrd, Ord, Hash)]
+#[derive(Clone, Copy, Debug, PartialEq, Eq, PartialOrd, Ord)]
 pub struct Sequence {
     number: u64,
 }

@@ -7,7 +7,7 @@ use std::marker::Model;
 
 /// The height of a block that sent a packet, received it or wrote its acknowledgement: 1 to
 /// 2^63 - 2, so that the next height, the first that proves what the block wrote, is a height too.
-#[derive(Clone, Copy, Debug, PartialEq, Eq, PartialOrd, Ord, Hash)]
+#[derive(Clone, Copy, PartialEq, Eq, PartialOrd, Ord)]
 pub struct BlockHeight {
     height: Height,
 }

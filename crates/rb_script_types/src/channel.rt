@@ -3,7 +3,7 @@ use crate::end_id::EndId;
 use std::fmt;
 
 /// An end of a channel: the port that it is bound to, and the identifier of the channel on that end's chain (ICS 4).
-#[derive(Clone, Copy, Debug, PartialEq, Eq)]
+#[derive(Clone, Copy, PartialEq, Eq)]
 pub struct ChannelEnd {
     pub port: EndId,
     pub channel: EndId,
@@ -24,7 +24,7 @@ impl fmt::Display for ChannelEnd {
 
 /// The channel of a path: the end on the path's source, and the other one, on its destination, where it is named
 /// (ICS 4: the counterparty).
-#[derive(Clone, Copy, Debug, PartialEq, Eq)]
+#[derive(Clone, Copy, PartialEq, Eq)]
 pub struct Channel {
     pub source: ChannelEnd,
     pub counterparty: Option<ChannelEnd>,

@@ -15,7 +15,7 @@ use rb_scan::{Order, Sequence};
 use std::alloc::{AllocError, Allocator, Global};
 
 /// To which height a client is brought where it is due for a refresh.
-#[derive(Clone, Copy, Debug, PartialEq, Eq)]
+#[derive(Clone, Copy, PartialEq, Eq)]
 pub enum RefreshTo {
     /// The lowest known one whose record is not due, or one above it.
     Lowest,
@@ -26,7 +26,7 @@ pub enum RefreshTo {
 /// A client: the chain that hosts it, the chain that it tracks, how it judges headers, after how
 /// many nanoseconds it is to be refreshed (0: never) and to which height, what an update costs in fees
 /// and in gas, and what a transaction may carry.
-#[derive(Clone, Copy, Debug, PartialEq, Eq)]
+#[derive(Clone, Copy, PartialEq, Eq)]
 pub struct ClientConfig {
     pub id: ClientId,
     pub host: usize,
@@ -44,7 +44,7 @@ pub struct ClientConfig {
 /// finished and cleared, the client on the destination, which takes receives, the one on the source,
 /// which takes acknowledgements and timeouts, the gas of its messages, how long they may wait, and the
 /// ends of the channel, where they are named.
-#[derive(Clone, Copy, Debug, PartialEq, Eq)]
+#[derive(Clone, Copy, PartialEq, Eq)]
 pub struct PathConfig {
     pub id: PathId,
     pub source: usize,
@@ -60,7 +60,7 @@ pub struct PathConfig {
 
 /// The version of the format, how many records a book of a chain may have, and the chains, the clients
 /// and the paths.
-#[derive(Debug, Drop)]
+#[derive(Drop)]
 pub struct Config<A: Allocator = Global> {
     pub version: Version,
     pub limit: usize,

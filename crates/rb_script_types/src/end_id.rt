@@ -11,7 +11,7 @@ const MAX_LENGTH: usize = 128;
 
 /// The identifier of a port, or of a channel: 1 to 128 characters out of letters, digits and
 /// `. _ + - # [ ] < >` (ICS 24 for the characters and for the length of a port's; own choice of one length for both).
-#[derive(Clone, Copy, Debug, PartialEq, Eq)]
+#[derive(Clone, Copy, PartialEq, Eq)]
 pub struct EndId {
     bytes: [u8; MAX_LENGTH],
     len: usize,

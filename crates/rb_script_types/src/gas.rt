@@ -6,7 +6,7 @@ use rb_scan::Kind;
 use std::marker::Model;
 
 /// The gas of each kind of message of a path, 0 to 10^9.
-#[derive(Clone, Copy, Debug, PartialEq, Eq, Hash)]
+#[derive(Clone, Copy, PartialEq, Eq)]
 pub struct PathGas {
     receive: u64,
     acknowledge: u64,

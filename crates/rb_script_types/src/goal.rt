@@ -5,7 +5,7 @@ ghost use Rattle.rb_script_types.specs.Goal.{Wants};
 use rb_base::Height;
 
 /// The heights of which a client has to have one stored and live.
-#[derive(Clone, Copy, Debug, PartialEq, Eq)]
+#[derive(Clone, Copy, PartialEq, Eq)]
 pub enum Goal {
     /// This height.
     Exactly(Height),

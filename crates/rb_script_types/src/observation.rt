@@ -9,7 +9,7 @@ use rb_valset::ValidatorSet;
 use std::alloc::{AllocError, Allocator, Global};
 
 /// What was seen of a chain, a client or a path, which are named by their places.
-#[derive(Debug, Drop)]
+#[derive(Drop)]
 pub enum Observation<A: Allocator = Global> {
     /// A validator set of a chain.
     SetSeen {

@@ -7,7 +7,7 @@ use rb_base::Window;
 use std::alloc::{Allocator, Global};
 
 /// The chains, clients and paths, and what happens to them, turn by turn.
-#[derive(Debug, Drop)]
+#[derive(Drop)]
 pub struct Script<A: Allocator = Global> {
     pub config: Config<A>,
     pub turns: Vec<Turn<A>, A>,
@@ -15,7 +15,7 @@ pub struct Script<A: Allocator = Global> {
 
 /// A turn: the window in which updates may be submitted, what is asked, what was seen before, what was
 /// taken of the batches after, and whether every batch that is open then was taken whole.
-#[derive(Debug, Drop)]
+#[derive(Drop)]
 pub struct Turn<A: Allocator = Global> {
     pub window: Window,
     pub goals: Vec<Asked, A>,
@@ -25,14 +25,14 @@ pub struct Turn<A: Allocator = Global> {
 }
 
 /// What is asked of a client.
-#[derive(Clone, Copy, Debug, PartialEq, Eq)]
+#[derive(Clone, Copy, PartialEq, Eq)]
 pub struct Asked {
     pub client: usize,
     pub goal: Goal,
 }
 
 /// That so many transactions of a client's batch, by its number, were taken.
-#[derive(Clone, Copy, Debug, PartialEq, Eq)]
+#[derive(Clone, Copy, PartialEq, Eq)]
 pub struct Settlement {
     pub client: usize,
     pub batch: u64,

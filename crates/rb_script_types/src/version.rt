@@ -3,7 +3,7 @@
 /// A version of the format: from the second on the chains' clients share defaults, and books are larger;
 /// from the third on messages may wait, turns may say that all is taken, and clients are refreshed to the
 /// greatest height.
-#[derive(Clone, Copy, Debug, PartialEq, Eq)]
+#[derive(Clone, Copy, PartialEq, Eq)]
 pub enum Version {
     One,
     Two,

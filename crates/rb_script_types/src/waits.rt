@@ -5,7 +5,7 @@ ghost use Rattle.rb_script_types.specs.Waits.{wait_for};
 use rb_scan::Kind;
 
 /// How many nanoseconds each kind of message of a path may wait for others to go with it; 0: not at all.
-#[derive(Clone, Copy, Debug, PartialEq, Eq)]
+#[derive(Clone, Copy, PartialEq, Eq)]
 pub struct Waits {
     pub receive: u64,
     pub acknowledge: u64,

@@ -8,7 +8,7 @@ use std::alloc::{AllocError, Allocator, Global};
 
 /// The commit votes that an update carries where it carries only those that its step needs: the addresses
 /// of their validators, and how many commit votes the header has.
-#[derive(Debug, Drop)]
+#[derive(Drop)]
 pub struct SentVotes<A: Allocator = Global> {
     pub senders: Vec<[u8; 20], A>,
     pub commits: usize,

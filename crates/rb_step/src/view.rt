@@ -23,7 +23,7 @@ const FEE_LIMIT: u64 = 1 << 45;
 /// A client in a window, over the book of the chain that it tracks: its options, its fees, the
 /// heights that it has stored, the window in which it is to be updated, and the book. Stored
 /// heights and book are borrowed, so that one book serves all clients of a chain.
-#[derive(Debug, Drop)]
+#[derive(Drop)]
 pub struct ClientView<'a, A: Allocator = Global> {
     options: Options,
     fees: FeeTable,

@@ -21,7 +21,7 @@ pub trait Found<A: Allocator + Copy> {
 }
 
 /// Nothing was found.
-#[derive(Clone, Copy, Debug)]
+#[derive(Clone, Copy)]
 pub struct Nothing;
 
 impl<A: Allocator + Copy> Found<A> for Nothing {

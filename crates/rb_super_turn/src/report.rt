@@ -9,7 +9,7 @@ use std::alloc::{Allocator, Global};
 
 /// The report of a run, turn by turn, with the script's version and the identifiers of the paths by their
 /// places.
-#[derive(Debug, Drop)]
+#[derive(Drop)]
 pub struct Report<A: Allocator = Global> {
     pub version: Version,
     pub paths: Vec<PathId, A>,
@@ -18,7 +18,7 @@ pub struct Report<A: Allocator = Global> {
 
 /// What came of a turn: whether its window was refused because it goes back, the events that were
 /// refused, in their order, what came of each client, in script order, and of each settlement.
-#[derive(Debug, Drop)]
+#[derive(Drop)]
 pub struct TurnReport<A: Allocator = Global> {
     pub window_back: bool,
     pub refused: Vec<RefusedEvent, A>,
@@ -27,21 +27,21 @@ pub struct TurnReport<A: Allocator = Global> {
 }
 
 /// An event that was refused, by its place among the turn's events from 0, and why.
-#[derive(Clone, Copy, Debug, PartialEq, Eq)]
+#[derive(Clone, Copy, PartialEq, Eq)]
 pub struct RefusedEvent {
     pub event: usize,
     pub refusal: Refusal,
 }
 
 /// A client in a turn, by its identifier, and what came of it.
-#[derive(Debug, Drop)]
+#[derive(Drop)]
 pub struct ClientReport<A: Allocator = Global> {
     pub id: ClientId,
     pub outcome: Outcome<A>,
 }
 
 /// What came of a client in a turn.
-#[derive(Debug, Drop)]
+#[derive(Drop)]
 pub enum Outcome<A: Allocator = Global> {
     /// The batch with this number is open, so nothing was planned.
     Held(u64),
@@ -53,7 +53,7 @@ pub enum Outcome<A: Allocator = Global> {
 
 /// A goal, the exact labelling, the plan, none where the goal can't be reached, and the moment at which the
 /// client has a goal next, by what is known and once the plan is taken.
-#[derive(Debug, Drop)]
+#[derive(Drop)]
 pub struct PlannedReport<A: Allocator = Global> {
     pub goal: Goal,
     pub labelling: Labelling<A>,
@@ -63,7 +63,7 @@ pub struct PlannedReport<A: Allocator = Global> {
 
 /// The least list of updates that meets the goal, their fees and number in all, the packet messages
 /// that follow them, and how they are sent.
-#[derive(Debug, Drop)]
+#[derive(Drop)]
 pub struct PlanReport<A: Allocator = Global> {
     pub updates: Vec<PricedUpdate<A>, A>,
     pub total: Cost,
@@ -72,7 +72,7 @@ pub struct PlanReport<A: Allocator = Global> {
 }
 
 /// An update and its fee; and where the client sends only the votes that the update needs, these.
-#[derive(Debug, Drop)]
+#[derive(Drop)]
 pub struct PricedUpdate<A: Allocator = Global> {
     pub update: Update,
     pub fee: u64,
@@ -80,7 +80,7 @@ pub struct PricedUpdate<A: Allocator = Global> {
 }
 
 /// How messages are sent. They are numbered from 0, the updates first.
-#[derive(Debug, Drop)]
+#[derive(Drop)]
 pub enum SendingReport<A: Allocator = Global> {
     /// There is no message.
     Nothing,
@@ -92,7 +92,7 @@ pub enum SendingReport<A: Allocator = Global> {
 
 /// A batch by its number, from 1 for each client, the height that proofs are made for, and its
 /// transactions.
-#[derive(Debug, Drop)]
+#[derive(Drop)]
 pub struct BatchReport<A: Allocator = Global> {
     pub number: u64,
     pub proof: Height,
@@ -101,7 +101,7 @@ pub struct BatchReport<A: Allocator = Global> {
 
 /// That so many transactions of a batch were taken, the client by its identifier and the batch by
 /// its number, and why that was refused, if it was.
-#[derive(Clone, Copy, Debug, PartialEq, Eq)]
+#[derive(Clone, Copy, PartialEq, Eq)]
 pub struct SettlementReport {
     pub id: ClientId,
     pub batch: u64,

@@ -16,7 +16,7 @@ use std::alloc::Global;
 use toml::Value;
 
 /// A planner's answer for one client in one turn, whoever made it.
-#[derive(Debug, Drop)]
+#[derive(Drop)]
 pub struct Certificate {
     /// The number of the turn, from 1.
     pub turn: u64,

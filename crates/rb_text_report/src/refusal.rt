@@ -2,7 +2,7 @@
 use rb_script_toml::RunError;
 
 /// The two texts of a certification.
-#[derive(Clone, Copy, Debug, PartialEq, Eq)]
+#[derive(Clone, Copy, PartialEq, Eq)]
 pub enum Source {
     Script,
     Certificate,
@@ -10,7 +10,7 @@ pub enum Source {
 
 /// Why a certificate wasn't judged. A fault is one of the source, where what concerns both texts is of
 /// the certificate; another error is of neither.
-#[derive(Debug, Drop)]
+#[derive(Drop)]
 pub struct CertifyError {
     pub source: Source,
     pub error: RunError,

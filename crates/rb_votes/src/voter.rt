@@ -3,7 +3,7 @@ ghost use Rattle.std.specs.Prelude.{◌≡◌};
 ghost use Rattle.rb_votes.specs.Power.{power_in, power_of};
 
 /// A validator that voted to commit.
-#[derive(Clone, Copy, Debug, Default, PartialEq, Eq)]
+#[derive(Clone, Copy, Default, Debug, PartialEq, Eq)]
 pub struct Voter {
     /// Its place in the header's own set.
     pub place: usize,
@@ -14,7 +14,7 @@ pub struct Voter {
 }
 
 /// The least power that passes each test of a step.
-#[derive(Clone, Copy, Debug, PartialEq, Eq)]
+#[derive(Clone, Copy, PartialEq, Eq)]
 pub struct Needed {
     /// Of the header's own set.
     pub own: u64,

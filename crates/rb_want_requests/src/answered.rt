@@ -8,7 +8,7 @@ use crate::request::Query;
 use rb_base::Height;
 
 /// A kind of answers of which there can be several: pages, or parts that were asked for one by one.
-#[derive(Clone, Copy, PartialEq, Eq, Debug)]
+#[derive(Clone, Copy, PartialEq, Eq)]
 pub enum PartKind {
     ConsensusStates,
     Commitments,

@@ -11,7 +11,7 @@ use std::alloc::{AllocError, Global};
 use std::fmt;
 
 /// What is asked of a gateway of a client's host or of an end of a channel (ibc-go), or of a node of a chain (CometBFT).
-#[derive(Clone, Copy, Debug)]
+#[derive(Clone, Copy)]
 pub enum Query {
     /// The state of the client.
     ClientState,

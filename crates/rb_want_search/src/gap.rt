@@ -4,7 +4,7 @@ ghost use Rattle.std.specs.Prelude.{◌≡◌, ◌+◌, ◌<◌, ◌≤◌, ◌-
 use rb_base::Height;
 
 /// The heights between two others: above a floor, up to which no more is asked, and below a ceiling.
-#[derive(Clone, Copy, Debug)]
+#[derive(Clone, Copy)]
 pub struct Gap {
     pub floor: Height,
     pub ceiling: Height,

@@ -5,7 +5,7 @@ use rb_base::Height;
 use std::alloc::AllocError;
 
 /// What answers say of a step from the record at a trusted height to the header at another.
-#[derive(Clone, Copy, Debug, PartialEq, Eq)]
+#[derive(Clone, Copy, PartialEq, Eq)]
 pub enum Judgement {
     /// The client accepts it.
     Accepted,

@@ -10,7 +10,7 @@ use rb_base::Height;
 use std::alloc::AllocError;
 
 /// Where a client is to get: to a height from `least` to `most`, of which `most` is preferred.
-#[derive(Clone, Copy, Debug)]
+#[derive(Clone, Copy)]
 pub struct Aim {
     pub least: Height,
     pub most: Height,
@@ -18,7 +18,7 @@ pub struct Aim {
 
 /// A step whose judgement is sought: from a trusted height, above the greatest height that is accepted
 /// from there, and below the least that isn't, where such were judged.
-#[derive(Clone, Copy, Debug, PartialEq, Eq)]
+#[derive(Clone, Copy, PartialEq, Eq)]
 pub struct Question {
     pub trusted: Height,
     pub height: Height,
@@ -27,7 +27,7 @@ pub struct Question {
 }
 
 /// What a search comes to.
-#[derive(Clone, Copy, Debug, PartialEq, Eq)]
+#[derive(Clone, Copy, PartialEq, Eq)]
 pub enum Finding {
     /// A step has to be judged before the search goes on.
     Asks(Question),
