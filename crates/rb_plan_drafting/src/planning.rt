@@ -185,8 +185,8 @@ pub(crate) fn answer_and_next<A: Allocator + Copy>(
 /// What is planned for a job: its goal with the exact labelling and the least list of updates that
 /// meets it, the packet messages that follow, and the transactions that carry them; None where the
 /// client has no goal. `graph` is the table of the job's book, as `Graph::is_of` tells. `AllocError`
-/// where memory is refused. The rule is own, over the least lists of `rb_plan`, the ready messages of
-/// `rb_scan` and the least cut of `rb_batch`.
+/// where memory is refused. The rule is own, over the least lists of `rb_plan_types`, the ready messages
+/// of `rb_scan` and the least cut of `rb_batch`.
 pub fn answer<A: Allocator + Copy>(
     alloc: A,
     job: &JobView<A>,
