@@ -9,7 +9,7 @@ use std::alloc::{AllocError, Global};
 use std::fmt;
 
 /// A client as it is named: its host, its identifier there, and the chain that it tracks.
-#[derive(Clone, Copy, Debug)]
+#[derive(Clone, Copy)]
 pub struct NamedClient {
     pub host: ChainId,
     pub id: ClientId,
@@ -26,6 +26,12 @@ impl fmt::Display for NamedClient {
     fn fmt<W: fmt::Write>(&self, f: &mut fmt::Formatter<W>) -> fmt::Result {
         let NamedClient { host, id, chain } = *self;
         write!(f, "{host}:{id}:{chain}")
+    }
+}
+
+impl fmt::Debug for NamedClient {
+    fn fmt<W: fmt::Write>(&self, f: &mut fmt::Formatter<W>) -> fmt::Result {
+        fmt::Display::fmt(self, f)
     }
 }
 

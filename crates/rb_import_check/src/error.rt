@@ -153,7 +153,7 @@ impl CheckErrorName {
 }
 
 /// The hash of a header's fields, and that of the block that its commit is for.
-#[derive(Clone, Copy)]
+#[derive(Clone, Copy, Debug)]
 pub struct HeaderHashes {
     pub header: [u8; 32],
     pub block: [u8; 32],
