@@ -7,7 +7,7 @@ use std::fmt;
 use thiserror::Error;
 
 /// What is wrong with an answer.
-#[derive(Clone, Copy, Debug)]
+#[derive(Clone, Copy)]
 pub enum FieldErrorName {
     /// It has more bytes than are read.
     TooBig,
@@ -153,7 +153,7 @@ impl FieldErrorName {
 }
 
 /// What is wrong with an answer, and where.
-#[derive(Clone, Copy, Debug)]
+#[derive(Clone, Copy)]
 pub struct FieldError {
     pub name: FieldErrorName,
     pub place: FieldPath,
@@ -169,6 +169,12 @@ impl fmt::Display for FieldError {
         let name = self.name.name();
         let place = self.place;
         write!(f, "{name} at {place}")
+    }
+}
+
+impl fmt::Debug for FieldError {
+    fn fmt<W: fmt::Write>(&self, f: &mut fmt::Formatter<W>) -> fmt::Result {
+        fmt::Display::fmt(self, f)
     }
 }
 

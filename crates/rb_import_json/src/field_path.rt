@@ -4,7 +4,7 @@ ghost use Rattle.std.specs.Prelude.{◌≡◌};
 use std::fmt;
 
 /// An object or an array of an answer.
-#[derive(Clone, Copy, Debug)]
+#[derive(Clone, Copy)]
 pub enum Segment {
     Result,
     SignedHeader,
@@ -270,7 +270,7 @@ impl Key {
 
 /// Where a value stands in an answer: a part of it, the index from 0 where that is an array of
 /// objects, and the field there.
-#[derive(Clone, Copy, Debug)]
+#[derive(Clone, Copy)]
 pub struct FieldPath {
     pub part: Segment,
     pub index: Option<usize>,
