@@ -4,6 +4,7 @@ use Rattle.rb_import_json.specs.declared.error.FieldErrorName.{FieldErrorName}
 
 abbrev pub field_error_advice : FieldErrorName → List ℕ
 field_error_advice FieldErrorName.TooBig = codes "an answer has at most 16,777,216 bytes; ask for fewer of them on a page (per_page=20)"
+field_error_advice FieldErrorName.TooManyValues = codes "an answer has at most 400,000 of the byte { and 1,200,000 of { [ and , in all; ask for fewer on a page (per_page=20)"
 field_error_advice FieldErrorName.NotJson = codes "this is no JSON in UTF-8; save the node's answer as it came"
 field_error_advice FieldErrorName.Empty = codes "it is empty; ask the node again"
 field_error_advice FieldErrorName.ErrorPage =
@@ -25,7 +26,7 @@ field_error_advice FieldErrorName.BadFlag = codes "a flag is 1 (absent), 2 (comm
 field_error_advice FieldErrorName.ForeignKey = codes "only ed25519 and secp256k1 keys are supported"
 field_error_advice FieldErrorName.BadPower = codes "a voting power is from 1 to 2^60 - 1"
 field_error_advice FieldErrorName.BadTrust = codes "a trust level is from a third to one"
-field_error_advice FieldErrorName.ForeignClient = codes "only Tendermint light clients are supported"
+field_error_advice FieldErrorName.UnsupportedClient = codes "only Tendermint light clients are supported"
 field_error_advice FieldErrorName.FrozenClient = codes "the client is frozen, so that no update helps it"
 field_error_advice FieldErrorName.OtherHeight = codes "the commit has to be of the header's height"
 field_error_advice FieldErrorName.BadVersion = codes "only verdicts of version 1 are read; make them again with this release's tools/verify_commits"

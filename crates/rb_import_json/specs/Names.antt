@@ -136,6 +136,7 @@ part_path Segment.Answer = []
 
 abbrev pub field_error_name : FieldErrorName → List ℕ
 field_error_name FieldErrorName.TooBig = codes "TooBig"
+field_error_name FieldErrorName.TooManyValues = codes "TooManyValues"
 field_error_name FieldErrorName.NotJson = codes "NotJson"
 field_error_name FieldErrorName.Empty = codes "Empty"
 field_error_name FieldErrorName.ErrorPage = codes "ErrorPage"
@@ -155,7 +156,7 @@ field_error_name FieldErrorName.BadFlag = codes "BadFlag"
 field_error_name FieldErrorName.ForeignKey = codes "ForeignKey"
 field_error_name FieldErrorName.BadPower = codes "BadPower"
 field_error_name FieldErrorName.BadTrust = codes "BadTrust"
-field_error_name FieldErrorName.ForeignClient = codes "ForeignClient"
+field_error_name FieldErrorName.UnsupportedClient = codes "UnsupportedClient"
 field_error_name FieldErrorName.FrozenClient = codes "FrozenClient"
 field_error_name FieldErrorName.OtherHeight = codes "OtherHeight"
 field_error_name FieldErrorName.BadVersion = codes "BadVersion"

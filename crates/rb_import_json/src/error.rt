@@ -11,6 +11,8 @@ use thiserror::Error;
 pub enum FieldErrorName {
     /// It has more bytes than are read.
     TooBig,
+    /// It has more objects or values than are read, by its bytes `{`, `[` and `,`.
+    TooManyValues,
     /// Not UTF-8, or not JSON.
     NotJson,
     /// Nothing but white space.
@@ -50,7 +52,7 @@ pub enum FieldErrorName {
     /// A trust level that isn't from a third to one.
     BadTrust,
     /// A light client that isn't Tendermint's.
-    ForeignClient,
+    UnsupportedClient,
     /// A client that is frozen.
     FrozenClient,
     /// The commit is of another height than the header.
@@ -71,6 +73,7 @@ impl FieldErrorName {
     {
         match self {
             FieldErrorName::TooBig => "TooBig",
+            FieldErrorName::TooManyValues => "TooManyValues",
             FieldErrorName::NotJson => "NotJson",
             FieldErrorName::Empty => "Empty",
             FieldErrorName::ErrorPage => "ErrorPage",
@@ -90,7 +93,7 @@ impl FieldErrorName {
             FieldErrorName::ForeignKey => "ForeignKey",
             FieldErrorName::BadPower => "BadPower",
             FieldErrorName::BadTrust => "BadTrust",
-            FieldErrorName::ForeignClient => "ForeignClient",
+            FieldErrorName::UnsupportedClient => "UnsupportedClient",
             FieldErrorName::FrozenClient => "FrozenClient",
             FieldErrorName::OtherHeight => "OtherHeight",
             FieldErrorName::BadVersion => "BadVersion",
@@ -105,6 +108,9 @@ impl FieldErrorName {
         match self {
             FieldErrorName::TooBig => {
                 "an answer has at most 16,777,216 bytes; ask for fewer of them on a page (per_page=20)"
+            }
+            FieldErrorName::TooManyValues => {
+                "an answer has at most 400,000 of the byte { and 1,200,000 of { [ and , in all; ask for fewer on a page (per_page=20)"
             }
             FieldErrorName::NotJson =>
                 "this is no JSON in UTF-8; save the node's answer as it came",
@@ -139,7 +145,7 @@ impl FieldErrorName {
             FieldErrorName::ForeignKey => "only ed25519 and secp256k1 keys are supported",
             FieldErrorName::BadPower => "a voting power is from 1 to 2^60 - 1",
             FieldErrorName::BadTrust => "a trust level is from a third to one",
-            FieldErrorName::ForeignClient => "only Tendermint light clients are supported",
+            FieldErrorName::UnsupportedClient => "only Tendermint light clients are supported",
             FieldErrorName::FrozenClient => "the client is frozen, so that no update helps it",
             FieldErrorName::OtherHeight => "the commit has to be of the header's height",
             FieldErrorName::BadVersion => {
