@@ -1,6 +1,6 @@
 -- What an answer tells, and the first thing that is wrong with one.
-use Rattle.std.specs.Prelude.{ℕ, List, length, nat_lt, Bool, not, if◌then◌else◌, Option, Some, None, is_some, Result, Ok, Err, codes}
-use Rattle.std.specs.Str.{is_utf8}
+use Rattle.std.specs.Prelude.{ℕ, List, length, nat_lt, ◌==◌, ◌||◌, Bool, not, if◌then◌else◌, count_by, Option, Some, None, is_some, Result, Ok, Err, codes}
+use Rattle.std.specs.Str.{is_utf8, bytes_eq}
 use Rattle.serde_json.specs.Data.{Data}
 use Rattle.serde_json.specs.Find.{get, as_null}
 use Rattle.serde_json.specs.Read.{read as read_text}
@@ -9,7 +9,7 @@ use Rattle.rb_import_answers.specs.declared.answer.NodeAnswer.TheVariants as ans
 use Rattle.rb_import_answers.specs.declared.client.ClientState.{ClientState}
 use Rattle.rb_import_json.specs.declared.error.FieldError.{FieldError}
 use Rattle.rb_import_json.specs.declared.error.FieldErrorName.{FieldErrorName}
-use Rattle.rb_import_json.specs.declared.error.FieldErrorName.TheVariants.{TooBig, UnknownShape, NodeError}
+use Rattle.rb_import_json.specs.declared.error.FieldErrorName.TheVariants.{TooBig, TooManyValues, UnknownShape, NodeError}
 use Rattle.rb_import_json.specs.declared.field_path.Key.{Key}
 use Rattle.rb_import_json.specs.declared.field_path.Segment.{Segment}
 use Rattle.rb_import_json.specs.FieldErrors.{◌>>=◌, or_flaw}
@@ -92,8 +92,30 @@ json bytes = if is_utf8 bytes then read_text bytes else None
 abbrev pub max_bytes : ℕ
 max_bytes = 16777216
 
+-- the byte that begins an object (RFC 8259): `{`
+abbrev pub begins_object : ℕ → Bool
+begins_object b = b == 123
+
+-- a byte that marks a value (RFC 8259): `{` begins an object, `[` an array, and `,` stands before each further value of one
+abbrev pub marks_value : ℕ → Bool
+marks_value b = b == 123 || b == 91 || b == 44
+
+-- more than 400,000 objects, or 1,200,000 values (own choice): what is read of an answer takes memory by their numbers; such bytes within texts count, too
+unfoldable pub has_too_many : List ℕ → Bool
+has_too_many bytes = nat_lt 400000 (count_by begins_object bytes) || nat_lt 1200000 (count_by marks_value bytes)
+
+-- the file of a chain's folder that has the verdicts on its commits
+abbrev pub verdicts_file : List ℕ
+verdicts_file = codes "verdicts.json"
+
+-- what an answer tells in the file of a name: verdicts count only in `verdicts.json` (own choice), since a node can answer with their text, too
+abbrev pub told_in : List ℕ → Told → Told
+told_in name (verified v) = if bytes_eq name verdicts_file then verified v else other Query.Verdicts
+told_in name t = t
+
 -- what an answer's bytes tell; of a client's records those of this revision and of later ones
 unfoldable pub told : ℕ → List ℕ → Result Told FieldError
 told since bytes =
     if nat_lt max_bytes (length bytes) then Err (whole TooBig)
+    else if has_too_many bytes then Err (whole TooManyValues)
     else (or_flaw (whole (unread bytes)) (json bytes) >>= λ d. answer since d)

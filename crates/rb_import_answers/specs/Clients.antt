@@ -1,5 +1,6 @@
 -- The answers of ibc-go's gateway on a client: `client_states/ID` and `consensus_states/ID` (ICS 2, ICS 7).
-use Rattle.std.specs.Prelude.{ℕ, suc, ◌*◌, ◌^◌, List, [], length, Bool, true, false, Option, Some, None, is_some, option_and_then, Result, Ok, Err, codes, ⊤, ◌==◌, ◌&&◌, ◌||◌, ◌++◌, option_to_list, nat_le, nat_lt, if◌then◌else◌}
+use Rattle.std.specs.Prelude.{ℕ, suc, ◌*◌, ◌^◌, List, [], length, Bool, true, false, Option, Some, None, is_some, option_and_then, option_map, Result, Ok, Err, codes, string_bytes, ⊤, ◌==◌, ◌&&◌, ◌||◌, ◌++◌, option_to_list, nat_le, nat_lt, if◌then◌else◌}
+use Rattle.std.specs.Result.{result_ok}
 use Rattle.std.specs.Str.{bytes_eq}
 use Rattle.serde_json.specs.Data.{Data, Items, no_items, item}
 use Rattle.serde_json.specs.Find.{as_null, as_str}
@@ -8,7 +9,7 @@ use Rattle.rb_import_answers.specs.declared.client.ConsensusPage.{ConsensusPage}
 use Rattle.rb_import_answers.specs.declared.client.ConsensusState.{ConsensusState}
 use Rattle.rb_import_answers.specs.declared.client.TrustLevel.{TrustLevel}
 use Rattle.rb_import_json.specs.declared.error.FieldError.{FieldError}
-use Rattle.rb_import_json.specs.declared.error.FieldErrorName.TheVariants.{ForeignClient, FrozenClient, BadTrust, BadDuration, BadBase64}
+use Rattle.rb_import_json.specs.declared.error.FieldErrorName.TheVariants.{UnsupportedClient, FrozenClient, BadTrust, BadDuration, BadBase64}
 use Rattle.rb_import_json.specs.declared.field_path.Key.{Key}
 use Rattle.rb_import_json.specs.declared.field_path.Segment.{Segment}
 use Rattle.rb_import_json.specs.FieldErrors.{◌>>=◌, or_flaw, must}
@@ -21,7 +22,7 @@ use Rattle.rb_import_answers.specs.Roots.{root_of}
 unfoldable pub tendermint : Object → Result ⊤ FieldError
 tendermint state = do
   kind ← text Key.TypeUrl state
-  must (flaw_at state Key.TypeUrl ForeignClient) (bytes_eq kind (codes "/ibc.lightclients.tendermint.v1.ClientState"))
+  must (flaw_at state Key.TypeUrl UnsupportedClient) (bytes_eq kind (codes "/ibc.lightclients.tendermint.v1.ClientState"))
 
 abbrev pub unfrozen : Object → Result ⊤ FieldError
 unfrozen state = do
@@ -100,9 +101,22 @@ consensus_state n h o = do
   next ← record_hash Key.NextValidatorsHash state
   Ok (record { revision = n; height = h; time = moment; root = bytes; next = next })
 
+-- the type of a record's state, where it names one
+unfoldable pub named_type : Object → Result ⊤ FieldError
+named_type state = do
+  kind ← text Key.TypeUrl state
+  must (flaw_at state Key.TypeUrl UnsupportedClient) (bytes_eq kind (codes "/ibc.lightclients.tendermint.v1.ConsensusState"))
+
+-- only records of Tendermint's light clients are read
+unfoldable pub state_type : Object → Result ⊤ FieldError
+state_type o =
+    if has Key.ConsensusState o then (inner Key.ConsensusState o >>= λ state. if has Key.TypeUrl state then named_type state else Ok tt)
+    else Ok tt
+
 -- a record, if it isn't of a revision before this one: the rest of such an entry isn't read, since ibc-go takes no update from it
 unfoldable pub state_since : ℕ → Object → Result (Option ConsensusState) FieldError
 state_since since o = do
+  _ ← state_type o
   at ← inner Key.Height o
   n ← number_or_zero Key.RevisionNumber at
   h ← height Key.RevisionHeight at
@@ -115,13 +129,14 @@ states_since since index before (item d ds) =
     state_since since (record { value = d; part = Segment.ConsensusStates; index = Some index }) >>= λ s.
     states_since since (suc index) (before ++ option_to_list s) ds
 
--- the states of a page, and whether no page follows
+-- the states of a page, whether no page follows, and the key of the next page as the gateway wrote it
 pub record States : Type 0 where
   pub states : List ConsensusState
   pub is_last : Bool
+  pub next_key : Option (List ℕ)
 
 abbrev pub states_view : ConsensusPage → States
-states_view p = record { states = p.states.items; is_last = p.is_last }
+states_view p = record { states = p.states.items; is_last = p.is_last; next_key = option_map string_bytes p.next_key }
 
 abbrev pub is_empty : Option (List ℕ) → Bool
 is_empty (Some t) = length t == 0
@@ -137,9 +152,13 @@ ends pagination = if has Key.NextKey pagination then (field Key.NextKey paginati
 unfoldable pub is_last : Object → Result Bool FieldError
 is_last answer = if has Key.Pagination answer then (object Key.Pagination Segment.Pagination answer >>= ends) else Ok true
 
+-- the key of the next page (ibc-go: base64), where it is a text
+unfoldable pub next_key : Object → Option (List ℕ)
+next_key answer = result_ok (inner Key.Pagination answer >>= text Key.NextKey)
+
 unfoldable pub states : ℕ → Object → Result States FieldError
 states since answer = do
   last ← is_last answer
   entries ← items Key.ConsensusStates answer
   read ← states_since since 0 [] entries
-  Ok (record { states = read; is_last = last })
+  Ok (record { states = read; is_last = last; next_key = next_key answer })

@@ -14,6 +14,7 @@ query_path Query.Transaction = codes "/tx"
 query_path Query.ConsensusStateHeights = codes "consensus_states/ID/heights"
 query_path Query.ConsensusState = codes "consensus_states/ID/revision/R/height/H"
 query_path Query.ClientStatus = codes "client_status/ID"
+query_path Query.Verdicts = codes "verdicts (they count only in verdicts.json)"
 
 abbrev pub query_of_gateway : Object → Option Query
 query_of_gateway o =

@@ -1,8 +1,14 @@
 -- What a node says of an error that it answers, and how much of it is shown.
-use Rattle.std.specs.Prelude.{◌≢◌, ◌≤◌, ◌&&◌, ◌==◌, ℕ, nat_le, Bool, not, if◌then◌else◌, List, [], ◌∷◌, ◌++◌, map, take, Option, Some, None, option_and_then, unwrap_or, codes}
+use Rattle.std.specs.Prelude.{◌≢◌, ◌≤◌, ◌&&◌, ◌==◌, ℕ, nat_le, Bool, not, if◌then◌else◌, List, [], ◌∷◌, ◌++◌, map, take, Option, Some, None, option_map, option_and_then, unwrap_or, codes}
+use Rattle.std.specs.Option.{option_or}
+use Rattle.std.specs.Result.{result_ok}
 use Rattle.std.specs.Str.{chars}
-use Rattle.serde_json.specs.Data.{Data}
+use Rattle.serde_json.specs.Data.{Data, Items, no_items, item}
 use Rattle.serde_json.specs.Find.{get, as_str}
+use Rattle.rb_import_json.specs.declared.field_path.Key.{Key}
+use Rattle.rb_import_json.specs.declared.field_path.Segment.{Segment}
+use Rattle.rb_import_json.specs.FieldErrors.{◌>>=◌}
+use Rattle.rb_import_json.specs.Fields.{Object, inner, items, text}
 use Rattle.rb_import_answers.specs.Answers.{json}
 
 -- printable ASCII, and neither a quote nor a backslash
@@ -52,3 +58,30 @@ says None = []
 -- what an answer's bytes say of its error; nothing where they aren't JSON
 unfoldable pub said : List ℕ → List ℕ
 said bytes = says (json bytes)
+
+-- ---- what an answer on a client says of its type
+
+-- the type of a client's state, or of a record's
+unfoldable pub type_at : Key → Object → Option (List ℕ)
+type_at key o = result_ok (inner key o >>= text Key.TypeUrl)
+
+abbrev pub record_type : Items → Option (List ℕ)
+record_type no_items = None
+record_type (item d ds) = type_at Key.ConsensusState (record { value = d; part = Segment.ConsensusStates; index = Some 0 })
+
+-- the type of the first of a client's records
+unfoldable pub records_type : Object → Option (List ℕ)
+records_type answer = option_and_then record_type (result_ok (items Key.ConsensusStates answer))
+
+-- the type that the answer names: that of the client's state, or of its first record
+unfoldable pub type_of : Data → Option (List ℕ)
+type_of d =
+    let answer = record { value = d; part = Segment.Answer; index = None } in option_or (type_at Key.ClientState answer) (records_type answer)
+
+abbrev pub says_type : Option Data → List ℕ
+says_type (Some d) = unwrap_or (option_map chars (type_of d)) []
+says_type None = []
+
+-- what an answer's bytes say of a client's type; nothing where they name none
+unfoldable pub said_type : List ℕ → List ℕ
+said_type bytes = says_type (json bytes)

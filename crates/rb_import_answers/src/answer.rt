@@ -3,7 +3,7 @@ ghost use Rattle.std.specs.Prelude.{◌≡◌};
 ghost use Rattle.serde_json.specs.View.{view};
 ghost use Rattle.rb_import_json.specs.FieldErrors.{Gives, or_flaw};
 ghost use Rattle.rb_import_json.specs.Fields.{object_view};
-ghost use Rattle.rb_import_answers.specs.Answers.{answer_view, whole, is_error, json, known, told};
+ghost use Rattle.rb_import_answers.specs.Answers.{answer_view, begins_object, has_too_many, is_error, json, known, marks_value, told, told_in, whole};
 ghost use Rattle.rb_import_answers.specs.Unread.{unread};
 
 use crate::client::{ClientState, ConsensusPage, read_client_state, read_consensus_states};
@@ -20,6 +20,15 @@ use std::alloc::Global;
 
 /// The most bytes of an answer.
 pub const MAX_ANSWER_BYTES: usize = 16_777_216;
+
+/// The most bytes in an answer that begin an object.
+const MAX_OBJECTS: usize = 400_000;
+
+/// The most bytes in an answer that mark a value.
+const MAX_VALUES: usize = 1_200_000;
+
+/// The name of the file that has the verdicts on a chain's commits.
+const VERDICTS_FILE: &str = "verdicts.json";
 
 /// What a node answered.
 #[derive(Drop)]
@@ -42,15 +51,31 @@ pub enum NodeAnswer {
     Other(Query),
 }
 
-/// Reads an answer: JSON of at most 16,777,216 bytes, with CometBFT's envelope or without, which is known by its members. What is read is what
-/// the JSON says, but for a client's records of a revision before this one, which are passed over; `FieldError` is the first thing that is wrong,
-/// `NoMemory` comes where a growth is refused.
+impl NodeAnswer {
+    /// The answer as the file of a name has it: verdicts count only in `verdicts.json`, since a node can answer with their
+    /// text, too. In another file they are an answer that isn't needed.
+    pub fn in_file(self, name: &str) -> NodeAnswer
+        ensures { answer_view result ≡ told_in name.now (answer_view self) }
+    {
+        match self {
+            NodeAnswer::Verdicts(_) if name != VERDICTS_FILE => NodeAnswer::Other(Query::Verdicts),
+            answer => answer,
+        }
+    }
+}
+
+/// Reads an answer: JSON of at most 16,777,216 bytes, 400,000 objects and 1,200,000 values, with CometBFT's envelope or without, which is
+/// known by its members. What is read is what the JSON says, but for a client's records of a revision before this one, which are passed over;
+/// `FieldError` is the first thing that is wrong, `NoMemory` comes where a growth is refused.
 #[tactic(auto, using(rb_import_json::proofs::Steps::steps), unfolding(crate::specs::Answers::told, crate::specs::Answers::answer))]
 pub fn read_answer(alloc: Global, bytes: &[u8], since: u64) -> Result<NodeAnswer, AnswerError>
     ensures { Gives (λ a. answer_view a) result (told since bytes.now) }
 {
     if bytes.len() > MAX_ANSWER_BYTES {
         return Err(whole(FieldErrorName::TooBig));
+    }
+    if has_too_many(bytes) {
+        return Err(whole(FieldErrorName::TooManyValues));
     }
     let value = read_json(alloc, bytes)?;
     if is_error(&value) {
@@ -60,6 +85,30 @@ pub fn read_answer(alloc: Global, bytes: &[u8], since: u64) -> Result<NodeAnswer
         Some(result) => read_known(alloc, &Object::new(result, Segment::Result), since),
         None => read_known(alloc, &Object::new(&value, Segment::Answer), since),
     }
+}
+
+/// Whether an answer has more objects, or more values, than are read: what is read of it takes memory by their numbers.
+#[tactic(auto, unfolding(crate::specs::Answers::has_too_many))]
+fn has_too_many(bytes: &[u8]) -> bool
+    ensures { result ≡ has_too_many bytes.now }
+{
+    let objects = bytes.iter().filter(|byte| begins_object(**byte)).count();
+    let values = bytes.iter().filter(|byte| marks_value(**byte)).count();
+    objects > MAX_OBJECTS || values > MAX_VALUES
+}
+
+/// Whether a byte begins an object.
+fn begins_object(byte: u8) -> bool
+    ensures { result ≡ begins_object byte }
+{
+    byte == b'{'
+}
+
+/// Whether a byte marks a value: `{` begins an object, `[` an array, and `,` stands before each further value of one.
+fn marks_value(byte: u8) -> bool
+    ensures { result ≡ marks_value byte }
+{
+    matches!(byte, b'{' | b'[' | b',')
 }
 
 #[tactic(auto, unfolding(crate::specs::Answers::json))]

@@ -1,10 +1,10 @@
 //! The answers of ibc-go's REST gateway on a client: its state, and the consensus states that it
 //! has stored.
-ghost use Rattle.std.specs.Prelude.{◌≡◌, []};
+ghost use Rattle.std.specs.Prelude.{◌≡◌, [], Ok, option_map, string_bytes};
 ghost use Rattle.serde_json.specs.View.{items_view, view};
 ghost use Rattle.rb_import_json.specs.FieldErrors.{Reads, Gives};
 ghost use Rattle.rb_import_json.specs.Fields.{object_view};
-ghost use Rattle.rb_import_answers.specs.Clients.{tendermint, live, revision, latest, trust, period_of, period, drift_of, drift, client_state, root, consensus_state, state_since, states_since, is_last, ends, is_empty_text, states, states_view};
+ghost use Rattle.rb_import_answers.specs.Clients.{tendermint, live, revision, latest, trust, period_of, period, drift_of, drift, client_state, root, consensus_state, state_since, states_since, is_last, ends, is_empty_text, next_key, state_type, states, states_view};
 
 use crate::duration::nanoseconds_of;
 use crate::number::{MAX_NUMBER, script_number};
@@ -44,11 +44,13 @@ pub struct ConsensusState {
     pub next: [u8; 32],
 }
 
-/// Consensus states of a client, and whether they end the list.
+/// Consensus states of a client, whether they end the list, and the key of the next page as the gateway wrote it, if it
+/// names one.
 #[derive(Drop)]
 pub struct ConsensusPage {
     pub states: Vec<ConsensusState>,
     pub is_last: bool,
+    pub next_key: Option<String>,
 }
 
 /// Reads an answer of `client_states/ID`.
@@ -82,7 +84,7 @@ fn judge_type(state: &Object<'_>) -> Result<(), FieldError>
 {
     match state.text(Key::TypeUrl)? {
         "/ibc.lightclients.tendermint.v1.ClientState" => Ok(()),
-        _ => Err(state.flaw(Key::TypeUrl, FieldErrorName::ForeignClient)),
+        _ => Err(state.flaw(Key::TypeUrl, FieldErrorName::UnsupportedClient)),
     }
 }
 
@@ -189,7 +191,31 @@ pub(crate) fn read_consensus_states(
 {
     let is_last = read_is_last(answer)?;
     let states = read_states(alloc, answer.items(Key::ConsensusStates)?, since)?;
-    Ok(ConsensusPage { states, is_last })
+    let next_key = copied(alloc, next_key(answer))?;
+    Ok(ConsensusPage {
+        states,
+        is_last,
+        next_key,
+    })
+}
+
+/// The key of the next page, where it is a text.
+#[tactic(auto, using(rb_import_json::proofs::Steps::steps), unfolding(crate::specs::Clients::next_key))]
+fn next_key<'a>(answer: &Object<'a>) -> Option<&'a str>
+    ensures { option_map (λ key. key.now) result ≡ next_key (object_view answer.now) }
+{
+    let pagination = answer.inner(Key::Pagination).ok()?;
+    pagination.text(Key::NextKey).ok()
+}
+
+/// A text of its own.
+fn copied(alloc: Global, text: Option<&str>) -> Result<Option<String>, AnswerError>
+    ensures { Gives (λ copy. option_map string_bytes copy) result (Ok (option_map (λ text. text.now) text)) }
+{
+    match text {
+        Some(text) => Ok(Some(String::from_str(alloc, text)?)),
+        None => Ok(None),
+    }
 }
 
 #[tactic(auto, using(rb_import_json::proofs::Steps::steps))]
@@ -210,6 +236,24 @@ fn read_states(
     Ok(states)
 }
 
+/// Refuses a record of a client that isn't Tendermint's, as it names its type.
+#[tactic(auto, using(rb_import_json::proofs::Steps::steps), unfolding(crate::specs::Clients::state_type))]
+fn judge_state_type(entry: &Object<'_>) -> Result<(), FieldError>
+    ensures { Reads (λ u. u) result (state_type (object_view entry.now)) }
+{
+    if !entry.has(Key::ConsensusState) {
+        return Ok(());
+    }
+    let state = entry.inner(Key::ConsensusState)?;
+    if !state.has(Key::TypeUrl) {
+        return Ok(());
+    }
+    match state.text(Key::TypeUrl)? {
+        "/ibc.lightclients.tendermint.v1.ConsensusState" => Ok(()),
+        _ => Err(state.flaw(Key::TypeUrl, FieldErrorName::UnsupportedClient)),
+    }
+}
+
 /// Reads a record, if it isn't of a revision before this one.
 #[tactic(auto, using(rb_import_json::proofs::Steps::steps), unfolding(crate::specs::Clients::state_since))]
 fn read_since(
@@ -219,6 +263,7 @@ fn read_since(
 ) -> Result<Option<ConsensusState>, AnswerError>
     ensures { Gives (λ o. o) result (state_since since (object_view entry.now)) }
 {
+    judge_state_type(entry)?;
     let at = entry.inner(Key::Height)?;
     let revision = at.number_or_zero(Key::RevisionNumber)?;
     let height = at.height(Key::RevisionHeight)?;

@@ -28,6 +28,6 @@ pub use packets::{PacketEvent, PacketKind, PacketPage, RevisionHeight};
 pub use pending::{Pending, SequencePage};
 pub use query::Query;
 pub use revision::revision_of;
-pub use said::{plain_text, said_in};
+pub use said::{plain_text, said_in, type_in};
 pub use validators::ValidatorsPage;
 pub use verdicts::{Verdict, Verdicts};

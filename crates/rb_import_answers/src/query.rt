@@ -17,11 +17,13 @@ pub enum Query {
     ConsensusStateHeights,
     ConsensusState,
     ClientStatus,
+    /// No query: verdicts in another file than `verdicts.json`.
+    Verdicts,
 }
 
 impl Query {
     /// All of these.
-    pub const ALL: [Query; 9] = [
+    pub const ALL: [Query; 10] = [
         Query::Status,
         Query::BlockResults,
         Query::Blockchain,
@@ -31,6 +33,7 @@ impl Query {
         Query::ConsensusStateHeights,
         Query::ConsensusState,
         Query::ClientStatus,
+        Query::Verdicts,
     ];
 
     /// What it asks for, as its URL says.
@@ -47,6 +50,7 @@ impl Query {
             Query::ConsensusStateHeights => "consensus_states/ID/heights",
             Query::ConsensusState => "consensus_states/ID/revision/R/height/H",
             Query::ClientStatus => "client_status/ID",
+            Query::Verdicts => "verdicts (they count only in verdicts.json)",
         }
     }
 }

@@ -3,9 +3,11 @@ ghost use Rattle.std.specs.Prelude.{◌≡◌, ◌≤◌, ◌++◌, ℕ, [], len
 ghost use Rattle.std.specs.Str.{chars};
 ghost use Rattle.serde_json.specs.Find.{as_str};
 ghost use Rattle.serde_json.specs.View.{view};
+ghost use Rattle.rb_import_json.specs.Fields.{object_view};
 ghost use Rattle.rb_import_answers.specs.Answers.{json};
-ghost use Rattle.rb_import_answers.specs.Said.{IsPlain, after_colon, error_of, error_says, plain, plain_text, said, says, text_of, with_text};
+ghost use Rattle.rb_import_answers.specs.Said.{IsPlain, after_colon, error_of, error_says, plain, plain_text, records_type, said, said_type, says, text_of, type_at, type_of, with_text};
 
+use rb_import_json::{Key, Object, Segment};
 use serde_json::Value;
 use std::alloc::{AllocError, Global};
 
@@ -23,6 +25,52 @@ pub fn said_in(alloc: Global, bytes: &[u8]) -> Result<String, AllocError>
     let answer = json_of(alloc, bytes)?;
     let text = said_by(alloc, &answer)?;
     Ok(text)
+}
+
+/// What the answer on a client says of its type: that of its state, or of its first record, in the form of `said_in`. The
+/// text is empty where the answer names none.
+#[tactic(auto, unfolding(crate::specs::Said::said_type))]
+pub fn type_in(alloc: Global, bytes: &[u8]) -> Result<String, AllocError>
+    ensures text { IfOk result (λ text. string_bytes text ≡ plain_text (said_type bytes.now)) }
+    ensures plain { IfOk result (λ text. All IsPlain (string_bytes text)) }
+    ensures short { IfOk result (λ text. length (string_bytes text) ≤ 200) }
+{
+    let answer = json_of(alloc, bytes)?;
+    match &answer {
+        Some(answer) => plain_text(alloc, type_of(answer).unwrap_or("")),
+        None => plain_text(alloc, ""),
+    }
+}
+
+/// The type that an answer on a client names.
+#[tactic(auto, unfolding(crate::specs::Said::type_of))]
+fn type_of(answer: &Value) -> Option<&str>
+    ensures { option_map (λ text. text.now) result ≡ type_of (view answer.now) }
+{
+    let answer = Object::new(answer, Segment::Answer);
+    match type_at(&answer, Key::ClientState) {
+        Some(text) => Some(text),
+        None => records_type(&answer),
+    }
+}
+
+/// The type of the first of a client's records.
+#[tactic(auto, using(rb_import_json::proofs::Steps::steps), unfolding(crate::specs::Said::records_type))]
+fn records_type<'a>(answer: &Object<'a>) -> Option<&'a str>
+    ensures { option_map (λ text. text.now) result ≡ records_type (object_view answer.now) }
+{
+    let records = answer.items(Key::ConsensusStates).ok()?;
+    let record = Object::element(records.first()?, Segment::ConsensusStates, 0);
+    type_at(&record, Key::ConsensusState)
+}
+
+/// The type of a client's state, or of a record's.
+#[tactic(auto, using(rb_import_json::proofs::Steps::steps), unfolding(crate::specs::Said::type_at))]
+fn type_at<'a>(answer: &Object<'a>, key: Key) -> Option<&'a str>
+    ensures { option_map (λ text. text.now) result ≡ type_at key (object_view answer.now) }
+{
+    let state = answer.inner(key).ok()?;
+    state.text(Key::TypeUrl).ok()
 }
 
 /// The first 200 characters of a text, of which each that isn't printable ASCII, or is `"` or `\`, is replaced by `?`.
