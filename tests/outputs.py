@@ -164,16 +164,6 @@ def texts():
         yield example.read_text(), example.with_suffix(".report").read_text()
 
 
-def telling(texts):
-    """Those of the texts whose report has a line of a kind, or an outcome, that none before has."""
-    known = set()
-    for script, report in texts:
-        kinds = {tuple(word for word in line.split()[:4:3] if not word.isdigit()) for line in report.splitlines()}
-        if kinds - known:
-            yield script, report
-        known |= kinds
-
-
 def renamed_texts(script, report):
     """A script of a client zone-on-hub under identifiers that commands don't take as they stand, and its report."""
     for host, own in (("hub", "hub.c0"), ("hub", "hub.#c[0]"), ("<hub>", "c0"), ("hub", "hub"), ("hub", "hub.")):
@@ -182,16 +172,15 @@ def renamed_texts(script, report):
         yield script.replace('"hub"', f'"{host}"').replace('"zone-on-hub"', f'"{own}"'), renamed
 
 
-def stored_texts(are_few):
-    """The texts that have a report; few of them tell as much of what is written as all."""
-    stored = [(script, report) for script, report in texts() if report]
-    return list(telling(stored)) if are_few else stored
+def stored_texts():
+    """The texts that have a report."""
+    return [(script, report) for script, report in texts() if report]
 
 
-def strict_cases(are_few):
+def strict_cases():
     """With `--strict` the same is written, and the status says whether something in it is refused."""
     commands = ["plan"], ["plan", "--json"], ["run"], ["run", "--workers", "2"], ["run", "--json", "--workers", "2"]
-    for number, (script, report) in enumerate(stored_texts(are_few)):
+    for number, (script, report) in enumerate(stored_texts()):
         words = [*commands[number % len(commands)], "--strict", "-"]
         is_json, status = "--json" in words, 6 if "\nrefused " in report else 0
         output = json_of(script, report) if is_json else report.encode()
@@ -220,9 +209,9 @@ def turn_cases():
     yield Case("commands of a window as others write it", ["commands", "-"], b"version = 1\n" + window, output, b"", 0)
 
 
-def output_cases(are_few):
+def output_cases():
     """The runs of `plan --json` and of `commands`."""
-    stored = stored_texts(are_few)
+    stored = stored_texts()
     smallest = TOP / "examples" / "smallest.toml"
     stored += renamed_texts(smallest.read_text(), smallest.with_suffix(".report").read_text())
     for script, report in stored:

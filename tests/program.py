@@ -1,4 +1,4 @@
-"""Runs of the program in tests, as ./ibcplan builds it or as `rt try` builds it, and what they have to come to."""
+"""Runs of the program in tests, and what they have to come to."""
 import contextlib
 import dataclasses
 import os
@@ -6,13 +6,9 @@ import pathlib
 import pty
 import re
 import subprocess
-import sys
-import tempfile
 from typing import Callable
 
 TOP = pathlib.Path(__file__).resolve().parent.parent
-CRATE = TOP / "crates" / "ibcplan"
-CASE = re.compile(rb"^case=(\S+) run=(\S+) status=(\d+).*\n", re.M)
 
 
 @dataclasses.dataclass
@@ -94,22 +90,7 @@ def run_watched(words, given, output):
     return done, error.replace(b"\r\n", b"\n")
 
 
-def run_unproved(cases):
-    """The same, by one `rt try`: what a case writes stands below its name, what it tells above its line."""
-    with tempfile.TemporaryDirectory() as path:
-        for number, case in enumerate(cases):
-            file = pathlib.Path(path) / f"case-{number:05}"
-            file.write_bytes(case.given)
-            file.with_suffix(".args").write_text("".join(f"{word}\n" for word in case.words))
-        tried = subprocess.run(["rt", "try", "--cases", path], cwd=CRATE, capture_output=True)
-    outputs = dict(re.findall(rb"^== (case-\d{5})\n(.*?)(?=^== case-\d{5}\n|\Z)", tried.stdout, re.M | re.S))
-    told = CASE.split(tried.stderr)
-    ends = {name: (error, status) for error, name, status in zip(told[0::4], told[1::4], told[3::4])}
-    wrong = 0
-    for number, case in enumerate(cases):
-        name = f"case-{number:05}".encode()
-        error, status = ends.get(name, (b"no run", b"-1"))
-        wrong += not case.is_met_by(outputs.get(name, b""), error, int(status))
-    if not ends:
-        sys.stderr.buffer.write(tried.stderr)
-    return wrong
+def unproved_program():
+    """The program with nothing proved, built first where it isn't there, or a source is newer."""
+    subprocess.run([TOP / "ibcplan", "--unproved", "--build"], check=True)
+    return str(TOP / "crates" / "ibcplan" / "out" / "ibcplan-unproved")
