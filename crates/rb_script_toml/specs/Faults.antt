@@ -2,7 +2,7 @@
 use Rattle.std.specs.Prelude.{◌≡◌, ℕ, Bool, true, false, List, ◌++◌, Result, Ok, Err, codes, string_bytes}
 use Rattle.std.specs.Fmt.{decimal}
 use Rattle.rb_script_toml.specs.declared.fault.FaultName.{FaultName}
-use Rattle.rb_script_toml.specs.declared.fault.FaultName.TheVariants.{NotToml, MissingKey, UnknownKey, WrongType, BadVersion, OutOfRange, BadIdentifier, DuplicateIdentifier, UnknownIdentifier, BadHex, BadTime, BadVotes, BadKind, BadOrder, SameChain, WrongClient, TooManyObjects, TooManyEvents, UnknownSetName, DuplicateSetName, TwoGoals, BadSet, BadWindow, BadLimit, BadFee, NoSuchTurn, BadAnswer, NoGoal, LabelOrder, InputTooBig, BadTrust, TooMuchToPlan, Forgotten}
+use Rattle.rb_script_toml.specs.declared.fault.FaultName.TheVariants.{NotToml, MissingKey, UnknownKey, WrongType, BadVersion, OutOfRange, BadIdentifier, DuplicateIdentifier, UnknownIdentifier, BadHex, BadTime, BadVotes, BadKind, BadOrder, SameChain, WrongClient, TooManyObjects, TooManyEvents, UnknownSetName, DuplicateSetName, TwoGoals, BadSet, BadWindow, BadLimit, BadFee, NoSuchTurn, BadAnswer, NoGoal, LabelOrder, InputTooBig, BadTrust, TooMuchToPlan, Forgotten, TooManyTables}
 use Rattle.rb_script_toml.specs.declared.fault.Fault.{Fault as CodeFault}
 use Rattle.rb_script_toml.specs.declared.fault.RunError.{RunError}
 use Rattle.rb_script_toml.specs.declared.fault.RunError.TheVariants as errors
@@ -41,6 +41,7 @@ number_of InputTooBig = 1030
 number_of BadTrust = 1031
 number_of TooMuchToPlan = 1032
 number_of Forgotten = 1033
+number_of TooManyTables = 1034
 
 abbrev pub name_of : FaultName → List ℕ
 name_of NotToml = codes "NotToml"
@@ -76,6 +77,7 @@ name_of InputTooBig = codes "InputTooBig"
 name_of BadTrust = codes "BadTrust"
 name_of TooMuchToPlan = codes "TooMuchToPlan"
 name_of Forgotten = codes "Forgotten"
+name_of TooManyTables = codes "TooManyTables"
 
 -- a fault, and the path of what is wrong
 pub record Fault : Type 0 where

@@ -2,4 +2,5 @@ pub mod Faults
 pub mod KeyPaths
 pub mod Identifiers
 pub mod Fields
+pub mod Marks
 pub mod Documents

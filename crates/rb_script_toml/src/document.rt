@@ -5,6 +5,7 @@ ghost use Rattle.rb_script_toml.specs.Faults.{Gives, IsFault};
 ghost use Rattle.rb_script_toml.specs.Documents.{document, whole};
 
 use crate::fault::{Fault, FaultName, RunError};
+use crate::marks::{MAX_MARKS, marks};
 use crate::section::fault_at;
 use std::alloc::Global;
 use toml::Table;
@@ -28,15 +29,19 @@ fn not_toml(alloc: Global, error: &Error) -> RunError
     })
 }
 
-/// Reads the table of a text: TOML (version 1.1) in UTF-8, of at most 16,777,216 bytes. `Fault` is
-/// `InputTooBig` where it has more bytes, else `NotToml`, and either is at `-`, the whole text;
-/// `NoMemory` is answered where a growth is refused.
+/// Reads the table of a text: TOML (version 1.1) in UTF-8, of at most 16,777,216 bytes, and at most 800,000 `{`, `[`
+/// and `.` outside strings and comments. `Fault` is `InputTooBig` where it has more bytes, else `TooManyTables` where
+/// it has more of those, else `NotToml`, and each is at `-`, the whole text; `NoMemory` is answered where a growth is
+/// refused.
 #[tactic(auto, using(crate::proofs::Steps::steps), unfolding(crate::specs::Documents::document))]
 pub fn read_table(alloc: Global, bytes: &[u8]) -> Result<Table, RunError>
     ensures read { Gives (λ t. whole (table_view t)) result (document bytes.now) }
 {
     if bytes.len() > MAX_BYTES {
         return Err(fault_at(alloc, "-", FaultName::InputTooBig));
+    }
+    if marks(bytes) > MAX_MARKS {
+        return Err(fault_at(alloc, "-", FaultName::TooManyTables));
     }
     match toml::table_from_slice(alloc, bytes) {
         Ok(table) => Ok(table),

@@ -75,6 +75,8 @@ pub enum FaultName {
     TooMuchToPlan,
     /// An event about a height, or a packet, that `follow` has forgotten.
     Forgotten,
+    /// More `{`, `[` and `.` outside strings and comments than are read: each may open a table or an array.
+    TooManyTables,
 }
 
 impl FaultName {
@@ -123,6 +125,7 @@ impl FaultName {
             FaultName::BadTrust => "BadTrust",
             FaultName::TooMuchToPlan => "TooMuchToPlan",
             FaultName::Forgotten => "Forgotten",
+            FaultName::TooManyTables => "TooManyTables",
         }
     }
 }

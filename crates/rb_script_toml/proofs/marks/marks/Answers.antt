@@ -1,0 +1,19 @@
+use Rattle.std.proofs.Common.{slice_index_or, arith}
+use Rattle.rb_script_toml.specs.Marks.{after}
+use Rattle.rb_script_toml.proofs.MarkLemmas.{counted_at_most, next_mark, no_mark}
+use Rattle.rb_script_toml.proofs.marks.marks.Goals as goal
+
+pub loop-byte-preserved : goal.loop-byte-preserved
+loop-byte-preserved c =
+    let byte = slice_index_or c.args.bytes.now c.loop-byte.byte-index 0 in
+    let next = next_mark c.loop-byte.place c.loop-byte.byte-index c.args.bytes.now c.loop-byte-test.true in
+    let one = counted_at_most (after c.loop-byte.place byte) byte in
+    let whole = c.loop-byte.invariant.0 in
+    let few = c.loop-byte.invariant.1 in
+    rw (c.counted-count.ensures, c.after-place.ensures) (omega arith, omega arith)
+
+pub returns : goal.returns
+returns c =
+    let none = no_mark c.loop-byte.place c.loop-byte.byte-index c.args.bytes.now c.loop-byte-test.false in
+    let whole = c.loop-byte.invariant.0 in
+    omega arith

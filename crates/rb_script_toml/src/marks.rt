@@ -1,0 +1,112 @@
+//! The bytes of a text that may open a table or an array.
+ghost use Rattle.std.specs.Prelude.{◌≡◌};
+ghost use Rattle.rb_script_toml.specs.Marks.{after, after_outside, after_line, after_lines, is_mark, counted, marks};
+
+/// The most such bytes of a text.
+pub const MAX_MARKS: usize = 800_000;
+
+/// Where a byte of a text stands. A quote is that of a basic string or of a literal one.
+#[derive(Clone, Copy)]
+pub enum Place {
+    /// Outside strings and comments.
+    Outside,
+    /// In a comment.
+    Comment,
+    /// At the quote that opens a string.
+    Opened(u8),
+    /// At a second quote right behind: of an empty string, or of one of many lines.
+    Doubled(u8),
+    /// In a string of one line.
+    Line(u8),
+    /// At a backslash in a string of one line.
+    LineEscape,
+    /// In a string of many lines, after so many quotes in a row.
+    Lines(u8, u8),
+    /// At a backslash in a string of many lines.
+    LinesEscape,
+    /// At the third quote that ends a string of many lines, or one right behind.
+    Closed(u8),
+}
+
+fn after_outside(byte: u8) -> Place
+    ensures { result ≡ after_outside byte }
+{
+    match byte {
+        b'#' => Place::Comment,
+        b'"' | b'\'' => Place::Opened(byte),
+        _ => Place::Outside,
+    }
+}
+
+fn after_line(quote: u8, byte: u8) -> Place
+    ensures { result ≡ after_line quote byte }
+{
+    if byte == quote {
+        Place::Outside
+    } else if byte == b'\\' && quote == b'"' {
+        Place::LineEscape
+    } else {
+        Place::Line(quote)
+    }
+}
+
+fn after_lines(quote: u8, count: u8, byte: u8) -> Place
+    ensures { result ≡ after_lines quote count byte }
+{
+    if byte == quote {
+        if count < 2 {
+            Place::Lines(quote, count + 1)
+        } else {
+            Place::Closed(quote)
+        }
+    } else if byte == b'\\' && quote == b'"' {
+        Place::LinesEscape
+    } else {
+        Place::Lines(quote, 0)
+    }
+}
+
+/// Where the byte behind one at `place` stands.
+fn after(place: Place, byte: u8) -> Place
+    ensures { result ≡ after place byte }
+{
+    match place {
+        Place::Outside => after_outside(byte),
+        Place::Comment if byte == b'\n' => Place::Outside,
+        Place::Comment => Place::Comment,
+        Place::Opened(quote) if byte == quote => Place::Doubled(quote),
+        Place::Doubled(quote) if byte == quote => Place::Lines(quote, 0),
+        Place::Closed(quote) if byte == quote => Place::Closed(quote),
+        Place::Opened(quote) | Place::Line(quote) => after_line(quote, byte),
+        Place::Doubled(_) | Place::Closed(_) => after_outside(byte),
+        Place::LineEscape => Place::Line(b'"'),
+        Place::Lines(quote, count) => after_lines(quote, count, byte),
+        Place::LinesEscape => Place::Lines(b'"', 0),
+    }
+}
+
+/// Whether a byte that stands at `place` is one to be counted.
+fn is_mark(place: Place, byte: u8) -> bool
+    ensures { result ≡ is_mark place byte }
+{
+    matches!((place, byte), (Place::Outside, b'{' | b'[' | b'.'))
+}
+
+fn counted(place: Place, byte: u8) -> usize
+    ensures { result ≡ counted place byte }
+{
+    if is_mark(place, byte) { 1 } else { 0 }
+}
+
+/// How many bytes of a text are `{`, `[` or `.` outside strings and comments.
+pub fn marks(bytes: &[u8]) -> usize
+    ensures { result ≡ marks bytes.now }
+{
+    let mut place = Place::Outside;
+    let mut count = 0;
+    for byte in bytes {
+        place = after(place, *byte);
+        count += counted(place, *byte);
+    }
+    count
+}
