@@ -1,5 +1,5 @@
 -- What an answer tells, and the first thing that is wrong with one.
-use Rattle.std.specs.Prelude.{ℕ, List, length, nat_lt, ◌==◌, ◌||◌, Bool, not, if◌then◌else◌, count_by, Option, Some, None, is_some, Result, Ok, Err, codes}
+use Rattle.std.specs.Prelude.{ℕ, List, length, nat_lt, ◌==◌, ◌&&◌, ◌||◌, Bool, true, false, not, if◌then◌else◌, count_by, Option, Some, None, is_some, Result, Ok, Err, codes}
 use Rattle.std.specs.Str.{is_utf8, bytes_eq}
 use Rattle.serde_json.specs.Data.{Data}
 use Rattle.serde_json.specs.Find.{get, as_null}
@@ -108,10 +108,14 @@ has_too_many bytes = nat_lt 400000 (count_by begins_object bytes) || nat_lt 1200
 abbrev pub verdicts_file : List ℕ
 verdicts_file = codes "verdicts.json"
 
+-- whether an answer is verdicts
+abbrev pub is_verified : Told → Bool
+is_verified (verified v) = true
+is_verified _ = false
+
 -- what an answer tells in the file of a name: verdicts count only in `verdicts.json` (own choice), since a node can answer with their text, too
 abbrev pub told_in : List ℕ → Told → Told
-told_in name (verified v) = if bytes_eq name verdicts_file then verified v else other Query.Verdicts
-told_in name t = t
+told_in name t = if is_verified t && not (bytes_eq name verdicts_file) then other Query.Verdicts else t
 
 -- what an answer's bytes tell; of a client's records those of this revision and of later ones
 unfoldable pub told : ℕ → List ℕ → Result Told FieldError

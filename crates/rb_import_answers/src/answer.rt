@@ -3,7 +3,7 @@ ghost use Rattle.std.specs.Prelude.{◌≡◌};
 ghost use Rattle.serde_json.specs.View.{view};
 ghost use Rattle.rb_import_json.specs.FieldErrors.{Gives, or_flaw};
 ghost use Rattle.rb_import_json.specs.Fields.{object_view};
-ghost use Rattle.rb_import_answers.specs.Answers.{answer_view, begins_object, has_too_many, is_error, json, known, marks_value, told, told_in, whole};
+ghost use Rattle.rb_import_answers.specs.Answers.{answer_view, begins_object, has_too_many, is_error, is_verified, json, known, marks_value, told, told_in, whole};
 ghost use Rattle.rb_import_answers.specs.Unread.{unread};
 
 use crate::client::{ClientState, ConsensusPage, read_client_state, read_consensus_states};
@@ -57,11 +57,19 @@ impl NodeAnswer {
     pub fn in_file(self, name: &str) -> NodeAnswer
         ensures { answer_view result ≡ told_in name.now (answer_view self) }
     {
-        match self {
-            NodeAnswer::Verdicts(_) if name != VERDICTS_FILE => NodeAnswer::Other(Query::Verdicts),
-            answer => answer,
+        if is_verdicts(&self) && name != VERDICTS_FILE {
+            NodeAnswer::Other(Query::Verdicts)
+        } else {
+            self
         }
     }
+}
+
+/// Whether an answer is verdicts.
+fn is_verdicts(answer: &NodeAnswer) -> bool
+    ensures { result ≡ is_verified (answer_view answer.now) }
+{
+    matches!(answer, NodeAnswer::Verdicts(_))
 }
 
 /// Reads an answer: JSON of at most 16,777,216 bytes, 400,000 objects and 1,200,000 values, with CometBFT's envelope or without, which is
