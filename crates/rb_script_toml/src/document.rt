@@ -5,7 +5,7 @@ ghost use Rattle.rb_script_toml.specs.Faults.{Gives, IsFault};
 ghost use Rattle.rb_script_toml.specs.Documents.{document, whole};
 
 use crate::fault::{Fault, FaultName, RunError};
-use crate::marks::{MAX_MARKS, marks};
+use crate::marks::{MAX_MARKS, count_marks};
 use crate::section::fault_at;
 use std::alloc::Global;
 use toml::Table;
@@ -40,7 +40,7 @@ pub fn read_table(alloc: Global, bytes: &[u8]) -> Result<Table, RunError>
     if bytes.len() > MAX_BYTES {
         return Err(fault_at(alloc, "-", FaultName::InputTooBig));
     }
-    if marks(bytes) > MAX_MARKS {
+    if count_marks(bytes) > MAX_MARKS {
         return Err(fault_at(alloc, "-", FaultName::TooManyTables));
     }
     match toml::table_from_slice(alloc, bytes) {

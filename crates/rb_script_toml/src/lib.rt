@@ -13,5 +13,5 @@ pub use document::{MAX_BYTES, read_table};
 pub use fault::{Fault, FaultName, RunError};
 pub use field::{Field, MAX_NUMBER, is_identifier};
 pub use key_path::{KeyPath, child_path, element_path, is_active};
-pub use marks::{MAX_MARKS, marks};
+pub use marks::{MAX_MARKS, count_marks};
 pub use section::{Section, fault_at, section_at};

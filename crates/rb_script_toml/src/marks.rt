@@ -99,7 +99,7 @@ fn counted(place: Place, byte: u8) -> usize
 }
 
 /// How many bytes of a text are `{`, `[` or `.` outside strings and comments.
-pub fn marks(bytes: &[u8]) -> usize
+pub fn count_marks(bytes: &[u8]) -> usize
     ensures { result ≡ marks bytes.now }
 {
     let mut place = Place::Outside;

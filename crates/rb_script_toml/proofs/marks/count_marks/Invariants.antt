@@ -1,6 +1,6 @@
 use Rattle.std.proofs.Common.{◌≡◌, ◌+◌, ◌≤◌, drop}
 use Rattle.rb_script_toml.specs.Marks.{marks_from, marks}
-use Rattle.rb_script_toml.proofs.marks.marks.Given as goal
+use Rattle.rb_script_toml.proofs.marks.count_marks.Given as goal
 
 -- what is counted, and what is still to come
 abbrev pub invariant-loop-byte : goal.invariant-loop-byte

@@ -1,7 +1,7 @@
 use Rattle.std.proofs.Common.{slice_index_or, arith}
 use Rattle.rb_script_toml.specs.Marks.{after}
 use Rattle.rb_script_toml.proofs.MarkLemmas.{counted_at_most, next_mark, no_mark}
-use Rattle.rb_script_toml.proofs.marks.marks.Goals as goal
+use Rattle.rb_script_toml.proofs.marks.count_marks.Goals as goal
 
 pub loop-byte-preserved : goal.loop-byte-preserved
 loop-byte-preserved c =
