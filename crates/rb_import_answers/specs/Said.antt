@@ -76,7 +76,7 @@ records_type answer = option_and_then record_type (result_ok (items Key.Consensu
 -- the type that the answer names: that of the client's state, or of its first record
 unfoldable pub type_of : Data → Option (List ℕ)
 type_of d =
-    let answer = record { value = d; part = Segment.Answer; index = None } in option_or (type_at Key.ClientState answer) (records_type answer)
+    let answer : Object = record { value = d; part = Segment.Answer; index = None } in option_or (type_at Key.ClientState answer) (records_type answer)
 
 abbrev pub says_type : Option Data → List ℕ
 says_type (Some d) = unwrap_or (option_map chars (type_of d)) []

@@ -210,7 +210,7 @@ fn next_key<'a>(answer: &Object<'a>) -> Option<&'a str>
 
 /// A text of its own.
 fn copied(alloc: Global, text: Option<&str>) -> Result<Option<String>, AnswerError>
-    ensures { Gives (λ copy. option_map string_bytes copy) result (Ok (option_map (λ text. text.now) text)) }
+    ensures { Gives (λ copy. option_map string_bytes copy) result (Ok (option_map (λ text. text.now) text.entry)) }
 {
     match text {
         Some(text) => Ok(Some(String::from_str(alloc, text)?)),
