@@ -100,9 +100,19 @@ begins_object b = b == 123
 abbrev pub marks_value : ℕ → Bool
 marks_value b = b == 123 || b == 91 || b == 44
 
--- more than 400,000 objects, or 1,200,000 values (own choice): what is read of an answer takes memory by their numbers; such bytes within texts count, too
-unfoldable pub has_too_many : List ℕ → Bool
-has_too_many bytes = nat_lt 400000 (count_by begins_object bytes) || nat_lt 1200000 (count_by marks_value bytes)
+-- how many bytes begin an object, and how many mark a value; such bytes within texts count, too
+unfoldable pub object_count : List ℕ → ℕ
+object_count bytes = count_by begins_object bytes
+
+unfoldable pub value_count : List ℕ → ℕ
+value_count bytes = count_by marks_value bytes
+
+-- how many objects and values an answer may have (own choice): what is read of it takes memory by their numbers
+abbrev pub max_objects : ℕ
+max_objects = 400000
+
+abbrev pub max_values : ℕ
+max_values = 1200000
 
 -- the file of a chain's folder that has the verdicts on its commits
 abbrev pub verdicts_file : List ℕ
@@ -121,5 +131,6 @@ told_in name t = if is_verified t && not (bytes_eq name verdicts_file) then othe
 unfoldable pub told : ℕ → List ℕ → Result Told FieldError
 told since bytes =
     if nat_lt max_bytes (length bytes) then Err (whole TooBig)
-    else if has_too_many bytes then Err (whole TooManyValues)
+    else if nat_lt max_objects (object_count bytes) then Err (whole TooManyValues)
+    else if nat_lt max_values (value_count bytes) then Err (whole TooManyValues)
     else (or_flaw (whole (unread bytes)) (json bytes) >>= λ d. answer since d)

@@ -3,7 +3,7 @@ ghost use Rattle.std.specs.Prelude.{◌≡◌};
 ghost use Rattle.serde_json.specs.View.{view};
 ghost use Rattle.rb_import_json.specs.FieldErrors.{Gives, or_flaw};
 ghost use Rattle.rb_import_json.specs.Fields.{object_view};
-ghost use Rattle.rb_import_answers.specs.Answers.{answer_view, begins_object, has_too_many, is_error, is_verified, json, known, marks_value, told, told_in, whole};
+ghost use Rattle.rb_import_answers.specs.Answers.{answer_view, begins_object, is_error, is_verified, json, known, marks_value, object_count, told, told_in, value_count, whole};
 ghost use Rattle.rb_import_answers.specs.Unread.{unread};
 
 use crate::client::{ClientState, ConsensusPage, read_client_state, read_consensus_states};
@@ -82,7 +82,10 @@ pub fn read_answer(alloc: Global, bytes: &[u8], since: u64) -> Result<NodeAnswer
     if bytes.len() > MAX_ANSWER_BYTES {
         return Err(whole(FieldErrorName::TooBig));
     }
-    if has_too_many(bytes) {
+    if object_count(bytes) > MAX_OBJECTS {
+        return Err(whole(FieldErrorName::TooManyValues));
+    }
+    if value_count(bytes) > MAX_VALUES {
         return Err(whole(FieldErrorName::TooManyValues));
     }
     let value = read_json(alloc, bytes)?;
@@ -95,14 +98,20 @@ pub fn read_answer(alloc: Global, bytes: &[u8], since: u64) -> Result<NodeAnswer
     }
 }
 
-/// Whether an answer has more objects, or more values, than are read: what is read of it takes memory by their numbers.
-#[tactic(auto, unfolding(crate::specs::Answers::has_too_many))]
-fn has_too_many(bytes: &[u8]) -> bool
-    ensures { result ≡ has_too_many bytes.now }
+/// How many bytes begin an object.
+#[tactic(auto, unfolding(crate::specs::Answers::object_count))]
+fn object_count(bytes: &[u8]) -> usize
+    ensures { result ≡ object_count bytes.now }
 {
-    let objects = bytes.iter().filter(|byte| begins_object(**byte)).count();
-    let values = bytes.iter().filter(|byte| marks_value(**byte)).count();
-    objects > MAX_OBJECTS || values > MAX_VALUES
+    bytes.iter().filter(|byte| begins_object(**byte)).count()
+}
+
+/// How many bytes mark a value.
+#[tactic(auto, unfolding(crate::specs::Answers::value_count))]
+fn value_count(bytes: &[u8]) -> usize
+    ensures { result ≡ value_count bytes.now }
+{
+    bytes.iter().filter(|byte| marks_value(**byte)).count()
 }
 
 /// Whether a byte begins an object.

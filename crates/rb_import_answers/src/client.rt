@@ -4,7 +4,7 @@ ghost use Rattle.std.specs.Prelude.{◌≡◌, [], Ok, option_map, string_bytes}
 ghost use Rattle.serde_json.specs.View.{items_view, view};
 ghost use Rattle.rb_import_json.specs.FieldErrors.{Reads, Gives};
 ghost use Rattle.rb_import_json.specs.Fields.{object_view};
-ghost use Rattle.rb_import_answers.specs.Clients.{tendermint, live, revision, latest, trust, period_of, period, drift_of, drift, client_state, root, consensus_state, state_since, states_since, is_last, ends, is_empty_text, next_key, state_type, states, states_view};
+ghost use Rattle.rb_import_answers.specs.Clients.{tendermint, live, revision, latest, trust, period_of, period, drift_of, drift, client_state, root, consensus_state, state_since, states_since, is_last, ends, is_empty_text, named_type, next_key, state_type, states, states_view};
 
 use crate::duration::nanoseconds_of;
 use crate::number::{MAX_NUMBER, script_number};
@@ -248,6 +248,14 @@ fn judge_state_type(entry: &Object<'_>) -> Result<(), FieldError>
     if !state.has(Key::TypeUrl) {
         return Ok(());
     }
+    judge_named_type(&state)
+}
+
+/// Refuses the state of a record whose type isn't Tendermint's.
+#[tactic(auto, using(rb_import_json::proofs::Steps::steps), unfolding(crate::specs::Clients::named_type))]
+fn judge_named_type(state: &Object<'_>) -> Result<(), FieldError>
+    ensures { Reads (λ u. u) result (named_type (object_view state.now)) }
+{
     match state.text(Key::TypeUrl)? {
         "/ibc.lightclients.tendermint.v1.ConsensusState" => Ok(()),
         _ => Err(state.flaw(Key::TypeUrl, FieldErrorName::UnsupportedClient)),
