@@ -9,9 +9,9 @@ ghost use Rattle.rb_super_worker.specs.Found.{IsDraftOf, IsScanOf};
 use rb_base::Part;
 use rb_board::{Desk, DeskError};
 use rb_core_model::{Scan, scan};
-use rb_plan_drafting::draft;
 use rb_graph::Graph;
 use rb_plan_client::{Draft, JobView};
+use rb_plan_drafting::draft;
 use std::alloc::{AllocError, Allocator};
 
 /// Scans a part of a path as the desk shows it. `NoMemory` where a growth is refused, else as
