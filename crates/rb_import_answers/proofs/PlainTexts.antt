@@ -7,7 +7,7 @@ use Rattle.std.proofs.lemmas.List.Elements.{All-from_get_or, All-map}
 use Rattle.std.specs.Str.{chars}
 use Rattle.serde_json.specs.Data.{Data}
 use Rattle.rb_import_answers.specs.Answers.{json}
-use Rattle.rb_import_answers.specs.Said.{IsPlain, after_colon, is_plain, plain, plain_text, said, says}
+use Rattle.rb_import_answers.specs.Said.{IsPlain, after_colon, is_plain, plain, plain_text, said, said_type, says, says_type}
 
 -- ---- each character is plain
 
@@ -111,3 +111,10 @@ behind_colon bytes (x ∷ xs) more is some = ap (λ l. (x ∷ xs) ++ l ++ more) 
 pub said_is : (bytes text : List ℕ) (d : Option Data) → d ≡ json bytes → text ≡ plain_text (says d) → text ≡ plain_text (said bytes)
 unfolding said
 said_is bytes text d e is = is ∙ ap (λ o. plain_text (says o)) e
+
+-- ---- what they say of a client's type
+
+pub type_is : (bytes text characters : List ℕ) (d : Option Data) → d ≡ json bytes → characters ≡ says_type d → text ≡ plain_text characters
+    → text ≡ plain_text (said_type bytes)
+unfolding said_type
+type_is bytes text characters d e says_so is = is ∙ ap plain_text (says_so ∙ ap says_type e)

@@ -5,7 +5,7 @@ ghost use Rattle.serde_json.specs.Find.{as_str};
 ghost use Rattle.serde_json.specs.View.{view};
 ghost use Rattle.rb_import_json.specs.Fields.{object_view};
 ghost use Rattle.rb_import_answers.specs.Answers.{json};
-ghost use Rattle.rb_import_answers.specs.Said.{IsPlain, after_colon, error_of, error_says, plain, plain_text, records_type, said, said_type, says, text_of, type_at, type_of, with_text};
+ghost use Rattle.rb_import_answers.specs.Said.{IsPlain, after_colon, error_of, error_says, plain, plain_text, records_type, said, said_type, says, says_type, text_of, type_at, type_of, with_text};
 
 use rb_import_json::{Key, Object, Segment};
 use serde_json::Value;
@@ -29,16 +29,26 @@ pub fn said_in(alloc: Global, bytes: &[u8]) -> Result<String, AllocError>
 
 /// What the answer on a client says of its type: that of its state, or of its first record, in the form of `said_in`. The
 /// text is empty where the answer names none.
-#[tactic(auto, unfolding(crate::specs::Said::said_type))]
 pub fn type_in(alloc: Global, bytes: &[u8]) -> Result<String, AllocError>
     ensures text { IfOk result (λ text. string_bytes text ≡ plain_text (said_type bytes.now)) }
     ensures plain { IfOk result (λ text. All IsPlain (string_bytes text)) }
     ensures short { IfOk result (λ text. length (string_bytes text) ≤ 200) }
 {
     let answer = json_of(alloc, bytes)?;
-    match &answer {
-        Some(answer) => plain_text(alloc, type_of(answer).unwrap_or("")),
-        None => plain_text(alloc, ""),
+    let text = plain_text(alloc, type_text(&answer))?;
+    Ok(text)
+}
+
+/// The type that an answer on a client names; nothing where it names none.
+fn type_text(answer: &Option<Value>) -> &str
+    ensures { chars result.now ≡ says_type (option_map view answer.now) }
+{
+    match answer {
+        Some(answer) => match type_of(answer) {
+            Some(text) => text,
+            None => "",
+        },
+        None => "",
     }
 }
 
