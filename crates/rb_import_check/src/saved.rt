@@ -5,7 +5,7 @@ ghost use Rattle.rb_import_answers.specs.Answers.{answer_view, told};
 ghost use Rattle.rb_import_answers.specs.Said.{IsPlain};
 ghost use Rattle.rb_import_check.specs.Saved.{IsFlawOf, said_with};
 
-use rb_import_answers::{NodeAnswer, read_answer, said_in};
+use rb_import_answers::{NodeAnswer, read_answer, said_in, type_in};
 use rb_import_json::{AnswerError, FieldError, FieldErrorName};
 use sha2::{Digest, Sha256};
 use std::alloc::{AllocError, Global};
@@ -29,7 +29,8 @@ pub struct SavedAnswers {
 /// Why a saved answer isn't taken.
 #[derive(Drop)]
 pub enum SavedError {
-    /// The file's content has a flaw; where that is an error that the node answered, what the node said of it.
+    /// The file's content has a flaw; where that is an error that the node answered, what the node said of it, and where it
+    /// is a client that isn't supported, its type.
     Invalid {
         file: String,
         flaw: FieldError,
@@ -74,7 +75,8 @@ fn flawed(alloc: Global, file: String, bytes: &[u8], since: u64, flaw: FieldErro
     }
 }
 
-/// What a node said, where the flaw is an error that it answered; else nothing.
+/// What a node said, where the flaw is an error that it answered; the client's type, where the flaw is that it isn't
+/// supported; else nothing.
 fn said_of(alloc: Global, bytes: &[u8], flaw: FieldError) -> Result<String, AllocError>
     ensures text { IfOk result (λ said. string_bytes said ≡ said_with flaw.name bytes.now) }
     ensures plain { IfOk result (λ said. All IsPlain (string_bytes said)) }
@@ -82,6 +84,7 @@ fn said_of(alloc: Global, bytes: &[u8], flaw: FieldError) -> Result<String, Allo
 {
     match flaw.name {
         FieldErrorName::NodeError => said_in(alloc, bytes),
+        FieldErrorName::UnsupportedClient => type_in(alloc, bytes),
         _ => Ok(String::new(alloc)),
     }
 }
