@@ -420,6 +420,11 @@ CHANGES = [
     (lambda folder: (folder / COMMIT_FILE).write_bytes(gzip.compress((folder / COMMIT_FILE).read_bytes())), "refused Compressed at -", 1, [
         f"{COMMIT_FILE}: it is compressed with gzip; unpack it (gunzip), or save it as `curl --compressed` does\n"]),
     (lambda folder: (folder / COMMIT_FILE).write_bytes(b"\x1f"), "refused NotJson at -", 1, [COMMIT_FILE]),
+    # bounds of what is read: objects, and values of all kinds
+    (written(COMMIT_FILE, "[" + "{}," * 400_001 + "0]"), "refused TooManyValues at -", 1, [f"{COMMIT_FILE}: an answer has at most 400,000 of the byte {{ and 1,200,000 of "]),
+    (written(COMMIT_FILE, "[" + "{}," * 400_000 + "0]"), "refused UnknownShape at -", 1, [COMMIT_FILE]),
+    (written(COMMIT_FILE, "[" + "1," * 1_200_000 + "0]"), "refused TooManyValues at -", 1, [COMMIT_FILE]),
+    (written(COMMIT_FILE, "[" + "1," * 1_199_999 + "0]"), "refused UnknownShape at -", 1, [COMMIT_FILE]),
     (padded(COMMIT_FILE, 2**24 + 1), "refused TooBig at -", 1, [f"{COMMIT_FILE}: an answer has at most 16,777,216 bytes; ask for fewer of them on a page (per_page=20)\n"]),
     (written("hub-4/status.json", "{}"), "refused UnknownShape at -", 1, ["hub-4/status.json"]),
     (written("hub-on-zone/gateway.json", '{"code": 5, "message": "client not found", "details": []}'), "refused NodeError at -", 1, [f'gateway.json: {ADVICE}; it said "client not found"\n']),
@@ -468,7 +473,6 @@ CHANGES = [
           ("acknowledgements", put("acknowledgements[1].sequence", "x"), "BadNumber at acknowledgements[1].sequence"),
           ("unreceived", put("sequences", "3"), "WrongType at sequences"), ("unreceived", put("sequences[1]", 4), "BadNumber at sequences"), ("unreceived", put("sequences[1]", "-4"), "BadNumber at sequences"))),
     # verdicts that don't fit, or are none
-    (in_turn(judged((80, [0], [], 3)), moved(VERDICTS, "hub-4/again.json", copy=True)), "refused TwoAnswers at hub-4", 1, ["hub-4/again.json and ", VERDICTS]),
     (in_turn(judged((80, [0], [], 3)), moved(VERDICTS, "hub-on-zone/verdicts.json", copy=True)), "refused WrongFolder at hub-on-zone", 1, ["hub-on-zone/verdicts.json"]),
     (in_turn(judged((80, [0], [], 3)), moved(VERDICTS, "transfers/verdicts.json", copy=True)), "refused WrongFolder at transfers", 1, ["transfers/verdicts.json"]),
     (judged((80, [0], [], 3), chain="hub-5"), "refused OtherChain at hub-4", 1, [f"{VERDICTS}: the answer is on another chain, hub-5; "]),
@@ -606,6 +610,7 @@ NOTICES = [
 UNVERIFIED = ("notice NotVerified at hub-4: verdicts.json has no verdict on the commits of %d headers, so that their signatures were not verified; "
               "run tools/verify_commits again\n")
 PASSED = "notice PassedOver at %s: answers that aren't needed: %s\n"
+VERDICTS_ELSEWHERE = "1 of verdicts (they count only in verdicts.json)"
 CHAIN_QUERIES = {"/status": {"node_info": {}, "sync_info": {"latest_block_height": "81"}}, "/block_results": {"height": "80", "txs_results": None},
                  "/blockchain": {"last_height": "80", "block_metas": []}, "/block": {"block_id": {}, "block": {"header": {}}}, "/header": {"header": {}},
                  "/tx": {"hash": "00", "height": "7", "tx_result": {"code": 0}}}
@@ -632,6 +637,10 @@ OPENINGS = [
     (in_turn(judged((80, [2], [], 5)), edited(COMMIT_FILE, put("id", 7))), "# signatures: 0 of 2 commits verified: 0 good, 0 bad, 0 not checkable; by verify_commits 1 (made up)\n", [UNVERIFIED % 2]),
     (judged((1, [], [], 6), (80, [], [], 6), verifier="\n[[turn]]\n\x1b[1m\u202e\"" + "x" * 300),
      "# signatures: 2 of 2 commits verified: 12 good, 0 bad, 0 not checkable; by ?[[turn]]??[1m??" + "x" * 300, []),
+    # verdicts count in their file alone
+    (in_turn(judged((1, [], [], 6), (80, [], [], 6)), moved(VERDICTS, "hub-4/again.json", copy=True)),
+     "# signatures: 2 of 2 commits verified: 12 good, 0 bad, 0 not checkable; by verify_commits 1 (made up)\n", [PASSED % ("hub-4", VERDICTS_ELSEWHERE)]),
+    (in_turn(judged((1, [], [], 6), (80, [], [], 6)), moved(VERDICTS, "hub-4/again.json")), WARNING, [PASSED % ("hub-4", VERDICTS_ELSEWHERE)]),
     (beside(CHAIN_QUERIES, "hub-4", wrap=in_result), WARNING, [PASSED % ("hub-4", ", ".join(f"1 of {name}" for name in CHAIN_QUERIES))]),
     (beside(CHAIN_QUERIES, "hub-4", copies=2), WARNING, [PASSED % ("hub-4", ", ".join(f"2 of {name}" for name in CHAIN_QUERIES))]),
     (beside(CLIENT_QUERIES, "hub-on-zone"), WARNING, [
