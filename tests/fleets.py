@@ -23,7 +23,7 @@ CHAINS = {
 # the same by client, each of hub-4 on zone-1
 CLIENTS = {
     "frozen": (edited(STATES % "frozen", put(f"{STATE}.frozen_height.revision_height", "1")), f"refused FrozenClient at {STATE}.frozen_height"),
-    "wasm": (edited(STATES % "wasm", put(f"{STATE}.@type", "/ibc.lightclients.wasm.v1.ClientState")), f"refused ForeignClient at {STATE}.@type"),
+    "wasm": (edited(STATES % "wasm", put(f"{STATE}.@type", "/ibc.lightclients.wasm.v1.ClientState")), f"refused UnsupportedClient at {STATE}.@type"),
     "no-json": (written(STATES % "no-json", '{"client_state": {},}'), "refused NotJson at -"),
     "empty": (written(RECORDS % "empty", ""), "refused Empty at -"),
     "refused": (written(STATES % "refused", '{"code": 5, "message": "client not found", "details": []}'), "refused NodeError at -"),
@@ -42,7 +42,7 @@ PATHS = {
     "no-folder": (removed_folder("no-folder"), "device"),
     "unsent": (removed("unsent/sent.json"), "refused MissingSend at unsent 2"),
 }
-OF_FILES = ("ErrorPage", "FrozenClient", "ForeignClient", "NotJson", "Empty", "NodeError", "CutShort", "device")
+OF_FILES = ("ErrorPage", "FrozenClient", "UnsupportedClient", "NotJson", "Empty", "NodeError", "CutShort", "device")
 
 
 def make(folder):

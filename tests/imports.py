@@ -172,7 +172,7 @@ FIELDS = {
         (f"{FIRST}.voting_power", None, "1152921504606846976", "BadPower")],
     "hub-on-zone/client_state.json": [
         (f"{STATE}.trust_level", None, None, None), (f"{STATE}.latest_height", None, None, None),
-        (f"{STATE}.@type", None, "/ibc.lightclients.wasm.v1.ClientState", "ForeignClient"), (f"{STATE}.chain_id", None, "a" * 65, "BadIdentifier"),
+        (f"{STATE}.@type", None, "/ibc.lightclients.wasm.v1.ClientState", "UnsupportedClient"), (f"{STATE}.chain_id", None, "a" * 65, "BadIdentifier"),
         (f"{STATE}.trust_level.numerator", None, "-1", "BadNumber"), (f"{STATE}.trust_level.denominator", None, "1.5", "BadNumber"),
         (f"{STATE}.trusting_period", None, LONG, "BadDuration"), (f"{STATE}.max_clock_drift", None, LONG, "BadDuration")],
     "hub-on-zone/consensus_states.json": [

@@ -106,7 +106,7 @@ def want_cases(top):
     folder = top / "want-next-refused"
     filled(folder, chain, second + first)
     (folder / "hub-4" / "validators-53-1.json").rename(folder / "hub-4" / "validators-53-1.refused")
-    yield Case("want, the next set refused", ["want", str(setup), str(folder)], b"", b"", f"end {CLIENT}: nothing goes on from 52: 99 not given by the node\n".encode(), 0)
+    yield Case("want, the next set refused", ["want", str(setup), str(folder)], b"", b"", f"end {CLIENT}: nothing goes on from 52: 99 not judged: the node doesn't give its header, its validators or those of 53\n".encode(), 0)
     folder = top / "want-frozen"
     filled(folder, chain, whole)
     state = folder / CLIENT / "client_state.json"

@@ -207,9 +207,9 @@ const AFTER_WANT: &str = "Examples (in the folder of the repository):
   ./ibcplan want setup.toml answers
   examples/collect answers 07-tendermint-3 hub-4 RPC REST
 
-It writes a line for each answer that is to be fetched next, at most 30: get, the
-chain whose node is to be asked, the path, and the file in FOLDER; then lines that
-say why. It writes nothing where no more is needed. A request that a node refused
+It writes a line for each answer that is to be fetched next, at most 30 for each
+node and each gateway: get, the chain whose node is to be asked, the path, and the
+file in FOLDER; then lines that say why. It writes nothing where no more is needed. A request that a node refused
 is not written again where its file is there with the ending .refused.";
 
 const AFTER_FOLLOW: &str = "Examples (in the folder of the repository):

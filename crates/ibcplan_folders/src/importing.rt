@@ -1,8 +1,11 @@
 //! Importing: the files of a folder are read, and the script that they make is written, without the clients and the
 //! paths whose answers are refused.
 ghost use Rattle.std.specs.Prelude.{◌≡◌, IfOk, MatchOption, is_some, slice_get, string_bytes, true};
+ghost use Rattle.sha2.specs.Sha256.{sha256};
+ghost use Rattle.rb_import_answers.specs.Answers.{answer_view, told_in, verdicts_file};
 ghost use Rattle.rb_import_answers.specs.Revisions.{IsRevision};
 ghost use Rattle.rb_import.specs.Openings.{Opens, hold_verdicts};
+ghost use Rattle.ibcplan_folders.specs.Files.{HasVerdicts, TellsIn};
 ghost use Rattle.ibcplan_folders.specs.LeftOut.{import_status};
 
 use crate::file_system::FileSystem;
@@ -12,6 +15,7 @@ use rb_base::ChainId;
 use rb_import::{Composed, compose};
 use rb_import_answers::revision_of;
 use rb_import_check::{CheckErrorName, ImportError, Saved, SavedAnswers, SavedError, read_saved};
+use rb_import_json::{FieldError, FieldErrorName};
 use rb_import_setup::{ClientSetup, Setup, read_setup};
 use std::alloc::{AllocError, Global};
 use std::fs::File;
@@ -351,51 +355,91 @@ fn read_file<'a, R: FileSystem>(
     folder: &str,
     name: &str,
     since: u64,
-) -> Result<Saved, ProgramError<'a>> {
+) -> Result<Saved, ProgramError<'a>>
+    ensures verdicts { IfOk result (λ saved. HasVerdicts saved.answer → name.now ≡ verdicts_file) }
+{
     let file = path_in(rt.alloc(), folder, name)?;
     match read_bytes(rt, file.as_str()) {
-        Ok(bytes) => saved_of(rt.alloc(), file.as_str(), bytes.as_slice(), since),
+        Ok(bytes) => saved_of(rt.alloc(), folder, name, bytes.as_slice(), since),
+        Err(error) if error.kind() == io::ErrorKind::OutOfMemory => {
+            Err(out_of_memory(rt.alloc(), file.as_str()))
+        }
         Err(error) => Err(ProgramError::of_file(rt.alloc(), file.as_str(), error)),
     }
 }
 
-/// The answer that the bytes of a file hold, of a client's records those of this revision and of later ones.
+/// The answer that the bytes of a folder's file of this name hold, of a client's records those of this revision and of later
+/// ones. Verdicts count only in the file `verdicts.json`.
 pub fn saved_of<'a>(
     alloc: Global,
-    file: &str,
+    folder: &str,
+    name: &str,
     bytes: &[u8],
     since: u64,
-) -> Result<Saved, ProgramError<'a>> {
-    let Ok(name) = shown_text(alloc, file) else {
+) -> Result<Saved, ProgramError<'a>>
+    ensures digest { IfOk result (λ saved. saved.digest ≡ sha256 bytes.now) }
+    ensures answer { IfOk result (λ saved. TellsIn name.now since bytes.now (answer_view saved.answer)) }
+    ensures verdicts { IfOk result (λ saved. HasVerdicts saved.answer → name.now ≡ verdicts_file) }
+{
+    let file = path_in(alloc, folder, name)?;
+    let Ok(shown) = shown_text(alloc, file.as_str()) else {
         return Err(ProgramError::NoMemory);
     };
-    match read_saved(alloc, name, bytes, since) {
-        Ok(saved) => Ok(saved),
-        Err(error) => Err(refused_file(alloc, &error)),
-    }
-}
-
-/// Why a file holds no answer.
-fn refused_file<'a>(alloc: Global, error: &SavedError) -> ProgramError<'a> {
-    match error {
-        SavedError::NoMemory => ProgramError::NoMemory,
-        SavedError::Invalid { file, flaw, said } => {
-            let Ok(said) = said_words(alloc, said.as_str()) else {
-                return ProgramError::NoMemory;
-            };
-            let advice = flaw.name.advice();
-            refused(format!(in alloc; "refused {flaw}\n{file}: {advice}{said}"))
+    match read_saved(alloc, shown, bytes, since) {
+        Ok(saved) => Ok(in_file(saved, name)),
+        Err(SavedError::NoMemory) => Err(out_of_memory(alloc, file.as_str())),
+        Err(SavedError::Invalid { file, flaw, said }) => {
+            Err(refused_file(alloc, file.as_str(), flaw, said.as_str()))
         }
     }
 }
 
-/// What a node said in the place of an answer, if it said something, as an end of the line that refuses it.
-fn said_words(alloc: Global, said: &str) -> Result<String, AllocError> {
-    if said.is_empty() {
-        Ok(String::new(alloc))
-    } else {
-        format!(in alloc; "; it said \"{said}\"")
+/// An answer as the file of a name has it.
+#[tactic(auto, using(crate::proofs::Files::naming))]
+fn in_file(saved: Saved, name: &str) -> Saved
+    ensures digest { result.digest ≡ saved.digest }
+    ensures answer { answer_view result.answer ≡ told_in name.now (answer_view saved.answer) }
+    ensures verdicts { HasVerdicts result.answer → name.now ≡ verdicts_file }
+{
+    let Saved {
+        file,
+        digest,
+        answer,
+    } = saved;
+    Saved {
+        file,
+        digest,
+        answer: answer.in_file(name),
     }
+}
+
+/// Why a file holds no answer.
+fn refused_file<'a>(alloc: Global, file: &str, flaw: FieldError, said: &str) -> ProgramError<'a> {
+    let Ok(said) = said_words(alloc, flaw.name, said) else {
+        return ProgramError::NoMemory;
+    };
+    let advice = flaw.name.advice();
+    refused(format!(in alloc; "refused {flaw}\n{file}: {advice}{said}"))
+}
+
+/// What a node said in the place of an answer, or which client it told of, if it said something, as an end of the line
+/// that refuses it.
+fn said_words(alloc: Global, flaw: FieldErrorName, said: &str) -> Result<String, AllocError> {
+    match flaw {
+        _ if said.is_empty() => Ok(String::new(alloc)),
+        FieldErrorName::UnsupportedClient => format!(in alloc; "; this one is \"{said}\""),
+        _ => format!(in alloc; "; it said \"{said}\""),
+    }
+}
+
+/// That there is no memory to read the answer in a file, which is then refused as others are.
+fn out_of_memory<'a>(alloc: Global, file: &str) -> ProgramError<'a> {
+    let Ok(file) = shown_text(alloc, file) else {
+        return ProgramError::NoMemory;
+    };
+    refused(format!(in alloc;
+        "refused OutOfMemory at -\n{file}: the system gives no memory to read it (as `ulimit -v` bounds it); give more, or ask for fewer on a page (per_page=20)"
+    ))
 }
 
 pub fn read_bytes<R: FileSystem>(rt: &R, path: &str) -> io::Result<Vec<u8>> {

@@ -70,7 +70,7 @@ fn read_into<'a, R: FileSystem>(
         Ok(content) => content,
         Err(error) => return Err(ProgramError::of_file(rt.alloc(), file.as_str(), error)),
     };
-    let saved = saved_of(rt.alloc(), file.as_str(), content.as_slice(), 0)?;
+    let saved = saved_of(rt.alloc(), folder, name, content.as_slice(), 0)?;
     add(&mut answers.saved, saved)?;
     add(&mut answers.contents, content)
 }

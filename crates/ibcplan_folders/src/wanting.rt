@@ -173,7 +173,8 @@ fn read_named<'a, R: FileSystem>(
     add_content(rt.alloc(), name, content, read)
 }
 
-/// Reads what a file of a folder holds.
+/// Reads what a file of a folder holds. What there is no memory to read is passed over, as what can't be read is; `import`
+/// refuses it by name.
 fn read_content<'a, R: FileSystem>(
     rt: &R,
     path: &str,
@@ -182,16 +183,14 @@ fn read_content<'a, R: FileSystem>(
 ) -> Result<Content, ProgramError<'a>> {
     let file = path_in(rt.alloc(), path, name)?;
     match read_bytes(rt, file.as_str()) {
-        Ok(bytes) => contents_of(rt.alloc(), bytes.as_slice(), since),
+        Ok(bytes) => Ok(contents_of(rt.alloc(), bytes.as_slice(), since)),
+        Err(error) if error.kind() == io::ErrorKind::OutOfMemory => Ok(Content::Other),
         Err(error) => Err(ProgramError::of_file(rt.alloc(), file.as_str(), error)),
     }
 }
 
-fn contents_of<'a>(alloc: Global, bytes: &[u8], since: u64) -> Result<Content, ProgramError<'a>> {
-    match content_of(alloc, bytes, since) {
-        Ok(content) => Ok(content),
-        Err(_) => Err(ProgramError::NoMemory),
-    }
+fn contents_of(alloc: Global, bytes: &[u8], since: u64) -> Content {
+    content_of(alloc, bytes, since).unwrap_or(Content::Other)
 }
 
 /// Adds what a file holds, and its name, if it is an answer of a search.

@@ -268,6 +268,7 @@ queries =
     ∷ Query.ConsensusStateHeights
     ∷ Query.ConsensusState
     ∷ Query.ClientStatus
+    ∷ Query.Verdicts
     ∷ []
 
 -- how many answers are to a query
