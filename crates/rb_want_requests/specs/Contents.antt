@@ -5,7 +5,7 @@ use Rattle.serde_json.specs.Data.{Data}
 use Rattle.serde_json.specs.Find.{get, as_str}
 use Rattle.rb_import_json.specs.declared.error.FieldError.{FieldError}
 use Rattle.rb_import_json.specs.declared.error.FieldErrorName.{FieldErrorName}
-use Rattle.rb_import_json.specs.declared.error.FieldErrorName.TheVariants.{FrozenClient, ForeignClient}
+use Rattle.rb_import_json.specs.declared.error.FieldErrorName.TheVariants.{FrozenClient, UnsupportedClient}
 use Rattle.rb_import_json.specs.Values.{number_of, height_of, identifier_of}
 use Rattle.rb_import_answers.specs.Answers.{Told, commit, validators, judging, stored, transactions, packets, verified, other, json, told}
 use Rattle.rb_import_answers.specs.Clients.{States, states_view}
@@ -114,7 +114,7 @@ told_content bytes (other query) = other_content bytes query
 -- the content of bytes with this flaw: a client that is frozen, or isn't Tendermint's, or nothing
 abbrev pub flawed_content : FieldErrorName → FileContent
 flawed_content FrozenClient = other_client
-flawed_content ForeignClient = other_client
+flawed_content UnsupportedClient = other_client
 flawed_content _ = nothing
 
 abbrev pub content_by : List ℕ → Result Told FieldError → FileContent

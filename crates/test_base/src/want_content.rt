@@ -54,6 +54,10 @@ const FILES: &[(&str, &str)] = &[
         "other client",
     ),
     (
+        r#"{"consensus_states": [{"height": {"revision_height": "5"}, "consensus_state": {"@type": "/ibc.lightclients.wasm.v1.ConsensusState"}}]}"#,
+        "other client",
+    ),
+    (
         r#"{"consensus_states": [], "pagination": {"next_key": null}}"#,
         "last states",
     ),
