@@ -9,6 +9,12 @@ from datetime import datetime, timezone
 MAX_NUMBER = 2**63 - 1
 LAST_MOMENT = 10**20
 MAX_BYTES = 16_777_216
+MAX_MARKS = 800_000
+# comments and strings of TOML
+ASIDE = re.compile(
+    rb"#[^\n]*"
+    rb'|"{3}(?:\\.|"{0,2}[^"\\])*(?:"{0,2}\\.)*"{3,5}' rb"|'{3}(?:'{0,2}[^'])*'{3,5}"
+    rb'|"(?:\\.|[^"\\\n])*"' rb"|'[^'\n]*'", re.S)
 MAX_POWER = 1152921504606846975
 MAX_MEMBERS = 10_000
 MAX_CHAINS, MAX_CLIENTS, MAX_PATHS, MAX_TURNS, MAX_ENTRIES = 64, 256, 256, 500, 200_000
@@ -22,6 +28,7 @@ FAULTS = {
     1018: "TooManyEvents", 1019: "UnknownSetName", 1020: "DuplicateSetName", 1021: "TwoGoals", 1022: "BadSet", 1023: "BadWindow",
     1024: "BadLimit", 1025: "BadFee", 1026: "NoSuchTurn", 1027: "BadAnswer", 1028: "NoGoal", 1029: "LabelOrder",
     1030: "InputTooBig", 1031: "BadTrust", 1032: "TooMuchToPlan",
+    1034: "TooManyTables",
 }
 
 # characters that turn the direction of a text
@@ -284,6 +291,9 @@ def fits(value):
 
 def parse(source):
     need(len(source) <= MAX_BYTES, 1030, "-")
+    if sum(map(source.count, (b"{", b"[", b"."))) > MAX_MARKS:
+        plain = ASIDE.sub(b"", source)
+        need(sum(map(plain.count, (b"{", b"[", b"."))) <= MAX_MARKS, 1034, "-")
     try:
         document = tomllib.loads(source.decode())
     except (UnicodeDecodeError, tomllib.TOMLDecodeError):

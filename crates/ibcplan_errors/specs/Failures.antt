@@ -4,9 +4,9 @@ use Rattle.rb_script_toml.specs.Faults.{Fault, fault_view}
 use Rattle.rb_script_toml.specs.declared.fault.RunError.{RunError}
 use Rattle.rb_script_toml.specs.declared.fault.RunError.TheVariants as errors
 use Rattle.ibcplan_errors.specs.declared.error.ProgramError.{ProgramError}
-use Rattle.ibcplan_errors.specs.declared.error.ProgramError.TheVariants.{Refused, RefusedAnswers, NoSuchTurn, NoSuchClient, BadClient, NoJournal, JournalFails, Unreadable, UnreadableAnswers, Unmade, Unwritten, NoMemory}
+use Rattle.ibcplan_errors.specs.declared.error.ProgramError.TheVariants.{Refused, RefusedAnswers, NoSuchTurn, NoSuchClient, BadClient, NoJournal, DamagedJournal, JournalFails, Unreadable, UnreadableAnswers, Unmade, Unwritten, NoMemory}
 
--- 1: a file's content was refused; 2: the script hasn't the turn or the client that was asked for, a configuration makes no setup for a client, or a file can't be the journal; 4: want of memory, or a file or an output that fails
+-- 1: a file's content was refused; 2: the script hasn't the turn or the client that was asked for, a configuration makes no setup for a client, or a file can't be the journal, or is damaged; 4: want of memory, or a file or an output that fails
 abbrev pub failure_status : ProgramError → ℕ
 failure_status (Refused fault flaw) = 1
 failure_status (RefusedAnswers problem) = 1
@@ -14,6 +14,7 @@ failure_status (NoSuchTurn turn turns) = 2
 failure_status (NoSuchClient client file) = 2
 failure_status (BadClient client reason) = 2
 failure_status (NoJournal file reason) = 2
+failure_status (DamagedJournal file place) = 2
 failure_status (JournalFails file error advice) = 4
 failure_status (Unreadable file error advice) = 4
 failure_status (UnreadableAnswers file error) = 4
@@ -33,6 +34,7 @@ told_fault (NoSuchTurn turn turns) = None
 told_fault (NoSuchClient client file) = None
 told_fault (BadClient client reason) = None
 told_fault (NoJournal file reason) = None
+told_fault (DamagedJournal file place) = None
 told_fault (JournalFails file error advice) = None
 told_fault (Unreadable file error advice) = None
 told_fault (UnreadableAnswers file error) = None
@@ -48,6 +50,7 @@ is_unwritten (NoSuchTurn turn turns) = false
 is_unwritten (NoSuchClient client file) = false
 is_unwritten (BadClient client reason) = false
 is_unwritten (NoJournal file reason) = false
+is_unwritten (DamagedJournal file place) = false
 is_unwritten (JournalFails file error advice) = false
 is_unwritten (Unreadable file error advice) = false
 is_unwritten (UnreadableAnswers file error) = false

@@ -68,6 +68,9 @@ pub fn advice_for(name: FaultName, path: &str) -> &'static str {
         FaultName::Forgotten => {
             "follow has forgotten what no client trusts or needs any more, and packets that were cleared; leave this event out"
         }
+        FaultName::TooManyTables => {
+            "a file has at most 800,000 of the characters { [ and . outside strings and comments, since each may open a table or an array"
+        }
     }
 }
 

@@ -61,6 +61,12 @@ pub enum ProgramError<'a> {
         file: Shown<'a>,
         reason: &'static str,
     },
+    /// A part of a journal isn't as it was written.
+    #[error("error: invalid value '{file}' for '--journal <FILE>': its part at byte {place} isn't as it was written, so nothing is answered\n\nPut a whole copy of the file there, or begin another journal (docs/OPERATING.md).")]
+    DamagedJournal {
+        file: Shown<'a>,
+        place: usize,
+    },
     /// Answers are refused.
     #[error("{0}")]
     RefusedAnswers(String),
@@ -204,7 +210,8 @@ impl<'a> ProgramError<'a> {
             ProgramError::NoSuchTurn { .. }
             | ProgramError::NoSuchClient { .. }
             | ProgramError::BadClient { .. }
-            | ProgramError::NoJournal { .. } => status::COMMAND_LINE,
+            | ProgramError::NoJournal { .. }
+            | ProgramError::DamagedJournal { .. } => status::COMMAND_LINE,
             ProgramError::Unreadable { .. }
             | ProgramError::JournalFails { .. }
             | ProgramError::UnreadableAnswers { .. }
