@@ -4,10 +4,12 @@ use Rattle.std.proofs.lemmas.Bool.{and_parts, eqb-false, leb-true, true≢false}
 use Rattle.std.proofs.Math.Nat.{min-le_left}
 use Rattle.std.proofs.lemmas.List.{append_assoc, length-map, length-take, map-append, map_push}
 use Rattle.std.proofs.lemmas.List.Elements.{All-from_get_or, All-map}
+use Rattle.std.specs.Prelude.{Some, None, option_and_then, option_map, unwrap_or}
 use Rattle.std.specs.Str.{chars}
+use Rattle.std.proofs.lemmas.Str.{chars-nil}
 use Rattle.serde_json.specs.Data.{Data}
 use Rattle.rb_import_answers.specs.Answers.{json}
-use Rattle.rb_import_answers.specs.Said.{IsPlain, after_colon, is_plain, plain, plain_text, said, said_type, says, says_type}
+use Rattle.rb_import_answers.specs.Said.{IsPlain, after_colon, is_plain, plain, plain_text, said, said_type, says, says_type, type_of}
 
 -- ---- each character is plain
 
@@ -118,3 +120,8 @@ pub type_is : (bytes text characters : List ℕ) (d : Option Data) → d ≡ jso
     → text ≡ plain_text (said_type bytes)
 unfolding said_type
 type_is bytes text characters d e says_so is = is ∙ ap plain_text (says_so ∙ ap says_type e)
+
+-- an answer that names no type says nothing of it
+pub no_type : (d : Option Data) → option_and_then type_of d ≡ None → chars [] ≡ says_type d
+no_type (Some d) e = chars-nil ∙ sym (ap (λ o. unwrap_or (option_map chars o) []) e)
+no_type None e = chars-nil
