@@ -70,7 +70,7 @@ each f rs (r ∷ needed) =
     let few : count_by (is_to_same r) rs ≤ count_by (is_to_same r) (with_needed f (with_request f rs r) needed) =
     omega (arith, one_counts (may_be_added f rs r) (is_to_same r) rs r, counts f (is_to_same r) (with_request f rs r) needed) in
     All-cons (λ q. is_new f q ≡ true → count_by (is_to_same q) (with_needed f (with_request f rs r) needed) < 30
-        → list_any (is_same q) (with_needed f (with_request f rs r) needed) ≡ true) r needed
+    → list_any (is_same q) (with_needed f (with_request f rs r) needed) ≡ true) r needed
     (λ new small. stays f (is_same r) (with_request f rs r) needed (one_asked f rs r (omega (arith, few, small)) new))
     (each f (with_request f rs r) needed)
 

@@ -90,7 +90,8 @@ pub fn content_of(alloc: Global, bytes: &[u8], since: u64) -> Result<Content, Al
         Ok(NodeAnswer::Other(query)) => other_in(alloc, bytes, query),
         Err(AnswerError::NoMemory) => Err(AllocError),
         Err(AnswerError::Invalid(flaw)) => Ok(match flaw.name {
-            FieldErrorName::FrozenClient | FieldErrorName::UnsupportedClient => Content::OtherClient,
+            FieldErrorName::FrozenClient | FieldErrorName::UnsupportedClient =>
+                Content::OtherClient,
             _ => Content::Other,
         }),
     }
