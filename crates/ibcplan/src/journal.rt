@@ -2,7 +2,9 @@
 use crate::host::Host;
 use ibcplan_errors::{Input, ProgramError, Shown};
 use rb_follow::{Journal, check_setup};
-use rb_journal::{entry_text, input_of, is_opening, opening_text, split_part, stored_in};
+use rb_journal::{
+    damage_in, entry_text, input_of, is_opening, opening_text, split_part, stored_in,
+};
 use rb_script_toml::RunError;
 use std::alloc::Global;
 use std::fs::{File, OpenOptions, TryLockError};
@@ -26,13 +28,15 @@ const UNEXPECTED: &str = "a turn of it is refused, or was changed";
 pub struct FileJournal {
     alloc: Global,
     file: File,
+    /// Whether its parts end with their digests: those of journals that were begun by older releases don't.
+    digests: bool,
     past: IntoIter<String>,
 }
 
 impl FileJournal {
     /// Adds a turn, and waits until the disk has it.
     fn append(&mut self, document: &[u8]) -> io::Result<()> {
-        match entry_text(self.alloc, document) {
+        match entry_text(self.alloc, self.digests, document) {
             Ok(entry) => {
                 self.file.write_all(entry.as_bytes())?;
                 self.file.sync_data()
@@ -73,34 +77,62 @@ pub fn open_journal<'a, R: Host>(
     setup: Option<&'a str>,
     path: &'a str,
 ) -> Result<OpenedJournal<'a>, ProgramError<'a>> {
-    let opening = match setup {
-        Some(setup) => Some(opening_of(rt, setup)?),
+    let input = match setup {
+        Some(setup) => Some(setup_of(rt, setup)?),
         None => None,
     };
-    let mut file = opened(rt, path, opening.is_some())?;
+    let mut file = opened(rt, path, input.is_some())?;
     let bytes = match content(rt.alloc(), &mut file) {
         Ok(bytes) => bytes,
         Err(error) => return Err(failed(path, error, UNREAD)),
     };
+    let digests = !is_opening(false, bytes.as_slice());
+    let opening = match &input {
+        Some(input) => Some(opening_of(rt, digests, input)?),
+        None => None,
+    };
+    if digests && is_opening(true, bytes.as_slice()) {
+        check_digests(rt, path, bytes.as_slice())?;
+    }
     match split_part(bytes.as_slice()) {
         Some((first, turns)) => {
-            check_opening(path, first, &opening)?;
-            gone_on(rt, path, file, first, turns)
+            check_opening(path, digests, first, &opening)?;
+            gone_on(rt, path, file, digests, first, turns)
         }
-        None => begun(rt, path, file, bytes.as_slice(), opening),
+        None => begun(rt, path, file, digests, bytes.as_slice(), opening),
     }
 }
 
-/// The first part of a journal with the setup of a file.
-fn opening_of<'a, R: Host>(rt: &R, setup: &'a str) -> Result<String, ProgramError<'a>> {
+/// Whether each part of a journal is as it was written.
+fn check_digests<'a, R: Host>(rt: &R, path: &'a str, bytes: &[u8]) -> Result<(), ProgramError<'a>> {
+    match damage_in(rt.alloc(), bytes) {
+        Ok(None) => Ok(()),
+        Ok(Some(place)) => Err(ProgramError::DamagedJournal {
+            file: Shown { name: path },
+            place,
+        }),
+        Err(_) => Err(ProgramError::NoMemory),
+    }
+}
+
+/// A setup that a journal may begin with.
+fn setup_of<'a, R: Host>(rt: &R, setup: &'a str) -> Result<Input<'a>, ProgramError<'a>> {
     let input = Input::read(rt, setup)?;
-    let opening = match check_setup(rt.alloc(), input.bytes()) {
-        Ok(()) => opening_text(rt.alloc(), input.bytes()),
-        Err(error) => Err(error),
-    };
-    match opening {
-        Ok(opening) => Ok(opening),
+    match check_setup(rt.alloc(), input.bytes()) {
+        Ok(()) => Ok(input),
         Err(error) => Err(ProgramError::of_run(error, &input)),
+    }
+}
+
+/// The first part of a journal with this setup.
+fn opening_of<'a, R: Host>(
+    rt: &R,
+    digests: bool,
+    setup: &Input<'a>,
+) -> Result<String, ProgramError<'a>> {
+    match opening_text(rt.alloc(), digests, setup.bytes()) {
+        Ok(opening) => Ok(opening),
+        Err(error) => Err(ProgramError::of_run(error, setup)),
     }
 }
 
@@ -133,10 +165,11 @@ fn content(alloc: Global, file: &mut File) -> io::Result<Vec<u8>> {
 /// Whether the first part of a journal is the one that is wanted, or one at all.
 fn check_opening<'a>(
     path: &'a str,
+    digests: bool,
     first: &[u8],
     opening: &Option<String>,
 ) -> Result<(), ProgramError<'a>> {
-    if !is_opening(first) {
+    if !is_opening(digests, first) {
         return Err(no_journal(path, "it isn't a journal"));
     }
     match opening {
@@ -152,6 +185,7 @@ fn begun<'a, R: Host>(
     rt: &R,
     path: &'a str,
     file: File,
+    digests: bool,
     bytes: &[u8],
     opening: Option<String>,
 ) -> Result<OpenedJournal<'a>, ProgramError<'a>> {
@@ -165,7 +199,7 @@ fn begun<'a, R: Host>(
     match write_opening(&mut file, opening.as_str()) {
         Ok(()) => {
             let past = Vec::new(rt.alloc());
-            settled(rt, path, file, opening.as_bytes(), past)
+            settled(rt, path, file, digests, opening.as_bytes(), past)
         }
         Err(error) => Err(failed(path, error, UNWRITTEN)),
     }
@@ -197,10 +231,11 @@ fn gone_on<'a, R: Host>(
     rt: &R,
     path: &'a str,
     file: File,
+    digests: bool,
     opening: &[u8],
     turns: &[u8],
 ) -> Result<OpenedJournal<'a>, ProgramError<'a>> {
-    let stored = match stored_in(rt.alloc(), turns) {
+    let stored = match stored_in(rt.alloc(), digests, turns) {
         Ok(stored) => stored,
         Err(RunError::Fault(_)) => return Err(no_journal(path, "a part of it isn't a turn")),
         Err(_) => return Err(ProgramError::NoMemory),
@@ -219,7 +254,7 @@ fn gone_on<'a, R: Host>(
             "{shown}: the last {cut} bytes are left out: a turn that wasn't answered"
         );
     }
-    settled(rt, path, file, opening, stored.documents)
+    settled(rt, path, file, digests, opening, stored.documents)
 }
 
 /// A journal that goes on behind these documents, which the disk has: they may have been written and not synced.
@@ -227,6 +262,7 @@ fn settled<'a, R: Host>(
     rt: &R,
     path: &'a str,
     file: File,
+    digests: bool,
     opening: &[u8],
     documents: Vec<String>,
 ) -> Result<OpenedJournal<'a>, ProgramError<'a>> {
@@ -242,6 +278,7 @@ fn settled<'a, R: Host>(
             journal: FileJournal {
                 alloc,
                 file,
+                digests,
                 past: documents.into_iter(),
             },
             setup: Input::beginning(path, setup),

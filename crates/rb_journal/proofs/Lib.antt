@@ -2,3 +2,5 @@ pub mod Ends
 pub mod Cuts
 pub mod Entries
 pub mod Stores
+pub mod Damages
+mod Closings

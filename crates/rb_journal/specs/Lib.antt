@@ -1,4 +1,5 @@
 pub mod Parts
+pub mod Damage
 pub mod Entries
 pub mod Stored
 pub mod Laws

@@ -1,17 +1,40 @@
--- The parts of a journal (own choice): each ends by a line `# ---`.
-use Rattle.std.specs.Prelude.{◌≡◌, ℕ, ◌+◌, ◌==◌, List, [], ◌∷◌, ◌++◌, codes, length, All, Option, Some, None, if◌then◌else◌}
+-- The parts of a journal (own choice): each ends by a line with its digest and a line `# ---`. In journals of the first form no part has a digest.
+use Rattle.std.specs.Prelude.{◌≡◌, ℕ, ◌+◌, ◌-◌, ◌==◌, Bool, true, false, ◌&&◌, nat_le, List, [], ◌∷◌, ◌++◌, codes, length, take, drop, All, Option, Some, None, if◌then◌else◌}
 use Rattle.std.specs.List.{concat}
 use Rattle.std.specs.Str.{bytes_eq}
+use Rattle.hex.specs.Hex.{encode_lower}
+use Rattle.sha2.specs.Sha256.{sha256}
 
--- the line that a journal begins with, the line that a turn begins with, and the line that ends each part: comments of TOML, and an empty line
-abbrev pub heading : List ℕ
-heading = codes "# ibcplan journal\n"
+-- the line that a journal begins with, with digests and without: a comment of TOML
+abbrev pub heading : Bool → List ℕ
+heading true = codes "# ibcplan journal 2\n"
+heading false = codes "# ibcplan journal\n"
+
+-- the line that a turn begins with, which is empty, and the line that ends each part
 
 abbrev pub gap : List ℕ
 gap = codes "\n"
 
 abbrev pub mark : List ℕ
 mark = codes "# ---\n"
+
+-- what stands behind a part's table, after these bytes of the part: their digest (FIPS 180-4) and the mark, or the mark alone
+abbrev pub closing : Bool → List ℕ → List ℕ
+closing true bytes = codes "# " ++ encode_lower (sha256 bytes) ++ codes "\n# ---\n"
+closing false bytes = mark
+
+abbrev pub closing_length : Bool → ℕ
+closing_length true = 73
+closing_length false = 6
+
+-- the digest that a part ends with is that of the bytes before
+abbrev pub digest_holds : List ℕ → Bool
+digest_holds part =
+    bytes_eq (drop (length part - closing_length true) part) (closing true (take (length part - closing_length true) part))
+
+-- all of a part but the mark, in place of which so many other bytes stand
+abbrev pub lost_mark : List ℕ → Bool
+lost_mark bytes = nat_le 6 (length bytes) && digest_holds (take (length bytes - 6) bytes ++ mark)
 
 -- how many bytes were read when the first line ends that is the mark, after so many bytes of which these are in the last line
 abbrev pub end_from : ℕ → List ℕ → List ℕ → Option ℕ

@@ -1,24 +1,19 @@
 //! The parts of a journal as texts.
-ghost use Rattle.std.specs.Prelude.{◌≡◌, ℕ, ◌≤◌, ◌++◌, List, true, false, length, codes, string_bytes, option_map, IfOk, IfErr};
+ghost use Rattle.std.specs.Prelude.{◌≡◌, ℕ, ◌≤◌, ◌++◌, List, true, false, length, string_bytes, option_map, IfOk, IfErr};
 ghost use Rattle.toml.specs.Data.{get_member};
 ghost use Rattle.toml.specs.Text.{IsDocumentText};
 ghost use Rattle.toml.specs.View.{view, table_view, items_view};
-ghost use Rattle.rb_script_toml.specs.Faults.{IsFault};
 ghost use Rattle.rb_script_toml.specs.Documents.{max_bytes, document, whole};
-ghost use Rattle.rb_journal.specs.Parts.{gap, mark};
-ghost use Rattle.rb_journal.specs.Entries.{script_of, only_table, turn_in, IsWritable, IsPart, IsOpening, IsEntry, Restores, Unrestored};
+ghost use Rattle.rb_journal.specs.Parts.{gap, closing};
+ghost use Rattle.rb_journal.specs.Entries.{script_of, only_table, turn_in, IsWritable, IsTooMuch, IsPart, IsOpening, IsEntry, Restores, Unrestored};
 
 use crate::depth::table_fits;
-use crate::parts::part_end;
-use rb_script_toml::{FaultName, MAX_BYTES, RunError, fault_at, read_table};
+use crate::parts::{closing, closing_length, heading, part_end};
+use rb_script_toml::{
+    FaultName, MAX_BYTES, MAX_MARKS, RunError, count_marks, fault_at, read_table,
+};
 use std::alloc::{AllocError, Global};
 use toml::{Table, Value, table_to_string};
-
-/// The line that ends each part.
-pub(crate) const MARK: &str = "# ---\n";
-
-/// The line that a journal begins with.
-pub(crate) const HEADING: &str = "# ibcplan journal\n";
 
 /// The line that a turn begins with.
 const GAP: &str = "\n";
@@ -28,12 +23,12 @@ const TURN: &str = "turn";
 /// The most levels of a text.
 const MAX_DEPTH: usize = 80;
 
-/// The text of a table. `NotToml` where a date-time of it is none or it nests too deep, and `InputTooBig` where the
-/// text has more bytes than a script may have.
+/// The text of a table. `NotToml` where a date-time of it is none or it nests too deep, `InputTooBig` where the
+/// text has more bytes than a script may have, and `TooManyTables` where it may open more tables and arrays.
 fn text_of(alloc: Global, table: &Table) -> Result<String, RunError>
     ensures written { IfOk result (λ text. IsDocumentText false (table_view table.now) (string_bytes text)) }
     ensures writable { IfOk result (λ _. IsWritable (table_view table.now)) }
-    ensures refused { IfErr result (λ e. IsWritable (table_view table.now) → IsFault e FaultName.InputTooBig (codes "-")) }
+    ensures refused { IfErr result (λ e. IsWritable (table_view table.now) → IsTooMuch e) }
     ensures fits { IfOk result (λ text. length (string_bytes text) ≤ max_bytes) }
     ensures read { IfOk result (λ text. document (string_bytes text) ≡ Ok (whole (table_view table.now))) }
 {
@@ -48,19 +43,23 @@ fn text_of(alloc: Global, table: &Table) -> Result<String, RunError>
     if text.len() > MAX_BYTES {
         return Err(fault_at(alloc, "-", FaultName::InputTooBig));
     }
+    if count_marks(text.as_bytes()) > MAX_MARKS {
+        return Err(fault_at(alloc, "-", FaultName::TooManyTables));
+    }
     Ok(text)
 }
 
-/// A part of a journal: a line, the text of a table, and the line that ends it. `InputTooBig` where it has more
-/// bytes than a script may have, and `NotToml` where a line of the table looks like the last.
-fn part_of(alloc: Global, before: &str, table: &Table) -> Result<String, RunError>
-    ensures { IfOk result (λ part. IsPart before.now (table_view table.now) (string_bytes part)) }
+/// A part of a journal: a line, the text of a table, and what ends it. `InputTooBig` where it has more bytes than a
+/// script may have, and `NotToml` where a line of the table looks like the last.
+fn part_of(alloc: Global, digests: bool, before: &str, table: &Table) -> Result<String, RunError>
+    ensures { IfOk result (λ part. IsPart digests before.now (table_view table.now) (string_bytes part)) }
 {
     let text = text_of(alloc, table)?;
     let mut part = String::new(alloc);
     part.push_str(before)?;
     part.push_str(text.as_str())?;
-    part.push_str(MARK)?;
+    let end = closing(alloc, digests, part.as_bytes())?;
+    part.push_str(end.as_str())?;
     if part.len() > MAX_BYTES {
         return Err(fault_at(alloc, "-", FaultName::InputTooBig));
     }
@@ -97,51 +96,60 @@ fn only_table(values: &[Value]) -> Option<&Table>
     values[0].as_table()
 }
 
-/// The turn of a script, if it has one.
+/// The turn of a script that has one turn, and no other key.
 fn turn_in(script: &Table) -> Option<&Table>
     ensures { option_map (λ t. table_view t.now) result ≡ turn_in (table_view script.now) }
 {
+    if script.len() != 1 {
+        return None;
+    }
     let value = value_at(script, TURN)?;
     let turns = value.as_array()?;
     only_table(turns.as_slice())
 }
 
-/// The first part of a journal: the setup without turns that a text of TOML holds, in the order of its keys.
-/// `Fault` is the text's, `NotToml` where a line of it looks like the one that ends a part, and `InputTooBig`
-/// where the part has more bytes than a script may have.
-pub fn opening_text(alloc: Global, setup: &[u8]) -> Result<String, RunError>
-    ensures { IfOk result (λ part. IsOpening setup.now (string_bytes part)) }
+/// The first part of a journal, with digests or without: the setup without turns that a text of TOML holds, in the
+/// order of its keys. `Fault` is the text's, `NotToml` where a line of it looks like the one that ends a part, and
+/// `InputTooBig` or `TooManyTables` where the part is more than a script may be.
+pub fn opening_text(alloc: Global, digests: bool, setup: &[u8]) -> Result<String, RunError>
+    ensures { IfOk result (λ part. IsOpening digests setup.now (string_bytes part)) }
 {
     let mut table = read_table(alloc, setup)?;
     let _ = table.remove(TURN);
-    part_of(alloc, HEADING, &table)
+    part_of(alloc, digests, heading(digests), &table)
 }
 
 /// The part of a journal for a document with the keys of a turn at its top: the turn of a script. It fails as
 /// `opening_text` does.
-pub fn entry_text(alloc: Global, document: &[u8]) -> Result<String, RunError>
-    ensures { IfOk result (λ part. IsEntry document.now (string_bytes part)) }
+pub fn entry_text(alloc: Global, digests: bool, document: &[u8]) -> Result<String, RunError>
+    ensures { IfOk result (λ part. IsEntry digests document.now (string_bytes part)) }
 {
     let turn = read_table(alloc, document)?;
     let script = script_of(alloc, turn)?;
-    part_of(alloc, GAP, &script)
+    part_of(alloc, digests, GAP, &script)
 }
 
-/// What stands between the first line of a turn and the line that ends it.
-fn inner(part: &[u8]) -> &[u8]
-    ensures { (text : List ℕ) → part.now ≡ gap ++ (text ++ mark) → result.now ≡ text }
+fn behind_gap(part: &[u8]) -> &[u8]
+    ensures { (rest : List ℕ) → part.now ≡ gap ++ rest → result.now ≡ rest }
 {
-    let rest = part.strip_prefix(GAP.as_bytes()).unwrap_or(part);
-    rest.strip_suffix(MARK.as_bytes()).unwrap_or(rest)
+    part.strip_prefix(GAP.as_bytes()).unwrap_or(part)
+}
+
+/// What stands between the first line of a turn and the lines that end it.
+fn inner(digests: bool, part: &[u8]) -> &[u8]
+    ensures { (text : List ℕ) → part.now ≡ gap ++ (text ++ closing digests (gap ++ text)) → result.now ≡ text }
+{
+    let rest = behind_gap(part);
+    &rest[..rest.len().saturating_sub(closing_length(digests))]
 }
 
 /// A document that reads as the one that a part of a journal was made of, in the order of its keys. `NotToml`
-/// where the part isn't a script of one turn.
-pub fn document_text(alloc: Global, part: &[u8]) -> Result<String, RunError>
-    ensures restored { IfOk result (λ text. Restores part.now (string_bytes text)) }
-    ensures unrestored { IfErr result (λ e. Unrestored part.now e) }
+/// where the part isn't a script of one turn and of nothing else.
+pub fn document_text(alloc: Global, digests: bool, part: &[u8]) -> Result<String, RunError>
+    ensures restored { IfOk result (λ text. Restores digests part.now (string_bytes text)) }
+    ensures unrestored { IfErr result (λ e. Unrestored digests part.now e) }
 {
-    let script = read_table(alloc, inner(part))?;
+    let script = read_table(alloc, inner(digests, part))?;
     match turn_in(&script) {
         Some(turn) => text_of(alloc, turn),
         None => Err(fault_at(alloc, "-", FaultName::NotToml)),

@@ -1,9 +1,59 @@
 //! The parts of a journal.
-ghost use Rattle.std.specs.Prelude.{◌≡◌, ◌++◌, length, take, MatchOption};
+ghost use Rattle.std.specs.Prelude.{◌≡◌, ◌++◌, length, take, string_bytes, IfOk, MatchOption, true};
 ghost use Rattle.std.specs.Str.{bytes_eq};
-ghost use Rattle.rb_journal.specs.Parts.{heading, part_end, IsWhole};
+ghost use Rattle.rb_journal.specs.Parts.{heading, closing, closing_length, digest_holds, part_end, IsWhole};
 
-use crate::entry::{HEADING, MARK};
+use sha2::{Digest, Sha256};
+use std::alloc::{AllocError, Global};
+
+/// The line that ends each part.
+pub(crate) const MARK: &str = "# ---\n";
+
+/// The line that a journal begins with.
+pub(crate) fn heading(digests: bool) -> &'static str
+    ensures { result.now ≡ heading digests }
+{
+    if digests {
+        "# ibcplan journal 2\n"
+    } else {
+        "# ibcplan journal\n"
+    }
+}
+
+fn digest_lines(alloc: Global, bytes: &[u8]) -> Result<String, AllocError>
+    ensures { IfOk result (λ text. string_bytes text ≡ closing true bytes.now) }
+{
+    let digest = Sha256::digest(bytes);
+    let digits = hex::encode(alloc, digest.as_slice())?;
+    format!(in alloc; "# {digits}\n# ---\n")
+}
+
+/// What ends a part, after these bytes of it.
+pub(crate) fn closing(alloc: Global, digests: bool, bytes: &[u8]) -> Result<String, AllocError>
+    ensures { IfOk result (λ text. string_bytes text ≡ closing digests bytes.now) }
+{
+    if digests {
+        digest_lines(alloc, bytes)
+    } else {
+        String::from_str(alloc, MARK)
+    }
+}
+
+/// How many bytes end a part.
+pub(crate) fn closing_length(digests: bool) -> usize
+    ensures { result ≡ closing_length digests }
+{
+    if digests { 73 } else { 6 }
+}
+
+/// Whether the digest that a part ends with is that of the bytes before.
+pub(crate) fn digest_holds(alloc: Global, part: &[u8]) -> Result<bool, AllocError>
+    ensures { IfOk result (λ holds. holds ≡ digest_holds part.now) }
+{
+    let (bytes, end) = part.split_at(part.len().saturating_sub(closing_length(true)));
+    let wanted = closing(alloc, true, bytes)?;
+    Ok(end == wanted.as_bytes())
+}
 
 /// How many bytes the first part has, with the line that ends it, if it is whole.
 pub(crate) fn part_end(bytes: &[u8]) -> Option<usize>
@@ -29,9 +79,9 @@ pub fn split_part(bytes: &[u8]) -> Option<(&[u8], &[u8])>
     Some(bytes.split_at(end))
 }
 
-/// Whether a part begins as the first one of a journal does.
-pub fn is_opening(part: &[u8]) -> bool
-    ensures { result ≡ bytes_eq heading (take (length heading) part.now) }
+/// Whether a part begins as the first one of a journal does, with digests or without.
+pub fn is_opening(digests: bool, part: &[u8]) -> bool
+    ensures { result ≡ bytes_eq (heading digests) (take (length (heading digests)) part.now) }
 {
-    part.starts_with(HEADING.as_bytes())
+    part.starts_with(heading(digests).as_bytes())
 }

@@ -18,14 +18,14 @@ pub struct Stored {
 }
 
 /// What a journal holds behind its first part. `Fault` comes where a part isn't a turn.
-pub fn stored_in(alloc: Global, turns: &[u8]) -> Result<Stored, RunError>
-    ensures stored { IfOk result (λ stored. Holds turns.now (map string_bytes stored.documents.items) stored.cut) }
-    ensures unread { IfErr result (λ e. IsUnread turns.now e) }
+pub fn stored_in(alloc: Global, digests: bool, turns: &[u8]) -> Result<Stored, RunError>
+    ensures stored { IfOk result (λ stored. Holds digests turns.now (map string_bytes stored.documents.items) stored.cut) }
+    ensures unread { IfErr result (λ e. IsUnread digests turns.now e) }
 {
     let mut documents = Vec::new(alloc);
     let mut rest = turns;
     while let Some((part, more)) = split_part(rest) {
-        documents.push(document_text(alloc, part)?)?;
+        documents.push(document_text(alloc, digests, part)?)?;
         rest = more;
     }
     Ok(Stored {

@@ -14,19 +14,19 @@ pub loop-part-preserved : goal.loop-part-preserved
 loop-part-preserved c =
     let documents = c.loop-part.documents.items in
     let text = c.in_ok-document_text.field-0 in
-    subst (λ (xs : List (List ℕ)). Through c.args.turns.now xs c.in-Some.more.now)
+    subst (λ (xs : List (List ℕ)). Through c.args.digests c.args.turns.now xs c.in-Some.more.now)
     (sym (ap (map (λ d. string_bytes d)) c.in_ok-push.ensures.items ∙ texts-push documents text))
-    (through-then c.args.turns.now (map (λ d. string_bytes d) documents) c.loop-part.rest.now c.in-Some.part.now c.in-Some.more.now (string_bytes text)
+    (through-then c.args.digests c.args.turns.now (map (λ d. string_bytes d) documents) c.loop-part.rest.now c.in-Some.part.now c.in-Some.more.now (string_bytes text)
     c.loop-part.invariant c.in-Some.ensures.0 c.in-Some.ensures.1 c.in_ok-document_text.ensures.restored)
 
 pub returns-in_err-document_text-clause-unread : goal.returns-in_err-document_text-clause-unread
 returns-in_err-document_text-clause-unread c =
     let p = err_from_is_err_and c.from_residual.result c.from_residual.ensures.1 in
     rw (p.1, p.2)
-    (unread-part c.args.turns.now (map (λ d. string_bytes d) c.loop-part.documents.items) c.loop-part.rest.now c.in-Some.part.now c.in-Some.more.now _
+    (unread-part c.args.digests c.args.turns.now (map (λ d. string_bytes d) c.loop-part.documents.items) c.loop-part.rest.now c.in-Some.part.now c.in-Some.more.now _
     c.loop-part.invariant c.in-Some.ensures.0 c.in-Some.ensures.1 c.in_err-document_text.ensures.unrestored)
 
 pub returns-in_err-push-clause-unread : goal.returns-in_err-push-clause-unread
 returns-in_err-push-clause-unread c =
     let p = err_from_is_err_and c.from_residual-in_err-push.result c.from_residual-in_err-push.ensures.1 in
-    rw (p.1, p.2) (unread-memory c.args.turns.now)
+    rw (p.1, p.2) (unread-memory c.args.digests c.args.turns.now)
