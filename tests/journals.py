@@ -3,6 +3,7 @@ import contextlib
 import itertools
 import os
 import pathlib
+import re
 import resource
 import shutil
 import signal
@@ -80,6 +81,46 @@ def cut_runs(program, folder):
         wrong += check(f"a journal cut at byte {place} and gone on with", two.journal.read_bytes(), whole)
         runs += 2
     return runs, wrong
+
+
+def flip_runs(program, folder):
+    """A journal with a flipped bit: each is found, nothing is answered, and the file stays."""
+    two, wrong = Two(folder), 0
+    run_in_pieces(words_of(program, two.setup, two.journal), ended(two.documents), 4096)
+    whole = two.journal.read_bytes()
+    bits = sorted({*range(0, 8 * len(whole), 61), *range(8 * (len(whole) - 100), 8 * len(whole), 3)})
+    for bit in bits:
+        flipped = bytearray(whole)
+        flipped[bit // 8] ^= 1 << bit % 8
+        two.journal.write_bytes(flipped)
+        done = run_in_pieces(words_of(program, None, two.journal), b"", 4096)
+        found = "isn't as it was written" in done.error or "isn't a journal" in done.error
+        wrong += check(f"a journal with bit {bit} flipped", (done.output, found, done.status, two.journal.read_bytes() == flipped), ("", True, 2, True))
+    second = whole.index(END) + len(END)
+    two.journal.write_bytes(whole[:second] + whole[second:].replace(b"from", b"form", 1))
+    done = run_in_pieces(words_of(program, two.setup, two.journal), b"", 4096)
+    wrong += check("the byte of a damaged part", (done.output, f"part at byte {second} " in done.error, done.status), ("", True, 2))
+    return len(bits) + 1, wrong
+
+
+def plain_runs(program, folder):
+    """A journal of the first form, without digests: it is read, and gone on with as it is; a part with another key is refused."""
+    two, wrong = Two(folder), 0
+    run_in_pieces(words_of(program, two.setup, two.journal), ended(two.documents), 4096)
+    whole = re.sub(rb"# [0-9a-f]{64}\n", b"", two.journal.read_bytes()).replace(b"# ibcplan journal 2\n", b"# ibcplan journal\n")
+    two.journal.write_bytes(whole)
+    done = run_in_pieces(words_of(program, two.setup, two.journal), b"", 4096)
+    wrong += check("a journal without digests", (done.output, done.status, two.journal.read_bytes() == whole), (followed(two.report), 0, True))
+    first = whole.index(END) + len(END)
+    for end, documents in ((whole.index(END, first) + len(END), two.documents[1:]), (first, two.documents), (first - 9, two.documents), (len(b"# ibcplan journal\n"), two.documents)):
+        two.journal.write_bytes(whole[:end])
+        done = run_in_pieces(words_of(program, two.setup, two.journal), ended(documents), 4096)
+        wrong += check(f"{end} bytes of it, gone on with", (done.output, done.status, two.journal.read_bytes() == whole), (followed(two.report), 0, True))
+    for old, new in ((b"[[turn.event]]", b"[[tuzn.event]]"), (b"[[turn.goal]]", b"[[turl.goal]]")):
+        two.journal.write_bytes(whole.replace(old, new, 1))
+        done = run_in_pieces(words_of(program, two.setup, two.journal), b"", 4096)
+        wrong += check(f"a part with {new.decode()}", (done.output, "a part of it isn't a turn" in done.error, done.status), ("", True, 2))
+    return 7, wrong
 
 
 def kill_runs(program, folder):
@@ -269,7 +310,7 @@ def journal_runs(program, folder):
     """All runs with a journal: how many there were, and how many weren't as they have to be."""
     signal.signal(signal.SIGPIPE, signal.SIG_IGN)
     runs = wrong = 0
-    for case in refusal_runs, gone_runs, full_runs, whole_runs, cut_runs, kill_runs, write_runs, client_runs:
+    for case in refusal_runs, gone_runs, full_runs, whole_runs, cut_runs, flip_runs, plain_runs, kill_runs, write_runs, client_runs:
         more, bad = case(program, folder)
         runs, wrong = runs + more, wrong + bad
     return runs, wrong
