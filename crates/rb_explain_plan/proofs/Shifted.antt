@@ -246,12 +246,35 @@ itself_fewest c goal us is few [] acceptable met = go (cases_lt 0 (length us))
     go (inr le) = le
     go (inl lt) = absurd (no_updates_before c goal us is (omega arith) acceptable met)
 
-least_is_cheapest : (c : Client) (goal : Goal) (us : List Update) → IsLeast c goal us → IsCheapestOfFewest c goal us
+pub least_is_cheapest : (c : Client) (goal : Goal) (us : List Update) → IsLeast c goal us → IsCheapestOfFewest c goal us
 least_is_cheapest c goal us is = λ vs acceptable met _. go vs acceptable met (cases_lt (total_fee c vs) (total_fee c us))
   where
     go : (vs : List Update) → IsAcceptable c vs → Meets c goal vs → (total_fee c vs < total_fee c us) ⊎ (total_fee c us ≤ total_fee c vs) → total_fee c us ≤ total_fee c vs
     go vs acceptable met (inr le) = le
     go vs acceptable met (inl lt) = absurd (is.least vs acceptable met (inl (inl lt)))
+
+-- ---- a least list that costs as much as any with fewer updates
+
+pub by_fee : (v : View) (goal : Goal) (us : List Update) (most : ℕ) → ((t h : ℕ) → (client_of v).fee t h ≤ most) → most * length us ≤ total_fee (client_of v) us + most
+    → IsLeast (client_of v) goal us → IsFewest (client_of v) goal us
+by_fee v goal us most small dear is = record {
+  acceptable = is.acceptable;
+  meets = is.meets;
+  fewest = λ vs acceptable met. go vs acceptable met (cases_lt (length vs) (length us));
+}
+  where
+    before : (vs : List Update) → length vs < length us → total_fee (client_of v) vs ≤ total_fee (client_of v) us
+        → (total_fee (client_of v) vs < total_fee (client_of v) us) ⊎ (total_fee (client_of v) us ≤ total_fee (client_of v) vs)
+        → (total_fee (client_of v) vs < total_fee (client_of v) us) ⊎ ((total_fee (client_of v) vs ≡ total_fee (client_of v) us) × (length vs < length us))
+    before vs lt le (inl less) = inl less
+    before vs lt le (inr more) = inr (omega arith, lt)
+
+    go : (vs : List Update) → IsAcceptable (client_of v) vs → Meets (client_of v) goal vs → (length vs < length us) ⊎ (length us ≤ length vs) → length us ≤ length vs
+    go vs acceptable met (inr le) = le
+    go vs acceptable met (inl lt) =
+        let whole = total_at_most (client_of v) most small vs in
+        let apart = times_le most (length vs) (length us) (omega arith) in
+        absurd (is.least vs acceptable met (inl (before vs lt (omega (arith, whole, apart, dear)) (cases_lt (total_fee (client_of v) vs) (total_fee (client_of v) us)))))
 
 pub itself : (v : View) (goal : Goal) (us : List Update) → IsLeast (client_of v) goal us → length us ≤ 1 → IsCheapFewest v goal us
 itself v goal us is few = record {

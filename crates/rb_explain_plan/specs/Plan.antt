@@ -1,5 +1,5 @@
 -- Why a plan is as it is: its steps, and the lists beside it.
-use Rattle.std.specs.Prelude.{◌≡◌, ℕ, ◌-◌, ◌≤◌, ◌^◌, ◌+◌, List, [], ◌∷◌, length, slice_get, Option, Some, None, MatchOption, IsSomeAnd}
+use Rattle.std.specs.Prelude.{◌≡◌, ℕ, ◌-◌, ◌≤◌, ◌^◌, ◌+◌, Bool, true, List, [], ◌∷◌, length, slice_get, Option, Some, None, is_some, MatchOption, IfSome, IsSomeAnd}
 use Rattle.std.specs.List.{AllZip}
 use Rattle.std.specs.Option.{option_map}
 use Rattle.rb_step.specs.LightClient.{Update, total_fee}
@@ -38,12 +38,13 @@ IsBisected v (Some from) (Some to) o =
     MatchOption o ((us : List Update) → IsBisection (client_of v) v.book from to us → ⊥) (IsBisectionPriced v from to)
 
 -- the step of each update is explained; the highest height that is stored and live before them; the one step from there
--- to the last update's height; the fewest updates; and those of a bisection
-pub record IsPlanExplained {A : Type 0} (v : View) (goal : Goal) (us : List Update) (x : PlanExplanation A) : Type 0 where
+-- to the last update's height; the fewest updates, which are there where they had to be searched; and those of a bisection
+pub record IsPlanExplained {A : Type 0} (v : View) (goal : Goal) (us : List Update) (is_searched : Bool) (x : PlanExplanation A) : Type 0 where
   pub steps : AllZip (IsExplainedUpdate v) us x.steps.items
   pub newest : IsProofHeight (client_of v) [] x.newest
   pub direct : IsDirect v x.newest (last_height us) x.direct
-  pub fewest : IsSomeAnd x.fewest (IsFewestPriced v goal)
+  pub fewest : IfSome x.fewest (IsFewestPriced v goal)
+  pub searched : is_searched ≡ true → is_some x.fewest ≡ true
   pub bisection : IsBisected v x.newest (last_height us) x.bisection
 
 -- the plan is one step: the one from the highest height that was stored and live

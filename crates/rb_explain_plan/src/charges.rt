@@ -17,10 +17,9 @@ pub fn charges_of(fees: &FeeTable) -> Charges
     ensures charges { IsChargesOf fees.now result }
     ensures table { IsFeeTable fees.now }
 {
-    let base = fees.charge(0, 0);
     Charges {
-        base,
-        signature: fees.charge(1, 0) - base,
-        validator: fees.charge(0, 1) - base,
+        base: fees.charge(0, 0),
+        signature: fees.signature(),
+        validator: fees.validator(),
     }
 }

@@ -1,5 +1,5 @@
 //! The fewest updates that meet a goal.
-ghost use Rattle.std.specs.Prelude.{◌≡◌, ℕ, ◌+◌, ◌*◌, ◌<◌, ◌≤◌, ◌^◌, List, Some, None, All, IfOk, IfSome, length, max};
+ghost use Rattle.std.specs.Prelude.{◌≡◌, ℕ, ◌+◌, ◌*◌, ◌<◌, ◌≤◌, ◌^◌, List, Some, None, true, is_some, All, IfOk, IfSome, IsTrue, length, max};
 ghost use Rattle.rb_valset.specs.Validator.{Member};
 ghost use Rattle.rb_valset.specs.ValidatorSet.{max_members};
 ghost use Rattle.rb_step.specs.LightClient.{total_fee};
@@ -9,7 +9,7 @@ ghost use Rattle.rb_explain_plan.specs.Fewest.{IsFewest, IsCheapestOfFewest};
 ghost use Rattle.rb_explain_plan.specs.Greatest.{most_members, most_for_one};
 
 use crate::charges::charges_of;
-use crate::prices::priced;
+use crate::prices::{priced, total_fee};
 use rb_base::FeeTable;
 use rb_book::ChainBook;
 use rb_graph::Graph;
@@ -150,13 +150,31 @@ fn past_any(most: u64, count: usize) -> u128
     u128::from(most) * count as u128 + 1
 }
 
-/// An acceptable list with the fewest updates that meet a goal. Where the fee table's base, the list's fee and 1 are
-/// at most 10^9 together, none with as few updates costs less. `least` is the least list that meets the goal: it has
-/// the fewest updates where it has one at most. Else the planner finds the list by other fees: where each update costs more than
-/// any list that is no longer than the least one, the cheapest list is the cheapest of the fewest. `graph` is the table
-/// of the view's book.
+/// Whether no list with fewer updates than so many costs more than a fee, where one update costs at most so much.
+fn fewer_cost_no_more(most: u64, count: usize, fee: u128) -> bool
+    requires { fee < 2 ^ 127 }
+    ensures { IsTrue result → most * count ≤ fee + most }
+{
+    u128::from(most) * (count as u128) <= fee + u128::from(most)
+}
+
+/// Whether the least list that meets a goal has so few updates, or costs so much, that none with fewer updates can meet it.
+fn is_fewest<A: Allocator + Copy>(view: &ClientView<'_, A>, goal: &Goal, least: &[Update]) -> bool
+    requires { IsLeast (client_of view.now) goal.now least.now }
+    ensures { IsTrue result → IsFewest (client_of view.now) goal.now least.now }
+{
+    if least.len() <= 1 {
+        return true;
+    }
+    let fee = total_fee(view, least);
+    fewer_cost_no_more(most_for_one(view), least.len(), fee)
+}
+
+/// An acceptable list with the fewest updates that meet a goal, which the planner finds by other fees: where each update costs more
+/// than any list that is no longer than the least one, the cheapest list is the cheapest of the fewest. `least` is the least list that
+/// meets the goal.
 #[tactic(auto, using(crate::proofs::Shifted::can_be_met))]
-pub fn fewest<A: Allocator + Copy>(
+fn fewest_by_fees<A: Allocator + Copy>(
     alloc: A,
     view: &ClientView<'_, A>,
     graph: &Graph<A>,
@@ -169,10 +187,6 @@ pub fn fewest<A: Allocator + Copy>(
     ensures cheapest { let client = client_of view.now
         in IfOk result (λ us. view.now.fees.base + total_fee client us.items + 1 ≤ 10 ^ 9 → IsCheapestOfFewest client goal us.items) }
 {
-    if least.len() <= 1 {
-        let updates = Vec::from_slice(alloc, least)?;
-        return Ok(updates);
-    }
     let more = past_any(most_for_one(view), least.len());
     let dearer = raised(view.fees(), more);
     match dearer {
@@ -182,4 +196,34 @@ pub fn fewest<A: Allocator + Copy>(
         }
         None => fewest_by_few(alloc, view, graph, goal),
     }
+}
+
+/// An acceptable list with the fewest updates that meet a goal. Where the fee table's base, the list's fee and 1 are
+/// at most 10^9 together, none with as few updates costs less. `least` is the least list that meets the goal: it has
+/// the fewest updates where it has one at most, or costs as much as any list with fewer. Else a list is searched if that is
+/// wanted, in the time of one to three plans; none is answered if it isn't. `graph` is the table of the view's book.
+pub fn fewest<A: Allocator + Copy>(
+    alloc: A,
+    view: &ClientView<'_, A>,
+    graph: &Graph<A>,
+    goal: Goal,
+    least: &[Update],
+    is_searched: bool,
+) -> Result<Option<Vec<Update, A>>, AllocError>
+    requires table { graph.now ≡ view.now.book }
+    requires least { IsLeast (client_of view.now) goal least.now }
+    ensures fewest { IfOk result (λ o. IfSome o (λ us. IsFewest (client_of view.now) goal us.items)) }
+    ensures cheapest { let client = client_of view.now
+        in IfOk result (λ o. IfSome o (λ us. view.now.fees.base + total_fee client us.items + 1 ≤ 10 ^ 9 → IsCheapestOfFewest client goal us.items)) }
+    ensures searched { is_searched ≡ true → IfOk result (λ o. is_some o ≡ true) }
+{
+    if is_fewest(view, &goal, least) {
+        let updates = Vec::from_slice(alloc, least)?;
+        return Ok(Some(updates));
+    }
+    if !is_searched {
+        return Ok(None);
+    }
+    let updates = fewest_by_fees(alloc, view, graph, goal, least)?;
+    Ok(Some(updates))
 }

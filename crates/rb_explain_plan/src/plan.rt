@@ -1,5 +1,5 @@
 //! A plan, and the lists beside it.
-ghost use Rattle.std.specs.Prelude.{◌≡◌, ◌↔◌, IfOk, IsTrue};
+ghost use Rattle.std.specs.Prelude.{◌≡◌, ◌↔◌, true, is_some, IfOk, IfSome, IsTrue};
 ghost use Rattle.rb_plan_types.specs.Least.{IsLeast};
 ghost use Rattle.rb_step.specs.View.{client_of};
 ghost use Rattle.rb_explain_plan.specs.Plan.{IsBisected, IsFewestPriced, IsOnlyStep, IsPlanExplained, last_height};
@@ -17,8 +17,8 @@ use rb_step::ClientView;
 use std::alloc::{AllocError, Allocator, Global};
 
 /// Why a plan is as it is: its updates with their steps, the highest height that was stored and live before them, the one step
-/// from there to the last update's height, the fewest updates that meet the goal, and those by which a light client bisects from
-/// the highest stored and live height to the last update's.
+/// from there to the last update's height, the fewest updates that meet the goal, unless these aren't known and weren't searched, and
+/// those by which a light client bisects from the highest stored and live height to the last update's.
 #[derive(Drop)]
 pub struct PlanExplanation<A: Allocator = Global> {
     pub steps: Vec<Option<StepExplanation>, A>,
@@ -48,20 +48,24 @@ fn last_height(updates: &[Update]) -> Option<Height>
     Some(last.height())
 }
 
-/// The fewest updates, with their fee, beside the least list.
+/// The fewest updates, with their fee, beside the least list; none where they would have to be searched, and aren't.
 fn fewest_list<A: Allocator + Copy>(
     alloc: A,
     view: &ClientView<'_, A>,
     graph: &Graph<A>,
     goal: Goal,
     least: &[Update],
-) -> Result<PricedList<A>, AllocError>
+    is_searched: bool,
+) -> Result<Option<PricedList<A>>, AllocError>
     requires table { graph.now ≡ view.now.book }
     requires least { IsLeast (client_of view.now) goal least.now }
-    ensures { IfOk result (IsFewestPriced view.now goal) }
+    ensures fewest { IfOk result (λ o. IfSome o (IsFewestPriced view.now goal)) }
+    ensures searched { is_searched ≡ true → IfOk result (λ o. is_some o ≡ true) }
 {
-    let updates = fewest(alloc, view, graph, goal, least)?;
-    Ok(priced(view, updates))
+    match fewest(alloc, view, graph, goal, least, is_searched)? {
+        Some(updates) => Ok(Some(priced(view, updates))),
+        None => Ok(None),
+    }
 }
 
 /// The updates by which a light client bisects from one height to another, with their fee.
@@ -84,29 +88,31 @@ fn bisected<A: Allocator + Copy>(
     }
 }
 
-/// Why the updates of the least list that meets a goal are as they are. `graph` is the table of the view's book.
+/// Why the updates of the least list that meets a goal are as they are; the fewest updates are searched, if that is wanted, where they
+/// aren't known at once. `graph` is the table of the view's book.
 pub fn explain_plan<A: Allocator + Copy>(
     alloc: A,
     view: &ClientView<'_, A>,
     graph: &Graph<A>,
     goal: Goal,
     updates: &[Update],
+    is_searched: bool,
 ) -> Result<PlanExplanation<A>, AllocError>
     requires table { graph.now ≡ view.now.book }
     requires least { IsLeast (client_of view.now) goal updates.now }
-    ensures { IfOk result (IsPlanExplained view.now goal updates.now) }
+    ensures { IfOk result (IsPlanExplained view.now goal updates.now is_searched) }
 {
     let newest = proof_height(view, &[]);
     let last = last_height(updates);
     let steps = explain_steps(alloc, view, updates)?;
     let direct = direct_step(view, &newest, &last);
-    let fewest = fewest_list(alloc, view, graph, goal, updates)?;
+    let fewest = fewest_list(alloc, view, graph, goal, updates, is_searched)?;
     let bisection = bisected(alloc, view, graph, &newest, &last)?;
     Ok(PlanExplanation {
         steps,
         newest,
         direct,
-        fewest: Some(fewest),
+        fewest,
         bisection,
     })
 }

@@ -28,7 +28,7 @@ pub fn priced<A: Allocator + Copy>(
 }
 
 /// What updates cost in all.
-fn total_fee<A: Allocator + Copy>(view: &ClientView<'_, A>, updates: &[Update]) -> u128
+pub(crate) fn total_fee<A: Allocator + Copy>(view: &ClientView<'_, A>, updates: &[Update]) -> u128
     ensures value { result ≡ total_fee (client_of view.now) updates.now }
     ensures bound { result < 2 ^ 127 }
 {
