@@ -27,8 +27,9 @@ use Rattle.rb_explain.specs.Idle.{IsIdleReason, OwesAny}
 use Rattle.rb_explain_plan.specs.Plan.{IsPlanExplained}
 use Rattle.rb_explain_plan.specs.Unreachable.{IsUnreachableExplained}
 use Rattle.rb_explain.specs.declared.client.Why.{Why}
-use Rattle.rb_explain.specs.declared.client.Why.TheVariants.{Idle, Unreachable}
+use Rattle.rb_explain.specs.declared.client.Why.TheVariants.{Idle, Planned, Unreachable}
 use Rattle.rb_explain.specs.declared.idle.IdleReason.{IdleReason}
+use Rattle.rb_explain.specs.declared.wanted.Detail.{Detail}
 use Rattle.rb_explain_plan.specs.declared.plan.PlanExplanation.{PlanExplanation}
 use Rattle.rb_explain_plan.specs.declared.unreachable.UnreachableExplanation.{UnreachableExplanation}
 
@@ -82,26 +83,26 @@ module _ {A : Type 0} where
       subst (λ (vs : List Update). IsLeast (client_of (view_of t)) p.goal vs) (updates_in plan.updates.items ∙ sym updates)
       (least_plan t (right.0.batches + 1) (planned_view p) (plan_view plan) right.1.1 (ap (λ (o : Option (CodePlan A)). option_map plan_view o) is))
 
-  pub why_planned : (t : Task) (p : CodePlanned A) (plan : CodePlan A) (us : List Update) (x : PlanExplanation A) → p.plan ≡ Some plan → us ≡ map (λ (u : CodePriced A). u.update) plan.updates.items
-      → IsPlanExplained (view_of t) p.goal us x → IsSomeAnd (planned_view p).plan (λ (q : PlanReport). IsPlanExplained (view_of t) p.goal (map update_of q.updates) x)
-  why_planned t p plan us x is updates why =
-      subst (λ (o : Option (CodePlan A)). IsSomeAnd (option_map plan_view o) (λ (q : PlanReport). IsPlanExplained (view_of t) p.goal (map update_of q.updates) x)) (sym is)
-      (subst (λ (vs : List Update). IsPlanExplained (view_of t) p.goal vs x) (updates ∙ sym (updates_in plan.updates.items)) why)
+  pub why_planned : (t : Task) (p : CodePlanned A) (plan : CodePlan A) (us : List Update) (detail : Detail) (x : PlanExplanation A) → p.plan ≡ Some plan → us ≡ map (λ (u : CodePriced A). u.update) plan.updates.items
+      → IsPlanExplained (view_of t) p.goal us detail.has_fewest x → IsWhy t (planned (planned_view p)) detail (Planned x)
+  why_planned t p plan us detail x is updates why =
+      subst (λ (o : Option (CodePlan A)). IsSomeAnd (option_map plan_view o) (λ (q : PlanReport). IsPlanExplained (view_of t) p.goal (map update_of q.updates) detail.has_fewest x)) (sym is)
+      (subst (λ (vs : List Update). IsPlanExplained (view_of t) p.goal vs detail.has_fewest x) (updates ∙ sym (updates_in plan.updates.items)) why)
 
-  pub why_unreachable : (t : Task) (p : CodePlanned A) (most : ℕ) (x : UnreachableExplanation A) → p.plan ≡ None → IsUnreachableExplained (view_of t) p.goal p.labelling most x
-      → IsWhy t (planned (planned_view p)) most (Unreachable x)
-  why_unreachable t p most x is why = (ap (λ (o : Option (CodePlan A)). option_map plan_view o) is, why)
+  pub why_unreachable : (t : Task) (p : CodePlanned A) (detail : Detail) (x : UnreachableExplanation A) → p.plan ≡ None → IsUnreachableExplained (view_of t) p.goal p.labelling detail.most x
+      → IsWhy t (planned (planned_view p)) detail (Unreachable x)
+  why_unreachable t p detail x is why = (ap (λ (o : Option (CodePlan A)). option_map plan_view o) is, why)
 
   -- ---- an outcome of each kind
 
   pub idle_reach : (t : Task) (o : CodeOutcome A) (next reach : Option ℕ) → o ≡ outcome.Idle next → IsReachFor t (outcome_view o) reach → OwesAny t → IsReach (client_of (view_of t)) reach
   idle_reach t o next reach is known = (subst (λ (x : CodeOutcome A). IsReachFor t (outcome_view x) reach) is known).0
 
-  pub idle_why : (t : Task) (o : CodeOutcome A) (next : Option ℕ) (most : ℕ) (r : IdleReason) → o ≡ outcome.Idle next → IsIdleReason t r → IsWhy {A = A} t (outcome_view o) most (Idle r)
-  idle_why t o next most r is reason = subst (λ (x : CodeOutcome A). IsWhy {A = A} t (outcome_view x) most (Idle r)) (sym is) reason
+  pub idle_why : (t : Task) (o : CodeOutcome A) (next : Option ℕ) (detail : Detail) (r : IdleReason) → o ≡ outcome.Idle next → IsIdleReason t r → IsWhy {A = A} t (outcome_view o) detail (Idle r)
+  idle_why t o next detail r is reason = subst (λ (x : CodeOutcome A). IsWhy {A = A} t (outcome_view x) detail (Idle r)) (sym is) reason
 
   pub planned_right : (t : Task) (o : CodeOutcome A) (p : CodePlanned A) → o ≡ outcome.Planned p → IsRight t (outcome_view o) → IsRight t (planned (planned_view p))
   planned_right t o p is right = subst (λ (x : CodeOutcome A). IsRight t (outcome_view x)) is right
 
-  pub planned_why : (t : Task) (o : CodeOutcome A) (p : CodePlanned A) (most : ℕ) (w : Why A) → o ≡ outcome.Planned p → IsWhy t (planned (planned_view p)) most w → IsWhy t (outcome_view o) most w
-  planned_why t o p most w is why = subst (λ (x : CodeOutcome A). IsWhy t (outcome_view x) most w) (sym is) why
+  pub planned_why : (t : Task) (o : CodeOutcome A) (p : CodePlanned A) (detail : Detail) (w : Why A) → o ≡ outcome.Planned p → IsWhy t (planned (planned_view p)) detail w → IsWhy t (outcome_view o) detail w
+  planned_why t o p detail w is why = subst (λ (x : CodeOutcome A). IsWhy t (outcome_view x) detail w) (sym is) why

@@ -40,17 +40,19 @@ IsReachFor t (held number) reach = reach ≡ None
 IsReachFor t (idle next) reach = (OwesAny t → IsReach (client_of (view_of t)) reach) × ((OwesAny t → ⊥) → reach ≡ None)
 IsReachFor t (planned p) reach = IsReach (client_of (view_of t)) reach
 
--- why an outcome is as it is; of an unreachable goal up to so many steps, by the labels of the report
-abbrev pub IsWhy : {A : Type 0} → Task → Outcome → ℕ → Why A → Type 0
-IsWhy t (held number) most Held = Unit {0}
-IsWhy t (held number) most _ = ⊥
-IsWhy t (idle next) most (Idle reason) = IsIdleReason t reason
-IsWhy t (idle next) most _ = ⊥
-IsWhy t (planned p) most (Planned x) = IsSomeAnd p.plan (λ (q : PlanReport). IsPlanExplained (view_of t) p.goal (map update_of q.updates) x)
-IsWhy t (planned p) most (Unreachable x) = (p.plan ≡ None) × IsUnreachableExplained (view_of t) p.goal p.labels most x
-IsWhy t (planned p) most _ = ⊥
+-- why an outcome is as it is, as much as the detail asks: the fewest updates, where they had to be searched; and of an unreachable goal up to
+-- so many steps, by the labels of the report
+abbrev pub IsWhy : {A : Type 0} → Task → Outcome → Detail → Why A → Type 0
+IsWhy t (held number) detail Held = Unit {0}
+IsWhy t (held number) detail _ = ⊥
+IsWhy t (idle next) detail (Idle reason) = IsIdleReason t reason
+IsWhy t (idle next) detail _ = ⊥
+IsWhy t (planned p) detail (Planned x) =
+    IsSomeAnd p.plan (λ (q : PlanReport). IsPlanExplained (view_of t) p.goal (map update_of q.updates) detail.has_fewest x)
+IsWhy t (planned p) detail (Unreachable x) = (p.plan ≡ None) × IsUnreachableExplained (view_of t) p.goal p.labels detail.most x
+IsWhy t (planned p) detail _ = ⊥
 
--- what came of a client that was as in this job, and as much as the detail asks: the known heights, and so many steps
+-- what came of a client that was as in this job, and as much as the detail asks: the known heights, and why
 pub record IsClientExplained {A : Type 0} (j : Job) (outcome : Outcome) (detail : Detail) (x : ClientExplanation A) : Type 0 where
   pub client : x.client ≡ j.client
   pub window : x.window ≡ j.task.window
@@ -60,4 +62,4 @@ pub record IsClientExplained {A : Type 0} (j : Job) (outcome : Outcome) (detail 
   pub reach : IsReachFor j.task outcome x.reach
   pub heights : x.heights.items ≡ known_heights j.task.book detail.has_heights
   pub waiting : IsWaiting j.task outcome x.reach x.waiting.items
-  pub why : IsWhy j.task outcome detail.most x.why
+  pub why : IsWhy j.task outcome detail x.why

@@ -110,35 +110,36 @@ fn reach_for<A: Allocator + Copy>(
     }
 }
 
-/// Why what was planned is as it is; of an unreachable goal up to so many steps.
+/// Why what was planned is as it is, as much as the detail asks.
 fn explain_planned<A: Allocator + Copy>(
     alloc: A,
     job: &JobView<A>,
     graph: &Graph<A>,
     report: &PlannedReport<A>,
-    most: usize,
+    detail: Detail,
 ) -> Result<Why<A>, AllocError>
     requires table { graph.now ≡ job.now.task.book }
     requires right { IsRight job.now.task (planned (planned_view report.now)) }
-    ensures { IfOk result (IsWhy job.now.task (planned (planned_view report.now)) most) }
+    ensures { IfOk result (IsWhy job.now.task (planned (planned_view report.now)) detail) }
 {
     let view = job.view();
     match &report.plan {
         Some(plan) => {
             let updates = plain(alloc, plan.updates.as_slice())?;
-            let why = explain_plan(alloc, &view, graph, report.goal, updates.as_slice())?;
+            let (goal, has_fewest) = (report.goal, detail.has_fewest);
+            let why = explain_plan(alloc, &view, graph, goal, updates.as_slice(), has_fewest)?;
             Ok(Why::Planned(why))
         }
         None => {
             let labels = report.labelling.labels();
-            let why = explain_unreachable(alloc, &view, labels, report.goal, most)?;
+            let why = explain_unreachable(alloc, &view, labels, report.goal, detail.most)?;
             Ok(Why::Unreachable(why))
         }
     }
 }
 
-/// Why an outcome is as it is, which is right for this job; of an unreachable goal up to so many steps. `graph` is the table of the
-/// job's book, and `reach` the greatest height that the client can be brought to, where that plays a part.
+/// Why an outcome is as it is, which is right for this job, as much as the detail asks. `graph` is the table of the job's book, and
+/// `reach` the greatest height that the client can be brought to, where that plays a part.
 #[tactic(auto, using(crate::proofs::Reasons::idle_reach, crate::proofs::Reasons::idle_why, crate::proofs::Reasons::planned_right, crate::proofs::Reasons::planned_why))]
 fn explain_outcome<A: Allocator + Copy>(
     alloc: A,
@@ -146,12 +147,12 @@ fn explain_outcome<A: Allocator + Copy>(
     graph: &Graph<A>,
     reach: &Option<Height>,
     outcome: &Outcome<A>,
-    most: usize,
+    detail: Detail,
 ) -> Result<Why<A>, AllocError>
     requires table { graph.now ≡ job.now.task.book }
     requires reach { IsReachFor job.now.task (outcome_view outcome.now) reach.now }
     requires right { IsRight job.now.task (outcome_view outcome.now) }
-    ensures { IfOk result (IsWhy job.now.task (outcome_view outcome.now) most) }
+    ensures { IfOk result (IsWhy job.now.task (outcome_view outcome.now) detail) }
 {
     match outcome {
         Outcome::Held(_) => Ok(Why::Held),
@@ -159,7 +160,7 @@ fn explain_outcome<A: Allocator + Copy>(
             let reason = idle_reason(alloc, job, reach)?;
             Ok(Why::Idle(reason))
         }
-        Outcome::Planned(planned) => explain_planned(alloc, job, graph, planned, most),
+        Outcome::Planned(planned) => explain_planned(alloc, job, graph, planned, detail),
     }
 }
 
@@ -197,7 +198,7 @@ pub fn explain_client<A: Allocator + Copy>(
     let stored = stored_heights(alloc, &view)?;
     let heights = known_heights(alloc, job.book(), detail.has_heights)?;
     let waiting = waiting(alloc, job, &reach, outcome)?;
-    let why = explain_outcome(alloc, job, graph, &reach, outcome, detail.most)?;
+    let why = explain_outcome(alloc, job, graph, &reach, outcome, detail)?;
     Ok(ClientExplanation {
         client: job.client(),
         window: job.window(),

@@ -2,11 +2,13 @@
 ghost use Rattle.std.specs.Prelude.{◌≡◌, ◌≤◌, ◌↔◌, ℕ, IsTrue, false};
 ghost use Rattle.rb_explain.specs.Wanted.{has_client, has_turn};
 
-/// How much is told of a client: of an unreachable goal up to so many steps, and whether the known heights of the chain are.
+/// How much is told of a client: of an unreachable goal up to so many steps, whether the known heights of the chain are, and whether the
+/// fewest updates are where they have to be searched.
 #[derive(Clone, Copy)]
 pub struct Detail {
     pub most: usize,
     pub has_heights: bool,
+    pub has_fewest: bool,
 }
 
 /// What is to be explained: one turn, by its number from 1, or each; one client, by its place, or each; and how much of it.
