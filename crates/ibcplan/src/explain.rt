@@ -2,6 +2,7 @@
 ghost use Rattle.rb_script_types.specs.Script.{script_view, IsReadScript};
 
 use crate::forms::{no_such_turn, number_of};
+use crate::searching::can_search;
 use ibcplan_cli::WantedTurns;
 use ibcplan_errors::{Input, ProgramError, Shown};
 use rb_base::{Gate, Sink};
@@ -28,15 +29,11 @@ pub enum Form {
 }
 
 impl Form {
-    /// How much is to be explained of a client.
-    fn detail(self) -> Detail {
-        let most = match self {
+    /// How many lines of steps are told of a client.
+    fn most(self) -> usize {
+        match self {
             Form::Text { is_whole: true } | Form::Json { is_whole: true } => usize::MAX,
             _ => MOST_LINES,
-        };
-        Detail {
-            most,
-            has_heights: self == Form::Picture,
         }
     }
 }
@@ -78,6 +75,7 @@ fn client_of<'a>(
 /// What is wanted of a script: a turn that is numbered, and a client that is named, have to be there. A picture is of one turn, the last
 /// one where none is named.
 fn wanted_of<'a>(
+    alloc: Global,
     asked: AskedExplanation<'a>,
     script: &Script,
     input: &Input<'a>,
@@ -92,10 +90,18 @@ fn wanted_of<'a>(
         Some(turn) if turn > count as u64 => return Err(no_such_turn(turn, input, count)),
         _ => {}
     }
+    let client = client_of(asked, &script.config, input)?;
+    let Ok(has_fewest) = can_search(alloc, script, turn.is_some(), client) else {
+        return Err(ProgramError::NoMemory);
+    };
     Ok(Wanted {
         turn: turn.map(|turn| turn as usize),
-        client: client_of(asked, &script.config, input)?,
-        detail: asked.form.detail(),
+        client,
+        detail: Detail {
+            most: asked.form.most(),
+            has_heights: asked.form == Form::Picture,
+            has_fewest,
+        },
     })
 }
 
@@ -113,7 +119,7 @@ pub fn explain<'a, R: Threads + Sync, G: Gate + Sync + Drop, W: Sink>(
         Ok(script) => script,
         Err(error) => return Err(ProgramError::of_run(error, input)),
     };
-    let wanted = wanted_of(asked, &script, input)?;
+    let wanted = wanted_of(alloc, asked, &script, input)?;
     match explain_by(rt, alloc, script, &wanted, asked.form, &gate, output) {
         Ok(true) => Ok(()),
         Ok(false) => Err(ProgramError::untaken()),
@@ -187,7 +193,7 @@ impl<W: Sink> Listener<Global> for Teller<'_, W> {
                 self.alloc,
                 &self.config,
                 turn,
-                self.form.detail().most,
+                self.form.most(),
                 self.output,
             ),
             Form::Json { .. } => put_json(self.alloc, &self.config, turn, place, self.output),

@@ -15,6 +15,7 @@ mod messages;
 mod perform;
 mod progress;
 mod reporting;
+mod searching;
 
 use host::Host;
 use ibcplan_cli::{no_memory, request_of};

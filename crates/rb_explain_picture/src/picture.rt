@@ -205,9 +205,9 @@ fn push_plan(
     let fee = plan.total.fee;
     write!(text, ", fee {fee}")?;
     push_undrawn(text, undrawn(count))?;
-    push_list(text, "; fewest updates", &why.fewest)?;
+    push_list(text, "; fewest updates", &why.fewest, "not searched")?;
     if why.direct.is_some() {
-        push_list(text, "; as a light client bisects", &why.bisection)?;
+        push_list(text, "; as a light client bisects", &why.bisection, "none")?;
         if let Some(list) = &why.bisection {
             push_undrawn(text, others_undrawn(list.updates.len()))?;
         }
@@ -223,14 +223,19 @@ fn push_undrawn(text: &mut String, count: usize) -> Result<(), AllocError> {
     Ok(())
 }
 
-fn push_list(text: &mut String, what: &str, list: &Option<PricedList>) -> Result<(), AllocError> {
+fn push_list(
+    text: &mut String,
+    what: &str,
+    list: &Option<PricedList>,
+    otherwise: &str,
+) -> Result<(), AllocError> {
     match list {
         Some(list) => {
             let count = list.updates.len();
             let fee = list.fee;
             write!(text, "{what}: {count}, fee {fee}")
         }
-        None => write!(text, "{what}: none"),
+        None => write!(text, "{what}: {otherwise}"),
     }
 }
 

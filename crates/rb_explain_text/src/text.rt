@@ -17,6 +17,10 @@ use rb_step::Verdict;
 use rb_super_turn::{BatchReport, ClientReport, Outcome, PlanReport, PlannedReport, SendingReport};
 use std::alloc::{AllocError, Global};
 
+/// What is said of the fewest updates where they weren't searched.
+const NOT_SEARCHED: &str =
+    "not searched, since that takes long for so many turns and clients (--turn, --client)";
+
 /// So many heights are told in a line.
 const MOST_HEIGHTS: usize = 12;
 
@@ -206,12 +210,13 @@ fn push_lists(
     plan: &PlanExplanation,
 ) -> Result<(), AllocError> {
     push_direct(text, client, plan)?;
-    push_list(text, "fewest updates", &plan.fewest)?;
+    push_list(text, "fewest updates", &plan.fewest, NOT_SEARCHED)?;
     if plan.direct.is_some() {
         push_list(
             text,
             "as a light client bisects over these headers",
             &plan.bisection,
+            "none",
         )?;
     }
     Ok(())
@@ -271,9 +276,15 @@ fn push_steps(
     Ok(())
 }
 
-fn push_list(text: &mut String, what: &str, list: &Option<PricedList>) -> Result<(), AllocError> {
+/// Adds a list of updates, or what is said where there is none.
+fn push_list(
+    text: &mut String,
+    what: &str,
+    list: &Option<PricedList>,
+    otherwise: &str,
+) -> Result<(), AllocError> {
     let Some(list) = list else {
-        return writeln!(text, "  {what}: none");
+        return writeln!(text, "  {what}: {otherwise}");
     };
     let count = list.updates.len();
     let fee = list.fee;
