@@ -35,7 +35,7 @@ class Time(typing.NamedTuple):
 ZERO_TIME = Time(-62_135_596_800, 0)  # Go's zero time: the first moment of year 1
 
 
-def varint(number):
+def varint(number: int) -> bytes:
     """A number as a varint; a negative one as its 64 bits in two's complement."""
     number &= 2**64 - 1
     encoded = bytearray()
@@ -46,36 +46,36 @@ def varint(number):
     return bytes(encoded)
 
 
-def tag(field, wire_type):
+def tag(field: int, wire_type: int) -> bytes:
     return varint(field << 3 | wire_type)
 
 
-def varint_field(field, number):
+def varint_field(field: int, number: int) -> bytes:
     return tag(field, VARINT) + varint(number) if number else b""
 
 
-def sfixed64_field(field, number):
+def sfixed64_field(field: int, number: int) -> bytes:
     return tag(field, FIXED64) + number.to_bytes(8, "little", signed=True) if number else b""
 
 
-def bytes_field(field, data):
+def bytes_field(field: int, data: bytes) -> bytes:
     return message_field(field, data) if data else b""
 
 
-def message_field(field, message):
+def message_field(field: int, message: bytes) -> bytes:
     return tag(field, BYTES) + varint(len(message)) + message
 
 
-def block_id_message(block_id):
+def block_id_message(block_id: BlockId) -> bytes:
     parts = varint_field(1, block_id.total) + bytes_field(2, block_id.parts_hash)
     return bytes_field(1, block_id.hash) + message_field(2, parts)
 
 
-def time_message(time):
+def time_message(time: Time) -> bytes:
     return varint_field(1, time.seconds) + varint_field(2, time.nanos)
 
 
-def sign_bytes(chain_id, height, round_number, block_id, time, vote_type=PRECOMMIT):
+def sign_bytes(chain_id: str, height: int, round_number: int, block_id: BlockId | None, time: Time, vote_type: int = PRECOMMIT) -> bytes:
     """The bytes that are signed; `block_id` is a `BlockId`, or None for nil."""
     vote = (varint_field(1, vote_type) + sfixed64_field(2, height) + sfixed64_field(3, round_number)
             + (message_field(4, block_id_message(block_id)) if block_id else b"")

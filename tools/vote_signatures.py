@@ -17,7 +17,7 @@ from signed_commits import ED25519, SECP256K1
 SECP256K1_ORDER = 0xFFFFFFFF_FFFFFFFF_FFFFFFFF_FFFFFFFE_BAAEDCE6_AF48A03B_BFD25E8C_D0364141
 
 
-def is_valid_ed25519(key, message, signature):
+def is_valid_ed25519(key: bytes, message: bytes, signature: bytes) -> bool:
     try:
         Ed25519PublicKey.from_public_bytes(key).verify(signature, message)
         return True
@@ -25,7 +25,7 @@ def is_valid_ed25519(key, message, signature):
         return zip215.is_valid(key, message, signature)
 
 
-def is_valid_secp256k1(key, message, signature):
+def is_valid_secp256k1(key: bytes, message: bytes, signature: bytes) -> bool:
     r, s = int.from_bytes(signature[:32], "big"), int.from_bytes(signature[32:], "big")
     if len(key) != 33 or len(signature) != 64 or not 0 < r < SECP256K1_ORDER or not 0 < s <= SECP256K1_ORDER // 2:
         return False
@@ -39,10 +39,10 @@ def is_valid_secp256k1(key, message, signature):
 RULES = {ED25519: is_valid_ed25519, SECP256K1: is_valid_secp256k1}
 
 
-def is_checkable(key_type):
+def is_checkable(key_type: str) -> bool:
     return key_type in RULES
 
 
-def is_valid(key_type, key, message, signature):
+def is_valid(key_type: str, key: bytes, message: bytes, signature: bytes) -> bool:
     """Whether a signature over a message is valid by a key of a type that can be checked."""
     return RULES[key_type](key, message, signature)

@@ -12,9 +12,10 @@ ORDER = 2**252 + 27742317777372353535851937790883648493
 D = -121665 * pow(121666, -1, PRIME) % PRIME
 ROOT_OF_MINUS_ONE = pow(2, (PRIME - 1) // 4, PRIME)
 IDENTITY = 0, 1, 1, 0
+Point = tuple[int, int, int, int]  # in extended coordinates (X, Y, Z, T)
 
 
-def decoded(data):
+def decoded(data: bytes) -> Point | None:
     """The point of 32 bytes in extended coordinates (X, Y, Z, T), or none: any y is taken modulo the prime, and either sign of x = 0."""
     number = int.from_bytes(data, "little")
     sign, y = number >> 255, (number & 2**255 - 1) % PRIME
@@ -29,7 +30,7 @@ def decoded(data):
     return x, y, 1, x * y % PRIME
 
 
-def add(one, other):
+def add(one: Point, other: Point) -> Point:
     x1, y1, z1, t1 = one
     x2, y2, z2, t2 = other
     a, b = (y1 - x1) * (y2 - x2) % PRIME, (y1 + x1) * (y2 + x2) % PRIME
@@ -38,12 +39,12 @@ def add(one, other):
     return e * f % PRIME, g * h % PRIME, f * g % PRIME, e * h % PRIME
 
 
-def negative(point):
+def negative(point: Point) -> Point:
     x, y, z, t = point
     return -x % PRIME, y, z, -t % PRIME
 
 
-def times(number, point):
+def times(number: int, point: Point) -> Point:
     total = IDENTITY
     while number:
         if number & 1:
@@ -55,7 +56,7 @@ def times(number, point):
 BASE = decoded((4 * pow(5, -1, PRIME) % PRIME).to_bytes(32, "little"))
 
 
-def is_valid(key, message, signature):
+def is_valid(key: bytes, message: bytes, signature: bytes) -> bool:
     """Whether a signature of 64 bytes over a message is valid by a key of 32 bytes."""
     if len(key) != 32 or len(signature) != 64:
         return False
