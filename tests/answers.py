@@ -302,9 +302,9 @@ def is_needed(answer):
 
 
 def bad_votes(folder):
-    """The places of bad votes of the commits of a chain's folder that verdicts tell of, by height."""
-    found = {}
-    for verdict in [v for answer in answers_in(folder) for v in answer.get("verdicts", {}).get("commits", [])]:
+    """The places of bad votes of the commits of a chain's folder that its verdicts.json tells of, by height."""
+    found, file = {}, folder / "verdicts.json"
+    for verdict in json.loads(file.read_text())["verdicts"]["commits"] if file.exists() else []:
         for path in folder.glob("*.json"):
             if sha(path.read_bytes()).hex() == verdict["sha256"]:
                 found[int(json.loads(path.read_text())["result"]["signed_header"]["header"]["height"])] = verdict["bad"]

@@ -641,6 +641,7 @@ OPENINGS = [
     (in_turn(judged((1, [], [], 6), (80, [], [], 6)), moved(VERDICTS, "hub-4/again.json", copy=True)),
      "# signatures: 2 of 2 commits verified: 12 good, 0 bad, 0 not checkable; by verify_commits 1 (made up)\n", [PASSED % ("hub-4", VERDICTS_ELSEWHERE)]),
     (in_turn(judged((1, [], [], 6), (80, [], [], 6)), moved(VERDICTS, "hub-4/again.json")), WARNING, [PASSED % ("hub-4", VERDICTS_ELSEWHERE)]),
+    (in_turn(judged((1, [], [], 6), (80, [0, 1, 2, 3, 4, 5], [], 0)), moved(VERDICTS, "hub-4/commit-79.json")), WARNING, [PASSED % ("hub-4", VERDICTS_ELSEWHERE)]),
     (beside(CHAIN_QUERIES, "hub-4", wrap=in_result), WARNING, [PASSED % ("hub-4", ", ".join(f"1 of {name}" for name in CHAIN_QUERIES))]),
     (beside(CHAIN_QUERIES, "hub-4", copies=2), WARNING, [PASSED % ("hub-4", ", ".join(f"2 of {name}" for name in CHAIN_QUERIES))]),
     (beside(CLIENT_QUERIES, "hub-on-zone"), WARNING, [

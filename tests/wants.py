@@ -195,7 +195,7 @@ def want_path_cases(top):
         (PACKETS, 1000, str, known + sent + received + done("written", 7), "", b""),
         (PACKETS, 1000, lambda text: text.replace("gas = [5, 5, 5]", "gas = [5, 5, 5]\nfirst = 7"), known, done("sent", 8) + done("sent", 7) + done("received", 7), b""),
         ({}, 1000, str, commitments(), "", b""),
-        (many, 1000, str, commitments(), both + "".join(done("sent", sequence) for sequence in range(1, 27)), b""),
+        (many, 1000, str, commitments(), both + "".join(done("sent", sequence) for sequence in range(1, 31)), b""),
         (many, 1000, str, commitments() + both + "".join(done("sent", sequence) for sequence in range(1, 101)), done("sent", 101), b""),
         (PACKETS, 1000, lambda text: text.replace('counterparty_port = "transfer"\ncounterparty_channel = "channel-7"\n', ""), "", "", b""),
     )):
