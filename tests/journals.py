@@ -1,5 +1,6 @@
 """The journal of `ibcplan follow`: what it has after a crash, however and whenever that comes."""
 import contextlib
+import hashlib
 import itertools
 import os
 import pathlib
@@ -14,6 +15,11 @@ import time
 from follows import EXAMPLES, MARK, PATIENCE, TOP, answers_of, check, ended, followed, parts_of, run_in_pieces, scripts
 
 END = b"# ---\n"
+
+
+def ending(part):
+    """A part with its digest and the line that ends it."""
+    return part + b"# " + hashlib.sha256(part).hexdigest().encode() + b"\n" + END
 
 
 def words_of(program, setup, journal, *more):
@@ -243,9 +249,9 @@ def refusal_runs(program, folder):
     script.write_bytes((EXAMPLES / "two_clients.toml").read_bytes())
     bad, broken = folder / "bad.toml", folder / "broken.toml"
     bad.write_bytes(b"version = 9\n")
-    broken.write_bytes(before + b"\n[[turn]]\nfrom = 1\n" + END)
+    broken.write_bytes(before + ending(b"\n[[turn]]\nfrom = 1\n"))
     marked = folder / "marked.toml"
-    marked.write_bytes(before + b"\nversion = 1\n" + END)
+    marked.write_bytes(before + ending(b"\nversion = 1\n"))
     none.unlink(missing_ok=True)
     fresh = folder / "fresh.toml"
     fresh.unlink(missing_ok=True)

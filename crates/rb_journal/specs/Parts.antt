@@ -32,9 +32,9 @@ abbrev pub digest_holds : List ℕ → Bool
 digest_holds part =
     bytes_eq (drop (length part - closing_length true) part) (closing true (take (length part - closing_length true) part))
 
--- all of a part but the mark, in place of which so many other bytes stand
+-- all of a part but the mark and the end of the line before, in place of which so many other bytes stand
 abbrev pub lost_mark : List ℕ → Bool
-lost_mark bytes = nat_le 6 (length bytes) && digest_holds (take (length bytes - 6) bytes ++ mark)
+lost_mark bytes = nat_le 7 (length bytes) && digest_holds (take (length bytes - 7) bytes ++ codes "\n# ---\n")
 
 -- how many bytes were read when the first line ends that is the mark, after so many bytes of which these are in the last line
 abbrev pub end_from : ℕ → List ℕ → List ℕ → Option ℕ

@@ -3,18 +3,22 @@ ghost use Rattle.std.specs.Prelude.{◌≡◌, IfOk, MatchOption};
 ghost use Rattle.rb_journal.specs.Parts.{lost_mark};
 ghost use Rattle.rb_journal.specs.Damage.{IsIntact, IsDamagedAt};
 
-use crate::parts::{MARK, digest_holds, split_part};
+use crate::parts::{digest_holds, split_part};
 use std::alloc::{AllocError, Global};
 
-/// Whether these bytes are all of a part but the mark, in place of which so many other bytes stand.
+/// The end of a line, and the mark.
+const LAST: &str = "\n# ---\n";
+
+/// Whether these bytes are all of a part but the mark and the end of the line before, in place of which so many other
+/// bytes stand.
 fn lost_mark(alloc: Global, bytes: &[u8]) -> Result<bool, AllocError>
     ensures { IfOk result (λ lost. lost ≡ lost_mark bytes.now) }
 {
-    if bytes.len() < MARK.len() {
+    if bytes.len() < LAST.len() {
         return Ok(false);
     }
-    let mut part = Vec::from_slice(alloc, &bytes[..bytes.len() - MARK.len()])?;
-    part.extend_from_slice(MARK.as_bytes())?;
+    let mut part = Vec::from_slice(alloc, &bytes[..bytes.len() - LAST.len()])?;
+    part.extend_from_slice(LAST.as_bytes())?;
     digest_holds(alloc, part.as_slice())
 }
 
