@@ -1,3 +1,2 @@
 pub mod Lefts
 pub mod Wholes
-pub mod Files

@@ -1,11 +1,8 @@
 //! Importing: the files of a folder are read, and the script that they make is written, without the clients and the
 //! paths whose answers are refused.
 ghost use Rattle.std.specs.Prelude.{◌≡◌, IfOk, MatchOption, is_some, slice_get, string_bytes, true};
-ghost use Rattle.sha2.specs.Sha256.{sha256};
-ghost use Rattle.rb_import_answers.specs.Answers.{answer_view, told_in, verdicts_file};
 ghost use Rattle.rb_import_answers.specs.Revisions.{IsRevision};
 ghost use Rattle.rb_import.specs.Openings.{Opens, hold_verdicts};
-ghost use Rattle.ibcplan_folders.specs.Files.{HasVerdicts, TellsIn};
 ghost use Rattle.ibcplan_folders.specs.LeftOut.{import_status};
 
 use crate::file_system::FileSystem;
@@ -355,9 +352,7 @@ fn read_file<'a, R: FileSystem>(
     folder: &str,
     name: &str,
     since: u64,
-) -> Result<Saved, ProgramError<'a>>
-    ensures verdicts { IfOk result (λ saved. HasVerdicts saved.answer → name.now ≡ verdicts_file) }
-{
+) -> Result<Saved, ProgramError<'a>> {
     let file = path_in(rt.alloc(), folder, name)?;
     match read_bytes(rt, file.as_str()) {
         Ok(bytes) => saved_of(rt.alloc(), folder, name, bytes.as_slice(), since),
@@ -376,11 +371,7 @@ pub fn saved_of<'a>(
     name: &str,
     bytes: &[u8],
     since: u64,
-) -> Result<Saved, ProgramError<'a>>
-    ensures digest { IfOk result (λ saved. saved.digest ≡ sha256 bytes.now) }
-    ensures answer { IfOk result (λ saved. TellsIn name.now since bytes.now (answer_view saved.answer)) }
-    ensures verdicts { IfOk result (λ saved. HasVerdicts saved.answer → name.now ≡ verdicts_file) }
-{
+) -> Result<Saved, ProgramError<'a>> {
     let file = path_in(alloc, folder, name)?;
     let Ok(shown) = shown_text(alloc, file.as_str()) else {
         return Err(ProgramError::NoMemory);
@@ -395,12 +386,7 @@ pub fn saved_of<'a>(
 }
 
 /// An answer as the file of a name has it.
-#[tactic(auto, using(crate::proofs::Files::naming))]
-fn in_file(saved: Saved, name: &str) -> Saved
-    ensures digest { result.digest ≡ saved.digest }
-    ensures answer { answer_view result.answer ≡ told_in name.now (answer_view saved.answer) }
-    ensures verdicts { HasVerdicts result.answer → name.now ≡ verdicts_file }
-{
+fn in_file(saved: Saved, name: &str) -> Saved {
     let Saved {
         file,
         digest,
