@@ -129,7 +129,8 @@ def bloated_row(top, words):
     """A commit with 16 MB of objects beside it, and little memory: the client of its chain is left out, and the other one is written as if it were alone."""
     folder, setup = top / "bloated", top / "bloated.toml"
     answers.make(folder, 1, between=0)
-    file, second, turn = folder / "hub-4" / "commit-80.json", CLIENT % ("zone-on-hub", "hub-4", "zone-1"), (TURN % 20).partition("goal")[0]
+    file, second = folder / "hub-4" / "commit-80.json", CLIENT % ("zone-on-hub", "hub-4", "zone-1")
+    turn = (TURN % 20).replace("hub-on-zone", "zone-on-hub").replace("80", "60")
     head, tail = f'{file.read_text()[:-1]}, "more": [', "0]}"
     file.write_text(head + '{"":0},' * ((MOST_BYTES - len(head) - len(tail)) // 7) + tail)
     setup.write_text(HEAD + ONE + second + turn)
