@@ -1,8 +1,11 @@
 -- Why a chain's answers are refused.
-use Rattle.std.proofs.Common.{◌≡◌, ◌≢◌, ℕ, zero, suc, ◌+◌, ◌<◌, ◌≤◌, ◌==◌, List, [], ◌∷◌, ◌++◌, length, get_or, take, map, Bool, false, cond, inl, inr, refl, sym, subst, ap, ◌∙◌, arith, eq-eqb}
+use Rattle.std.proofs.Common.{◌≡◌, ◌≢◌, ℕ, zero, suc, ◌+◌, ◌<◌, ◌≤◌, ◌==◌, List, [], ◌∷◌, ◌++◌, length, get_or, take, map, All, Bool, true, false, cond, inl, inr, refl, sym, subst, ap, ◌∙◌, arith, eq-eqb}
 use Rattle.std.specs.Prelude.{Any, Contains, count_by, sum_by, slice_index, string_bytes}
 use Rattle.std.specs.List.{flat_map}
-use Rattle.std.specs.List.Sorted.{IsNonDecreasingBy, IsPermutation}
+use Rattle.std.specs.List.Sorted.{IsNonDecreasingBy, IsPermutation, IsStrictlyIncreasing}
+use Rattle.std.proofs.lemmas.Bool.{eqb-true, ne_eqb}
+use Rattle.std.proofs.lemmas.List.Elements.{All-tail}
+use Rattle.std.proofs.lemmas.List.Kept.{AllPairs-from_increasing}
 use Rattle.std.proofs.lemmas.List.{length-append}
 use Rattle.std.proofs.lemmas.List.Sums.{sum_by-cons}
 use Rattle.std.proofs.lemmas.List.Sorted.{sum_by-IsPermutation, Contains-permutation, IsPermutation-sym}
@@ -17,7 +20,7 @@ use Rattle.rb_import_check.specs.declared.error.CheckErrorName.{CheckErrorName}
 use Rattle.rb_import_check.specs.declared.error.ImportError.{ImportError}
 use Rattle.rb_import_check.specs.declared.error.ImportError.TheVariants as errors
 use Rattle.rb_import_check.specs.declared.saved.Saved.{Saved}
-use Rattle.rb_import_check.specs.Chains.{Filed, HaveHeaders, IsOfChain, IsOfItsBlock, headers_in, headers_of}
+use Rattle.rb_import_check.specs.Chains.{AreOfDifferentHeights, Filed, HaveHeaders, IsOfChain, IsOfItsBlock, headers_in, headers_of}
 use Rattle.rb_import_check.specs.Clients.{Falls}
 use Rattle.rb_import_check.specs.Errors.{IsTold}
 use Rattle.rb_import_check.specs.Refusals.{HasReasonOf, Refuses, is_of_chain}
@@ -108,6 +111,63 @@ module _ {X A : Type 0} (view : X → A) (height : A → ℕ) where
       let h : ℕ = height (view (get_or these i x)) in
       let many : 1 < count_by (λ y. height (view y) == h) these = two_at h these i x in_range refl both in
       (h, subst (λ n. 1 < n) (sym (sum_map h these) ∙ sum_by-IsPermutation (λ a. cond (height a == h) 1 0) all _ same) many)
+
+-- ---- one of each height
+
+none_at : (h : ℕ) (ns : List ℕ) → All (λ n. h < n) ns → count_by (λ n. n == h) ns ≡ 0
+none_at h [] above = refl
+none_at h (n ∷ ns) above =
+    let f : ℕ → ℕ = λ m. cond (m == h) 1 0 in
+    let high : h < n = above 0 n (omega arith) in
+    let own : f n ≡ 0 = ap (λ b. cond b 1 0) (ne_eqb n h (omega (arith, high))) in
+    let rest : sum_by f ns ≡ 0 = none_at h ns (All-tail (λ m. h < m) n ns above) in
+    let whole : sum_by f (n ∷ ns) ≡ f n + sum_by f ns = sum_by-cons f n ns in
+    omega (arith, own, rest, whole)
+
+-- the first of numbers that rise, and the others of which one at most is this one
+one_first : (h n : ℕ) (ns : List ℕ) → IsStrictlyIncreasing (n ∷ ns) → count_by (λ m. m == h) ns ≤ 1 → count_by (λ m. m == h) (n ∷ ns) ≤ 1
+one_first h n ns rises one = at (n == h) refl
+  where
+    f : ℕ → ℕ
+    f m = cond (m == h) 1 0
+
+    whole : sum_by f (n ∷ ns) ≡ f n + sum_by f ns
+    whole = sum_by-cons f n ns
+
+    above : All (λ m. n < m) ns
+    above k d small = AllPairs-from_increasing (n ∷ ns) rises 0 (suc k) d (omega arith) (omega (arith, small))
+
+    at : (b : Bool) → (n == h) ≡ b → sum_by f (n ∷ ns) ≤ 1
+    at true is =
+        let same : n ≡ h = eqb-true n h is in
+        let own : f n ≡ 1 = ap (λ b. cond b 1 0) is in
+        let rest : sum_by f ns ≡ 0 = none_at h ns (subst (λ m. All (λ k. m < k) ns) same above) in
+        omega (arith, whole, own, rest)
+    at false is =
+        let own : f n ≡ 0 = ap (λ b. cond b 1 0) is in
+        omega (arith, whole, own, one)
+
+rise_later : (n : ℕ) (ns : List ℕ) → IsStrictlyIncreasing (n ∷ ns) → IsStrictlyIncreasing ns
+rise_later n ns rises k small =
+    let next : suc k + 1 ≡ suc (k + 1) = omega arith in
+    subst (λ j. get_or ns k 0 < get_or (n ∷ ns) j 0) next (rises (suc k) (omega (arith, small)))
+
+-- of numbers that rise one at most is this one
+one_at : (h : ℕ) (ns : List ℕ) → IsStrictlyIncreasing ns → count_by (λ n. n == h) ns ≤ 1
+one_at h [] rises = omega arith
+one_at h (n ∷ ns) rises = one_first h n ns rises (one_at h ns (rise_later n ns rises))
+
+-- where the heights of the commits rise, no two of the headers are of one height
+pub one_each : (all : List SignedHeader) (commits : List Commit) → HaveHeaders all commits → IsStrictlyIncreasing (map (λ (c : Commit). c.header.now.height) commits) → AreOfDifferentHeights all
+one_each all commits same rises = λ h.
+    let f : SignedHeader → ℕ = λ a. cond (a.height == h) 1 0 in
+    let moved : sum_by f (map (λ (c : Commit). c.header.now) commits) ≡ sum_by f all = sum_by-IsPermutation f all _ same in
+    let seen : sum_by f (map (λ (c : Commit). c.header.now) commits) ≡ count_by (λ (c : Commit). c.header.now.height == h) commits =
+    sum_map (λ (c : Commit). c.header.now) (λ (a : SignedHeader). a.height) h commits in
+    let numbers : count_by (λ n. n == h) (map (λ (c : Commit). c.header.now.height) commits) ≡ count_by (λ (c : Commit). c.header.now.height == h) commits =
+    sum_map (λ (c : Commit). c.header.now.height) (λ n. n) h commits in
+    let one : count_by (λ n. n == h) (map (λ (c : Commit). c.header.now.height) commits) ≤ 1 = one_at h _ rises in
+    omega (arith, moved, seen, numbers, one)
 
 -- ---- verdicts
 

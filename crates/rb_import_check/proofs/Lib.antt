@@ -1,13 +1,19 @@
 pub mod ChainReasons
 pub mod SetReasons
 mod OtherVotes
+pub mod Indexing
 pub mod Sorting
 pub mod SetsLemmas
 pub mod ReasonsLemmas
+pub mod Repeats
 pub mod Naming
 pub mod Accords
 pub mod Heights
 pub mod Pages
+pub mod Parting
+pub mod Powers
 pub mod Digits
 pub mod Searches
 pub mod Zips
+pub mod Staying
+pub mod Verifying

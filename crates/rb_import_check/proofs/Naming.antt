@@ -13,21 +13,21 @@ use Rattle.rb_import_answers.specs.declared.commit.SignedHeader.{SignedHeader}
 use Rattle.rb_import_check.specs.declared.chain.Commit.{Commit}
 use Rattle.rb_import_check.specs.declared.chain.Page.{Page}
 use Rattle.rb_import_check.specs.declared.client.Stored.{Stored}
+use Rattle.rb_import_check.specs.declared.error.CheckError.{CheckError}
 use Rattle.rb_import_check.specs.declared.error.CheckErrorName.{CheckErrorName}
 use Rattle.rb_import_check.specs.declared.error.ImportError.{ImportError}
 use Rattle.rb_import_check.specs.declared.error.ImportError.TheVariants as errors
 use Rattle.rb_import_check.specs.declared.saved.Saved.{Saved}
 use Rattle.rb_import_check.specs.declared.sets.SeenSet.{SeenSet}
 use Rattle.rb_import_check.specs.Chains.{AreOfFiles, Filed, HaveHeaders, HaveSets, IsAmong, filed, filed_of, headers_in, headers_of, pages_at}
-use Rattle.rb_import_check.specs.Clients.{AreStatesOfFiles, FiledState, filed_state, filed_states_of}
+use Rattle.rb_import_check.specs.Clients.{AreFilesInSomeOrder, FiledState, filed_state, filed_states_of}
 use Rattle.rb_import_check.specs.Errors.{AreTwoAmong, IsAt, IsBetween, IsBetweenTwo, IsIn, IsTold, IsToldBy}
-use Rattle.rb_import_check.specs.Named.{FiledPage, IsOfPage, Names, NamesByName, NamesCommit, NamesCommitBy, NamesDiscord, NamesFall, NamesForeign, NamesHeaderAndPage, NamesHeaderWithoutSet, NamesIn, NamesOf, NamesOfPages, NamesOtherHeader, NamesOtherRecord, NamesPages, NamesSomePages, ShowsHeader, filed_page, filed_pages_at, with_files}
+use Rattle.rb_import_check.specs.Named.{FiledPage, IsOfPage, Names, NamesByName, NamesCommit, NamesCommitBy, NamesDiscord, NamesFall, NamesForeign, NamesHeaderAndPage, NamesIn, NamesOf, NamesOfPages, NamesOtherHeader, NamesOtherRecord, NamesPages, NamesSomePages, NamesTwo, NamesTwoAmong, NamesTwoRecords, ShowsHeader, filed_page, filed_pages_at, with_files}
 use Rattle.rb_import_check.specs.Refusals.{RefusesPages}
-use Rattle.rb_import_check.specs.Sets.{WasSeen}
 use Rattle.rb_import_check.specs.Verdicts.{TellsOtherVotes, verdict_list, verdicts_of}
 use Rattle.rb_import_check.proofs.ChainReasons.{any_map, any_viewed}
-use Rattle.rb_import_check.proofs.ReasonsLemmas.{any_one}
-use Rattle.rb_import_check.proofs.SetReasons.{any_of, discord, seen_at}
+use Rattle.rb_import_check.proofs.ReasonsLemmas.{any_one, named_twice}
+use Rattle.rb_import_check.proofs.SetReasons.{any_of, discord}
 use Rattle.rb_import_check.proofs.Sorting.{assoc, taken}
 
 -- ---- two of a list
@@ -198,14 +198,6 @@ header_page commits (Some c) height pages first e among is named =
     any_map filed (λ (f : Filed). (f.0.height ≡ height) × Any (λ (q : FiledPage). IsAt q.0.height e × IsBetween f.2 q.1 e) (map filed_page pages)) commits
     (among.0.0, c, among.0.1, among.0.2, (among.1, first_page (λ (q : FiledPage). IsAt q.0.height e × IsBetween c.file.now q.1 e) pages first is named))
 
-pub names_missing : (commits : List Commit) (commit : Option Commit) (height : ℕ) (pages : List Page) (first : Page) (R : Type 0) (e : ImportError) → IfSome commit (IsAmong commits height)
-    → Some first ≡ slice_get pages 0 → IsTold CheckErrorName.MissingPage R e → IsSomeAnd commit (λ (c : Commit). IsAt first.page.now.height e × IsBetween c.file.now first.file.now e)
-    → NamesOfPages height (map filed commits) (map filed_page pages) e
-names_missing commits commit height pages first R errors.NoMemory among is told named = tt
-names_missing commits commit height pages first R (errors.CheckError p) among is told named =
-    subst (λ name. NamesPages name height (map filed commits) (map filed_page pages) (errors.CheckError p)) (sym told.0)
-    (header_page commits commit height pages first (errors.CheckError p) among is named)
-
 pub names_other : (commits : List Commit) (commit : Option Commit) (height : ℕ) (pages : List Page) (first : Page) (R : Type 0) (e : ImportError) → IfSome commit (IsAmong commits height)
     → Some first ≡ slice_get pages 0 → IsTold CheckErrorName.OtherSet R e → IsSomeAnd commit (λ (c : Commit). IsAt first.page.now.height e × IsBetween c.file.now first.file.now e)
     → NamesOfPages height (map filed commits) (map filed_page pages) e
@@ -242,11 +234,9 @@ module _ (id : List ℕ) (saved : List Saved) (commits : List Commit) (same : Ar
   of_pages headers e CheckErrorName.OtherRevision w named = absurd w.1
   of_pages headers e CheckErrorName.TwoAnswers w named = absurd w.1
   of_pages headers e CheckErrorName.OtherTotal w named = named
-  of_pages headers e CheckErrorName.MissingPage w named = (named.0, headers_too named.0 (filed_pages_at saved named.0) e named.1)
   of_pages headers e CheckErrorName.TooManyValidators w named = named
   of_pages headers e CheckErrorName.BadSet w named = named
   of_pages headers e CheckErrorName.OtherSet w named = (named.0, headers_too named.0 (filed_pages_at saved named.0) e named.1)
-  of_pages headers e CheckErrorName.MissingSet w named = absurd w.1
   of_pages headers e CheckErrorName.OtherHeader w named = absurd w.1
   of_pages headers e CheckErrorName.SignatureCount w named = absurd w.1
   of_pages headers e CheckErrorName.OtherSigner w named = absurd w.1
@@ -276,13 +266,9 @@ module _ (id : List ℕ) (saved : List Saved) (commits : List Commit) (same : Ar
     of_commit e CheckErrorName.OtherRevision (k, c, small, is, ((s, there, hash, differ), at, begins)) = absurd differ
     of_commit e CheckErrorName.TwoAnswers (k, c, small, is, ((s, there, hash, differ), at, begins)) = absurd differ
     of_commit e CheckErrorName.OtherTotal (k, c, small, is, ((s, there, hash, differ), at, begins)) = absurd differ
-    of_commit e CheckErrorName.MissingPage (k, c, small, is, ((s, there, hash, differ), at, begins)) = absurd differ
     of_commit e CheckErrorName.TooManyValidators (k, c, small, is, ((s, there, hash, differ), at, begins)) = absurd differ
     of_commit e CheckErrorName.BadSet (k, c, small, is, ((s, there, hash, differ), at, begins)) = absurd differ
     of_commit e CheckErrorName.OtherSet (k, c, small, is, ((s, there, hash, differ), at, begins)) = absurd differ
-    of_commit e CheckErrorName.MissingSet (k, c, small, is, (none, at, inside)) =
-        any_viewed filed (λ (f : Filed). NamesHeaderWithoutSet saved f e) (filed_of saved) commits same
-        (k, c, small, is, ((λ height whole hash. none (subst (WasSeen sets) hash (seen_at saved sets height have whole))), at, inside))
     of_commit e CheckErrorName.OtherHeader (k, c, small, is, ((s, there, hash, differ), at, begins)) = absurd differ
     of_commit e CheckErrorName.SignatureCount (k, c, small, is, ((s, there, hash, differ), at, begins)) =
         any_viewed filed (λ (f : Filed). NamesDiscord CheckErrorName.SignatureCount saved f e) (filed_of saved) commits same
@@ -312,16 +298,24 @@ names_foreign tracked saved R (errors.CheckError p) w named = subst (λ name. Na
 names_foreign tracked saved R errors.NoMemory w named = tt
 
 pub names_revision : (tracked : List ℕ) (saved : List Saved) (revision : ℕ) (stored : List Stored) (R : Type 0) (e : ImportError) → IsRevision tracked revision
-    → AreStatesOfFiles (filed_states_of revision saved) stored → IsTold CheckErrorName.OtherRevision R e → Any (λ s. NamesOtherRecord revision (filed_state s) e) stored → NamesIn tracked saved e
+    → AreFilesInSomeOrder (filed_states_of revision saved) stored → IsTold CheckErrorName.OtherRevision R e → Any (λ s. NamesOtherRecord revision (filed_state s) e) stored → NamesIn tracked saved e
 names_revision tracked saved revision stored R (errors.CheckError p) is same w named =
     subst (λ name. NamesByName name tracked saved (errors.CheckError p)) (sym w.0)
     (inr (revision, is, any_viewed filed_state (λ (f : FiledState). NamesOtherRecord revision f (errors.CheckError p)) (filed_states_of revision saved) stored same named))
 names_revision tracked saved revision stored R errors.NoMemory is same w named = tt
 
-pub names_twice_in : (tracked : List ℕ) (saved : List Saved) (revision : ℕ) (stored : List Stored) (R : Type 0) (e : ImportError) → IsRevision tracked revision
-    → AreStatesOfFiles (filed_states_of revision saved) stored → IsNonDecreasingBy (λ (s : Stored). s.state.now.height) stored → IsTold CheckErrorName.TwoAnswers R e
-    → NamesFall (λ (s : Stored). s.state.now.height) (λ (s : Stored). s.file.now) stored e → NamesIn tracked saved e
-names_twice_in tracked saved revision stored R (errors.CheckError p) is same order w (i, x, y, small, one, two, low, at, between) =
-    subst (λ name. NamesByName name tracked saved (errors.CheckError p)) (sym w.0)
-    (inr (revision, is, two_files filed_state (λ (f : FiledState). f.0.height) (λ (f : FiledState). f.1) (filed_states_of revision saved) stored (errors.CheckError p) i x y same order small one two low at between))
-names_twice_in tracked saved revision stored R errors.NoMemory is same order w named = tt
+-- two different records of one height are two of the answers, with their files
+names_two : (saved : List Saved) (revision : ℕ) (told : List Stored) (p : CheckError) → AreFilesInSomeOrder (filed_states_of revision saved) told
+    → Any (λ (s : Stored). Any (λ (t : Stored). NamesTwo s t (errors.CheckError p)) told) told → NamesTwoRecords saved revision (errors.CheckError p)
+names_two saved revision told p same (k, s, small, at, (l, t, less, also, names)) =
+    let files : List FiledState = filed_states_of revision saved in
+    let Two : FiledState → FiledState → Type 0 =
+    λ f g. (f.0.height ≡ g.0.height) × (f.0 ≢ g.0) × IsAt f.0.height (errors.CheckError p) × IsBetween f.1 g.1 (errors.CheckError p) in
+    let second : Any (Two (filed_state s)) files = any_viewed filed_state (Two (filed_state s)) files told same (l, t, less, also, (names.1, names.2, names.3, names.4)) in
+    any_viewed filed_state (λ f. Any (Two f) files) files told same (k, s, small, at, second)
+
+pub names_twice_in : (tracked : List ℕ) (saved : List Saved) (revision : ℕ) (told : List Stored) (e : ImportError) → IsRevision tracked revision
+    → AreFilesInSomeOrder (filed_states_of revision saved) told → NamesTwoAmong told e → NamesIn tracked saved e
+names_twice_in tracked saved revision told (errors.CheckError p) is same w =
+    subst (λ name. NamesByName name tracked saved (errors.CheckError p)) (sym (named_twice p told w)) (inr (revision, is, names_two saved revision told p same w))
+names_twice_in tracked saved revision told errors.NoMemory is same w = tt

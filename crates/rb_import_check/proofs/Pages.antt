@@ -123,7 +123,7 @@ all_zip_push R [] (b ∷ ys) x y all it = absurd all
 all_zip_push R (a ∷ xs) [] x y all it = absurd all
 all_zip_push R (a ∷ xs) (b ∷ ys) x y (first, all) it = (first, all_zip_push R xs ys x y all it)
 
-rises_push : (xs : List ℕ) (h : ℕ) → IsStrictlyIncreasing xs → All (λ x. x < h) xs → IsStrictlyIncreasing (xs ++ h ∷ [])
+pub rises_push : (xs : List ℕ) (h : ℕ) → IsStrictlyIncreasing xs → All (λ x. x < h) xs → IsStrictlyIncreasing (xs ++ h ∷ [])
 rises_push xs h rises low k small =
     elim (cases_lt (k + 1) (length xs)) [
       | inl inner ↦ grind (arith, common_steps, rises k inner)
@@ -200,17 +200,16 @@ have_sets saved sets pages last same ((heights, are, bound), seen, old) =
 -- the set of these pages is that of each commit of their height
 pub takes_all : (commits : List Commit) (height : ℕ) (commit : Option Commit) (pages : List ValidatorsPage) (set : List Member)
     → All (λ (c : Commit). c.header.now.height ≡ height → commit ≡ Some c) commits → IfSome commit (λ (c : Commit). c.header.now.set ≡ set_hash set)
-    → AreAllPages pages → set ≡ in_set_order (validators_of pages) → All (HasValidators pages height) commits
+    → set ≡ in_set_order (validators_of pages) → All (HasValidators pages height) commits
 unfolding HasValidators
-takes_all commits height (Some c) pages set only its all is = λ k d small same.
-    (all, subst (λ l. set_hash l ≡ (get_or commits k d).header.now.set) is (sym its ∙ ap (λ (x : Commit). x.header.now.set) (same_Some c (get_or commits k d) (only k d small same))))
-takes_all commits height None pages set only its all is = λ k d small same. absurd (none-some (get_or commits k d) (only k d small same))
+takes_all commits height (Some c) pages set only its is = λ k d small same all.
+    subst (λ l. set_hash l ≡ (get_or commits k d).header.now.set) is (sym its ∙ ap (λ (x : Commit). x.header.now.set) (same_Some c (get_or commits k d) (only k d small same)))
+takes_all commits height None pages set only its is = λ k d small same all. absurd (none-some (get_or commits k d) (only k d small same))
 
--- there is no commit of their height
-pub takes_none : (commits : List Commit) (height : ℕ) (commit : Option Commit) (pages : List ValidatorsPage)
-    → All (λ (c : Commit). c.header.now.height ≡ height → commit ≡ Some c) commits → commit ≡ None → All (HasValidators pages height) commits
+-- these aren't all pages of their height
+pub takes_few : (commits : List Commit) (height : ℕ) (pages : List ValidatorsPage) → (AreAllPages pages → ⊥) → All (HasValidators pages height) commits
 unfolding HasValidators
-takes_none commits height commit pages only none = λ k d small same. absurd (none-some (get_or commits k d) (sym none ∙ only k d small same))
+takes_few commits height pages few = λ k d small same all. absurd (few all)
 
 -- where there are pages of a height, its commits have their validators
 abbrev pub IsTakenAt : List Saved → List Commit → ℕ → Type 0
@@ -238,8 +237,8 @@ pub have_validators : (saved : List Saved) (commits : List Commit) (pages : List
     → ((height : ℕ) → without_files (filter (λ (p : Page). p.page.now.height == height) pages) ≡ pages_at saved height)
     → AreTaken saved commits pages last → All (HasItsValidators saved) commits
 unfolding HasValidators HasItsValidators
-have_validators saved commits pages last same (each, old) = λ k d small some.
+have_validators saved commits pages last same (each, old) = λ k d small whole.
     let height : ℕ = (get_or commits k d).header.now.height in
     let long = length-map (filter (λ (p : Page). p.page.now.height == height) pages) (λ (p : Page). p.page.now) in
-    let taken : IsTakenAt saved commits height = of_some (IsTakenAt saved commits) pages height each (omega (arith, some, ap length (same height), long)) in
-    taken some k d small refl
+    let taken : IsTakenAt saved commits height = of_some (IsTakenAt saved commits) pages height each (omega (arith, whole.0, ap length (same height), long)) in
+    taken whole.0 k d small refl whole

@@ -17,12 +17,14 @@ use Rattle.rb_import_answers.specs.declared.client.ConsensusState.{ConsensusStat
 use Rattle.rb_import_answers.specs.declared.query.Query.{Query}
 use Rattle.rb_import_setup.specs.declared.setup.ClientSetup.{ClientSetup}
 use Rattle.rb_import_check.specs.declared.client.Stored.{Stored}
+use Rattle.rb_import_check.specs.declared.error.CheckError.{CheckError}
 use Rattle.rb_import_check.specs.declared.error.CheckErrorName.{CheckErrorName}
 use Rattle.rb_import_check.specs.declared.error.ImportError.{ImportError}
 use Rattle.rb_import_check.specs.declared.error.ImportError.TheVariants as errors
 use Rattle.rb_import_check.specs.declared.saved.Saved.{Saved}
-use Rattle.rb_import_check.specs.Clients.{HaveStates, HasReason, HasOtherRevision, TellsTwice, Refuses, Falls, IsOfRevision, client_states_in, client_states_of, stored_of, current_of, is_of_client}
+use Rattle.rb_import_check.specs.Clients.{AreStatesInSomeOrder, HasReason, HasOtherRevision, HasTwoRecords, TellsTwice, Refuses, IsOfRevision, client_states_in, client_states_of, stored_of, current_of, is_of_client}
 use Rattle.rb_import_check.specs.Errors.{IsTold}
+use Rattle.rb_import_check.specs.Named.{NamesTwo, NamesTwoAmong}
 use Rattle.rb_import_check.proofs.Sorting.{taken}
 
 -- ---- one revision
@@ -41,7 +43,7 @@ other_revision id n m is other also = other (same_number (at_last_dash id) m n I
 
 -- ---- some element
 
-any_there : {A : Type 0} (P : A → Type 0) (x : A) (xs : List A) → Any P xs → Any P (x ∷ xs)
+pub any_there : {A : Type 0} (P : A → Type 0) (x : A) (xs : List A) → Any P xs → Any P (x ∷ xs)
 any_there P x xs (k, y, small, is, p) = (suc k, y, omega arith, is, p)
 
 pub any_left : {A : Type 0} (P : A → Type 0) (xs ys : List A) → Any P xs → Any P (xs ++ ys)
@@ -126,61 +128,27 @@ above zero (suc n) le other = omega arith
 above (suc m) zero le other = absurd (omega (arith, le))
 above (suc m) (suc n) le other = let w = above m n (omega (arith, le)) (λ e. other (ap (λ k. suc k) e)) in omega (arith, w)
 
-in_states : (P : ConsensusState → Type 0) (states : List ConsensusState) (stored : List Stored) → HaveStates states stored → Any (λ (s : Stored). P s.state.now) stored → Any P states
-in_states P states stored same w =
-    let found = in_map P stored w in
+in_states : (P : ConsensusState → Type 0) (states : List ConsensusState) (told : List Stored) → AreStatesInSomeOrder states told → Any (λ (s : Stored). P s.state.now) told → Any P states
+in_states P states told same w =
+    let found = in_map P told w in
     let there = Contains-permutation _ states found.0 (IsPermutation-sym states _ same) found.1 in
     (there.0, found.0, there.1, there.2, found.2)
 
--- as many records are of a height, in whatever order
-sum_map : (h : ℕ) (stored : List Stored) → count_by (at_height h) (map (λ (t : Stored). t.state.now) stored) ≡ count_by (λ s. height_of s == h) stored
-sum_map h [] = refl
-sum_map h (x ∷ xs) =
-    sum_by-cons (λ s. cond (at_height h s) 1 0) x.state.now (map (λ (t : Stored). t.state.now) xs)
-    ∙ ap (λ n. cond (height_of x == h) 1 0 + n) (sum_map h xs) ∙ sym (sum_by-cons (λ s. cond (height_of s == h) 1 0) x xs)
+any_said : {X : Type 0} (P Q : X → Type 0) (xs : List X) → ((x : X) → P x → Q x) → Any P xs → Any Q xs
+any_said P Q xs f (k, x, small, is, p) = (k, x, small, is, f x p)
 
-more : (b : Bool) (n : ℕ) → n ≤ cond b 1 0 + n
-more true n = omega arith
-more false n = omega arith
+-- two records of one height that differ are two of the answers
+two_records : (states : List ConsensusState) (told : List Stored) (e : CheckError) → AreStatesInSomeOrder states told
+    → Any (λ (s : Stored). Any (λ (t : Stored). NamesTwo s t (errors.CheckError e)) told) told → HasTwoRecords states
+two_records states told e same w =
+    let Two : ConsensusState → ConsensusState → Type 0 = λ a b. (a.height ≡ b.height) × (a ≢ b) in
+    in_states (λ (a : ConsensusState). Any (Two a) states) states told same
+    (any_said (λ (s : Stored). Any (λ (t : Stored). NamesTwo s t (errors.CheckError e)) told) (λ (s : Stored). Any (Two s.state.now) states) told
+    (λ s other. in_states (Two s.state.now) states told same (any_said (λ (t : Stored). NamesTwo s t (errors.CheckError e)) (λ (t : Stored). Two s.state.now t.state.now) told (λ t names. (names.1, names.2)) other))
+    w)
 
-two_at : (h : ℕ) (xs : List Stored) (i : ℕ) (d : Stored) → i + 1 < length xs → height_of (get_or xs i d) ≡ h → height_of (get_or xs (i + 1) d) ≡ h → 1 < count_by (λ s. height_of s == h) xs
-two_at h [] i d small one two = absurd (omega arith)
-two_at h (x ∷ []) i d small one two = absurd (omega arith)
-two_at h (x ∷ y ∷ xs) zero d small one two =
-    let f : Stored → ℕ = λ s. cond (height_of s == h) 1 0 in
-    let first : f x ≡ 1 = ap (λ b. cond b 1 0) (eq-eqb (height_of x) h one) in
-    let second : f y ≡ 1 = ap (λ b. cond b 1 0) (eq-eqb (height_of y) h two) in
-    let whole : sum_by f (x ∷ y ∷ xs) ≡ f x + sum_by f (y ∷ xs) = sum_by-cons f x (y ∷ xs) in
-    let rest : sum_by f (y ∷ xs) ≡ f y + sum_by f xs = sum_by-cons f y xs in
-    omega arith
-two_at h (x ∷ y ∷ xs) (suc i) d small one two =
-    let f : Stored → ℕ = λ s. cond (height_of s == h) 1 0 in
-    let next : suc i + 1 ≡ suc (i + 1) = omega arith in
-    let below : 1 < sum_by f (y ∷ xs) = two_at h (y ∷ xs) i d (omega arith) one (subst (λ k. height_of (get_or (x ∷ y ∷ xs) k d) ≡ h) next two) in
-    let whole : sum_by f (x ∷ y ∷ xs) ≡ f x + sum_by f (y ∷ xs) = sum_by-cons f x (y ∷ xs) in
-    omega arith
-
-index_map : (xs : List Stored) (k : ℕ) (d : Stored) → k < length xs → slice_index (map height_of xs) k ≡ height_of (get_or xs k d)
-index_map [] k d small = absurd (omega arith)
-index_map (x ∷ xs) zero d small = refl
-index_map (x ∷ xs) (suc k) d small = index_map xs k d (omega arith)
-
-length_map : (xs : List Stored) → length (map height_of xs) ≡ length xs
-length_map [] = refl
-length_map (x ∷ xs) = ap (λ n. suc n) (length_map xs)
-
-two_records : (states : List ConsensusState) (stored : List Stored) → HaveStates states stored → IsNonDecreasingBy height_of stored → Falls (map height_of stored) → (h : ℕ) × (1 < count_by (at_height h) states)
-two_records states [] same order (i, small, low) = absurd (omega arith)
-two_records states (x ∷ xs) same order (i, small, low) =
-    let stored : List Stored = x ∷ xs in
-    let in_range : i + 1 < length stored = subst (λ n. i + 1 < n) (length_map stored) small in
-    let one : slice_index (map height_of stored) i ≡ height_of (get_or stored i x) = index_map stored i x (omega arith) in
-    let two : slice_index (map height_of stored) (i + 1) ≡ height_of (get_or stored (i + 1) x) = index_map stored (i + 1) x in_range in
-    let rising : height_of (get_or stored i x) ≤ height_of (get_or stored (i + 1) x) = order i (i + 1) x (omega arith) in_range in
-    let both : height_of (get_or stored (i + 1) x) ≡ height_of (get_or stored i x) = omega arith in
-    let h : ℕ = height_of (get_or stored i x) in
-    let many : 1 < count_by (λ s. height_of s == h) stored = two_at h stored i x in_range refl both in
-    (h, subst (λ n. 1 < n) (sym (sum_map h stored) ∙ sum_by-IsPermutation (λ s. cond (at_height h s) 1 0) states _ same) many)
+pub named_twice : (e : CheckError) (told : List Stored) → Any (λ (s : Stored). Any (λ (t : Stored). NamesTwo s t (errors.CheckError e)) told) told → e.name ≡ CheckErrorName.TwoAnswers
+named_twice e told (k, s, small, is, (l, t, less, also, names)) = names.0
 
 -- ---- the reasons of the errors
 
@@ -211,18 +179,17 @@ later revision saved w =
     (from_filter (λ (s : ConsensusState). nat_le revision s.revision) (λ (s : ConsensusState). s.revision ≢ revision) (stored_of saved) w)
 
 pub tells_revision : (setup : ClientSetup) (tracked : List ℕ) (saved : List Saved) (revision : ℕ) (stored : List Stored) (e : ImportError) → IsRevision tracked revision
-    → HaveStates (current_of revision saved) stored → IsTold CheckErrorName.OtherRevision (Any (λ s. s.state.now.revision ≢ revision) stored) e → HasReason setup tracked saved e
+    → AreStatesInSomeOrder (current_of revision saved) stored → IsTold CheckErrorName.OtherRevision (Any (λ s. s.state.now.revision ≢ revision) stored) e → HasReason setup tracked saved e
 tells_revision setup tracked saved revision stored (errors.CheckError p) is same w =
     subst (λ name. Refuses name setup tracked saved) (sym w.0)
     (inr (revision, is, later revision saved (in_states (λ (s : ConsensusState). s.revision ≢ revision) (current_of revision saved) stored same w.1)))
 tells_revision setup tracked saved revision stored errors.NoMemory is same w = tt
 
-pub tells_twice : (setup : ClientSetup) (tracked : List ℕ) (saved : List Saved) (revision : ℕ) (stored : List Stored) (e : ImportError) → IsRevision tracked revision
-    → HaveStates (current_of revision saved) stored → IsNonDecreasingBy (λ (s : Stored). s.state.now.height) stored
-    → IsTold CheckErrorName.TwoAnswers (Falls (map (λ (s : Stored). s.state.now.height) stored)) e → HasReason setup tracked saved e
-tells_twice setup tracked saved revision stored (errors.CheckError p) is same order w =
-    subst (λ name. Refuses name setup tracked saved) (sym w.0) (inr (revision, is, two_records (current_of revision saved) stored same order w.1))
-tells_twice setup tracked saved revision stored errors.NoMemory is same order w = tt
+pub tells_twice : (setup : ClientSetup) (tracked : List ℕ) (saved : List Saved) (revision : ℕ) (told : List Stored) (e : ImportError) → IsRevision tracked revision
+    → AreStatesInSomeOrder (current_of revision saved) told → NamesTwoAmong told e → HasReason setup tracked saved e
+tells_twice setup tracked saved revision told (errors.CheckError p) is same w =
+    subst (λ name. Refuses name setup tracked saved) (sym (named_twice p told w)) (inr (revision, is, two_records (current_of revision saved) told p same w))
+tells_twice setup tracked saved revision told errors.NoMemory is same w = tt
 
 -- records of the chain's revision number are of its revision
 pub are_of_revision : (tracked : List ℕ) (revision : ℕ) (stored : List Stored) → IsRevision tracked revision → All (λ (s : Stored). s.state.now.revision ≡ revision) stored → All (IsOfRevision tracked) stored

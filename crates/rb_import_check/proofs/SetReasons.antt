@@ -1,12 +1,10 @@
 -- Why the validators and the signatures of a chain's answers are refused.
-use Rattle.std.proofs.Common.{◌≡◌, ◌≢◌, ◌⊎◌, ℕ, zero, suc, ◌+◌, ◌<◌, ◌≤◌, List, [], ◌∷◌, ◌++◌, length, get_or, take, map, Option, Some, None, inl, inr, refl, sym, subst, ap, ◌∙◌, arith}
-use Rattle.std.specs.Prelude.{Any, Contains, IfSome, IsSome, IsSomeAnd, slice_get}
+use Rattle.std.proofs.Common.{◌≡◌, ◌≢◌, ◌⊎◌, ℕ, zero, suc, ◌+◌, ◌<◌, ◌≤◌, List, [], ◌∷◌, ◌++◌, length, get_or, take, map, Option, Some, None, inl, inr, sym, subst, ap, ◌∙◌, arith}
+use Rattle.std.specs.Prelude.{Any, Contains, IfSome, IsSome, IsSomeAnd}
 use Rattle.std.specs.List.{AllZip, flat_map}
 use Rattle.std.specs.List.Sorted.{IsPermutation}
 use Rattle.std.proofs.lemmas.List.Sorted.{Contains-permutation, IsPermutation-sym}
 use Rattle.std.proofs.lemmas.List.Folds.{flat_map-map}
-use Rattle.std.proofs.lemmas.Bool.{true≢false}
-use Rattle.std.proofs.lemmas.Option.{none-some, same_Some}
 use Rattle.rb_valset.specs.Refusal.{set_refusal}
 use Rattle.rb_valset.specs.Validator.{Member}
 use Rattle.rb_valset.specs.ValidatorSet.{set_hash, in_set_order}
@@ -22,9 +20,7 @@ use Rattle.rb_import_check.specs.declared.sets.SeenSet.{SeenSet}
 use Rattle.rb_import_check.specs.Chains.{AreAllPages, AreWhole, Differ, HaveHeaders, HaveSets, IsAmong, IsSetAt, headers_of, pages_at, validators_at, validators_of, without_files}
 use Rattle.rb_import_check.specs.Errors.{IsTold, IsToldBy}
 use Rattle.rb_import_check.specs.Refusals.{HasReasonOf, HaveTooMany, HaveTwoTotals, Refuses, RefusesCommit, RefusesPages}
-use Rattle.rb_import_check.specs.Sets.{WasSeen}
 use Rattle.rb_import_check.proofs.ChainReasons.{any_map, any_viewed, longer}
-use Rattle.rb_import_check.proofs.Pages.{total_of}
 use Rattle.rb_import_check.proofs.Sorting.{added_more}
 
 abbrev pub page_of : Page → ValidatorsPage
@@ -47,7 +43,6 @@ module _ (id : List ℕ) (saved : List Saved) (commits : List Commit) (same : Ha
   of_pages : (name : CheckErrorName) → Pages name → Refuses name id saved
   of_pages CheckErrorName.OtherTotal w = w
   of_pages CheckErrorName.TooManyValidators w = w
-  of_pages CheckErrorName.MissingPage (height, (few, there)) = (height, (few, any_of (λ (h : SignedHeader). h.height ≡ height) (headers_of saved) (map header_of commits) same there))
   of_pages CheckErrorName.BadSet w = w
   of_pages CheckErrorName.OtherSet (height, (all, there)) =
       (height, (all, any_of (λ (h : SignedHeader). (h.height ≡ height) × (h.set ≡ set_hash (in_set_order (validators_at saved height)) → ⊥)) (headers_of saved) (map header_of commits) same there))
@@ -55,7 +50,6 @@ module _ (id : List ℕ) (saved : List Saved) (commits : List Commit) (same : Ha
   of_pages CheckErrorName.OtherChain w = absurd w.1
   of_pages CheckErrorName.OtherRevision w = absurd w.1
   of_pages CheckErrorName.TwoAnswers w = absurd w.1
-  of_pages CheckErrorName.MissingSet w = absurd w.1
   of_pages CheckErrorName.OtherHeader w = absurd w.1
   of_pages CheckErrorName.SignatureCount w = absurd w.1
   of_pages CheckErrorName.OtherSigner w = absurd w.1
@@ -88,10 +82,6 @@ set_at : (saved : List Saved) (sets : List SeenSet) (s : SeenSet) → HaveSets s
 unfolding HaveSets
 set_at saved sets s ((heights, (rises, each)), all) there = zip_at (λ height (x : SeenSet). IsSetAt saved height x.set) heights sets s each there
 
-pub seen_at : (saved : List Saved) (sets : List SeenSet) (height : ℕ) → HaveSets saved sets → AreWhole saved height → WasSeen sets (set_hash (in_set_order (validators_at saved height)))
-unfolding HaveSets
-seen_at saved sets height (some, all) whole = all height whole
-
 module _ (id : List ℕ) (saved : List Saved) (commits : List Commit) (sets : List SeenSet) (same : HaveHeaders (headers_of saved) commits) (have : HaveSets saved sets) where
   pub discord : (name : CheckErrorName) (h : SignedHeader) (s : SeenSet) → Contains sets s → set_hash s.set ≡ h.set → Differ name h.signatures.items s.set
       → (height : ℕ) × AreWhole saved height × (set_hash (in_set_order (validators_at saved height)) ≡ h.set) × Differ name h.signatures.items (in_set_order (validators_at saved height))
@@ -99,18 +89,12 @@ module _ (id : List ℕ) (saved : List Saved) (commits : List Commit) (sets : Li
       let (height, (whole, is)) = set_at saved sets s have there in
       (height, whole, ap set_hash (sym is) ∙ hash, subst (Differ name h.signatures.items) is differ)
 
-  abbrev Lacks : SignedHeader → Type 0
-  Lacks h = (height : ℕ) → AreWhole saved height → set_hash (in_set_order (validators_at saved height)) ≡ h.set → ⊥
-
   abbrev Discord : CheckErrorName → SignedHeader → Type 0
   Discord name h =
       (height : ℕ) × AreWhole saved height × (set_hash (in_set_order (validators_at saved height)) ≡ h.set)
       × Differ name h.signatures.items (in_set_order (validators_at saved height))
 
   of_commit : (name : CheckErrorName) → Any (RefusesCommit name sets) commits → Refuses name id saved
-  of_commit CheckErrorName.MissingSet (k, c, small, is, none) =
-      any_viewed header_of Lacks (headers_of saved) commits same
-      (k, c, small, is, λ height whole hash. none (subst (WasSeen sets) hash (seen_at saved sets height have whole)))
   of_commit CheckErrorName.SignatureCount (k, c, small, is, (s, there, hash, differ)) =
       any_viewed header_of (Discord CheckErrorName.SignatureCount) (headers_of saved) commits same (k, c, small, is, discord CheckErrorName.SignatureCount c.header.now s there hash differ)
   of_commit CheckErrorName.OtherSigner (k, c, small, is, (s, there, hash, differ)) =
@@ -120,7 +104,6 @@ module _ (id : List ℕ) (saved : List Saved) (commits : List Commit) (sets : Li
   of_commit CheckErrorName.OtherRevision (k, c, small, is, (s, there, hash, differ)) = absurd differ
   of_commit CheckErrorName.TwoAnswers (k, c, small, is, (s, there, hash, differ)) = absurd differ
   of_commit CheckErrorName.OtherTotal (k, c, small, is, (s, there, hash, differ)) = absurd differ
-  of_commit CheckErrorName.MissingPage (k, c, small, is, (s, there, hash, differ)) = absurd differ
   of_commit CheckErrorName.TooManyValidators (k, c, small, is, (s, there, hash, differ)) = absurd differ
   of_commit CheckErrorName.BadSet (k, c, small, is, (s, there, hash, differ)) = absurd differ
   of_commit CheckErrorName.OtherSet (k, c, small, is, (s, there, hash, differ)) = absurd differ
@@ -182,23 +165,6 @@ pub refuses_total : (headers : List SignedHeader) (height : ℕ) (pages : List V
     → IsTold CheckErrorName.OtherTotal (HaveTwoTotals pages) e ⊎ IsTold CheckErrorName.TooManyValidators (HaveTooMany pages) e → IsToldBy (λ name. RefusesPages name headers height pages) e
 refuses_total headers height pages e (inl told) = told_by (λ name. RefusesPages name headers height pages) CheckErrorName.OtherTotal e told
 refuses_total headers height pages e (inr told) = told_by (λ name. RefusesPages name headers height pages) CheckErrorName.TooManyValidators e told
-
--- there is a commit of the height of pages of which one is missing
-pub refuses_missing : (commits : List Commit) (commit : Option Commit) (height : ℕ) (pages : List Page) (first : Page) (members : List Member) (e : ImportError)
-    → IfSome commit (IsAmong commits height) → Some first ≡ slice_get pages 0 → members ≡ validators_of (without_files pages) → length members < total_of first
-    → IsTold CheckErrorName.MissingPage (IsSome commit) e → IsToldBy (λ name. RefusesPages name (map header_of commits) height (without_files pages)) e
-refuses_missing commits commit height pages first members errors.NoMemory among there is less told = tt
-refuses_missing commits None height pages first members (errors.CheckError p) among there is less told = absurd (true≢false (sym told.1))
-refuses_missing commits (Some c) height [] first members (errors.CheckError p) among there is less told = absurd (none-some first (sym there))
-refuses_missing commits (Some c) height (q ∷ qs) first members (errors.CheckError p) among there is less told =
-    let same : first ≡ q = same_Some first q there in
-    let fewer : length members < total_of q = subst (λ (x : Page). length members < total_of x) same less in
-    let few : length (validators_of (without_files (q ∷ qs))) < q.page.now.total = omega (arith, fewer, ap length is) in
-    let Tells : CheckErrorName → Type 0 = λ name. RefusesPages name (map header_of commits) height (without_files (q ∷ qs)) in
-    subst Tells (sym told.0) (
-      (0, q.page.now, omega arith, refl, few),
-      any_map header_of (λ (h : SignedHeader). h.height ≡ height) commits (among.0.0, c, among.0.1, among.0.2, among.1),
-    )
 
 pub refuses_set : (headers : List SignedHeader) (height : ℕ) (pages : List ValidatorsPage) (members : List Member) (e : ImportError) → AreAllPages pages → members ≡ validators_of pages
     → IsTold CheckErrorName.BadSet (IsSome (set_refusal members)) e → IsToldBy (λ name. RefusesPages name headers height pages) e

@@ -1,5 +1,5 @@
 -- The set that a hash finds, and one set more.
-use Rattle.std.proofs.Common.{◌≡◌, ◌≢◌, ◌⊎◌, if◌then◌else◌, ℕ, zero, suc, ◌<◌, List, [], ◌∷◌, ◌++◌, length, get_or, Option, Some, None, Bool, true, false, inl, inr, refl, sym, subst, ap, ◌∙◌}
+use Rattle.std.proofs.Common.{◌≡◌, ◌≢◌, ◌⊎◌, if◌then◌else◌, ℕ, zero, suc, ◌<◌, List, [], ◌∷◌, ◌++◌, length, get_or, Option, Some, None, Bool, true, false, All, inl, inr, refl, sym, subst, ap, ◌∙◌}
 use Rattle.std.specs.Prelude.{IsSomeAnd, slice_get}
 use Rattle.std.specs.BTreeMap.{BTreeMap, get, is_at, Updates}
 use Rattle.std.specs.Cmp.Lexicographic.{slice_cmp}
@@ -56,6 +56,15 @@ only_place sets places hash i other indexed found there = at _ refl there
     at : (o : Option SeenSet) → slice_get sets other ≡ o → IsSomeAnd o (λ (s : SeenSet). set_hash s.set ≡ hash) → other ≡ i
     at (Some s) is same = same_Some other i (sym (subst (λ h. get (slice_cmp nat_cmp) places h ≡ Some other) same (indexed other s is)) ∙ found)
     at None is same = absurd same
+
+-- and no other set has the hash of the one at that place
+pub only_set : (sets : List SeenSet) (places : BTreeMap (List ℕ) ℕ) (hash : List ℕ) (i : ℕ) (s : SeenSet) → AreIndexed sets places
+    → get (slice_cmp nat_cmp) places hash ≡ Some i → slice_get sets i ≡ Some s → All (λ (t : SeenSet). set_hash t.set ≡ hash → t ≡ s) sets
+only_set sets places hash i s indexed found at = λ k d small same.
+    let there : slice_get sets k ≡ Some (get_or sets k d) = slice_get-get_or sets k d small in
+    let place : get (slice_cmp nat_cmp) places hash ≡ Some k = subst (λ h. get (slice_cmp nat_cmp) places h ≡ Some k) same (indexed k _ there) in
+    let is : k ≡ i = same_Some k i (sym place ∙ found) in
+    same_Some _ s (sym there ∙ ap (slice_get sets) is ∙ at)
 
 -- the places of other hashes stay
 kept : (sets : List SeenSet) (m n : BTreeMap (List ℕ) ℕ) (hash : List ℕ) (i : ℕ) (s : SeenSet) → AreIndexed sets m → (WasSeen sets hash → ⊥)

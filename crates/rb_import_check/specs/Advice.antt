@@ -12,14 +12,12 @@ check_error_advice CheckErrorName.OtherRevision =
     codes "the revision number isn't that of the chain's identifier; fetch the answer again, or mend the setup's chain"
 check_error_advice CheckErrorName.TwoAnswers = codes "both tell of the same; keep one of the two"
 check_error_advice CheckErrorName.OtherTotal = codes "the pages tell different totals"
-check_error_advice CheckErrorName.MissingPage = codes "pages are missing"
 check_error_advice CheckErrorName.TooManyValidators =
     codes "the pages of this height hold more validators than they count: one is there twice, perhaps under another name; keep each "
     ++ codes "page once"
 check_error_advice CheckErrorName.BadSet = codes "these validators make no set"
 check_error_advice CheckErrorName.OtherSet =
     codes "the set's hash isn't the header's validators_hash; fetch /commit and /validators of this height from one node"
-check_error_advice CheckErrorName.MissingSet = codes "no answer has the validators that the header names"
 check_error_advice CheckErrorName.OtherHeader =
     codes "the hash of the header's fields isn't that of the block that the commit is for, so that one of them isn't the chain's"
 check_error_advice CheckErrorName.SignatureCount = codes "the commit has another number of signatures than the set has validators"

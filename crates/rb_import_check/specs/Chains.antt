@@ -1,5 +1,5 @@
 -- What was seen of a chain (CometBFT's `/commit` and `/validators`).
-use Rattle.std.specs.Prelude.{◌≡◌, ◌≢◌, ◌⊎◌, ◌<◌, ◌==◌, ◌++◌, ℕ, List, [], ◌∷◌, All, Contains, IfSome, length, map, filter, option_map, string_bytes}
+use Rattle.std.specs.Prelude.{◌≡◌, ◌≢◌, ◌⊎◌, ◌<◌, ◌≤◌, ◌==◌, ◌++◌, ℕ, List, [], ◌∷◌, All, Contains, IfSome, count_by, length, map, filter, option_map, string_bytes}
 use Rattle.std.specs.List.{AllZip, flat_map}
 use Rattle.std.specs.List.Sorted.{IsPermutation, IsStrictlyIncreasing}
 use Rattle.rb_valset.specs.Validator.{Member, address_of}
@@ -81,6 +81,14 @@ IsAbsentOrOf s m = IfSome s.address (λ address. address ≡ address_of m.key)
 unfoldable pub HasSet : List SeenSet → Commit → Type 0
 HasSet sets c = (s : SeenSet) × Contains sets s × (set_hash s.set ≡ c.header.now.set) × AllZip IsAbsentOrOf c.header.now.signatures.items s.set
 
+-- the set that the header names isn't among these
+abbrev pub IsBare : List SeenSet → Commit → Type 0
+IsBare sets c = ¬ WasSeen sets c.header.now.set
+
+-- the header's set isn't among these, or it is, and the signatures fit it
+abbrev pub FitsSet : List SeenSet → Commit → Type 0
+FitsSet sets c = IsBare sets c ⊎ HasSet sets c
+
 -- how signatures don't fit a set, by the name that is told
 abbrev pub Differ : CheckErrorName → List Signature → List Member → Type 0
 Differ CheckErrorName.SignatureCount signatures set = length signatures ≢ length set
@@ -130,16 +138,15 @@ validators_at saved height = validators_of (pages_at saved height)
 abbrev pub AreWhole : List Saved → ℕ → Type 0
 AreWhole saved height = AreAllPages (pages_at saved height)
 
--- the commit is of another height, or these are all the validators of its height, and make the set that its header names
+-- the commit is of another height, or these aren't all the validators of its height, or they make the set that its header names
 unfoldable pub HasValidators : List ValidatorsPage → ℕ → Commit → Type 0
 HasValidators pages height c =
-    c.header.now.height ≡ height → AreAllPages pages × (set_hash (in_set_order (validators_of pages)) ≡ c.header.now.set)
+    c.header.now.height ≡ height → AreAllPages pages → set_hash (in_set_order (validators_of pages)) ≡ c.header.now.set
 
--- where the answers have validators of the commit's height, they have all of them, who make the set that its header names
+-- where the answers have all the validators of the commit's height, these make the set that its header names
 unfoldable pub HasItsValidators : List Saved → Commit → Type 0
 HasItsValidators saved c =
-    0 < length (pages_at saved c.header.now.height) →
-    AreWhole saved c.header.now.height × (set_hash (in_set_order (validators_at saved c.header.now.height)) ≡ c.header.now.set)
+    AreWhole saved c.header.now.height → set_hash (in_set_order (validators_at saved c.header.now.height)) ≡ c.header.now.set
 
 -- it is the set of all the validators of this height
 abbrev pub IsSetAt : List Saved → ℕ → List Member → Type 0
@@ -159,3 +166,12 @@ unfoldable pub HaveSets : List Saved → List SeenSet → Type 0
 HaveSets saved sets =
     ((heights : List ℕ) × AreSetsAt saved heights sets)
     × ((height : ℕ) → AreWhole saved height → WasSeen sets (set_hash (in_set_order (validators_at saved height))))
+
+-- what holds of a header that is left out, as of one that isn't: it has the verdict on its file, is of this chain and of the block that its commit
+-- is for, and its set is that of its height's validators, where all of them are there
+abbrev pub IsLeftOut : List ℕ → List Saved → Commit → Type 0
+IsLeftOut id saved c = IsJudged saved c × IsOfChain id c × IsOfItsBlock c × HasItsValidators saved c
+
+-- no two of these headers are of one height
+abbrev pub AreOfDifferentHeights : List SignedHeader → Type 0
+AreOfDifferentHeights headers = (height : ℕ) → count_by (λ (h : SignedHeader). h.height == height) headers ≤ 1

@@ -1,5 +1,5 @@
 -- What was seen of a client (ibc-go's `client_states/ID` and `consensus_states/ID`).
-use Rattle.std.specs.Prelude.{option_map, ◌≡◌, ◌≢◌, ◌⊎◌, ◌+◌, ◌<◌, ◌≤◌, ⊤, ℕ, List, [], ◌∷◌, Bool, true, false, Option, Some, None, All, Any, length, map, filter, count_by, ◌==◌, nat_le, slice_index, string_bytes}
+use Rattle.std.specs.Prelude.{option_map, ◌≡◌, ◌≢◌, ◌⊎◌, ◌+◌, ◌<◌, ◌≤◌, ⊤, ℕ, List, [], ◌∷◌, Bool, true, false, Option, Some, None, All, Any, Contains, length, map, filter, nat_le, slice_index, string_bytes}
 use Rattle.std.specs.List.{flat_map, list_any}
 use Rattle.std.specs.List.Sorted.{IsPermutation}
 use Rattle.rb_import_answers.specs.declared.answer.NodeAnswer.{NodeAnswer}
@@ -84,17 +84,26 @@ filed_states_of revision saved = filter (λ (f : FiledState). nat_le revision f.
 abbrev pub filed_state : Stored → FiledState
 filed_state s = (s.state.now, s.file.now)
 
--- the records are those of these files, each once
+-- the records are those of these files, in some order
+abbrev pub AreFilesInSomeOrder : List FiledState → List Stored → Type 0
+AreFilesInSomeOrder files stored = IsPermutation files (map filed_state stored)
+
+-- each record is of one of these files
 abbrev pub AreStatesOfFiles : List FiledState → List Stored → Type 0
-AreStatesOfFiles files stored = IsPermutation files (map filed_state stored)
+AreStatesOfFiles files stored = All (λ s. Contains files (filed_state s)) stored
 
 -- this holds at the revision number of the chain that the client tracks
 abbrev pub AtRevision : List ℕ → (ℕ → Type 0) → Type 0
 AtRevision tracked P = (revision : ℕ) × IsRevision tracked revision × P revision
 
--- these are the records, each once
+-- these are the records, in some order
+abbrev pub AreStatesInSomeOrder : List ConsensusState → List Stored → Type 0
+AreStatesInSomeOrder states stored = IsPermutation states (map (λ (s : Stored). s.state.now) stored)
+
+-- these are the records; of those that say the same one is enough (a gateway may repeat a record on the next page)
 abbrev pub HaveStates : List ConsensusState → List Stored → Type 0
-HaveStates states stored = IsPermutation states (map (λ (s : Stored). s.state.now) stored)
+HaveStates states stored =
+    All (λ (s : Stored). Contains states s.state.now) stored × All (Contains (map (λ (s : Stored). s.state.now) stored)) states
 
 abbrev pub is_last_in : NodeAnswer → Bool
 is_last_in (answers.Commit header) = false
@@ -141,11 +150,14 @@ HasOtherRevision tracked saved =
     Any (λ s. ¬ IsRevision tracked s.revision) (client_states_of saved)
     ⊎ AtRevision tracked (λ revision. Any (λ s. revision < s.revision) (stored_of saved))
 
--- there are two client states, or two records of one height that aren't of an earlier revision
+-- two records of one height differ
+abbrev pub HasTwoRecords : List ConsensusState → Type 0
+HasTwoRecords states = Any (λ (a : ConsensusState). Any (λ (b : ConsensusState). (a.height ≡ b.height) × (a ≢ b)) states) states
+
+-- there are two client states, or two different records of one height that aren't of an earlier revision
 abbrev pub TellsTwice : List ℕ → List Saved → Type 0
 TellsTwice tracked saved =
-    (1 < length (client_states_of saved))
-    ⊎ AtRevision tracked (λ revision. (height : ℕ) × (1 < count_by (λ s. s.height == height) (current_of revision saved)))
+    (1 < length (client_states_of saved)) ⊎ AtRevision tracked (λ revision. HasTwoRecords (current_of revision saved))
 
 -- a height isn't above the one before it
 abbrev pub Falls : List ℕ → Type 0

@@ -55,8 +55,6 @@ request_without_height _ = []
 abbrev pub request_text : CheckErrorName → ℕ → List ℕ
 request_text CheckErrorName.OtherTotal height = pages_request height ++ codes " again"
 request_text CheckErrorName.BadSet height = pages_request height ++ codes " again"
-request_text CheckErrorName.MissingPage height = pages_request height
-request_text CheckErrorName.MissingSet height = pages_request height
 request_text CheckErrorName.SignatureCount height = commit_request height ++ codes " again"
 request_text CheckErrorName.OtherSigner height = commit_request height ++ codes " again"
 request_text CheckErrorName.OtherHeader height = commit_request height ++ codes " again, from another node if it stays"
@@ -74,8 +72,6 @@ file_of folder = codes " into files *.json of the folder " ++ folder
 
 -- into which folder an answer belongs that isn't there
 abbrev pub folder_text : CheckErrorName → List ℕ → List ℕ
-folder_text CheckErrorName.MissingPage folder = file_of folder
-folder_text CheckErrorName.MissingSet folder = file_of folder
 folder_text CheckErrorName.MissingClientState folder = file_of folder
 folder_text CheckErrorName.MissingConsensusStates folder = file_of folder
 folder_text CheckErrorName.MissingCommitments folder = file_of folder

@@ -7,7 +7,9 @@ pub mod Saved
 pub mod Sets
 pub mod Verdicts
 pub mod Chains
+pub mod Signed
 pub mod Refusals
 pub mod Clients
 pub mod Named
 pub mod Accord
+pub mod Standing

@@ -9,6 +9,7 @@ use Rattle.rb_import_answers.specs.declared.validators.ValidatorsPage.{Validator
 use Rattle.rb_import_answers.specs.Revisions.{IsRevision}
 use Rattle.rb_import_check.specs.declared.chain.Commit.{Commit}
 use Rattle.rb_import_check.specs.declared.chain.Page.{Page}
+use Rattle.rb_import_check.specs.declared.client.Stored.{Stored}
 use Rattle.rb_import_check.specs.declared.error.CheckErrorName.{CheckErrorName}
 use Rattle.rb_import_check.specs.declared.error.ImportError.{ImportError}
 use Rattle.rb_import_check.specs.declared.error.ImportError.TheVariants as errors
@@ -18,7 +19,6 @@ use Rattle.rb_import_check.specs.Chains.{AreWhole, Differ, Filed, filed_of, page
 use Rattle.rb_import_check.specs.Clients.{AtRevision, FiledState, client_states_in, filed_states_of, is_of_client}
 use Rattle.rb_import_check.specs.Errors.{BeginsWith, IsAt, IsBetween, IsBetweenTwo, IsIn, IsOfNoHeight, NamesChain, ShowsHashes}
 use Rattle.rb_import_check.specs.Refusals.{RefusesCommit, is_of_chain}
-use Rattle.rb_import_check.specs.Sets.{WasSeen}
 use Rattle.rb_import_check.specs.Verdicts.{TellsOtherVotes, verdict_list, verdicts_in, verdicts_of}
 
 -- what answers tell of one kind, each with the name of its file
@@ -91,7 +91,6 @@ NamesHeaderAndPage height headers pages e =
 abbrev pub NamesPages : CheckErrorName → ℕ → List Filed → List FiledPage → ImportError → Type 0
 NamesPages CheckErrorName.OtherTotal height headers pages e = NamesTwoTotals pages e
 NamesPages CheckErrorName.TooManyValidators height headers pages e = NamesTwoPages pages e
-NamesPages CheckErrorName.MissingPage height headers pages e = NamesHeaderAndPage height headers pages e
 NamesPages CheckErrorName.BadSet height headers pages e = Any (λ (q : FiledPage). IsAt q.0.height e × IsIn q.1 e) pages
 NamesPages CheckErrorName.OtherSet height headers pages e = NamesHeaderAndPage height headers pages e
 NamesPages _ height headers pages e = ⊤
@@ -111,19 +110,13 @@ abbrev pub IsOfPage : Page → ImportError → Type 0
 IsOfPage page (errors.CheckError p) = IsAt page.page.now.height (errors.CheckError p) × IsIn page.file.now (errors.CheckError p)
 IsOfPage page errors.NoMemory = ⊤
 
--- what doesn't hold of a commit and the sets that were seen, and it names the commit's height and file, and no other where its set is missing
+-- what doesn't hold of a commit and the sets that were seen, and it names the commit's height, and its file first
 abbrev pub NamesCommitBy : CheckErrorName → List SeenSet → Commit → ImportError → Type 0
-NamesCommitBy CheckErrorName.MissingSet sets c e = (¬ WasSeen sets c.header.now.set) × IsAt c.header.now.height e × IsIn c.file.now e
 NamesCommitBy name sets c e = RefusesCommit name sets c × IsAt c.header.now.height e × BeginsWith c.file.now e
 
 abbrev pub NamesCommit : List SeenSet → Commit → ImportError → Type 0
 NamesCommit sets c (errors.CheckError p) = NamesCommitBy p.name sets c (errors.CheckError p)
 NamesCommit sets c errors.NoMemory = ⊥
-
--- no height has all the validators of the set that the header names, and it names the header's height and file
-abbrev pub NamesHeaderWithoutSet : List Saved → Filed → ImportError → Type 0
-NamesHeaderWithoutSet saved f e =
-    ((height : ℕ) → AreWhole saved height → set_hash (in_set_order (validators_at saved height)) ≢ f.0.set) × IsAt f.0.height e × IsIn f.2 e
 
 -- the signatures of the header don't fit its set, and it names the header's height, and its file before that of the set
 abbrev pub NamesDiscord : CheckErrorName → List Saved → Filed → ImportError → Type 0
@@ -142,7 +135,6 @@ Names CheckErrorName.TwoAnswers id saved e = NamesTwoHeaders saved e ⊎ NamesTw
 Names CheckErrorName.OtherHeader id saved e = Any (λ f. ShowsHeader f e) (filed_of saved)
 Names CheckErrorName.OtherVerdict id saved e =
     Any (λ f. TellsOtherVotes (verdict_list (verdicts_of saved)) f.1 (length f.0.signatures.items) × IsAt f.0.height e × IsIn f.2 e) (filed_of saved)
-Names CheckErrorName.MissingSet id saved e = Any (λ f. NamesHeaderWithoutSet saved f e) (filed_of saved)
 Names CheckErrorName.SignatureCount id saved e = Any (λ f. NamesDiscord CheckErrorName.SignatureCount saved f e) (filed_of saved)
 Names CheckErrorName.OtherSigner id saved e = Any (λ f. NamesDiscord CheckErrorName.OtherSigner saved f e) (filed_of saved)
 Names name id saved e = (height : ℕ) × NamesPages name height (filed_of saved) (filed_pages_at saved height) e
@@ -173,10 +165,23 @@ NamesOtherRecord revision f e = (f.0.revision ≢ revision) × IsAt f.0.height e
 abbrev pub NamesTwoStates : List Saved → ImportError → Type 0
 NamesTwoStates saved e = IsBetweenTwo (λ (f : ClientState × List ℕ). f.1) (λ f g. IsOfNoHeight e) (filed_client_states_of saved) e
 
--- it is between the files of two records of one height that aren't of a revision before this one, and names the height
+-- it is between the files of two different records of one height that aren't of a revision before this one, and names the height
 abbrev pub NamesTwoRecords : List Saved → ℕ → ImportError → Type 0
 NamesTwoRecords saved revision e =
-    IsBetweenTwo (λ (f : FiledState). f.1) (λ f g. (f.0.height ≡ g.0.height) × IsAt f.0.height e) (filed_states_of revision saved) e
+    Any (λ f. Any (λ g. (f.0.height ≡ g.0.height) × (f.0 ≢ g.0) × IsAt f.0.height e × IsBetween f.1 g.1 e) (filed_states_of revision saved))
+    (filed_states_of revision saved)
+
+-- it is between the files of these two different records of one height, and names the height
+abbrev pub NamesTwo : Stored → Stored → ImportError → Type 0
+NamesTwo s t (errors.CheckError p) =
+    (p.name ≡ CheckErrorName.TwoAnswers) × (s.state.now.height ≡ t.state.now.height) × (s.state.now ≢ t.state.now)
+    × IsAt s.state.now.height (errors.CheckError p) × IsBetween s.file.now t.file.now (errors.CheckError p)
+NamesTwo s t errors.NoMemory = ⊥
+
+-- the same of two of these; memory may run out
+abbrev pub NamesTwoAmong : List Stored → ImportError → Type 0
+NamesTwoAmong told (errors.CheckError p) = Any (λ s. Any (λ t. NamesTwo s t (errors.CheckError p)) told) told
+NamesTwoAmong told errors.NoMemory = ⊤
 
 -- what an error names, by its name
 abbrev pub NamesByName : CheckErrorName → List ℕ → List Saved → ImportError → Type 0

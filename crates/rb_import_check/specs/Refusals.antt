@@ -1,5 +1,5 @@
 -- Why a chain's answers aren't taken (CometBFT's `/commit` and `/validators`, and the verdicts on commits).
-use Rattle.std.specs.Prelude.{◌≡◌, ◌≢◌, ◌⊎◌, ◌<◌, ◌==◌, ℕ, List, Bool, true, false, All, Any, Contains, IsSome, length, count_by}
+use Rattle.std.specs.Prelude.{◌≡◌, ◌≢◌, ◌⊎◌, ◌<◌, ◌==◌, ◌++◌, ℕ, List, Bool, true, false, All, Any, Contains, IsSome, length, count_by}
 use Rattle.rb_valset.specs.Refusal.{set_refusal}
 use Rattle.rb_valset.specs.ValidatorSet.{set_hash, in_set_order}
 use Rattle.rb_import_answers.specs.declared.answer.NodeAnswer.{NodeAnswer}
@@ -13,7 +13,6 @@ use Rattle.rb_import_check.specs.declared.saved.Saved.{Saved}
 use Rattle.rb_import_check.specs.declared.sets.SeenSet.{SeenSet}
 use Rattle.rb_import_check.specs.Chains.{AreAllPages, AreWhole, Differ, Filed, filed_of, headers_of, pages_at, validators_at, validators_of}
 use Rattle.rb_import_check.specs.Errors.{IsToldBy}
-use Rattle.rb_import_check.specs.Sets.{WasSeen}
 use Rattle.rb_import_check.specs.Verdicts.{TellsOtherVotes, verdict_list, verdicts_of}
 
 -- whether an answer belongs into a chain's folder
@@ -51,15 +50,10 @@ HaveTwoTotals pages = Any (λ p. Any (λ q. p.total ≢ q.total) pages) pages
 abbrev pub HaveTooMany : List ValidatorsPage → Type 0
 HaveTooMany pages = Any (λ p. p.total < length (validators_of pages)) pages
 
--- pages have fewer validators than one of them says that there are
-abbrev pub HaveTooFew : List ValidatorsPage → Type 0
-HaveTooFew pages = Any (λ p. length (validators_of pages) < p.total) pages
-
--- what doesn't hold of the pages of a height, by the name that is told, beside these headers; no other name is
+-- what doesn't hold of the pages of a height, by the name that is told, beside these headers; no other name is, and none for want of a page
 abbrev pub RefusesPages : CheckErrorName → List SignedHeader → ℕ → List ValidatorsPage → Type 0
 RefusesPages CheckErrorName.OtherTotal headers height pages = HaveTwoTotals pages
 RefusesPages CheckErrorName.TooManyValidators headers height pages = HaveTooMany pages
-RefusesPages CheckErrorName.MissingPage headers height pages = HaveTooFew pages × Any (λ h. h.height ≡ height) headers
 RefusesPages CheckErrorName.BadSet headers height pages = AreAllPages pages × IsSome (set_refusal (validators_of pages))
 RefusesPages CheckErrorName.OtherSet headers height pages =
     AreAllPages pages × Any (λ h. (h.height ≡ height) × (h.set ≢ set_hash (in_set_order (validators_of pages)))) headers
@@ -67,12 +61,7 @@ RefusesPages _ headers height pages = ⊥
 
 -- what doesn't hold of a commit and the sets that were seen, by the name that is told; no other name is
 abbrev pub RefusesCommit : CheckErrorName → List SeenSet → Commit → Type 0
-RefusesCommit CheckErrorName.MissingSet sets c = ¬ WasSeen sets c.header.now.set
 RefusesCommit name sets c = (s : SeenSet) × Contains sets s × (set_hash s.set ≡ c.header.now.set) × Differ name c.header.now.signatures.items s.set
-
--- no height has all the validators of the set that a header names
-abbrev pub LacksSet : List Saved → Type 0
-LacksSet saved = Any (λ (h : SignedHeader). (height : ℕ) → AreWhole saved height → set_hash (in_set_order (validators_at saved height)) ≢ h.set) (headers_of saved)
 
 -- some height has all the validators of the set that a header names, and its signatures don't fit the set
 abbrev pub HasDiscord : CheckErrorName → List Saved → Type 0
@@ -80,14 +69,14 @@ HasDiscord name saved =
     Any (λ (h : SignedHeader). (height : ℕ) × AreWhole saved height × (set_hash (in_set_order (validators_at saved height)) ≡ h.set)
     × Differ name h.signatures.items (in_set_order (validators_at saved height))) (headers_of saved)
 
--- what doesn't hold of a chain's answers, by the name that is told; no other name is
+-- what doesn't hold of a chain's answers, by the name that is told; no other name is. Each is a contradiction between answers that are there: none is
+-- told for want of a page or of a set
 abbrev pub Refuses : CheckErrorName → List ℕ → List Saved → Type 0
 Refuses CheckErrorName.WrongFolder id saved = Any (λ s. is_of_chain s.answer ≡ false) saved
 Refuses CheckErrorName.OtherChain id saved = TellsOtherChain id saved
 Refuses CheckErrorName.TwoAnswers id saved = TellsTwice saved
 Refuses CheckErrorName.OtherVerdict id saved = HasOtherVerdict saved
 Refuses CheckErrorName.OtherHeader id saved = Any (λ h. h.hash ≢ h.block) (headers_of saved)
-Refuses CheckErrorName.MissingSet id saved = LacksSet saved
 Refuses CheckErrorName.SignatureCount id saved = HasDiscord CheckErrorName.SignatureCount saved
 Refuses CheckErrorName.OtherSigner id saved = HasDiscord CheckErrorName.OtherSigner saved
 Refuses name id saved = (height : ℕ) × RefusesPages name (headers_of saved) height (pages_at saved height)
@@ -95,3 +84,11 @@ Refuses name id saved = (height : ℕ) × RefusesPages name (headers_of saved) h
 -- the error has its reason in a chain's answers; memory may run out at any
 abbrev pub HasReasonOf : List ℕ → List Saved → ImportError → Type 0
 HasReasonOf id saved e = IsToldBy (λ name. Refuses name id saved) e
+
+-- a chain's answers contradict one another
+abbrev pub Contradict : List ℕ → List Saved → Type 0
+Contradict id saved = (name : CheckErrorName) × Refuses name id saved
+
+-- answers that contradict one another do so beside any that come, too: what refuses them is never that an answer isn't there
+abbrev pub ContradictionsStay : Type 0
+ContradictionsStay = (id : List ℕ) (saved more : List Saved) → Contradict id saved → Contradict id (saved ++ more)

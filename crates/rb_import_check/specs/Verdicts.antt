@@ -1,6 +1,9 @@
 -- Verdicts on the signatures of a chain's commits.
-use Rattle.std.specs.Prelude.{◌≡◌, ◌≢◌, ◌≤◌, ⊤, ℕ, List, [], ◌∷◌, Bool, true, false, Option, Some, None, All, Any, Contains, length, if◌then◌else◌, ◌==◌}
+use Rattle.std.specs.Prelude.{◌≡◌, ◌≢◌, ◌≤◌, ⊤, ℕ, List, [], ◌∷◌, Bool, true, false, Option, Some, None, All, Any, Contains, IsSome, length, option_map, slice_get, if◌then◌else◌, ◌==◌}
+use Rattle.std.specs.BTreeMap.{BTreeMap, get}
+use Rattle.std.specs.Cmp.Lexicographic.{slice_cmp}
 use Rattle.std.specs.List.{flat_map, list_any}
+use Rattle.std.specs.Ordering.{nat_cmp}
 use Rattle.rb_import_answers.specs.declared.answer.NodeAnswer.{NodeAnswer}
 use Rattle.rb_import_answers.specs.declared.answer.NodeAnswer.TheVariants as answers
 use Rattle.rb_import_answers.specs.declared.commit.BlockIdFlag.{BlockIdFlag}
@@ -41,6 +44,12 @@ IsOnOther digest v = v.digest ≢ digest
 abbrev pub IsVerdictOn : List Verdict → List ℕ → Option Verdict → Type 0
 IsVerdictOn verdicts digest (Some v) = Contains verdicts v × (v.digest ≡ digest)
 IsVerdictOn verdicts digest None = All (IsOnOther digest) verdicts
+
+-- (internal) the map gives for the digest of each verdict the place of one of this digest
+abbrev pub AreFound : List Verdict → BTreeMap (List ℕ) ℕ → Type 0
+AreFound verdicts places =
+    ((digest : List ℕ) (i : ℕ) → get (slice_cmp nat_cmp) places digest ≡ Some i → option_map (λ v. v.digest) (slice_get verdicts i) ≡ Some digest)
+    × All (λ v. IsSome (get (slice_cmp nat_cmp) places v.digest)) verdicts
 
 -- it tells of so many votes
 abbrev pub HasVotes : ℕ → Option Verdict → Type 0

@@ -1,5 +1,5 @@
 //! The sets and headers of a chain: each height once, rising, and each header with its set.
-ghost use Rattle.std.specs.Prelude.{◌≡◌, ◌≢◌, ◌↔◌, ◌⊎◌, ◌<◌, ◌≤◌, ◌==◌, ⊤, ℕ, List, [], length, map, filter, All, Any, IsSome, IsTrue, IfOk, IfErr, IsSomeAnd, OnOk, Some, None, IfSome, IfNone, option_map, option_to_list, string_bytes};
+ghost use Rattle.std.specs.Prelude.{◌≡◌, ◌≢◌, ◌↔◌, ◌⊎◌, ◌<◌, ◌≤◌, ◌==◌, ◌++◌, ⊤, ℕ, List, [], length, map, filter, All, Any, IsSome, IsTrue, IfOk, IfErr, IsSomeAnd, OnOk, Some, None, IfSome, IfNone, option_map, option_to_list, string_bytes};
 ghost use Rattle.std.specs.List.{AllZip};
 ghost use Rattle.std.specs.List.Sorted.{IsNonDecreasingBy, IsStrictlyIncreasing};
 ghost use Rattle.rb_valset.specs.Refusal.{set_refusal};
@@ -10,15 +10,18 @@ ghost use Rattle.rb_import_check.specs.Refusals.{AreOfChain, HasReasonOf, HaveTo
 ghost use Rattle.rb_import_check.specs.Verdicts.{AreVerdictsOn, TellsOtherVotes, verdict_list};
 ghost use Rattle.rb_import_check.specs.Clients.{Falls};
 ghost use Rattle.rb_import_check.specs.Sets.{WasSeen};
-ghost use Rattle.rb_import_check.specs.Chains.{AreAllPages, AreOfFiles, Differ, HaveHeaders, HaveSets, HasItsValidators, HasSet, HasValidators, IsAbsentOrOf, IsAmong, IsJudged, IsJudgedBy, IsOfChain, IsOfItsBlock, TakesSetOf, filed, filed_of, headers_of, pages_at, pages_of, validators_of, without_files};
+ghost use Rattle.rb_import_check.specs.Chains.{AreAllPages, AreOfDifferentHeights, AreOfFiles, Differ, FitsSet, HaveHeaders, HaveSets, HasItsValidators, HasSet, HasValidators, IsAbsentOrOf, IsAmong, IsBare, IsJudged, IsJudgedBy, IsLeftOut, IsOfChain, IsOfItsBlock, TakesSetOf, filed, filed_of, headers_of, pages_at, pages_of, validators_of, without_files};
+ghost use Rattle.rb_import_check.specs.Signed.{IsSigned, IsUnsigned};
 
 use crate::error::{CheckErrorName, HeaderHashes, ImportError};
+use crate::parts::parted;
 use crate::repeat::repeated;
 use crate::saved::Saved;
 use crate::sets::{SeenSet, SeenSets};
-use crate::verdicts::{verdict_on, verdicts_in};
+use crate::signed::Signatures;
+use crate::verdicts::{VerdictIndex, verdict_on, verdicts_in};
 use rb_base::Height;
-use rb_import_answers::{NodeAnswer, Signature, SignedHeader, ValidatorsPage, Verdict, Verdicts};
+use rb_import_answers::{NodeAnswer, Signature, SignedHeader, ValidatorsPage, Verdict};
 use rb_valset::{Validator, ValidatorSet};
 use std::alloc::{AllocError, Global};
 
@@ -38,29 +41,44 @@ struct Page<'a> {
     page: &'a ValidatorsPage,
 }
 
-/// What was seen of a chain: its commits by rising height, and its sets.
+/// What was seen of a chain: its headers with their commits, and its sets. Of the headers those that more than two thirds
+/// of their own set signed; those whose set isn't among the sets, `bare`; and those that too few signed, `unsigned`; each by
+/// rising height.
 #[derive(Drop)]
 pub struct SeenChain<'a> {
     pub commits: Vec<Commit<'a>>,
+    pub bare: Vec<Commit<'a>>,
+    pub unsigned: Vec<Commit<'a>>,
     pub sets: SeenSets<'a>,
     ghost rising: { IsStrictlyIncreasing (map (λ c. c.header.now.height) commits.items) },
 }
 
-/// What the answers of a chain tell, by its identifier: each header once, by rising heights, with the verdict on the
-/// signatures of its commit, the set of each, and that of each other height whose validators are all there.
+/// What the answers of a chain tell, by its identifier: each header once, with the verdict on the signatures of its
+/// commit, and the set of each height whose validators are all there. A set is that of a header by its hash, whatever
+/// height its validators were answered for. Pages that aren't all there make no set, and are no reason to refuse: a header
+/// whose set isn't there is left out, `bare`. So is one that no more than two thirds of its own set signed, in votes that
+/// count, `unsigned`.
 pub fn seen_chain<'a>(
     alloc: Global,
     id: &'a str,
+    signatures: Signatures,
     answers: &'a [Saved],
 ) -> Result<SeenChain<'a>, ImportError<'a>>
-    ensures headers { IfOk result (λ chain. HaveHeaders (headers_of answers.entry.now) chain.commits.items) }
-    ensures files { IfOk result (λ chain. AreOfFiles (filed_of answers.entry.now) chain.commits.items) }
+    ensures headers { IfOk result (λ chain. HaveHeaders (headers_of answers.entry.now) (chain.commits.items ++ chain.bare.items ++ chain.unsigned.items)) }
+    ensures files { IfOk result (λ chain. AreOfFiles (filed_of answers.entry.now) (chain.commits.items ++ chain.bare.items ++ chain.unsigned.items)) }
+    ensures heights { OnOk result (AreOfDifferentHeights (headers_of answers.entry.now)) }
     ensures verdicts { IfOk result (λ chain. All (IsJudged answers.entry.now) chain.commits.items) }
     ensures rising { IfOk result (λ chain. IsStrictlyIncreasing (map (λ c. c.header.now.height) chain.commits.items)) }
     ensures chain { IfOk result (λ chain. All (IsOfChain id.entry.now) chain.commits.items) }
     ensures blocks { IfOk result (λ chain. All IsOfItsBlock chain.commits.items) }
     ensures sets { IfOk result (λ chain. All (HasSet chain.sets.sets.items) chain.commits.items) }
     ensures all_sets { IfOk result (λ chain. HaveSets answers.entry.now chain.sets.sets.items) }
+    ensures signed { IfOk result (λ chain. All (IsSigned signatures chain.sets.sets.items) chain.commits.items) }
+    ensures bare { IfOk result (λ chain. All (IsBare chain.sets.sets.items) chain.bare.items) }
+    ensures bare_rising { IfOk result (λ chain. IsStrictlyIncreasing (map (λ c. c.header.now.height) chain.bare.items)) }
+    ensures unsigned { IfOk result (λ chain. All (IsUnsigned signatures chain.sets.sets.items) chain.unsigned.items) }
+    ensures unsigned_rising { IfOk result (λ chain. IsStrictlyIncreasing (map (λ c. c.header.now.height) chain.unsigned.items)) }
+    ensures left_out { IfOk result (λ chain. All (IsLeftOut id.entry.now answers.entry.now) (chain.bare.items ++ chain.unsigned.items)) }
     ensures validators { IfOk result (λ chain. All (HasItsValidators answers.entry.now) chain.commits.items) }
     ensures answers { OnOk result (AreOfChain answers.entry.now) }
     ensures judged { OnOk result (AreVerdictsOn id.entry.now answers.entry.now) }
@@ -74,7 +92,13 @@ pub fn seen_chain<'a>(
     judge_heights(alloc, id, commits.as_slice())?;
     let sets = sets_of(alloc, id, answers, commits.as_slice())?;
     judge_signatures(id, commits.as_slice(), &sets)?;
-    Ok(SeenChain { commits, sets })
+    let parts = parted(alloc, signatures, commits.as_slice(), &sets)?;
+    Ok(SeenChain {
+        commits: parts.commits,
+        bare: parts.bare,
+        unsigned: parts.unsigned,
+        sets,
+    })
 }
 
 /// The commits by rising height.
@@ -116,11 +140,12 @@ fn all_commits<'a>(
     ensures told { IfErr result (IsToldOf id.entry.now) }
 {
     let verdicts = verdicts_in(id, answers)?;
+    let index = VerdictIndex::new(alloc, verdicts)?;
     let mut commits = Vec::new(alloc);
     for saved in answers {
         match &saved.answer {
             NodeAnswer::Commit(header) => {
-                let commit = commit_in(id, verdicts, saved, header)?;
+                let commit = commit_in(id, &index, saved, header)?;
                 commits.push(commit)?;
             }
             NodeAnswer::Validators(_) | NodeAnswer::Verdicts(_) | NodeAnswer::Other(_) => {}
@@ -137,19 +162,19 @@ fn all_commits<'a>(
 #[tactic(auto, unfolding(crate::specs::Chains::IsJudgedBy))]
 fn commit_in<'a>(
     id: &'a str,
-    verdicts: Option<&'a Verdicts>,
+    index: &VerdictIndex<'a>,
     saved: &'a Saved,
     header: &'a SignedHeader,
 ) -> Result<Commit<'a>, ImportError<'a>>
     ensures header { IfOk result (λ commit. commit.header.now ≡ header.entry.now) }
     ensures digest { IfOk result (λ commit. commit.digest ≡ saved.entry.now.digest) }
     ensures file { IfOk result (λ commit. commit.file.now ≡ string_bytes saved.entry.now.file) }
-    ensures verdict { IfOk result (IsJudgedBy (option_to_list (option_map (λ v. v.now) verdicts.entry))) }
-    ensures other { IfErr result (IsTold CheckErrorName.OtherVerdict (TellsOtherVotes (verdict_list (option_to_list (option_map (λ v. v.now) verdicts.entry))) saved.entry.now.digest (length header.entry.now.signatures.items))) }
+    ensures verdict { IfOk result (IsJudgedBy (option_to_list (option_map (λ v. v.now) index.now.verdicts))) }
+    ensures other { IfErr result (IsTold CheckErrorName.OtherVerdict (TellsOtherVotes (verdict_list (option_to_list (option_map (λ v. v.now) index.now.verdicts))) saved.entry.now.digest (length header.entry.now.signatures.items))) }
     ensures named { IfErr result (λ e. IsAt header.entry.now.height e × IsIn (string_bytes saved.entry.now.file) e) }
     ensures told { IfErr result (IsToldOf id.entry.now) }
 {
-    let verdict = verdict_on(id, verdicts, saved, header)?;
+    let verdict = verdict_on(id, index, saved, header)?;
     Ok(Commit {
         file: saved.file.as_str(),
         digest: saved.digest,
@@ -341,8 +366,8 @@ fn sets_of<'a>(
     Ok(sets)
 }
 
-/// Adds the set of the pages of one height. Pages that are missing are asked for only where there is
-/// a commit of that height; the set has to be that commit's.
+/// Adds the set of the pages of one height, where they are all there. It has to be that of the height's header, where there
+/// is one.
 fn add_set<'a>(
     alloc: Global,
     id: &'a str,
@@ -363,41 +388,17 @@ fn add_set<'a>(
     let Some(first) = pages.first() else {
         return Ok(());
     };
-    let commit = commit_of(commits, height);
     let members = members_of(alloc, id, pages)?;
     if (members.len() as u64) < first.page.total {
-        return missing_page(id, first, commit);
+        return Ok(());
     }
     let set = set_of(alloc, id, first, members)?;
-    judge_set(id, first, commit, &set)?;
+    judge_set(id, first, commit_of(commits, height), &set)?;
     sets.add(SeenSet {
         file: first.file,
         set,
     })?;
     Ok(())
-}
-
-/// Pages are missing, which matters where there is a commit.
-fn missing_page<'a>(
-    id: &'a str,
-    page: &Page<'a>,
-    commit: Option<Commit<'a>>,
-) -> Result<(), ImportError<'a>>
-    ensures none { OnOk result (commit.entry ≡ None) }
-    ensures some { IfErr result (IsTold CheckErrorName.MissingPage (IsSome commit.entry)) }
-    ensures files { IfErr result (λ e. IsSomeAnd commit.entry (λ c. IsAt page.now.page.now.height e × IsBetween c.file.now page.now.file.now e)) }
-    ensures told { IfErr result (IsToldOf id.entry.now) }
-{
-    match commit {
-        Some(commit) => Err(ImportError::between(
-            CheckErrorName::MissingPage,
-            id,
-            page.page.height.get(),
-            commit.file,
-            page.file,
-        )),
-        None => Ok(()),
-    }
 }
 
 /// The validators of pages of one height, at most as many as each of them tells.
@@ -505,13 +506,13 @@ fn judge_set<'a>(
     }
 }
 
-/// Refuses a header whose set wasn't seen or doesn't fit its signatures.
+/// Refuses a header whose set was seen and doesn't fit its signatures.
 fn judge_signatures<'a>(
     id: &'a str,
     commits: &[Commit<'a>],
     sets: &SeenSets<'a>,
 ) -> Result<(), ImportError<'a>>
-    ensures sets { OnOk result (All (HasSet sets.now.sets.items) commits.now) }
+    ensures sets { OnOk result (All (FitsSet sets.now.sets.items) commits.now) }
     ensures reason { IfErr result (IsToldBy (λ name. Any (RefusesCommit name sets.now.sets.items) commits.now)) }
     ensures named { IfErr result (λ e. Any (λ c. NamesCommit sets.now.sets.items c e) commits.now) }
     ensures told { IfErr result (IsToldOf id.entry.now) }
@@ -522,22 +523,22 @@ fn judge_signatures<'a>(
     Ok(())
 }
 
-/// Refuses a header whose set wasn't seen, or which has not one signature for each of its members.
+/// Refuses a header whose set was seen, and which has not one signature for each of its members.
 #[tactic(auto, unfolding(crate::specs::Chains::HasSet))]
 fn judge_commit<'a>(
     id: &'a str,
     commit: &Commit<'a>,
     sets: &SeenSets<'a>,
 ) -> Result<(), ImportError<'a>>
-    ensures set { OnOk result (HasSet sets.now.sets.items commit.now) }
+    ensures set { OnOk result (FitsSet sets.now.sets.items commit.now) }
     ensures reason { IfErr result (IsToldBy (λ name. RefusesCommit name sets.now.sets.items commit.now)) }
     ensures named { IfErr result (NamesCommit sets.now.sets.items commit.now) }
     ensures told { IfErr result (IsToldOf id.entry.now) }
 {
-    let height = commit.header.height.get();
     let Some(seen) = sets.with_hash(&commit.header.set) else {
-        return Err(ImportError::at(CheckErrorName::MissingSet, id, height, commit.file));
+        return Ok(());
     };
+    let height = commit.header.height.get();
     match discord(commit.header.signatures.as_slice(), &seen.set) {
         Some(name) => Err(ImportError::between(name, id, height, commit.file, seen.file)),
         None => Ok(()),

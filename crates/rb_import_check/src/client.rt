@@ -1,14 +1,13 @@
 //! What a client has stored, and how it judges headers.
-ghost use Rattle.std.specs.Prelude.{◌≡◌, ◌≢◌, ◌↔◌, ◌++◌, ⊤, IsTrue, true, false, map, filter, nat_le, All, Any, IfOk, IfErr, OnOk, option_map, option_to_list};
+ghost use Rattle.std.specs.Prelude.{◌≡◌, ◌≢◌, ◌↔◌, ◌++◌, ⊤, IsTrue, true, false, map, filter, nat_le, All, Any, Contains, IfOk, IfErr, IfSome, IsSomeAnd, OnOk, option_map, option_to_list};
 ghost use Rattle.rb_import_check.specs.Errors.{IsAt, IsBetween, IsTold, IsToldOf};
-ghost use Rattle.rb_import_check.specs.Named.{NamesFall, NamesForeign, NamesIn, NamesOtherRecord};
+ghost use Rattle.rb_import_check.specs.Named.{NamesForeign, NamesIn, NamesOtherRecord, NamesTwo, NamesTwoAmong};
 ghost use Rattle.std.specs.List.Sorted.{IsNonDecreasingBy, IsStrictlyIncreasing};
-ghost use Rattle.rb_import_check.specs.Clients.{AreOfClient, AreStatesOfFiles, AreStatesOn, IsOfRevision, JudgesAs, level_of, AtRevision, HaveStates, HasReason, Falls, client_states_of, current_of, filed_state, filed_states_of, is_of_client, is_last_in, has_last};
+ghost use Rattle.rb_import_check.specs.Clients.{AreOfClient, AreStatesOfFiles, AreStatesOn, IsOfRevision, JudgesAs, level_of, AreFilesInSomeOrder, AreStatesInSomeOrder, AtRevision, HaveStates, HasReason, client_states_of, current_of, filed_state, filed_states_of, is_of_client, is_last_in, has_last};
 
 use crate::error::{CheckErrorName, ImportError};
-use crate::repeat::repeated;
 use crate::saved::Saved;
-use rb_base::{ChainId, Height, Period};
+use rb_base::{ChainId, Period};
 use rb_import_answers::{ClientState, ConsensusState, NodeAnswer, TrustLevel, revision_of};
 use rb_import_setup::{ClientSetup, TrustSetup};
 use std::alloc::{AllocError, Global};
@@ -21,7 +20,7 @@ pub struct Stored<'a> {
 }
 
 /// What was seen of a client: its trusting period, its clock drift, its trust level, its latest height, where an answer tells
-/// its state, and its stored records by rising height.
+/// its state, and its stored records by rising height. Gateways may repeat the last record of a page on the next one.
 #[derive(Drop)]
 pub struct SeenClient<'a> {
     pub period: Period,
@@ -124,7 +123,7 @@ fn is_of_chain(state: &ClientState, chain: &ChainId) -> bool
 }
 
 /// The records of a client by rising height, which are of the tracked chain's revision; the last page
-/// has to be there. Those of an earlier revision are passed over.
+/// has to be there. Those of an earlier revision are passed over, and one that a page repeats is taken once.
 #[tactic(auto, using(crate::proofs::ReasonsLemmas::recording))]
 fn stored_of<'a>(
     alloc: Global,
@@ -144,20 +143,19 @@ fn stored_of<'a>(
 {
     let id = setup.id.as_str();
     let revision = revision_of(tracked.as_str());
-    let stored = sorted(current_of(alloc, id, revision, answers)?)?;
+    let told = sorted(current_of(alloc, id, revision, answers)?)?;
     if !has_last(answers) {
         return Err(ImportError::of(CheckErrorName::MissingConsensusStates, id));
     }
-    judge_revisions(id, revision, stored.as_slice())?;
-    judge_heights(alloc, id, stored.as_slice())?;
-    Ok(stored)
+    judge_revisions(id, revision, told.as_slice())?;
+    each_once(alloc, id, told.as_slice())
 }
 
 /// These records by height.
 #[tactic(auto, using(crate::proofs::Sorting::sorting))]
 fn sorted<'a>(stored: Vec<Stored<'a>>) -> Result<Vec<Stored<'a>>, AllocError>
-    ensures same { IfOk result (λ sorted. HaveStates (map (λ s. s.state.now) stored.entry.items) sorted.items) }
-    ensures files { IfOk result (λ sorted. AreStatesOfFiles (map filed_state stored.entry.items) sorted.items) }
+    ensures same { IfOk result (λ sorted. AreStatesInSomeOrder (map (λ s. s.state.now) stored.entry.items) sorted.items) }
+    ensures files { IfOk result (λ sorted. AreFilesInSomeOrder (map filed_state stored.entry.items) sorted.items) }
     ensures order { IfOk result (λ sorted. IsNonDecreasingBy (λ s. s.state.now.height) sorted.items) }
 {
     let mut sorted = stored;
@@ -254,31 +252,63 @@ fn judge_revisions<'a>(
     Ok(())
 }
 
-/// Refuses two records of one height, of those that stand by height.
-fn judge_heights<'a>(
+/// Each of the records once, of those that stand by height; two different ones of one height are refused.
+#[tactic(auto, using(crate::proofs::Repeats::repeating))]
+fn each_once<'a>(
     alloc: Global,
     id: &'a str,
-    stored: &[Stored<'a>],
-) -> Result<(), ImportError<'a>>
-    ensures rising { OnOk result (IsStrictlyIncreasing (map (λ s. s.state.now.height) stored.now)) }
-    ensures falling { IfErr result (IsTold CheckErrorName.TwoAnswers (Falls (map (λ s. s.state.now.height) stored.now))) }
-    ensures named { IfErr result (NamesFall (λ s. s.state.now.height) (λ s. s.file.now) stored.now) }
+    told: &[Stored<'a>],
+) -> Result<Vec<Stored<'a>>, ImportError<'a>>
+    requires order { IsNonDecreasingBy (λ s. s.state.now.height) told.now }
+    ensures rising { IfOk result (λ stored. IsStrictlyIncreasing (map (λ s. s.state.now.height) stored.items)) }
+    ensures among { IfOk result (λ stored. All (Contains told.now) stored.items) }
+    ensures all { IfOk result (λ stored. All (λ s. Contains (map (λ t. t.state.now) stored.items) s.state.now) told.now) }
+    ensures two { IfErr result (NamesTwoAmong told.now) }
     ensures told { IfErr result (IsToldOf id.entry.now) }
 {
-    let heights = heights_of(alloc, stored)?;
-    match repeated(heights.as_slice()) {
-        Some(place) => Err(two_records(id, &stored[place], &stored[place + 1])),
-        None => Ok(()),
+    let mut stored = Vec::new(alloc);
+    let mut last: Option<Stored<'a>> = None;
+    for next in told {
+        if !is_repeated(id, last, next)? {
+            stored.push(*next)?;
+            last = Some(*next);
+        }
     }
+    Ok(stored)
 }
 
-fn heights_of(alloc: Global, stored: &[Stored]) -> Result<Vec<Height>, AllocError>
-    ensures { IfOk result (λ heights. heights.items ≡ map (λ s. s.state.now.height) stored.now) }
+/// Whether a record repeats the one before it. It is refused if it is another one of the same height.
+fn is_repeated<'a>(
+    id: &'a str,
+    last: Option<Stored<'a>>,
+    next: &Stored<'a>,
+) -> Result<bool, ImportError<'a>>
+    ensures same { IfOk result (λ is. IsTrue is → IsSomeAnd last.entry (λ l. l.state.now ≡ next.now.state.now)) }
+    ensures other { IfOk result (λ is. is ≡ false → IfSome last.entry (λ l. l.state.now.height ≢ next.now.state.now.height)) }
+    ensures two { IfErr result (λ e. IsSomeAnd last.entry (λ l. NamesTwo l next.now e)) }
+    ensures told { IfErr result (IsToldOf id.entry.now) }
 {
-    stored
-        .iter()
-        .map(|record| record.state.height)
-        .collect(alloc)
+    let Some(last) = last else {
+        return Ok(false);
+    };
+    if last.state.height != next.state.height {
+        return Ok(false);
+    }
+    if !is_same(last.state, next.state) {
+        return Err(two_records(id, &last, next));
+    }
+    Ok(true)
+}
+
+/// Whether two records are the same.
+fn is_same(state: &ConsensusState, other: &ConsensusState) -> bool
+    ensures { IsTrue result ↔ (state.now ≡ other.now) }
+{
+    state.revision == other.revision
+        && state.height == other.height
+        && state.time == other.time
+        && state.root == other.root
+        && state.next == other.next
 }
 
 fn two_records<'a>(id: &'a str, stored: &Stored<'a>, other: &Stored<'a>) -> ImportError<'a>

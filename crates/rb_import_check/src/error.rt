@@ -4,7 +4,7 @@ ghost use Rattle.std.specs.Prelude.{◌≡◌, Some, None};
 use std::alloc::{AllocError, AllocFailed};
 
 /// What doesn't hold between answers.
-#[derive(Clone, Copy, Debug)]
+#[derive(Clone, Copy)]
 pub enum CheckErrorName {
     /// An answer of another kind than belongs into the folder.
     WrongFolder,
@@ -16,16 +16,12 @@ pub enum CheckErrorName {
     TwoAnswers,
     /// Two pages of one height tell different totals.
     OtherTotal,
-    /// Pages of validators are missing.
-    MissingPage,
     /// More validators than there are.
     TooManyValidators,
     /// Validators of which no set is made.
     BadSet,
     /// The set's hash isn't the header's `validators_hash`.
     OtherSet,
-    /// The validators of a header aren't there.
-    MissingSet,
     /// The header's hash isn't that of the block that the commit is for.
     OtherHeader,
     /// There is not one signature for each validator.
@@ -68,11 +64,9 @@ impl CheckErrorName {
             CheckErrorName::OtherRevision => "OtherRevision",
             CheckErrorName::TwoAnswers => "TwoAnswers",
             CheckErrorName::OtherTotal => "OtherTotal",
-            CheckErrorName::MissingPage => "MissingPage",
             CheckErrorName::TooManyValidators => "TooManyValidators",
             CheckErrorName::BadSet => "BadSet",
             CheckErrorName::OtherSet => "OtherSet",
-            CheckErrorName::MissingSet => "MissingSet",
             CheckErrorName::OtherHeader => "OtherHeader",
             CheckErrorName::SignatureCount => "SignatureCount",
             CheckErrorName::OtherSigner => "OtherSigner",
@@ -104,7 +98,6 @@ impl CheckErrorName {
             }
             CheckErrorName::TwoAnswers => "both tell of the same; keep one of the two",
             CheckErrorName::OtherTotal => "the pages tell different totals",
-            CheckErrorName::MissingPage => "pages are missing",
             CheckErrorName::TooManyValidators => {
                 "the pages of this height hold more validators than they count: one is there twice, perhaps under another name; keep each page once"
             }
@@ -112,7 +105,6 @@ impl CheckErrorName {
             CheckErrorName::OtherSet => {
                 "the set's hash isn't the header's validators_hash; fetch /commit and /validators of this height from one node"
             }
-            CheckErrorName::MissingSet => "no answer has the validators that the header names",
             CheckErrorName::OtherHeader => {
                 "the hash of the header's fields isn't that of the block that the commit is for, so that one of them isn't the chain's"
             }
@@ -153,7 +145,7 @@ impl CheckErrorName {
 }
 
 /// The hash of a header's fields, and that of the block that its commit is for.
-#[derive(Clone, Copy, Debug)]
+#[derive(Clone, Copy)]
 pub struct HeaderHashes {
     pub header: [u8; 32],
     pub block: [u8; 32],
@@ -162,7 +154,7 @@ pub struct HeaderHashes {
 /// What doesn't hold between answers: on which chain, client or path, at which height or sequence,
 /// and the files; no file where an answer isn't there. Of a header whose hash is another both hashes, and of an answer on
 /// another chain that one.
-#[derive(Clone, Copy, Debug)]
+#[derive(Clone, Copy)]
 pub struct CheckError<'a> {
     pub name: CheckErrorName,
     pub object: &'a str,

@@ -57,6 +57,12 @@ impl fmt::Display for CheckError<'_> {
     }
 }
 
+impl fmt::Debug for CheckError<'_> {
+    fn fmt<W: fmt::Write>(&self, f: &mut fmt::Formatter<W>) -> fmt::Result {
+        fmt::Display::fmt(self, f)
+    }
+}
+
 /// A height or a sequence, where there is one.
 #[derive(Clone, Copy)]
 struct Number {
@@ -167,7 +173,6 @@ impl fmt::Display for Request {
         let commit = CommitRequest { height };
         match self.name {
             CheckErrorName::OtherTotal | CheckErrorName::BadSet => write!(f, "{pages} again"),
-            CheckErrorName::MissingPage | CheckErrorName::MissingSet => write!(f, "{pages}"),
             CheckErrorName::SignatureCount | CheckErrorName::OtherSigner => {
                 write!(f, "{commit} again")
             }
@@ -249,9 +254,7 @@ impl fmt::Display for Folder<'_> {
     fn fmt<W: fmt::Write>(&self, f: &mut fmt::Formatter<W>) -> fmt::Result {
         let folder = self.folder;
         match self.name {
-            CheckErrorName::MissingPage
-            | CheckErrorName::MissingSet
-            | CheckErrorName::MissingClientState
+            CheckErrorName::MissingClientState
             | CheckErrorName::MissingConsensusStates
             | CheckErrorName::MissingCommitments
             | CheckErrorName::MissingTransactions

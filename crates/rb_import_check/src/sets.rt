@@ -1,5 +1,5 @@
 //! The sets that were seen of a chain, each found by its hash.
-ghost use Rattle.std.specs.Prelude.{◌≡◌, ◌↔◌, [], ℕ, Contains, IsSome, IfSome, OnOk, OnErr};
+ghost use Rattle.std.specs.Prelude.{◌≡◌, ◌↔◌, [], ℕ, All, Contains, IsSome, IfSome, OnOk, OnErr};
 ghost use Rattle.rb_valset.specs.ValidatorSet.{set_hash};
 ghost use Rattle.rb_import_check.specs.Sets.{AreIndexed, IsPlaceOf, KeepsSet, WasSeen};
 
@@ -38,6 +38,7 @@ impl<'a> SeenSets<'a> {
         ensures found { IsSome result ↔ WasSeen self.now.sets.items hash.now }
         ensures hash { IfSome result (λ seen. set_hash seen.now.set ≡ hash.now) }
         ensures seen { IfSome result (λ seen. Contains self.now.sets.items seen.now) }
+        ensures only { IfSome result (λ seen. All (λ s. set_hash s.set ≡ hash.now → s ≡ seen.now) self.now.sets.items) }
     {
         let Some(place) = self.places.get(hash).copied() else {
             return None;

@@ -4,11 +4,13 @@ ghost use Rattle.rb_import_answers.specs.Votes.{letter_of};
 ghost use Rattle.rb_import_check.specs.Errors.{IsAt, IsIn, IsTold, IsToldOf};
 ghost use Rattle.rb_import_check.specs.Named.{NamesOf};
 ghost use Rattle.rb_import_check.specs.Refusals.{HasReasonOf};
-ghost use Rattle.rb_import_check.specs.Verdicts.{AreVerdictsOn, IsOnOther, IsVerdictOn, HasVotes, TellsOtherVotes, has_verdicts, is_among, is_verdicts, verdict_list, verdicts_of, vote_letter};
+ghost use Rattle.rb_import_check.specs.Verdicts.{AreFound, AreVerdictsOn, IsVerdictOn, HasVotes, TellsOtherVotes, has_verdicts, is_among, is_verdicts, verdict_list, verdicts_of, vote_letter};
 
 use crate::error::{CheckErrorName, ImportError};
 use crate::saved::Saved;
 use rb_import_answers::{BlockIdFlag, NodeAnswer, SignedHeader, Verdict, Verdicts};
+use std::alloc::{AllocError, Global};
+use std::collections::BTreeMap;
 
 /// The verdicts of a chain's answers, by its identifier, where there are some: one file at most has them, and they are
 /// on this chain.
@@ -59,28 +61,46 @@ fn is_verdicts(answer: &NodeAnswer) -> bool
     matches!(answer, NodeAnswer::Verdicts(_))
 }
 
-/// The verdict on a header's commit, whose file has this SHA-256, if there is one: it has to tell of as many votes as the
-/// commit has.
-pub fn verdict_on<'a>(
-    id: &'a str,
+/// The verdicts of a chain's answers, where there are some, each found by the SHA-256 of its file.
+#[derive(Drop)]
+pub struct VerdictIndex<'a> {
     verdicts: Option<&'a Verdicts>,
-    saved: &'a Saved,
-    header: &SignedHeader,
-) -> Result<Option<&'a Verdict>, ImportError<'a>>
-    ensures verdict { IfOk result (λ verdict. IsVerdictOn (verdict_list (option_to_list (option_map (λ v. v.now) verdicts.entry))) saved.entry.now.digest (option_map (λ v. v.now) verdict)) }
-    ensures votes { IfOk result (λ verdict. HasVotes (length header.now.signatures.items) (option_map (λ v. v.now) verdict)) }
-    ensures other { IfErr result (IsTold CheckErrorName.OtherVerdict (TellsOtherVotes (verdict_list (option_to_list (option_map (λ v. v.now) verdicts.entry))) saved.entry.now.digest (length header.now.signatures.items))) }
-    ensures named { IfErr result (λ e. IsAt header.now.height e × IsIn (string_bytes saved.entry.now.file) e) }
-    ensures told { IfErr result (IsToldOf id.entry.now) }
-{
-    let verdict = with_digest(commits_of(verdicts), &saved.digest);
-    if has_votes(verdict, header.signatures.len() as u64) {
-        Ok(verdict)
-    } else {
-        let name = CheckErrorName::OtherVerdict;
-        let file = saved.file.as_str();
-        Err(ImportError::at(name, id, header.height.get(), file))
+    places: BTreeMap<[u8; 32], usize>,
+    ghost indexed: { AreFound (verdict_list (option_to_list (option_map (λ v. v.now) verdicts))) places },
+}
+
+impl<'a> VerdictIndex<'a> {
+    /// The index of these verdicts.
+    pub fn new(
+        alloc: Global,
+        verdicts: Option<&'a Verdicts>,
+    ) -> Result<VerdictIndex<'a>, AllocError>
+        ensures { IfOk result (λ index. option_map (λ v. v.now) index.verdicts ≡ option_map (λ v. v.now) verdicts.entry) }
+    {
+        let places = places_of(alloc, commits_of(verdicts))?;
+        Ok(VerdictIndex { verdicts, places })
     }
+
+    /// A verdict on the file of this SHA-256.
+    fn verdict_of(&self, digest: &[u8; 32]) -> Option<&'a Verdict>
+        ensures { IsVerdictOn (verdict_list (option_to_list (option_map (λ v. v.now) self.now.verdicts))) digest.now (option_map (λ v. v.now) result) }
+    {
+        let Some(place) = self.places.get(digest).copied() else {
+            return None;
+        };
+        commits_of(self.verdicts).get(place)
+    }
+}
+
+/// The place of a verdict on each file, by its SHA-256.
+fn places_of(alloc: Global, verdicts: &[Verdict]) -> Result<BTreeMap<[u8; 32], usize>, AllocError>
+    ensures { IfOk result (AreFound verdicts.now) }
+{
+    let mut places = BTreeMap::new(alloc);
+    for (place, verdict) in verdicts.iter().enumerate() {
+        places.insert(verdict.digest, place)?;
+    }
+    Ok(places)
 }
 
 /// The verdicts on commits, none where there are none.
@@ -93,6 +113,30 @@ fn commits_of<'a>(verdicts: Option<&'a Verdicts>) -> &'a [Verdict]
     }
 }
 
+/// The verdict on a header's commit, whose file has this SHA-256, if there is one: it has to tell of as many votes as the
+/// commit has.
+pub fn verdict_on<'a>(
+    id: &'a str,
+    index: &VerdictIndex<'a>,
+    saved: &'a Saved,
+    header: &SignedHeader,
+) -> Result<Option<&'a Verdict>, ImportError<'a>>
+    ensures verdict { IfOk result (λ verdict. IsVerdictOn (verdict_list (option_to_list (option_map (λ v. v.now) index.now.verdicts))) saved.entry.now.digest (option_map (λ v. v.now) verdict)) }
+    ensures votes { IfOk result (λ verdict. HasVotes (length header.now.signatures.items) (option_map (λ v. v.now) verdict)) }
+    ensures other { IfErr result (IsTold CheckErrorName.OtherVerdict (TellsOtherVotes (verdict_list (option_to_list (option_map (λ v. v.now) index.now.verdicts))) saved.entry.now.digest (length header.now.signatures.items))) }
+    ensures named { IfErr result (λ e. IsAt header.now.height e × IsIn (string_bytes saved.entry.now.file) e) }
+    ensures told { IfErr result (IsToldOf id.entry.now) }
+{
+    let verdict = index.verdict_of(&saved.digest);
+    if has_votes(verdict, header.signatures.len() as u64) {
+        Ok(verdict)
+    } else {
+        let name = CheckErrorName::OtherVerdict;
+        let file = saved.file.as_str();
+        Err(ImportError::at(name, id, header.height.get(), file))
+    }
+}
+
 /// Whether a verdict, if there is one, tells of so many votes.
 fn has_votes(verdict: Option<&Verdict>, votes: u64) -> bool
     ensures { IsTrue result ↔ HasVotes votes (option_map (λ v. v.now) verdict.entry) }
@@ -101,27 +145,6 @@ fn has_votes(verdict: Option<&Verdict>, votes: u64) -> bool
         Some(verdict) => verdict.votes == votes,
         None => true,
     }
-}
-
-/// A verdict on the file of this SHA-256.
-fn with_digest<'a>(verdicts: &'a [Verdict], digest: &[u8; 32]) -> Option<&'a Verdict>
-    ensures { IsVerdictOn verdicts.entry.now digest.now (option_map (λ v. v.now) result) }
-{
-    for verdict in verdicts {
-        if is_on(verdict, digest) {
-            return Some(verdict);
-        }
-    }
-    None
-}
-
-/// Whether a verdict is on the file of this SHA-256.
-#[tactic(auto, unfolding(crate::specs::Verdicts::IsOnOther))]
-fn is_on(verdict: &Verdict, digest: &[u8; 32]) -> bool
-    ensures this { IsTrue result → verdict.now.digest ≡ digest.now }
-    ensures other { result ≡ false → IsOnOther digest.now verdict.now }
-{
-    verdict.digest == *digest
 }
 
 /// The letter in a script of the vote at a place, of which these are bad: `B` of a bad vote for the block.
@@ -136,7 +159,7 @@ pub fn vote_letter(bad: &[u64], place: u64, flag: BlockIdFlag) -> char
 }
 
 /// Whether a place is one of these.
-fn is_among(places: &[u64], place: u64) -> bool
+pub(crate) fn is_among(places: &[u64], place: u64) -> bool
     ensures { result ≡ is_among places.now place }
 {
     places.iter().any(|&other| other == place)

@@ -16,7 +16,8 @@ abbrev pub message_error_text : MessageError → List ℕ
 message_error_text (Answers error) = import_error_text error
 message_error_text (MissingHeader chain height) =
     codes "refused MissingHeader at " ++ place_text chain.now height
-    ++ codes "\nno answer has this header; fetch /commit?height=" ++ decimal height ++ codes " into files *.json of the folder " ++ chain.now
+    ++ codes "\nno answers have this header with its set and votes of more than two thirds of it; fetch /commit?height=" ++ decimal height
+    ++ codes " and all pages of /validators?height=" ++ decimal height ++ codes "&per_page=100 into files *.json of the folder " ++ chain.now
 message_error_text (OtherHeader chain height file) =
     codes "refused OtherHeader at " ++ place_text chain.now height
     ++ codes "\n" ++ file.now ++ codes ": the script has another header of this height; import these answers anew"

@@ -1,5 +1,5 @@
 -- What a message is made of, and why it isn't made.
-use Rattle.std.specs.Prelude.{◌≡◌, ◌<◌, ⊤, ℕ, ℤ, List, [], ◌==◌, Bool, All, Contains, length, position, Option, Result, Err, IfSome, IsSomeAnd, MatchOption, Ok, Some, option_and_then, option_map, slice_get, slice_index_or}
+use Rattle.std.specs.Prelude.{◌≡◌, ◌<◌, ⊤, ℕ, ℤ, List, [], ◌==◌, ◌++◌, Bool, All, Contains, length, position, Option, Result, Err, IfSome, IsSomeAnd, MatchOption, Ok, Some, option_and_then, option_map, slice_get, slice_index_or}
 use Rattle.std.specs.List.{AllZip, enumerate_from, find}
 use Rattle.std.specs.Str.{bytes_eq}
 use Rattle.jiff_core.specs.declared.civil.datetime.DateTime.{DateTime}
@@ -12,6 +12,8 @@ use Rattle.rb_import_check.specs.Sets.{WasSeen}
 use Rattle.rb_import_check.specs.declared.saved.Saved.{Saved}
 use Rattle.rb_import_check.specs.declared.chain.Commit.{Commit}
 use Rattle.rb_import_check.specs.declared.chain.SeenChain.{SeenChain}
+use Rattle.rb_import_check.specs.declared.signed.Signatures.{Signatures}
+use Rattle.rb_import_check.specs.Signed.{IsSigned}
 use Rattle.rb_import_json.specs.FieldErrors.{◌>>=◌, or_flaw}
 use Rattle.rb_import_json.specs.declared.error.FieldError.{FieldError}
 use Rattle.rb_import_json.specs.declared.error.FieldErrorName.TheVariants.{NotJson}
@@ -23,14 +25,16 @@ use Rattle.rb_messages.specs.declared.error.MessageError.{MessageError}
 use Rattle.rb_messages.specs.declared.error.MessageError.TheVariants.{Answers, MissingHeader, OtherHeader, MissingSet, Flawed, MissingVotes, NoMemory}
 use Rattle.rb_messages.specs.declared.update.PlannedUpdate.{PlannedUpdate}
 
--- what was seen is what the answers on a chain tell: their headers, each with its file; all headers are of the chain with this identifier, and have
--- the hashes of the blocks that their commits are for; and the sets of their validators
+-- what was seen is what the answers on a chain tell: their headers, each with its file, and the sets of their validators. The headers of which
+-- messages are made are of the chain with this identifier, have the hashes of the blocks that their commits are for, and more than two thirds of
+-- their own set signed them
 unfoldable pub Tells : List ℕ → ChainAnswers → SeenChain → Type 0
 Tells id answers seen =
-    HaveHeaders (headers_of answers.saved.items) seen.commits.items
-    × AreOfFiles (filed_of answers.saved.items) seen.commits.items
+    HaveHeaders (headers_of answers.saved.items) (seen.commits.items ++ seen.bare.items ++ seen.unsigned.items)
+    × AreOfFiles (filed_of answers.saved.items) (seen.commits.items ++ seen.bare.items ++ seen.unsigned.items)
     × All (IsOfChain id) seen.commits.items
     × All IsOfItsBlock seen.commits.items
+    × All (IsSigned Signatures.AsGiven seen.sets.sets.items) seen.commits.items
     × HaveSets answers.saved.items seen.sets.sets.items
 
 abbrev pub TellsAt : List (List ℕ) → ℕ × ChainAnswers → SeenChain → Type 0
@@ -40,7 +44,7 @@ TellsAt chains p seen = Tells (slice_index_or chains p.0 []) p.1 seen
 abbrev pub AreTold : List (List ℕ) → List ChainAnswers → List SeenChain → Type 0
 AreTold chains answers seen = AllZip (TellsAt chains) (enumerate_from 0 answers) seen
 
--- the commit of a height
+-- the commit of a height, among those that more than two thirds of their own set signed
 abbrev pub commit_at : SeenChain → ℕ → Option Commit
 commit_at seen height = find (λ (c : Commit). c.header.now.height == height) seen.commits.items
 
@@ -72,7 +76,7 @@ signed_from answers digest = do
 
 -- ---- why no message of an update is made
 
--- there is no commit of the height, or not its set
+-- there is no commit of the height that more than two thirds of its own set signed, or not its set
 abbrev pub LacksHeader : SeenChain → ℕ → Type 0
 LacksHeader seen height = MatchOption (commit_at seen height) ⊤ (λ c. ¬ WasSeen seen.sets.sets.items c.header.now.set)
 

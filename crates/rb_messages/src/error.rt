@@ -8,9 +8,9 @@ use std::fmt;
 /// Why the message of an update isn't made.
 #[derive(Clone, Copy)]
 pub enum MessageError<'a> {
-    /// The answers contradict each other, or one is missing.
+    /// The answers contradict each other.
     Answers(ImportError<'a>),
-    /// No answer has the header of this height.
+    /// No answers have the header of this height with its set and votes of more than two thirds of it.
     MissingHeader {
         chain: &'a str,
         height: Height,
@@ -53,7 +53,7 @@ impl fmt::Display for MessageError<'_> {
             MessageError::Answers(error) => write!(f, "{error}"),
             MessageError::MissingHeader { chain, height } => write!(
                 f,
-                "refused MissingHeader at {chain} {height}\nno answer has this header; fetch /commit?height={height} into files *.json of the folder {chain}"
+                "refused MissingHeader at {chain} {height}\nno answers have this header with its set and votes of more than two thirds of it; fetch /commit?height={height} and all pages of /validators?height={height}&per_page=100 into files *.json of the folder {chain}"
             ),
             MessageError::OtherHeader {
                 chain,

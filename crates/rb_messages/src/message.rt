@@ -30,7 +30,8 @@ pub struct MessageFile {
 /// The first update without a message refuses all. Of its errors the first of these comes: MissingHeader, OtherHeader,
 /// MissingHeader for want of the header's set, MissingSet, Flawed, MissingVotes. The last is of an update that carries only
 /// the votes that it needs. An update that carries all votes has those of the commit in the answers, which may be others
-/// than the planner counted; whether they are enough isn't judged.
+/// than the planner counted: more than two thirds of the header's own set, as `seen_chains` says; whether they are enough
+/// of the trusted set isn't judged.
 #[tactic(auto, using(crate::proofs::Zipped::zipped_more, crate::proofs::Zipped::zipped_all))]
 pub fn message_files<'a>(
     alloc: Global,

@@ -15,7 +15,7 @@ use crate::update::PlannedUpdate;
 use rb_base::{ChainId, Height};
 use rb_book::Record;
 use rb_import_answers::SignedHeader;
-use rb_import_check::{Commit, ImportError, SeenChain, seen_chain};
+use rb_import_check::{Commit, ImportError, SeenChain, Signatures, seen_chain};
 use rb_import_json::AnswerError;
 use rb_message_text::{Signed, not_json, read_signed};
 use rb_valset::ValidatorSet;
@@ -51,7 +51,7 @@ fn seen_on<'a>(
     ensures told { IfOk result (Tells chain.entry.now answers.entry.now) }
     ensures refused { IfErr result (IsRefusedOn chain.entry.now) }
 {
-    match seen_chain(alloc, chain, answers.saved.as_slice()) {
+    match seen_chain(alloc, chain, Signatures::AsGiven, answers.saved.as_slice()) {
         Ok(seen) => Ok(seen),
         Err(ImportError::NoMemory) => Err(MessageError::NoMemory),
         Err(error) => Err(MessageError::Answers(error)),

@@ -1,4 +1,4 @@
-use Rattle.std.proofs.Common.{◌≡◌, ◌<◌, ◌++◌, List, [], ◌∷◌, All, Some, length, false, get_or, arith, rules, ap, refl, subst, sym}
+use Rattle.std.proofs.Common.{◌≡◌, ◌<◌, ◌++◌, List, [], ◌∷◌, All, Some, length, false, get_or, arith, rules, ap, refl, subst, sym, ◌∙◌}
 use Rattle.std.specs.Prelude.{option_map, option_to_list}
 use Rattle.std.proofs.lemmas.List.Elements.{All-push}
 use Rattle.std.proofs.lemmas.Grind.{common_steps}
@@ -19,7 +19,7 @@ pub loop-saved-preserved : goal.loop-saved-preserved
 loop-saved-preserved c =
     let small : c.loop-saved.saved-index < length c.args.answers.now = search rules in
     let is : c.saved-item.result ≡ get_or c.args.answers.now c.loop-saved.saved-index c.saved-item.result = search rules in
-    let those : List Verdicts = option_to_list (option_map (λ v. v.now) c.in_ok-verdicts.verdicts) in
+    let those : List Verdicts = option_to_list (option_map (λ v. v.now) c.in_ok-index.index.verdicts) in
     elim c.match-saved.branch [
       | in-Commit+in_ok-commit-in-Commit+in_ok-push-in-Commit w ↦ record {
         answers = of_chain_more c.args.answers.now c.loop-saved.saved-index c.saved-item.result small is c.loop-saved.invariant.answers (grind (arith, common_steps));
@@ -49,7 +49,7 @@ loop-saved-preserved c =
 
 pub returns-clause-verdicts : goal.returns-clause-verdicts
 returns-clause-verdicts c =
-    subst (λ verdicts. All (IsJudgedBy verdicts) c.loop-saved.commits.items) c.in_ok-verdicts.ensures.verdicts c.loop-saved.invariant.verdicts
+    subst (λ verdicts. All (IsJudgedBy verdicts) c.loop-saved.commits.items) (ap option_to_list c.in_ok-index.ensures ∙ c.in_ok-verdicts.ensures.verdicts) c.loop-saved.invariant.verdicts
 
 pub returns-in_err-commit-in-Commit-clause-reason : goal.returns-in_err-commit-in-Commit-clause-reason
 returns-in_err-commit-in-Commit-clause-reason c =
@@ -57,7 +57,7 @@ returns-in_err-commit-in-Commit-clause-reason c =
     let is : c.saved-item.result ≡ get_or c.args.answers.now c.loop-saved.saved-index c.saved-item.result = search rules in
     let e = c.in_err-commit-in-Commit.field-0.0 in
     let told : IsTold CheckErrorName.OtherVerdict (TellsOtherVotes (verdict_list (verdicts_of c.args.answers.now)) c.saved-item.result.digest (length c.in-Commit.header.signatures.items)) e =
-    subst (λ v. IsTold CheckErrorName.OtherVerdict (TellsOtherVotes (verdict_list v) c.saved-item.result.digest (length c.in-Commit.header.signatures.items)) e) c.in_ok-verdicts.ensures.verdicts c.in_err-commit-in-Commit.ensures.other in
+    subst (λ v. IsTold CheckErrorName.OtherVerdict (TellsOtherVotes (verdict_list v) c.saved-item.result.digest (length c.in-Commit.header.signatures.items)) e) (ap option_to_list c.in_ok-index.ensures ∙ c.in_ok-verdicts.ensures.verdicts) c.in_err-commit-in-Commit.ensures.other in
     let reason : HasReasonOf c.args.id.now c.args.answers.now e =
     tells_votes c.args.id.now c.args.answers.now c.loop-saved.saved-index c.saved-item.result c.in-Commit.header e small is (ap headers_in c.in-Commit.is) told in
     search rules
@@ -76,7 +76,7 @@ returns-in_err-commit-in-Commit-clause-named c =
     let is : c.saved-item.result ≡ get_or c.args.answers.now c.loop-saved.saved-index c.saved-item.result = search rules in
     let e = c.in_err-commit-in-Commit.field-0.0 in
     let told : IsTold CheckErrorName.OtherVerdict (TellsOtherVotes (verdict_list (verdicts_of c.args.answers.now)) c.saved-item.result.digest (length c.in-Commit.header.signatures.items)) e =
-    subst (λ v. IsTold CheckErrorName.OtherVerdict (TellsOtherVotes (verdict_list v) c.saved-item.result.digest (length c.in-Commit.header.signatures.items)) e) c.in_ok-verdicts.ensures.verdicts c.in_err-commit-in-Commit.ensures.other in
+    subst (λ v. IsTold CheckErrorName.OtherVerdict (TellsOtherVotes (verdict_list v) c.saved-item.result.digest (length c.in-Commit.header.signatures.items)) e) (ap option_to_list c.in_ok-index.ensures ∙ c.in_ok-verdicts.ensures.verdicts) c.in_err-commit-in-Commit.ensures.other in
     let named : NamesOf c.args.id.now c.args.answers.now e =
     names_votes c.args.id.now c.args.answers.now c.loop-saved.saved-index c.saved-item.result c.in-Commit.header e small is (ap headers_in c.in-Commit.is) told c.in_err-commit-in-Commit.ensures.named in
     search rules

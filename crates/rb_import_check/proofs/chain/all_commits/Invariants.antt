@@ -11,5 +11,5 @@ invariant-loop-saved l = record {
   answers : AreOfChain (take l.saved-index l.answers);
   headers : map (λ (c : Commit). c.header.now) l.commits.items ≡ headers_of (take l.saved-index l.answers);
   files : map filed l.commits.items ≡ filed_of (take l.saved-index l.answers);
-  verdicts : All (IsJudgedBy (option_to_list (option_map (λ v. v.now) l.verdicts))) l.commits.items;
+  verdicts : All (IsJudgedBy (option_to_list (option_map (λ v. v.now) l.index.verdicts))) l.commits.items;
 }

@@ -4,7 +4,7 @@ use Rattle.std.proofs.lemmas.List.{take_all}
 use Rattle.std.proofs.lemmas.List.Elements.{All-more}
 use Rattle.rb_import_check.specs.declared.chain.Commit.{Commit}
 use Rattle.rb_import_check.specs.declared.error.ImportError.{ImportError}
-use Rattle.rb_import_check.specs.Chains.{HasSet}
+use Rattle.rb_import_check.specs.Chains.{FitsSet}
 use Rattle.rb_import_check.specs.Errors.{IsToldBy}
 use Rattle.rb_import_check.specs.Named.{NamesCommit}
 use Rattle.rb_import_check.specs.Refusals.{RefusesCommit}
@@ -15,8 +15,8 @@ pub loop-commit-preserved : goal.loop-commit-preserved
 loop-commit-preserved c =
     let small : c.loop-commit.commit-index < length c.args.commits.now = search rules in
     let is : c.commit-item.result ≡ get_or c.args.commits.now c.loop-commit.commit-index c.commit-item.result = search rules in
-    All-more (HasSet c.args.sets.now.sets.items) c.args.commits.now c.loop-commit.commit-index c.commit-item.result small c.loop-commit.invariant
-    (subst (HasSet c.args.sets.now.sets.items) is c.in_ok-judge_commit.ensures.set)
+    All-more (FitsSet c.args.sets.now.sets.items) c.args.commits.now c.loop-commit.commit-index c.commit-item.result small c.loop-commit.invariant
+    (subst (FitsSet c.args.sets.now.sets.items) is c.in_ok-judge_commit.ensures.set)
 
 pub returns-in_err-judge_commit-clause-reason : goal.returns-in_err-judge_commit-clause-reason
 returns-in_err-judge_commit-clause-reason c =
@@ -31,7 +31,7 @@ returns-in_err-judge_commit-clause-reason c =
 
 pub returns-clause-sets : goal.returns-clause-sets
 returns-clause-sets c =
-    subst (All (HasSet c.args.sets.now.sets.items)) (take_all c.loop-commit.commit-index c.args.commits.now (search rules)) c.loop-commit.invariant
+    subst (All (FitsSet c.args.sets.now.sets.items)) (take_all c.loop-commit.commit-index c.args.commits.now (search rules)) c.loop-commit.invariant
 
 pub returns-in_err-judge_commit-clause-named : goal.returns-in_err-judge_commit-clause-named
 returns-in_err-judge_commit-clause-named c =

@@ -1,14 +1,17 @@
-use Rattle.std.proofs.Common.{List, map, rules, subst}
+use Rattle.std.proofs.Common.{All, List, ◌++◌, map, rules, subst}
 use Rattle.std.specs.Prelude.{Any}
+use Rattle.std.specs.List.Sorted.{IsPermutation, IsStrictlyIncreasing}
+use Rattle.std.proofs.lemmas.List.Sorted.{IsPermutation-map, IsPermutation-trans}
 use Rattle.rb_import_check.specs.declared.chain.Commit.{Commit}
 use Rattle.rb_import_check.specs.declared.error.CheckErrorName.{CheckErrorName}
-use Rattle.rb_import_check.specs.Chains.{IsOfChain, IsOfItsBlock, filed}
+use Rattle.rb_import_check.specs.Chains.{HasItsValidators, IsJudged, IsOfChain, IsOfItsBlock, filed, headers_of}
 use Rattle.rb_import_check.specs.Clients.{Falls}
 use Rattle.rb_import_check.specs.Errors.{IsTold, IsToldBy}
 use Rattle.rb_import_check.specs.Named.{NamesCommit, NamesFall, NamesOf, NamesOtherHeader, NamesSomePages, ShowsHeader}
 use Rattle.rb_import_check.specs.Refusals.{HasReasonOf, RefusesCommit}
-use Rattle.rb_import_check.proofs.ChainReasons.{tells_block, tells_chain, tells_twice}
+use Rattle.rb_import_check.proofs.ChainReasons.{one_each, tells_block, tells_chain, tells_twice}
 use Rattle.rb_import_check.proofs.Naming.{names_block, names_chain, names_pages, names_set, names_twice}
+use Rattle.rb_import_check.proofs.Parting.{in_first, left_out}
 use Rattle.rb_import_check.proofs.SetReasons.{RefusesSome, header_of, tells_pages, tells_set}
 use Rattle.rb_import_check.proofs.chain.seen_chain.Goals as goal
 
@@ -103,3 +106,71 @@ returns-in_err-judge_signatures-clause-named c =
     let named : NamesOf c.args.id.now c.args.answers.now e =
     names_set c.args.id.now c.args.answers.now all c.in_ok-commits.ensures.files c.in_ok-sets.sets.sets.items c.in_ok-commits.ensures.headers c.in_ok-sets.ensures.sets e which in
     search rules
+
+-- ---- the headers, parted
+
+pub returns-clause-headers : goal.returns-clause-headers
+returns-clause-headers c =
+    let parts = c.in_ok-parts.parts in
+    let joined : List Commit = parts.commits.items ++ parts.bare.items ++ parts.unsigned.items in
+    let same : IsPermutation c.in_ok-commits.commits.items joined = subst (λ (l : List Commit). IsPermutation l joined) c.as_slice-6.ensures.value c.in_ok-parts.ensures.same in
+    IsPermutation-trans _ _ _ c.in_ok-commits.ensures.headers (IsPermutation-map (λ (x : Commit). x.header.now) _ _ same)
+
+pub returns-clause-files : goal.returns-clause-files
+returns-clause-files c =
+    let parts = c.in_ok-parts.parts in
+    let joined : List Commit = parts.commits.items ++ parts.bare.items ++ parts.unsigned.items in
+    let same : IsPermutation c.in_ok-commits.commits.items joined = subst (λ (l : List Commit). IsPermutation l joined) c.as_slice-6.ensures.value c.in_ok-parts.ensures.same in
+    IsPermutation-trans _ _ _ c.in_ok-commits.ensures.files (IsPermutation-map filed _ _ same)
+
+pub returns-clause-heights : goal.returns-clause-heights
+returns-clause-heights c =
+    let rises : IsStrictlyIncreasing (map (λ (x : Commit). x.header.now.height) c.in_ok-commits.commits.items) =
+    subst (λ (l : List Commit). IsStrictlyIncreasing (map (λ (x : Commit). x.header.now.height) l)) c.as_slice-3.ensures.value c.in_ok-judge_heights.ensures.rising in
+    one_each (headers_of c.args.answers.now) c.in_ok-commits.commits.items c.in_ok-commits.ensures.headers rises
+
+pub returns-clause-verdicts : goal.returns-clause-verdicts
+returns-clause-verdicts c =
+    let all = c.in_ok-commits.commits.items in
+    let parts = c.in_ok-parts.parts in
+    let joined : List Commit = parts.commits.items ++ parts.bare.items ++ parts.unsigned.items in
+    let same : IsPermutation all joined = subst (λ (l : List Commit). IsPermutation l joined) c.as_slice-6.ensures.value c.in_ok-parts.ensures.same in
+    in_first all parts.commits.items parts.bare.items parts.unsigned.items same (IsJudged c.args.answers.now) c.in_ok-commits.ensures.verdicts
+
+pub returns-clause-chain : goal.returns-clause-chain
+returns-clause-chain c =
+    let all = c.in_ok-commits.commits.items in
+    let parts = c.in_ok-parts.parts in
+    let joined : List Commit = parts.commits.items ++ parts.bare.items ++ parts.unsigned.items in
+    let same : IsPermutation all joined = subst (λ (l : List Commit). IsPermutation l joined) c.as_slice-6.ensures.value c.in_ok-parts.ensures.same in
+    let each : All (IsOfChain c.args.id.now) all = subst (All (IsOfChain c.args.id.now)) c.as_slice.ensures.value c.in_ok-judge_chains.ensures.chain in
+    in_first all parts.commits.items parts.bare.items parts.unsigned.items same (IsOfChain c.args.id.now) each
+
+pub returns-clause-blocks : goal.returns-clause-blocks
+returns-clause-blocks c =
+    let all = c.in_ok-commits.commits.items in
+    let parts = c.in_ok-parts.parts in
+    let joined : List Commit = parts.commits.items ++ parts.bare.items ++ parts.unsigned.items in
+    let same : IsPermutation all joined = subst (λ (l : List Commit). IsPermutation l joined) c.as_slice-6.ensures.value c.in_ok-parts.ensures.same in
+    let each : All IsOfItsBlock all = subst (All IsOfItsBlock) c.as_slice-2.ensures.value c.in_ok-judge_blocks.ensures.blocks in
+    in_first all parts.commits.items parts.bare.items parts.unsigned.items same IsOfItsBlock each
+
+pub returns-clause-validators : goal.returns-clause-validators
+returns-clause-validators c =
+    let all = c.in_ok-commits.commits.items in
+    let parts = c.in_ok-parts.parts in
+    let joined : List Commit = parts.commits.items ++ parts.bare.items ++ parts.unsigned.items in
+    let same : IsPermutation all joined = subst (λ (l : List Commit). IsPermutation l joined) c.as_slice-6.ensures.value c.in_ok-parts.ensures.same in
+    let each : All (HasItsValidators c.args.answers.now) all = subst (All (HasItsValidators c.args.answers.now)) c.as_slice-4.ensures.value c.in_ok-sets.ensures.validators in
+    in_first all parts.commits.items parts.bare.items parts.unsigned.items same (HasItsValidators c.args.answers.now) each
+
+pub returns-clause-left_out : goal.returns-clause-left_out
+returns-clause-left_out c =
+    let all = c.in_ok-commits.commits.items in
+    let parts = c.in_ok-parts.parts in
+    let joined : List Commit = parts.commits.items ++ parts.bare.items ++ parts.unsigned.items in
+    let same : IsPermutation all joined = subst (λ (l : List Commit). IsPermutation l joined) c.as_slice-6.ensures.value c.in_ok-parts.ensures.same in
+    left_out all parts.commits.items parts.bare.items parts.unsigned.items same c.args.id.now c.args.answers.now c.in_ok-commits.ensures.verdicts
+    (subst (All (IsOfChain c.args.id.now)) c.as_slice.ensures.value c.in_ok-judge_chains.ensures.chain)
+    (subst (All IsOfItsBlock) c.as_slice-2.ensures.value c.in_ok-judge_blocks.ensures.blocks)
+    (subst (All (HasItsValidators c.args.answers.now)) c.as_slice-4.ensures.value c.in_ok-sets.ensures.validators)

@@ -10,9 +10,9 @@ use Rattle.rb_import_check.proofs.verdicts.verdict_on.Goals as goal
 
 pub returns-else-has_votes-clause-other : goal.returns-else-has_votes-clause-other
 returns-else-has_votes-clause-other c =
-    let those : List Verdict = verdict_list (option_to_list (option_map (λ v. v.now) c.args.verdicts)) in
-    let verdict : Option Verdict = option_map (λ v. v.now) c.with_digest-verdict.result in
-    let on : IsVerdictOn those c.args.saved.now.digest verdict = subst (λ l. IsVerdictOn l c.args.saved.now.digest verdict) c.commits_of.ensures c.with_digest-verdict.ensures in
+    let those : List Verdict = verdict_list (option_to_list (option_map (λ v. v.now) c.args.index.now.verdicts)) in
+    let verdict : Option Verdict = option_map (λ v. v.now) c.verdict_of-verdict.result in
+    let on : IsVerdictOn those c.args.saved.now.digest verdict = c.verdict_of-verdict.ensures in
     let unlike : HasVotes c.len.result verdict → ⊥ = λ holds. true≢false (sym (c.has_votes.ensures.1 holds) ∙ c.if-has_votes.false) in
     let long : c.len.result ≡ length c.args.header.now.signatures.items = omega (arith, c.len.ensures, c.args.header.now.signatures.ok.0) in
     let other : HasVotes (length c.args.header.now.signatures.items) verdict → ⊥ = subst (λ n. HasVotes n verdict → ⊥) long unlike in
