@@ -3,7 +3,7 @@ use Rattle.std.proofs.Common.{◌≡◌, ◌⊎◌, ℕ, zero, suc, ◌+◌, ◌
 use Rattle.std.specs.Prelude.{Any, Contains}
 use Rattle.std.specs.Cmp.{IsTotalOrder, both_tied, unsigned_ties, then_total}
 use Rattle.std.specs.List.{IsDistinct, dedup, dedup_from}
-use Rattle.std.specs.List.Sorted.{IsPermutation, IsSorted}
+use Rattle.std.specs.List.Sorted.{IsPermutation, IsSorted, IsStrictlySortedBy}
 use Rattle.std.specs.Ordering.{nat_cmp, ordering_reverse, ordering_then, is_lt, is_eq, eq_by_cmp}
 use Rattle.std.specs.declared.cmp.Ordering.{Ordering}
 use Rattle.std.specs.declared.cmp.Ordering.TheVariants.{Less, Equal, Greater}
@@ -168,18 +168,24 @@ standing packets sorted same order equal =
     All-permutation (λ (p : SeenPacket). Any (StandsFor p.event.now) (dedup are_of_one sorted)) sorted packets (IsPermutation-sym packets sorted same)
     (λ k d small. stands_in sorted (get_or sorted k d) all (each k d small))
 
-pub once : (sorted : List SeenPacket) → IsSorted block_cmp sorted → IsDistinct are_of_one (dedup are_of_one sorted)
-once sorted order =
-    let up : IsSorted packet_cmp sorted = λ k d low small. earlier _ _ (order k d low small) in
-    let far : IsDistinct (eq_by_cmp packet_cmp) (dedup are_of_one sorted) = IsDistinct-from_sorted packet_cmp _ (IsStrictlySortedBy-dedup total ties sorted up) in
-    subst (λ e. IsDistinct e (dedup are_of_one sorted)) (λ i p q. sym (ties p q) i) far
+-- strictly by kind and sequence, no two are of one kind and sequence
+pub distinct : (packets : List SeenPacket) → IsStrictlySortedBy packet_cmp packets → IsDistinct are_of_one packets
+distinct packets up =
+    let far : IsDistinct (eq_by_cmp packet_cmp) packets = IsDistinct-from_sorted packet_cmp packets up in
+    subst (λ e. IsDistinct e packets) (λ i p q. sym (ties p q) i) far
 
-pub rising : (sorted : List SeenPacket) → IsSorted block_cmp sorted → IsSorted packet_cmp (dedup are_of_one sorted)
-rising sorted order =
-    let up : IsSorted packet_cmp sorted = λ k d low small. earlier _ _ (order k d low small) in
+pub rises : (packets : List SeenPacket) → IsStrictlySortedBy packet_cmp packets → IsSorted packet_cmp packets
+rises packets up =
     λ k d low small. ap is_lt
-    (total.antisymm (get_or (dedup are_of_one sorted) (k + 1) d) (get_or (dedup are_of_one sorted) k d)
-    ∙ ap ordering_reverse (Less-from_sorted packet_cmp (dedup are_of_one sorted) k (k + 1) d (IsStrictlySortedBy-dedup total ties sorted up) (omega arith) small))
+    (total.antisymm (get_or packets (k + 1) d) (get_or packets k d) ∙ ap ordering_reverse (Less-from_sorted packet_cmp packets k (k + 1) d up (omega arith) small))
+
+pub strictly : (sorted : List SeenPacket) → IsSorted block_cmp sorted → IsStrictlySortedBy packet_cmp (dedup are_of_one sorted)
+strictly sorted order =
+    let up : IsSorted packet_cmp sorted = λ k d low small. earlier _ _ (order k d low small) in
+    IsStrictlySortedBy-dedup total ties sorted up
+
+pub once : (sorted : List SeenPacket) → IsSorted block_cmp sorted → IsDistinct are_of_one (dedup are_of_one sorted)
+once sorted order = distinct (dedup are_of_one sorted) (strictly sorted order)
 
 -- two that differ are among the packets in another order, too
 pub two_too : (xs ys : List SeenPacket) (e : ImportError) → IsPermutation xs ys → AreTwoOf xs e → AreTwoOf ys e

@@ -1,10 +1,9 @@
 -- What an error on a path's answers names.
-use Rattle.std.proofs.Common.{◌≡◌, ◌≢◌, ◌⊎◌, ℕ, zero, suc, List, [], ◌∷◌, ◌++◌, get_or, map, filter, Bool, true, false, cond, None, inl, inr, refl, sym, subst, ap, ◌∙◌, All, arith}
+use Rattle.std.proofs.Common.{◌≡◌, ◌≢◌, ℕ, zero, suc, List, [], ◌∷◌, ◌++◌, get_or, map, filter, Bool, true, false, cond, None, refl, sym, subst, ap, ◌∙◌, All, arith}
 use Rattle.std.specs.Prelude.{Any, Contains, string_bytes}
 use Rattle.std.specs.List.{flat_map}
 use Rattle.std.specs.List.Sorted.{IsPermutation}
 use Rattle.std.proofs.lemmas.List.Elements.{All-contains_itself, All-filter}
-use Rattle.std.proofs.lemmas.List.Sorted.{IsPermutation-refl}
 use Rattle.rb_import_answers.specs.declared.answer.NodeAnswer.{NodeAnswer}
 use Rattle.rb_import_answers.specs.declared.answer.NodeAnswer.TheVariants as answers
 use Rattle.rb_import_answers.specs.declared.packets.PacketEvent.{PacketEvent}
@@ -18,14 +17,13 @@ use Rattle.rb_import_check.specs.Errors.{IsAt, IsBetween, IsIn, IsTold}
 use Rattle.rb_import_check.proofs.ChainReasons.{any_map}
 use Rattle.rb_import_merge.specs.declared.packets.Page.{Page}
 use Rattle.rb_import_merge.specs.declared.packets.SeenPacket.{SeenPacket}
-use Rattle.rb_import_merge.specs.Committed.{IsWhyNotPending}
+use Rattle.rb_import_merge.specs.Committed.{IsOfLastPage}
 use Rattle.rb_import_merge.specs.Lowest.{AreTwoOf, NamesTwo}
-use Rattle.rb_import_merge.specs.Named.{NamesByName, NamesEvent, NamesOfPath, filed_wanted_of}
-use Rattle.rb_import_merge.specs.Packets.{FiledEvent, HaveEvents, IsOfFile, IsOfOtherFolder, counterparty, events_in, events_of, filed_event, filed_events_of, is_wanted}
+use Rattle.rb_import_merge.specs.Named.{NamesByName, NamesOfPath, filed_wanted_of}
+use Rattle.rb_import_merge.specs.Packets.{FiledEvent, IsOfFile, IsOfOtherFolder, counterparty, events_in, events_of, filed_event, filed_events_of, is_wanted}
 use Rattle.rb_import_merge.specs.Refusals.{IsFromOther, TellOtherwise}
 use Rattle.rb_import_merge.specs.Totals.{FiledPage, IsCutShort, filed_page, filed_pages_of, is_whole, pages_in, pages_of}
-use Rattle.rb_import_merge.specs.Ways.{IsFlawIn}
-use Rattle.rb_import_merge.proofs.Refusing.{any_more, flaw_name, lack_name}
+use Rattle.rb_import_merge.proofs.Refusing.{any_more}
 use Rattle.rb_import_merge.proofs.Seeing.{carried}
 
 -- ---- the events of pages, each with its file
@@ -153,28 +151,8 @@ module _ (setup : PathSetup) (saved : List Saved) (all wanted : List SeenPacket)
       subst (λ name. NamesByName name setup saved e) (sym w.0) (subst Among filed_are two)
   names_sendings errors.NoMemory w = tt
 
--- ---- lacking events
+-- ---- commitments
 
-of_event : (setup : PathSetup) (saved : List Saved) (e : ImportError) (name : CheckErrorName) → NamesEvent name setup saved e
-    → (CheckErrorName.MissingSend ≡ name) ⊎ (CheckErrorName.MissingReceive ≡ name) → NamesByName name setup saved e
-of_event setup saved e name w (inl is) = subst (λ n. NamesByName n setup saved e) is (subst (λ n. NamesEvent n setup saved e) (sym is) w)
-of_event setup saved e name w (inr is) = subst (λ n. NamesByName n setup saved e) is (subst (λ n. NamesEvent n setup saved e) (sym is) w)
-
-pub names_flaw : (setup : PathSetup) (saved : List Saved) (packets : List SeenPacket) (e : ImportError) → HaveEvents setup saved packets → All (IsOfFile saved) packets → IsFlawIn packets e
-    → NamesOfPath setup saved e
-names_flaw setup saved packets (errors.CheckError p) have files (k, q, small, is, (flaw, at, file)) =
-    of_event setup saved (errors.CheckError p) p.name (packets, have, files, inl (k, q, small, is, (flaw, at, file))) (flaw_name q.event.now.kind _ _ p.name flaw)
-names_flaw setup saved packets errors.NoMemory have files w = absurd w
-
-pub names_lack : (setup : PathSetup) (saved : List Saved) (packets : List SeenPacket) (e : ImportError) → HaveEvents setup saved packets → All (IsOfFile saved) packets
-    → IsWhyNotPending setup saved packets e → NamesOfPath setup saved e
-names_lack setup saved packets (errors.CheckError p) have files (inl (lack, name, number, file, other)) = subst (λ n. NamesByName n setup saved (errors.CheckError p)) (sym name) (number, file, other)
-names_lack setup saved packets (errors.CheckError p) have files (inr (last, (k, s, small, is, ((j, n, within, at, (lack, number)), file)))) =
-    of_event setup saved (errors.CheckError p) p.name (packets, have, files, inr (k, s, small, is, ((j, n, within, at, (lack, number)), file)))
-    (lack_name setup.config.first saved packets n p.name lack)
-names_lack setup saved packets errors.NoMemory have files w = absurd w
-
--- the lowest ones of the wanted packets are of their files
-pub lowest_files : (saved : List Saved) (p : SeenPacket → Bool) (all wanted lowest : List SeenPacket) → map filed_event all ≡ filed_events_of saved → wanted ≡ filter p all → All (Contains wanted) lowest
-    → All (IsOfFile saved) lowest
-lowest_files saved p all wanted lowest these are among = are_of_files saved p all wanted lowest lowest these are among (IsPermutation-refl lowest)
+pub names_last_page : (setup : PathSetup) (saved : List Saved) (e : ImportError) → IsOfLastPage saved e → NamesOfPath setup saved e
+names_last_page setup saved (errors.CheckError p) (lack, name, number, file, other) = subst (λ n. NamesByName n setup saved (errors.CheckError p)) (sym name) (number, file, other)
+names_last_page setup saved errors.NoMemory w = absurd w

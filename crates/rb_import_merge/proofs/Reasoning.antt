@@ -1,7 +1,8 @@
 -- Why a setup's answers aren't taken.
-use Rattle.std.proofs.Common.{◌≡◌, ℕ, zero, suc, ◌<◌, ◌-◌, List, [], ◌∷◌, get_or, length, filter, drop, Bool, true, false, cond, Option, Some, None, inl, inr, sym, subst, ap, ◌∙◌, arith, refl}
-use Rattle.std.specs.Prelude.{⊤, Any, IsSomeAnd, nat_le, slice_get}
+use Rattle.std.proofs.Common.{◌≡◌, ℕ, zero, suc, ◌<◌, List, [], ◌∷◌, get_or, length, filter, Bool, true, false, cond, Option, Some, None, inl, inr, sym, subst, ap, ◌∙◌, arith, refl}
+use Rattle.std.specs.Prelude.{⊤, Any, Contains, IsSomeAnd, nat_le, slice_get}
 use Rattle.std.specs.List.{flat_map}
+use Rattle.std.proofs.lemmas.List.Elements.{All-contains}
 use Rattle.std.proofs.lemmas.Option.{slice_get-get_or}
 use Rattle.rb_import_setup.specs.declared.setup.ClientSetup.{ClientSetup}
 use Rattle.rb_import_setup.specs.declared.setup.PathSetup.{PathSetup}
@@ -15,20 +16,18 @@ use Rattle.rb_import_check.specs.declared.error.ImportError.TheVariants as error
 use Rattle.rb_import_check.specs.declared.saved.Saved.{Saved}
 use Rattle.rb_import_check.specs.declared.saved.SavedAnswers.{SavedAnswers}
 use Rattle.rb_import_check.specs.Accord.{DiffersFrom, NamesDifference}
-use Rattle.rb_import_check.specs.Chains.{Filed, filed, filed_of}
+use Rattle.rb_import_check.specs.Chains.{filed, filed_of}
 use Rattle.rb_import_check.specs.Clients.{AreStatesOfFiles, AtRevision, FiledState, HasReason, filed_state, filed_states_in, filed_states_of}
 use Rattle.rb_import_check.specs.Clients.{Refuses as RefusesClient}
 use Rattle.rb_import_check.specs.Errors.{IsToldOf, IsTooBig}
 use Rattle.rb_import_check.specs.Named.{NamesIn, NamesOf}
 use Rattle.rb_import_check.specs.Refusals.{HasReasonOf}
 use Rattle.rb_import_check.specs.Refusals.{Refuses as RefusesChain}
-use Rattle.rb_import_check.proofs.ChainReasons.{any_viewed}
 use Rattle.rb_import_merge.specs.Named.{NamesOfPath}
 use Rattle.rb_import_merge.specs.Reasons.{HasReasonIn, IsOfAnswers, IsOfChainAnswers, IsOfClientAnswers, IsOfDifference, IsOfPathAnswers, NamesRecord}
 use Rattle.rb_import_merge.specs.Refusals.{HasReasonOfPath, RefusesPath}
 use Rattle.rb_import_merge.specs.Room.{AtEachPlace}
-use Rattle.rb_import_merge.specs.Seen.{IsSeenChain, answers_at}
-use Rattle.rb_import_merge.proofs.Refusing.{any_more}
+use Rattle.rb_import_merge.specs.Seen.{AreFiledIn, answers_at}
 
 at_place : {X : Type 0} (xs : List X) (i : ℕ) (x : X) → i < length xs → x ≡ get_or xs i x → slice_get xs i ≡ Some x
 at_place xs i x small is = slice_get-get_or xs i x small ∙ ap (λ y. Some y) (sym is)
@@ -74,12 +73,6 @@ client_refused setup answers i client tracked saved errors.NoMemory small is the
 any_next : {X : Type 0} (P : X → Type 0) (x : X) (xs : List X) → Any P xs → Any P (x ∷ xs)
 any_next P x xs (k, y, small, is, p) = (suc k, y, omega (arith, small), is, p)
 
--- what holds of one of the last ones holds of one of all
-any_rest : {X : Type 0} (P : X → Type 0) (xs : List X) (n : ℕ) → Any P (drop n xs) → Any P xs
-any_rest P xs zero w = w
-any_rest P [] (suc n) w = w
-any_rest P (x ∷ xs) (suc n) w = any_next P x xs (any_rest P xs n w)
-
 any_at : {X : Type 0} (P : X → Type 0) (b : Bool) (x : X) (some all : List X) → (Any P some → Any P all) → Any P (cond b (x ∷ some) some) → Any P (x ∷ all)
 any_at P true x some all more (zero, y, small, is, p) = (0, y, omega arith, is, p)
 any_at P true x some all more (suc k, y, small, is, p) = any_next P x all (more (k, y, omega (arith, small), is, p))
@@ -89,25 +82,27 @@ any_of_filter : {X : Type 0} (P : X → Type 0) (p : X → Bool) (xs : List X) �
 any_of_filter P p [] w = w
 any_of_filter P p (x ∷ xs) w = any_at P (p x) x (filter p xs) xs (any_of_filter P p xs) w
 
--- a commit among the highest ones is of a file of the chain's answers
-named_header : (id : List ℕ) (tracked : List Saved) (chain : SeenChain) (e : ImportError) (s : Stored) → IsSeenChain id tracked chain → Any (λ (c : Commit). DiffersFrom c s e) chain.commits.items
+-- a commit that was seen is of a file of the chain's answers
+named_header : (tracked : List Saved) (chain : SeenChain) (e : ImportError) (s : Stored) → AreFiledIn tracked chain → Any (λ (c : Commit). DiffersFrom c s e) chain.commits.items
     → Any (NamesRecord e (filed_state s)) (filed_of tracked)
-named_header id tracked chain e s ((commits, (have, files, judged, rises, on_chain, blocks, members, validators), room), sets, belong, judging) w =
-    let Names : Filed → Type 0 = NamesRecord e (filed_state s) in
-    let kept : Any (λ (c : Commit). Names (filed c)) (drop (length commits - 4096) commits) = subst (Any (λ (c : Commit). Names (filed c))) room.1 w in
-    any_viewed filed Names (filed_of tracked) commits files (any_rest (λ (c : Commit). Names (filed c)) commits (length commits - 4096) kept)
+named_header tracked chain e s filed_in (k, c, small, is, other) =
+    let (j, less, there) = All-contains (λ (x : Commit). Contains (filed_of tracked) (filed x)) chain.commits.items c filed_in (k, small, is) in
+    (j, filed c, less, there, other)
 
-named_record : (id : List ℕ) (saved tracked : List Saved) (revision : ℕ) (chain : SeenChain) (stored : List Stored) (e : ImportError) → IsSeenChain id tracked chain → AreStatesOfFiles (filed_states_of revision saved) stored
+named_record : (saved tracked : List Saved) (revision : ℕ) (chain : SeenChain) (stored : List Stored) (e : ImportError) → AreFiledIn tracked chain → AreStatesOfFiles (filed_states_of revision saved) stored
     → Any (λ (s : Stored). Any (λ (c : Commit). DiffersFrom c s e) chain.commits.items) stored → Any (λ (s : FiledState). Any (NamesRecord e s) (filed_of tracked)) (flat_map filed_states_in saved)
-named_record id saved tracked revision chain stored e seen states w =
+named_record saved tracked revision chain stored e seen states w =
     let Names : FiledState → Type 0 = λ s. Any (NamesRecord e s) (filed_of tracked) in
-    let each : Any (λ (s : Stored). Names (filed_state s)) stored =
-    any_more (λ (s : Stored). Any (λ (c : Commit). DiffersFrom c s e) chain.commits.items) (λ (s : Stored). Names (filed_state s)) stored (λ s other. named_header id tracked chain e s seen other) w in
-    any_of_filter Names (λ (f : FiledState). nat_le revision f.0.revision) (flat_map filed_states_in saved) (any_viewed filed_state Names (filed_states_of revision saved) stored states each)
+    any_of_filter Names (λ (f : FiledState). nat_le revision f.0.revision) (flat_map filed_states_in saved) (each w)
+  where
+    each : Any (λ (s : Stored). Any (λ (c : Commit). DiffersFrom c s e) chain.commits.items) stored → Any (λ (s : FiledState). Any (NamesRecord e s) (filed_of tracked)) (filed_states_of revision saved)
+    each (k, s, small, is, other) =
+        let (j, less, there) = All-contains (λ (x : Stored). Contains (filed_states_of revision saved) (filed_state x)) stored s states (k, small, is) in
+        (j, filed_state s, less, there, named_header tracked chain e s seen other)
 
 pub record_refused : (setup : Setup) (answers : SavedAnswers) (i : ℕ) (client : ClientSetup) (tracked : List ℕ) (saved : List Saved) (chains : List SeenChain) (stored : List Stored) (e : ImportError)
     → i < length setup.clients.items → client ≡ get_or setup.clients.items i client → slice_get setup.chains.items client.tracks ≡ Some tracked → saved ≡ answers_at answers.clients.items i
-    → AtEachPlace (λ (k : ℕ) (id : List ℕ) (chain : SeenChain). IsSeenChain id (answers_at answers.chains.items k) chain) setup.chains.items chains
+    → AtEachPlace (λ (k : ℕ) (id : List ℕ) (chain : SeenChain). AreFiledIn (answers_at answers.chains.items k) chain) setup.chains.items chains
     → AtRevision tracked (λ revision. AreStatesOfFiles (filed_states_of revision saved) stored)
     → IsToldOf client.id e → IsOfDifference chains client stored e → HasReasonIn setup answers e
 record_refused setup answers i client tracked saved chains stored errors.NoMemory small is there these each states told w = tt
@@ -117,7 +112,7 @@ record_refused setup answers i client tracked saved chains stored (errors.CheckE
     other : (o : Option SeenChain) → slice_get chains client.tracks ≡ o → IsSomeAnd o (λ (chain : SeenChain). NamesDifference chain.commits.items stored (errors.CheckError p))
         → Any (λ (s : FiledState). Any (NamesRecord (errors.CheckError p) s) (filed_of (answers_at answers.chains.items client.tracks))) (flat_map filed_states_in saved)
     other (Some chain) at some =
-        named_record tracked saved (answers_at answers.chains.items client.tracks) revision chain stored (errors.CheckError p) (each.1 client.tracks tracked chain there at) states some
+        named_record saved (answers_at answers.chains.items client.tracks) revision chain stored (errors.CheckError p) (each.1 client.tracks tracked chain there at) states some
     other None at some = absurd some
 
 -- ---- no problem of answers is that a script would be too big

@@ -1,13 +1,10 @@
 -- Why a path's answers are refused.
-use Rattle.std.proofs.Common.{◌≡◌, ◌≢◌, ◌⊎◌, ℕ, ◌<◌, List, [], ◌∷◌, ◌++◌, get_or, length, map, filter, take, drop, Bool, true, false, not, ◌&&◌, if◌then◌else◌, Option, Some, None, inl, inr, refl, sym, subst, ap, ◌∙◌, All, Bor, arith}
-use Rattle.std.specs.Prelude.{Any, Contains, IfSome, IsSomeAnd, nat_lt, option_map, slice_get, string_bytes}
-use Rattle.std.specs.List.{IsDistinct}
+use Rattle.std.proofs.Common.{◌≡◌, ◌≢◌, ℕ, ◌<◌, List, [], ◌∷◌, ◌++◌, get_or, length, map, filter, take, drop, Bool, false, Option, Some, None, refl, sym, subst, ap, ◌∙◌, Bor, arith}
+use Rattle.std.specs.Prelude.{Any, IfSome, IsSomeAnd, option_map, slice_get, string_bytes}
 use Rattle.std.proofs.lemmas.List.{take-append-drop}
 use Rattle.std.proofs.lemmas.List.Elements.{All-nil, All-push, filter-append}
-use Rattle.std.proofs.lemmas.List.Sorted.{IsPermutation-refl}
 use Rattle.std.proofs.lemmas.Option.{none-some, same_Some}
 use Rattle.rb_import_answers.specs.declared.packets.PacketEvent.{PacketEvent}
-use Rattle.rb_import_answers.specs.declared.packets.PacketKind.{PacketKind}
 use Rattle.rb_import_answers.specs.declared.packets.PacketPage.{PacketPage}
 use Rattle.rb_import_setup.specs.declared.setup.PathSetup.{PathSetup}
 use Rattle.rb_import_check.specs.declared.error.CheckErrorName.{CheckErrorName}
@@ -19,14 +16,12 @@ use Rattle.rb_import_check.proofs.ChainReasons.{any_map}
 use Rattle.rb_import_check.proofs.ReasonsLemmas.{any_left}
 use Rattle.rb_import_merge.specs.declared.packets.Page.{Page}
 use Rattle.rb_import_merge.specs.declared.packets.SeenPacket.{SeenPacket}
-use Rattle.rb_import_merge.specs.Committed.{IsWhyNotPending, lack_of, was}
+use Rattle.rb_import_merge.specs.Committed.{IsOfLastPage}
 use Rattle.rb_import_merge.specs.Lowest.{AreTwoOf, NamesTwo}
-use Rattle.rb_import_merge.specs.Packets.{AreFromOne, HaveEvents, IsOfOtherFolder, StandsFor, are_of_one, counterparty, events_of, is_on_packets, is_wanted, seen_events, wanted_of}
-use Rattle.rb_import_merge.specs.Pending.{is_unreceived}
-use Rattle.rb_import_merge.specs.Refusals.{HasReasonOfPath, HaveTwoSendings, IsFromOther, LacksEvent, RefusesPath, TellOtherwise}
+use Rattle.rb_import_merge.specs.Packets.{AreFromOne, IsOfOtherFolder, counterparty, events_of, is_on_packets, is_wanted, seen_events, wanted_of}
+use Rattle.rb_import_merge.specs.Refusals.{HasReasonOfPath, HaveTwoSendings, IsFromOther, RefusesPath, TellOtherwise}
 use Rattle.rb_import_merge.specs.Totals.{IsCutShort, is_whole, pages_of}
-use Rattle.rb_import_merge.specs.Ways.{IsFlawIn, flaw_by, unless}
-use Rattle.rb_import_merge.proofs.Seeing.{filter_events, have_events}
+use Rattle.rb_import_merge.proofs.Seeing.{filter_events}
 
 abbrev pub event_of : SeenPacket → PacketEvent
 event_of p = p.event.now
@@ -123,53 +118,8 @@ module _ (setup : PathSetup) (saved : List Saved) (all wanted : List SeenPacket)
       subst (λ name. RefusesPath name setup saved) (sym w.0) (subst HaveTwoSendings events_are two)
   of_two_sendings errors.NoMemory w = tt
 
--- ---- lacking events
+-- ---- commitments
 
-unless_name : (holds : Bool) (name other : CheckErrorName) → unless holds name ≡ Some other → name ≡ other
-unless_name true name other e = absurd (none-some other e)
-unless_name false name other e = same_Some name other e
-
-pub flaw_name : (kind : PacketKind) (sent received : Bool) (name : CheckErrorName) → flaw_by kind sent received ≡ Some name → (CheckErrorName.MissingSend ≡ name) ⊎ (CheckErrorName.MissingReceive ≡ name)
-flaw_name PacketKind.Sent sent received name e = absurd (none-some name e)
-flaw_name PacketKind.Received sent received name e = inl (unless_name sent _ name e)
-flaw_name PacketKind.AckWritten sent received name e = inr (unless_name received _ name e)
-flaw_name PacketKind.Cleared sent received name e = inl (unless_name sent _ name e)
-flaw_name PacketKind.TimedOut sent received name e = inl (unless_name sent _ name e)
-
-lack_by : (early unsent lacks : Bool) (name : CheckErrorName)
-    → (if early then None else if unsent then Some CheckErrorName.MissingSend else if lacks then Some CheckErrorName.MissingReceive else None) ≡ Some name
-    → (CheckErrorName.MissingSend ≡ name) ⊎ (CheckErrorName.MissingReceive ≡ name)
-lack_by true unsent lacks name e = absurd (none-some name e)
-lack_by false true lacks name e = inl (same_Some _ name e)
-lack_by false false true name e = inr (same_Some _ name e)
-lack_by false false false name e = absurd (none-some name e)
-
-pub lack_name : (first : ℕ) (saved : List Saved) (packets : List SeenPacket) (n : ℕ) (name : CheckErrorName) → lack_of first saved packets n ≡ Some name
-    → (CheckErrorName.MissingSend ≡ name) ⊎ (CheckErrorName.MissingReceive ≡ name)
-lack_name first saved packets n name e =
-    lack_by (nat_lt n first) (not (was PacketKind.Sent n packets)) (not (is_unreceived saved n) && not (was PacketKind.Received n packets)) name e
-
-lacks : (setup : PathSetup) (saved : List Saved) (packets : List SeenPacket) (name : CheckErrorName) → HaveEvents setup saved packets → LacksEvent setup saved name packets
-    → (CheckErrorName.MissingSend ≡ name) ⊎ (CheckErrorName.MissingReceive ≡ name) → RefusesPath name setup saved
-lacks setup saved packets name have lack (inl is) =
-    subst (λ n. RefusesPath n setup saved) is (packets, have, subst (λ n. LacksEvent setup saved n packets) (sym is) lack)
-lacks setup saved packets name have lack (inr is) =
-    subst (λ n. RefusesPath n setup saved) is (packets, have, subst (λ n. LacksEvent setup saved n packets) (sym is) lack)
-
-pub of_flaw : (setup : PathSetup) (saved : List Saved) (packets : List SeenPacket) (e : ImportError) → HaveEvents setup saved packets → IsFlawIn packets e → HasReasonOfPath setup saved e
-of_flaw setup saved packets (errors.CheckError p) have (k, q, small, is, (flaw, number, file)) =
-    lacks setup saved packets p.name have (inl (k, q, small, is, flaw)) (flaw_name q.event.now.kind _ _ p.name flaw)
-of_flaw setup saved packets errors.NoMemory have w = absurd w
-
-pub of_lack : (setup : PathSetup) (saved : List Saved) (packets : List SeenPacket) (e : ImportError) → HaveEvents setup saved packets → IsWhyNotPending setup saved packets e → HasReasonOfPath setup saved e
-of_lack setup saved packets (errors.CheckError p) have (inl (lack, name, number, file, other)) = subst (λ n. RefusesPath n setup saved) (sym name) lack
-of_lack setup saved packets (errors.CheckError p) have (inr (last, (k, s, small, is, ((j, n, within, at, (lack, number)), file)))) =
-    lacks setup saved packets p.name have (inr (k, s, small, is, (j, n, within, at, lack))) (lack_name setup.config.first saved packets n p.name lack)
-of_lack setup saved packets errors.NoMemory have w = absurd w
-
--- the lowest ones of the wanted packets are the path's
-pub lowest_events : (setup : PathSetup) (saved : List Saved) (all wanted lowest : List SeenPacket) → seen_events all ≡ events_of saved
-    → wanted ≡ filter (λ s. is_wanted setup (counterparty setup (events_of saved)) saved s.event.now) all → All (Contains wanted) lowest → All (λ p. Any (StandsFor p.event.now) lowest) wanted
-    → IsDistinct are_of_one lowest → HaveEvents setup saved lowest
-lowest_events setup saved all wanted lowest these are among standing once =
-    have_events setup saved all wanted lowest lowest these are among standing once (IsPermutation-refl lowest)
+pub of_last_page : (setup : PathSetup) (saved : List Saved) (e : ImportError) → IsOfLastPage saved e → HasReasonOfPath setup saved e
+of_last_page setup saved (errors.CheckError p) (lack, name, number, file, other) = subst (λ n. RefusesPath n setup saved) (sym name) lack
+of_last_page setup saved errors.NoMemory w = absurd w

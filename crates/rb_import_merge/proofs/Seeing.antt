@@ -82,7 +82,7 @@ any_among P xs ys same (k, y, small, is, p) =
     let there : Contains ys y = All-contains (Contains ys) xs y (All-permutation (Contains ys) ys xs (IsPermutation-sym xs ys same) (All-contains_itself ys)) (k, small, is) in
     (there.0, y, there.1, there.2, p)
 
-flips : (p q : SeenPacket) → are_of_one p q ≡ are_of_one q p
+pub flips : (p q : SeenPacket) → are_of_one p q ≡ are_of_one q p
 flips p q = λ i. nat_eq_equiv.symm (place_of p.event.now.kind) (place_of q.event.now.kind) i && nat_eq_equiv.symm p.event.now.sequence q.event.now.sequence i
 
 pub have_events : (setup : PathSetup) (saved : List Saved) (all wanted lowest packets : List SeenPacket) → seen_events all ≡ events_of saved

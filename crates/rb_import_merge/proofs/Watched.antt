@@ -1,9 +1,10 @@
 -- What was seen of a setup's chains and clients.
-use Rattle.std.proofs.Common.{◌≡◌, ℕ, ◌<◌, ◌-◌, List, Vec, length, get_or, map, Some, sym, subst, ap, ◌∙◌}
-use Rattle.std.specs.Prelude.{IsSomeAnd, slice_get}
+use Rattle.std.proofs.Common.{◌≡◌, ℕ, ◌<◌, ◌+◌, ◌-◌, ◌++◌, List, Vec, length, get_or, map, Some, sym, subst, ap, All, arith}
+use Rattle.std.specs.Prelude.{Contains, IsSomeAnd, slice_get}
 use Rattle.std.specs.Global.{Global}
-use Rattle.std.proofs.lemmas.List.{length-map}
-use Rattle.std.proofs.lemmas.List.Sorted.{length_permutation}
+use Rattle.std.proofs.lemmas.List.{length-append, length-map}
+use Rattle.std.proofs.lemmas.List.Elements.{All-drop, Contains-append_left, Contains-get_or}
+use Rattle.std.proofs.lemmas.List.Sorted.{Contains-permutation, IsPermutation-sym, length_permutation}
 use Rattle.rb_import_setup.specs.declared.setup.ClientSetup.{ClientSetup}
 use Rattle.rb_import_setup.specs.declared.setup.PathSetup.{PathSetup}
 use Rattle.rb_import_setup.specs.declared.setup.Setup.{Setup}
@@ -12,12 +13,14 @@ use Rattle.rb_import_check.specs.declared.chain.SeenChain.{SeenChain}
 use Rattle.rb_import_check.specs.declared.client.SeenClient.{SeenClient}
 use Rattle.rb_import_check.specs.declared.saved.Saved.{Saved}
 use Rattle.rb_import_check.specs.declared.saved.SavedAnswers.{SavedAnswers}
-use Rattle.rb_import_check.specs.Chains.{HaveHeaders, headers_of}
-use Rattle.rb_import_merge.specs.declared.packets.SeenPacket.{SeenPacket}
+use Rattle.rb_import_check.specs.declared.signed.Signatures.{Signatures}
+use Rattle.rb_import_check.specs.Chains.{HaveHeaders, filed, filed_of, headers_of}
+use Rattle.rb_import_merge.specs.declared.path.SeenPath.{SeenPath}
 use Rattle.rb_import_merge.specs.declared.seen.Seen.{Seen}
 use Rattle.rb_import_merge.specs.Room.{AtEachPlace, FitBooks}
-use Rattle.rb_import_merge.specs.Seen.{AreSeenClients, AreSeenPaths, IsSeenChain, IsSeenClient, IsSeenIn, IsSeenPath, answers_at, surplus_of}
+use Rattle.rb_import_merge.specs.Seen.{AreFiledIn, AreSeenClients, AreSeenPaths, IsSeenChain, IsSeenClient, IsSeenIn, IsSeenPath, answers_at, surplus_of}
 use Rattle.rb_import_merge.specs.Sets.{AreKeptSets}
+use Rattle.rb_import_merge.proofs.Among.{in_map}
 use Rattle.rb_import_merge.proofs.Rooms.{AtEachBefore}
 
 -- the first so many clients, each as it was seen
@@ -29,8 +32,8 @@ pub client_within : (setup : Setup) (c : ClientSetup) (i : ℕ) → i < length s
 client_within setup c i small is = subst (λ (x : ClientSetup). x.tracks < length setup.chains.items) (sym is) (setup.places.each_client i c small).tracks
 
 -- the first so many paths, each as it was seen
-abbrev pub PathsSoFar : ℕ → Setup → List (Vec Saved Global) → List (Vec SeenPacket Global) → Type 0
-PathsSoFar n setup answers paths = AtEachBefore n (λ (i : ℕ) (x : PathSetup) (packets : Vec SeenPacket Global). IsSeenPath setup.chains.items x (answers_at answers i) packets.items) setup.paths.items paths
+abbrev pub PathsSoFar : ℕ → Setup → List (Vec Saved Global) → List SeenPath → Type 0
+PathsSoFar n setup answers paths = AtEachBefore n (λ (i : ℕ) (x : PathSetup) (seen : SeenPath). IsSeenPath setup.chains.items x (answers_at answers i) seen) setup.paths.items paths
 
 -- a path's destination is a chain of the setup
 pub path_within : (setup : Setup) (p : PathSetup) (i : ℕ) → i < length setup.paths.items → p ≡ get_or setup.paths.items i p → p.config.destination < length setup.chains.items
@@ -40,17 +43,40 @@ path_within setup p i small is = subst (λ (x : PathSetup). x.config.destination
 pub of_tracked : (P : List ℕ → Type 0) (chains : List (List ℕ)) (n : ℕ) {tracked : List ℕ} → P tracked → slice_get chains n ≡ Some tracked → IsSomeAnd (slice_get chains n) P
 of_tracked P chains n holds is = subst (λ o. IsSomeAnd o P) (sym is) holds
 
--- as many headers are left out as the commits are more
-pub surplus_is : (saved : List Saved) (commits : List Commit) (n : ℕ) → HaveHeaders (headers_of saved) commits → n ≡ length commits - 4096 → n ≡ surplus_of saved
-surplus_is saved commits n same is =
-    let long : length (map (λ (c : Commit). c.header.now) commits) ≡ length (headers_of saved) = length_permutation (headers_of saved) (map (λ (c : Commit). c.header.now) commits) same in
-    let each : length (map (λ (c : Commit). c.header.now) commits) ≡ length commits = length-map commits (λ (c : Commit). c.header.now) in
-    is ∙ ap (λ k. k - 4096) (sym each ∙ long)
+-- as many headers are left out as the signed ones are more
+pub surplus_is : (saved : List Saved) (commits : List Commit) (chain : SeenChain) (bare unsigned : List Commit) (n : ℕ) → HaveHeaders (headers_of saved) (commits ++ bare ++ unsigned)
+    → chain.bare.items ≡ bare → chain.unsigned.items ≡ unsigned → n ≡ length commits - 4096 → n ≡ surplus_of saved chain
+surplus_is saved commits chain bare unsigned n same first second is =
+    let joined : List Commit = commits ++ bare ++ unsigned in
+    let long : length (map (λ (c : Commit). c.header.now) joined) ≡ length (headers_of saved) = length_permutation (headers_of saved) (map (λ (c : Commit). c.header.now) joined) same in
+    let each : length (map (λ (c : Commit). c.header.now) joined) ≡ length joined = length-map joined (λ (c : Commit). c.header.now) in
+    let both : length joined ≡ length (commits ++ bare) + length unsigned = length-append (commits ++ bare) unsigned in
+    let those : length (commits ++ bare) ≡ length commits + length bare = length-append commits bare in
+    let one : length chain.bare.items ≡ length bare = ap length first in
+    let two : length chain.unsigned.items ≡ length unsigned = ap length second in
+    omega (arith, long, each, both, those, one, two, is)
 
-pub seen_in : (setup : Setup) (answers : SavedAnswers) (seen : Seen)
-    → AtEachPlace (λ (i : ℕ) (id : List ℕ) (chain : SeenChain). IsSeenChain id (answers_at answers.chains.items i) chain) setup.chains.items seen.chains.items
-    → AtEachPlace (λ (i : ℕ) (id : List ℕ) (surplus : ℕ). surplus ≡ surplus_of (answers_at answers.chains.items i)) setup.chains.items seen.surplus.items
+in_joined : (commits bare unsigned : List Commit) (c : Commit) → Contains commits c → Contains (commits ++ bare ++ unsigned) c
+in_joined commits bare unsigned c among = Contains-append_left (commits ++ bare) unsigned c (Contains-append_left commits bare c among)
+
+-- each header of a chain is of a file of its answers
+pub are_filed : (id : List ℕ) (signatures : Signatures) (saved : List Saved) (chain : SeenChain) → IsSeenChain id signatures saved chain → AreFiledIn saved chain
+are_filed id signatures saved chain ((commits, headers, room), sets, belong, judging) =
+    let joined : List Commit = commits ++ chain.bare.items ++ chain.unsigned.items in
+    let all : All (λ (c : Commit). Contains (filed_of saved) (filed c)) commits = λ k d small.
+    Contains-permutation (map filed joined) (filed_of saved) (filed (get_or commits k d)) (IsPermutation-sym (filed_of saved) (map filed joined) headers.1)
+    (in_map filed joined (get_or commits k d) (in_joined commits chain.bare.items chain.unsigned.items (get_or commits k d) (Contains-get_or commits k d small))) in
+    subst (All (λ (c : Commit). Contains (filed_of saved) (filed c))) (sym room.1) (All-drop (λ (c : Commit). Contains (filed_of saved) (filed c)) (length commits - 4096) commits all)
+
+pub all_filed : (setup : Setup) (signatures : Signatures) (answers : SavedAnswers) (chains : List SeenChain)
+    → AtEachPlace (λ (i : ℕ) (id : List ℕ) (chain : SeenChain). IsSeenChain id signatures (answers_at answers.chains.items i) chain) setup.chains.items chains
+    → AtEachPlace (λ (i : ℕ) (id : List ℕ) (chain : SeenChain). AreFiledIn (answers_at answers.chains.items i) chain) setup.chains.items chains
+all_filed setup signatures answers chains (long, each) = (long, λ i id chain there at. are_filed id signatures (answers_at answers.chains.items i) chain (each i id chain there at))
+
+pub seen_in : (setup : Setup) (signatures : Signatures) (answers : SavedAnswers) (seen : Seen)
+    → AtEachPlace (λ (i : ℕ) (id : List ℕ) (chain : SeenChain). IsSeenChain id signatures (answers_at answers.chains.items i) chain) setup.chains.items seen.chains.items
+    → AtEachPlace (λ (i : ℕ) (chain : SeenChain) (surplus : ℕ). surplus ≡ surplus_of (answers_at answers.chains.items i) chain) seen.chains.items seen.surplus.items
     → AreSeenClients setup answers.clients.items seen.chains.items seen.clients.items → FitBooks setup seen.chains.items seen.clients.items seen.records.items
-    → AtEachPlace (AreKeptSets setup seen.records.items) seen.chains.items seen.sets.items → AreSeenPaths setup answers.paths.items seen.paths.items → IsSeenIn setup answers seen
+    → AtEachPlace (AreKeptSets setup seen.records.items) seen.chains.items seen.sets.items → AreSeenPaths setup answers.paths.items seen.paths.items → IsSeenIn setup signatures answers seen
 unfolding IsSeenIn
-seen_in setup answers seen chains surplus clients records sets paths = (chains, surplus, clients, records, sets, paths)
+seen_in setup signatures answers seen chains surplus clients records sets paths = (chains, surplus, clients, records, sets, paths)

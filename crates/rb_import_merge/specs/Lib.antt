@@ -3,11 +3,12 @@ pub mod Packets
 pub mod Counterparties
 pub mod Sources
 pub mod Lowest
-pub mod Committed
-pub mod Ways
 pub mod Totals
 pub mod Refusals
 pub mod Named
+pub mod LeftOut
+pub mod Committed
+pub mod Ways
 pub mod Errors
 pub mod Room
 pub mod Sets

@@ -1,18 +1,14 @@
 -- What an error on a path's answers names: the files, and the sequence of a packet or the total of a search.
-use Rattle.std.specs.Prelude.{◌≡◌, ◌≢◌, ◌⊎◌, ⊤, List, None, Some, false, All, Any, filter, string_bytes}
+use Rattle.std.specs.Prelude.{◌≡◌, ◌≢◌, ⊤, List, None, false, Any, filter, string_bytes}
 use Rattle.rb_import_setup.specs.declared.setup.PathSetup.{PathSetup}
 use Rattle.rb_import_check.specs.declared.error.CheckErrorName.{CheckErrorName}
 use Rattle.rb_import_check.specs.declared.error.ImportError.{ImportError}
 use Rattle.rb_import_check.specs.declared.error.ImportError.TheVariants as errors
 use Rattle.rb_import_check.specs.declared.saved.Saved.{Saved}
 use Rattle.rb_import_check.specs.Errors.{IsAt, IsBetween, IsIn, IsOfNoHeight}
-use Rattle.rb_import_merge.specs.declared.packets.SeenPacket.{SeenPacket}
-use Rattle.rb_import_merge.specs.Committed.{lack_of}
-use Rattle.rb_import_merge.specs.Packets.{FiledEvent, HaveEvents, IsOfFile, counterparty, events_of, filed_events_of, is_on_packets, is_wanted}
-use Rattle.rb_import_merge.specs.Pending.{committed_in}
+use Rattle.rb_import_merge.specs.Packets.{FiledEvent, counterparty, events_of, filed_events_of, is_on_packets, is_wanted}
 use Rattle.rb_import_merge.specs.Refusals.{TellOtherwise}
 use Rattle.rb_import_merge.specs.Totals.{FiledPage, filed_pages_of, is_whole, pages_of}
-use Rattle.rb_import_merge.specs.Ways.{flaw_of}
 
 -- the events that are wanted of a path, each with its file
 abbrev pub filed_wanted_of : PathSetup → List Saved → List FiledEvent
@@ -36,21 +32,6 @@ NamesTwoSendings setup saved e =
     (λ (f : FiledEvent). Any (λ (g : FiledEvent). TellOtherwise f.0 g.0 × IsAt f.0.sequence e × IsBetween f.1 g.1 e) (filed_wanted_of setup saved))
     (filed_wanted_of setup saved)
 
--- it names the sequence and the file of one of the packets, the event before which isn't there
-abbrev pub NamesFlaw : CheckErrorName → List SeenPacket → ImportError → Type 0
-NamesFlaw name packets e =
-    Any (λ (p : SeenPacket). (flaw_of packets p.event.now ≡ Some name) × IsAt p.event.now.sequence e × IsIn p.file.now e) packets
-
--- it names a sequence with a commitment, the packet of which lacks an event, and the file that tells of the commitment
-abbrev pub NamesLack : CheckErrorName → PathSetup → List Saved → List SeenPacket → ImportError → Type 0
-NamesLack name setup saved packets e =
-    Any (λ (s : Saved). Any (λ n. (lack_of setup.config.first saved packets n ≡ Some name) × IsAt n e) (committed_in s.answer) × IsIn (string_bytes s.file) e) saved
-
--- so it does of the path's packets that its answers tell of
-abbrev pub NamesEvent : CheckErrorName → PathSetup → List Saved → ImportError → Type 0
-NamesEvent name setup saved e =
-    (packets : List SeenPacket) × HaveEvents setup saved packets × All (IsOfFile saved) packets × (NamesFlaw name packets e ⊎ NamesLack name setup saved packets e)
-
 -- it names no file and no number
 abbrev pub NamesNone : ImportError → Type 0
 NamesNone (errors.CheckError p) = (p.number ≡ None) × (p.file ≡ None) × (p.other ≡ None)
@@ -62,8 +43,6 @@ NamesByName CheckErrorName.WrongFolder setup saved e = Any (λ (s : Saved). (is_
 NamesByName CheckErrorName.MissingTransactions setup saved e = NamesPage saved e
 NamesByName CheckErrorName.TwoChannels setup saved e = NamesTwoSources setup saved e
 NamesByName CheckErrorName.TwoAnswers setup saved e = NamesTwoSendings setup saved e
-NamesByName CheckErrorName.MissingSend setup saved e = NamesEvent CheckErrorName.MissingSend setup saved e
-NamesByName CheckErrorName.MissingReceive setup saved e = NamesEvent CheckErrorName.MissingReceive setup saved e
 NamesByName _ setup saved e = NamesNone e
 
 -- the error names what contradicts in a path's answers; memory may run out at any

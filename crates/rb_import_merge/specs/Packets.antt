@@ -162,12 +162,14 @@ IsOfOtherFolder saved (errors.CheckError p) =
     × Any (λ (s : Saved). (is_on_packets s.answer ≡ false) × IsIn (string_bytes s.file) (errors.CheckError p) × IsOfNoHeight (errors.CheckError p)) saved
 IsOfOtherFolder saved errors.NoMemory = ⊥
 
--- what is seen are wanted events; each wanted event has one that stands for it; no two are of one kind and sequence
+-- what is seen are these events; each of these has one that stands for it; no two are of one kind and sequence
+abbrev pub HaveEventsOf : List PacketEvent → List SeenPacket → Type 0
+HaveEventsOf events packets =
+    All (λ (p : SeenPacket). Contains events p.event.now) packets × All (λ e. Any (StandsFor e) packets) events × IsDistinct are_of_one packets
+
+-- so it is with the events that are wanted of a path
 abbrev pub HaveEvents : PathSetup → List Saved → List SeenPacket → Type 0
-HaveEvents setup saved packets =
-    All (λ (p : SeenPacket). Contains (wanted_of setup saved) p.event.now) packets
-    × All (λ e. Any (StandsFor e) packets) (wanted_of setup saved)
-    × IsDistinct are_of_one packets
+HaveEvents setup saved packets = HaveEventsOf (wanted_of setup saved) packets
 
 -- ---- until when packets are received
 

@@ -1,6 +1,6 @@
 -- Which of a path's packets are pending, where answers tell of it (ICS 4: a packet's commitment is deleted once the packet is acknowledged or has
 -- timed out).
-use Rattle.std.specs.Prelude.{ℕ, ◌==◌, nat_le, nat_lt, Bool, true, false, not, ◌||◌, if◌then◌else◌, List, [], ◌∷◌, Option, Some, None}
+use Rattle.std.specs.Prelude.{ℕ, ◌==◌, nat_le, nat_lt, Bool, true, false, not, ◌&&◌, ◌||◌, if◌then◌else◌, List, [], ◌∷◌, Option, Some, None}
 use Rattle.std.specs.List.{list_any}
 use Rattle.rb_import_answers.specs.declared.answer.NodeAnswer.{NodeAnswer}
 use Rattle.rb_import_answers.specs.declared.answer.NodeAnswer.TheVariants as answers
@@ -58,6 +58,14 @@ is_last (states.Acknowledgements sequences) = false
 -- whether an answer is the last page of commitments
 abbrev pub is_last_in : NodeAnswer → Bool
 is_last_in a = if_told is_last (pending_in a)
+
+-- whether one of the answers is the last page of commitments
+abbrev pub has_last_page : List Saved → Bool
+has_last_page saved = list_any (λ (s : Saved). is_last_in s.answer) saved
+
+-- whether answers tell of commitments, and the last page of them isn't there
+abbrev pub lack_last_page : List Saved → Bool
+lack_last_page saved = tell_commitments saved && not (has_last_page saved)
 
 -- whether one of the answers tells of a commitment to the packet of this sequence
 abbrev pub has_commitment : List Saved → ℕ → Bool

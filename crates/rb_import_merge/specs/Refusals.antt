@@ -1,5 +1,5 @@
 -- Why a path's answers aren't taken (ICS 4's events, and CometBFT's `/tx_search`).
-use Rattle.std.specs.Prelude.{◌≡◌, ◌≢◌, ◌⊎◌, List, None, Some, true, false, Any, string_bytes}
+use Rattle.std.specs.Prelude.{◌≡◌, ◌≢◌, List, None, true, false, Any, string_bytes}
 use Rattle.rb_import_answers.specs.declared.packets.PacketEvent.{PacketEvent}
 use Rattle.rb_import_answers.specs.declared.packets.PacketKind.{PacketKind}
 use Rattle.rb_import_setup.specs.declared.setup.PathSetup.{PathSetup}
@@ -8,11 +8,9 @@ use Rattle.rb_import_check.specs.declared.error.ImportError.{ImportError}
 use Rattle.rb_import_check.specs.declared.saved.Saved.{Saved}
 use Rattle.rb_import_check.specs.Errors.{IsAt, IsBetween, IsToldBy}
 use Rattle.rb_import_merge.specs.declared.packets.SeenPacket.{SeenPacket}
-use Rattle.rb_import_merge.specs.Committed.{lack_last_page, lack_of}
-use Rattle.rb_import_merge.specs.Packets.{HaveEvents, IsSameSending, events_of, is_on_packets, wanted_of}
-use Rattle.rb_import_merge.specs.Pending.{committed_in}
+use Rattle.rb_import_merge.specs.Packets.{IsSameSending, events_of, is_on_packets, wanted_of}
+use Rattle.rb_import_merge.specs.Pending.{lack_last_page}
 use Rattle.rb_import_merge.specs.Totals.{is_whole, pages_of}
-use Rattle.rb_import_merge.specs.Ways.{flaw_of}
 
 -- an event is of another source than a wanted one, and the setup names none
 abbrev pub HaveTwoSources : PathSetup → List Saved → Type 0
@@ -32,16 +30,6 @@ TellOtherwise e f = (e.kind ≡ PacketKind.Sent) × (f.kind ≡ PacketKind.Sent)
 abbrev pub HaveTwoSendings : List PacketEvent → Type 0
 HaveTwoSendings events = Any (λ (e : PacketEvent). Any (TellOtherwise e) events) events
 
--- the event before one of the packets isn't among them, or a packet with a commitment lacks an event, by the name that is told
-abbrev pub LacksEvent : PathSetup → List Saved → CheckErrorName → List SeenPacket → Type 0
-LacksEvent setup saved name packets =
-    Any (λ (p : SeenPacket). flaw_of packets p.event.now ≡ Some name) packets
-    ⊎ Any (λ (s : Saved). Any (λ n. lack_of setup.config.first saved packets n ≡ Some name) (committed_in s.answer)) saved
-
--- so it is of the path's packets that its answers tell of
-abbrev pub LackEvent : PathSetup → List Saved → CheckErrorName → Type 0
-LackEvent setup saved name = (packets : List SeenPacket) × HaveEvents setup saved packets × LacksEvent setup saved name packets
-
 -- what doesn't hold of a path's answers, by the name that is told; no other name is
 abbrev pub RefusesPath : CheckErrorName → PathSetup → List Saved → Type 0
 RefusesPath CheckErrorName.WrongFolder setup saved = Any (λ (s : Saved). is_on_packets s.answer ≡ false) saved
@@ -49,8 +37,6 @@ RefusesPath CheckErrorName.MissingTransactions setup saved = Any (λ p. is_whole
 RefusesPath CheckErrorName.TwoChannels setup saved = HaveTwoSources setup saved
 RefusesPath CheckErrorName.TwoAnswers setup saved = HaveTwoSendings (wanted_of setup saved)
 RefusesPath CheckErrorName.MissingCommitments setup saved = lack_last_page saved ≡ true
-RefusesPath CheckErrorName.MissingSend setup saved = LackEvent setup saved CheckErrorName.MissingSend
-RefusesPath CheckErrorName.MissingReceive setup saved = LackEvent setup saved CheckErrorName.MissingReceive
 RefusesPath _ setup saved = ⊥
 
 -- the error has its reason in a path's answers; memory may run out at any

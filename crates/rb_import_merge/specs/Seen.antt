@@ -1,5 +1,5 @@
 -- What was seen in the answers that a script is made of.
-use Rattle.std.specs.Prelude.{◌≡◌, ◌-◌, ℕ, Bool, true, false, List, [], Vec, Option, Some, None, IfSome, IsSomeAnd, All, Any, length, map, option_to_list, slice_get}
+use Rattle.std.specs.Prelude.{◌≡◌, ◌+◌, ◌-◌, ◌++◌, ℕ, Bool, true, false, List, [], Vec, Option, Some, None, IfSome, IsSomeAnd, All, Any, Contains, length, map, option_to_list, slice_get}
 use Rattle.std.specs.Global.{Global}
 use Rattle.std.specs.List.{list_any}
 use Rattle.std.specs.List.Sorted.{IsSorted, IsStrictlyIncreasing}
@@ -17,19 +17,24 @@ use Rattle.rb_import_check.specs.declared.client.Stored.{Stored}
 use Rattle.rb_import_check.specs.declared.saved.Saved.{Saved}
 use Rattle.rb_import_check.specs.declared.saved.SavedAnswers.{SavedAnswers}
 use Rattle.rb_import_check.specs.declared.sets.SeenSet.{SeenSet}
+use Rattle.rb_import_check.specs.declared.signed.Signatures.{Signatures}
 use Rattle.rb_import_check.specs.Accord.{AgreesWith}
-use Rattle.rb_import_check.specs.Chains.{AreOfFiles, HasItsValidators, HasSet, HaveHeaders, HaveSets, IsJudged, IsOfChain, IsOfItsBlock, filed_of, headers_of}
+use Rattle.rb_import_check.specs.Chains.{AreOfFiles, HasItsValidators, HasSet, HaveHeaders, HaveSets, IsBare, IsJudged, IsLeftOut, IsOfChain, IsOfItsBlock, filed, filed_of, headers_of}
 use Rattle.rb_import_check.specs.Clients.{AreOfClient, AreStatesOfFiles, AreStatesOn, AtRevision, HaveStates, IsOfRevision, JudgesAs, client_states_of, current_of, filed_states_of, has_last}
 use Rattle.rb_import_check.specs.Refusals.{AreOfChain}
 use Rattle.rb_import_check.specs.Sets.{IsPlaceOf, WasSeen}
+use Rattle.rb_import_check.specs.Signed.{IsSigned, IsUnsigned}
 use Rattle.rb_import_check.specs.Verdicts.{AreVerdictsOn}
 use Rattle.rb_import_merge.specs.declared.kept.KeptSets.{KeptSets}
 use Rattle.rb_import_merge.specs.declared.packets.SeenPacket.{SeenPacket}
+use Rattle.rb_import_merge.specs.declared.path.SeenPath.{SeenPath}
 use Rattle.rb_import_merge.specs.declared.seen.Seen.{Seen}
+use Rattle.rb_import_merge.specs.declared.surplus.Surplus.{Surplus}
 use Rattle.rb_import_merge.specs.Committed.{HaveCommitted}
+use Rattle.rb_import_merge.specs.LeftOut.{AreLeftOut, HasSurplus, HaveTaken, was_timed_out}
 use Rattle.rb_import_merge.specs.Lowest.{kind_cmp}
 use Rattle.rb_import_merge.specs.Ways.{HasBefore}
-use Rattle.rb_import_merge.specs.Packets.{AreFromOne, Expires, HaveEvents, IsOfFile, is_on_packets}
+use Rattle.rb_import_merge.specs.Packets.{AreFromOne, Expires, IsOfFile, is_on_packets}
 use Rattle.rb_import_merge.specs.Room.{AtEachPlace, FitBooks, FitsHeaders}
 use Rattle.rb_import_merge.specs.Sets.{AreKeptSets}
 use Rattle.rb_import_merge.specs.Totals.{is_whole, pages_of}
@@ -42,24 +47,30 @@ items_of None = []
 abbrev pub answers_at : List (Vec Saved Global) → ℕ → List Saved
 answers_at answers place = items_of (slice_get answers place)
 
--- these are the headers that a chain's answers tell of, by rising heights, each of its file, with the verdict on that. Each is of the chain, and
--- of the block that its commit is for; its set is one of these, and of the validators of its height, where the answers have some
-abbrev pub AreHeadersOf : List ℕ → List Saved → List SeenSet → List Commit → Type 0
-AreHeadersOf id saved sets commits =
-    HaveHeaders (headers_of saved) commits × AreOfFiles (filed_of saved) commits × All (IsJudged saved) commits
+-- of the headers that a chain's answers tell of, each of its file, the first are signed, by rising heights, the second have no set among these, and
+-- the third too few signed. Each is of the chain, of the block that its commit is for, and has the verdict on that; where the answers have the
+-- validators of its height, they are its set
+abbrev pub AreHeadersOf : List ℕ → Signatures → List Saved → List SeenSet → List Commit → List Commit → List Commit → Type 0
+AreHeadersOf id signatures saved sets commits bare unsigned =
+    HaveHeaders (headers_of saved) (commits ++ bare ++ unsigned) × AreOfFiles (filed_of saved) (commits ++ bare ++ unsigned) × All (IsJudged saved) commits
     × IsStrictlyIncreasing (map (λ (c : Commit). c.header.now.height) commits)
     × All (IsOfChain id) commits × All IsOfItsBlock commits × All (HasSet sets) commits × All (HasItsValidators saved) commits
+    × All (IsSigned signatures sets) commits × All (IsBare sets) bare × All (IsUnsigned signatures sets) unsigned × All (IsLeftOut id saved) (bare ++ unsigned)
 
--- of those headers these are the highest, as many as a book has room for
-abbrev pub AreHighestHeaders : List ℕ → List Saved → List SeenSet → List Commit → Type 0
-AreHighestHeaders id saved sets kept = (commits : List Commit) × AreHeadersOf id saved sets commits × FitsHeaders commits kept
+-- of the signed ones these are the highest, as many as a book has room for
+abbrev pub AreHighestHeaders : List ℕ → Signatures → List Saved → SeenChain → Type 0
+AreHighestHeaders id signatures saved chain =
+    (commits : List Commit) × AreHeadersOf id signatures saved chain.sets.sets.items commits chain.bare.items chain.unsigned.items × FitsHeaders commits chain.commits.items
 
--- of what the answers of the chain of this identifier tell of, these are the highest headers, and all sets; each answer belongs there, and the
--- verdicts are on the chain
-abbrev pub IsSeenChain : List ℕ → List Saved → SeenChain → Type 0
-IsSeenChain id saved chain =
-    AreHighestHeaders id saved chain.sets.sets.items chain.commits.items × HaveSets saved chain.sets.sets.items
-    × AreOfChain saved × AreVerdictsOn id saved
+-- of what the answers of the chain of this identifier tell of, these are the highest headers that are signed, those that are left out, and all sets;
+-- each answer belongs there, and the verdicts are on the chain
+abbrev pub IsSeenChain : List ℕ → Signatures → List Saved → SeenChain → Type 0
+IsSeenChain id signatures saved chain =
+    AreHighestHeaders id signatures saved chain × HaveSets saved chain.sets.sets.items × AreOfChain saved × AreVerdictsOn id saved
+
+-- (internal) each header that was seen is of a file of the chain's answers
+abbrev pub AreFiledIn : List Saved → SeenChain → Type 0
+AreFiledIn saved chain = All (λ (c : Commit). Contains (filed_of saved) (filed c)) chain.commits.items
 
 -- each of a client's records agrees with the headers of the chain that it tracks
 abbrev pub AgreesWithChain : List SeenChain → ClientSetup → List Stored → Type 0
@@ -87,43 +98,49 @@ abbrev pub AreSeenClients : Setup → List (Vec Saved Global) → List SeenChain
 AreSeenClients setup answers seen clients =
     AtEachPlace (λ i c client. IsSeenClient setup.chains.items seen c (answers_at answers i) client) setup.clients.items clients
 
--- how many of the headers that a chain's answers tell of a book has no room for
-abbrev pub surplus_of : List Saved → ℕ
-surplus_of saved = length (headers_of saved) - 4096
+-- for how many of the signed headers that a chain's answers tell of a book has no room
+abbrev pub surplus_of : List Saved → SeenChain → ℕ
+surplus_of saved chain = length (headers_of saved) - (length chain.bare.items + length chain.unsigned.items) - 4096
 
 -- a path may have these answers, and all transactions of each of their searches are there
 abbrev pub AreWholeSearches : List Saved → Type 0
 AreWholeSearches saved =
     All (λ (s : Saved). is_on_packets s.answer ≡ true) saved × All (λ (p : PacketPage). is_whole p.total (pages_of saved) ≡ true) (pages_of saved)
 
--- these are the path's packets that its answers tell of, each of its file, with the height of its destination, a chain of the setup, from which
--- on it isn't received, and with the event before it; each packet with a commitment has its events; they stand by kind, block and sequence,
--- and are of one source, where the setup names none; and all searches are whole
-abbrev pub IsSeenPath : List (List ℕ) → PathSetup → List Saved → List SeenPacket → Type 0
-IsSeenPath chains path saved packets =
-    HaveEvents path saved packets × All (IsOfFile saved) packets
+-- these are the path's packets that its answers tell of and that are taken, each of its file, with the height of its destination, a chain of the
+-- setup, from which on it isn't received, and with the event before it; each packet with a commitment that is taken has its events; they stand by
+-- kind, block and sequence, and are of one source, where the setup names none
+abbrev pub ArePacketsOf : List (List ℕ) → PathSetup → List Saved → Option Surplus → List SeenPacket → Type 0
+ArePacketsOf chains path saved surplus packets =
+    HaveTaken path saved surplus packets × All (IsOfFile saved) packets
     × IsSomeAnd (slice_get chains path.config.destination) (λ dest. All (Expires dest) packets)
-    × All (HasBefore packets) packets × HaveCommitted path saved packets × IsSorted kind_cmp packets
-    × (path.source_channel ≡ None → AreFromOne packets) × AreWholeSearches saved
+    × All (HasBefore packets) packets × HaveCommitted path saved surplus packets × IsSorted kind_cmp packets
+    × (path.source_channel ≡ None → AreFromOne packets)
+
+-- these are the path's packets; those that lack something are left out, and those behind the first 4,096 have no room; whether one timed out; and
+-- all searches are whole
+abbrev pub IsSeenPath : List (List ℕ) → PathSetup → List Saved → SeenPath → Type 0
+IsSeenPath chains path saved seen =
+    ArePacketsOf chains path saved seen.surplus seen.packets.items × AreLeftOut path saved seen.left_out.items × HasSurplus path saved seen.surplus
+    × (seen.timed_out ≡ was_timed_out path saved) × AreWholeSearches saved
 
 -- each of these is what was seen of the path at its place
-abbrev pub AreSeenPaths : Setup → List (Vec Saved Global) → List (Vec SeenPacket Global) → Type 0
-AreSeenPaths setup answers paths =
-    AtEachPlace (λ i path (packets : Vec SeenPacket Global). IsSeenPath setup.chains.items path (answers_at answers i) packets.items) setup.paths.items paths
+abbrev pub AreSeenPaths : Setup → List (Vec Saved Global) → List SeenPath → Type 0
+AreSeenPaths setup answers paths = AtEachPlace (λ i path seen. IsSeenPath setup.chains.items path (answers_at answers i) seen) setup.paths.items paths
 
 -- this was seen of the setup's chains, clients and paths in their answers; books have room for the records, and for the sets that are kept
-unfoldable pub IsSeenIn : Setup → SavedAnswers → Seen → Type 0
-IsSeenIn setup answers seen =
-    AtEachPlace (λ i id chain. IsSeenChain id (answers_at answers.chains.items i) chain) setup.chains.items seen.chains.items
-    × AtEachPlace (λ i id surplus. surplus ≡ surplus_of (answers_at answers.chains.items i)) setup.chains.items seen.surplus.items
+unfoldable pub IsSeenIn : Setup → Signatures → SavedAnswers → Seen → Type 0
+IsSeenIn setup signatures answers seen =
+    AtEachPlace (λ i id chain. IsSeenChain id signatures (answers_at answers.chains.items i) chain) setup.chains.items seen.chains.items
+    × AtEachPlace (λ i chain surplus. surplus ≡ surplus_of (answers_at answers.chains.items i) chain) seen.chains.items seen.surplus.items
     × AreSeenClients setup answers.clients.items seen.chains.items seen.clients.items
     × FitBooks setup seen.chains.items seen.clients.items seen.records.items
     × AtEachPlace (AreKeptSets setup seen.records.items) seen.chains.items seen.sets.items
     × AreSeenPaths setup answers.paths.items seen.paths.items
 
 -- this holds of what was seen
-abbrev pub HoldsOfSeen : Setup → SavedAnswers → (Seen → Type 0) → Type 0
-HoldsOfSeen setup answers Holds = (seen : Seen) × IsSeenIn setup answers seen × Holds seen
+abbrev pub HoldsOfSeen : Setup → Signatures → SavedAnswers → (Seen → Type 0) → Type 0
+HoldsOfSeen setup signatures answers Holds = (seen : Seen) × IsSeenIn setup signatures answers seen × Holds seen
 
 -- ---- what is kept of it, and what is left out
 

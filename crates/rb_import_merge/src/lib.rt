@@ -4,17 +4,24 @@
 
 mod counterparties;
 mod kept;
+mod left_out;
 mod lowest;
 mod packets;
+mod path;
 mod pending;
 mod room;
 mod seen;
+mod sequences;
 mod sets;
 mod sources;
+mod surplus;
 
 pub use counterparties::{Counterparties, several_counterparties};
 pub use kept::KeptSets;
-pub use packets::{Searches, SeenPacket, expiry_at, searches_of, seen_packets, some_timed_out};
-pub use pending::first_of;
+pub use left_out::{LeftOutPacket, PacketLack};
+pub use packets::{Searches, SeenPacket, expiry_at, searches_of};
+pub use path::{SeenPath, seen_path};
+pub use pending::{first_of, is_pending};
 pub use seen::{Seen, answers_at, seen_in};
 pub use sources::{OtherSource, other_source};
+pub use surplus::{MAX_PACKETS, Surplus};

@@ -1,7 +1,7 @@
 //! Of several events of one kind and sequence the one of the lowest block.
 ghost use Rattle.std.specs.Prelude.{◌≡◌, ◌+◌, ◌<◌, ℕ, false, All, Any, IfOk, IfErr, IsTrue, OnOk, Contains, length, slice_index_or};
 ghost use Rattle.std.specs.List.{IsDistinct, dedup};
-ghost use Rattle.std.specs.List.Sorted.{IsPermutation, IsSorted};
+ghost use Rattle.std.specs.List.Sorted.{IsPermutation, IsSorted, IsStrictlySortedBy};
 ghost use Rattle.rb_import_check.specs.Errors.{IsToldOf};
 ghost use Rattle.rb_import_merge.specs.Packets.{StandsFor, are_of_one, place_of};
 ghost use Rattle.rb_import_merge.specs.Lowest.{AreEqualSendings, AreTwoOf, AreTwoSendings, block_cmp, packet_cmp};
@@ -20,7 +20,7 @@ pub fn lowest_of<'a>(
     ensures among { IfOk result (λ lowest. All (Contains packets.entry.items) lowest.items) }
     ensures standing { IfOk result (λ lowest. All (λ p. Any (StandsFor p.event.now) lowest.items) packets.entry.items) }
     ensures once { IfOk result (λ lowest. IsDistinct are_of_one lowest.items) }
-    ensures order { IfOk result (λ lowest. IsSorted packet_cmp lowest.items) }
+    ensures order { IfOk result (λ lowest. IsStrictlySortedBy packet_cmp lowest.items) }
     ensures refused { IfErr result (AreTwoOf packets.entry.items) }
     ensures told { IfErr result (IsToldOf id.entry.now) }
 {

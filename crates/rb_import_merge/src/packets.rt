@@ -1,20 +1,20 @@
 //! What was seen of a path's packets.
-ghost use Rattle.std.specs.Prelude.{◌≡◌, [], ◌∷◌, ◌++◌, if◌then◌else◌, true, None, All, Any, IfOk, IfErr, IfSome, IsSomeAnd, OnOk, count_by, filter, map, option_map, string_bytes};
+ghost use Rattle.std.specs.Prelude.{◌≡◌, [], ◌∷◌, ◌++◌, if◌then◌else◌, true, false, None, All, Any, IfOk, IfErr, IfSome, IsSomeAnd, OnOk, count_by, filter, map, option_map, string_bytes};
 ghost use Rattle.std.specs.List.{flat_map, list_any};
-ghost use Rattle.std.specs.List.Sorted.{IsPermutation, IsSorted};
+ghost use Rattle.std.specs.List.Sorted.{IsPermutation, IsSorted, IsStrictlySortedBy};
 ghost use Rattle.rb_import_check.specs.Errors.{IsTold, IsToldOf};
-ghost use Rattle.rb_import_merge.specs.Committed.{HaveCommitted, was};
+ghost use Rattle.rb_import_merge.specs.Committed.{was};
 ghost use Rattle.rb_import_merge.specs.Lowest.{kind_cmp, packet_cmp};
 ghost use Rattle.rb_import_merge.specs.Packets.{AreFromOne, IsOfFile, IsOfPath, IsOfOtherFolder, HaveEvents, Expires, ExpiresAt, expiry_at, within_heights, is_on_packets, is_source, is_dest, is_wanted, counts_as, is_silent, lacks, one_if, some_timed_out, tells_of, events_of, filed_event, seen_events};
 ghost use Rattle.rb_import_merge.specs.Named.{NamesOfPath};
-ghost use Rattle.rb_import_merge.specs.Pending.{tells_done};
+ghost use Rattle.rb_import_merge.specs.Pending.{lack_last_page, tells_done};
 ghost use Rattle.rb_import_merge.specs.Refusals.{HasReasonOfPath, IsFromOther};
 ghost use Rattle.rb_import_merge.specs.Totals.{IsCutShort, count_in, count_with, filed_page, filed_pages_of, is_whole, pages_of};
-ghost use Rattle.rb_import_merge.specs.Ways.{HasBefore, IsFlawIn, flaw_of, unless};
 
 use crate::counterparties::counterparty;
 use crate::lowest::{lowest_of, place_of};
-use crate::pending::{is_pending, judge_pending};
+use crate::pending::judge_last_page;
+use crate::sequences::{PendingPackets, pending_packets};
 use rb_base::{ChainId, Height};
 use rb_import_answers::{
     NodeAnswer, PacketEvent, PacketKind, PacketPage, Pending, RevisionHeight, revision_of,
@@ -73,10 +73,10 @@ struct Page<'a> {
     page: &'a PacketPage,
 }
 
-/// The events of a path's packets from its first sequence on: those that were sent, received,
-/// acknowledged and cleared, each by block; where answers tell of commitments, of the pending packets alone. Of several of
-/// one kind and sequence the one of the lowest block; two that tell of one sending and differ are refused.
-pub fn seen_packets<'a>(
+/// The events of a path's packets that its answers tell of, from its first sequence on: those that were sent, received,
+/// acknowledged and cleared, by kind and sequence; where answers tell of commitments, of the pending packets alone. Of several
+/// of one kind and sequence the one of the lowest block; two that tell of one sending and differ are refused.
+pub fn path_events<'a>(
     alloc: Global,
     setup: &'a PathSetup,
     dest: &ChainId,
@@ -87,9 +87,8 @@ pub fn seen_packets<'a>(
     ensures files { IfOk result (λ packets. All (IsOfFile answers.entry.now) packets.items) }
     ensures expiry { IfOk result (λ packets. All (Expires dest.now) packets.items) }
     ensures source { IfOk result (λ packets. setup.entry.now.source_channel ≡ None → AreFromOne packets.items) }
-    ensures before { IfOk result (λ packets. All (HasBefore packets.items) packets.items) }
-    ensures pending { IfOk result (λ packets. HaveCommitted setup.entry.now answers.entry.now packets.items) }
-    ensures order { IfOk result (λ packets. IsSorted kind_cmp packets.items) }
+    ensures order { IfOk result (λ packets. IsStrictlySortedBy packet_cmp packets.items) }
+    ensures last_page { OnOk result (lack_last_page answers.entry.now ≡ false) }
     ensures answers { OnOk result (All (λ s. is_on_packets s.answer ≡ true) answers.entry.now) }
     ensures whole { OnOk result (All (λ p. is_whole p.total (pages_of answers.entry.now) ≡ true) (pages_of answers.entry.now)) }
     ensures reason { IfErr result (HasReasonOfPath setup.entry.now answers.entry.now) }
@@ -104,13 +103,12 @@ pub fn seen_packets<'a>(
     let end = counterparty(setup, answers);
     let wanted = wanted_of(alloc, setup, end, answers, all.as_slice())?;
     let lowest = lowest_of(id, wanted)?;
-    judge_packets(id, lowest.as_slice())?;
-    judge_pending(setup, answers, lowest.as_slice())?;
-    Ok(by_block(lowest)?)
+    judge_last_page(id, answers)?;
+    Ok(lowest)
 }
 
 /// These packets by kind, block and sequence.
-fn by_block<'a>(packets: Vec<SeenPacket<'a>>) -> Result<Vec<SeenPacket<'a>>, AllocError>
+pub fn by_block<'a>(packets: Vec<SeenPacket<'a>>) -> Result<Vec<SeenPacket<'a>>, AllocError>
     ensures same { IfOk result (λ sorted. IsPermutation packets.entry.items sorted.items) }
     ensures order { IfOk result (λ sorted. IsSorted kind_cmp sorted.items) }
 {
@@ -196,7 +194,7 @@ fn tell_of(answers: &[Saved], kind: PacketKind) -> bool
 }
 
 /// Whether an answer tells of an event of this kind, or of which packets that was done.
-fn tells_of(answer: &NodeAnswer, kind: PacketKind) -> bool
+pub fn tells_of(answer: &NodeAnswer, kind: PacketKind) -> bool
     ensures { result ≡ tells_of kind answer.now }
 {
     match answer {
@@ -252,7 +250,7 @@ pub fn some_timed_out(packets: &[SeenPacket<'_>]) -> bool
 
 /// Whether an answer tells of no packet.
 #[tactic(auto, unfolding(crate::specs::Packets::is_silent))]
-fn is_silent(saved: &Saved) -> bool
+pub fn is_silent(saved: &Saved) -> bool
     ensures { result ≡ is_silent saved.now }
 {
     match &saved.answer {
@@ -427,9 +425,10 @@ fn wanted_of<'a>(
     ensures other { IfErr result (λ e. IsTold CheckErrorName.TwoChannels ((setup.entry.now.source_channel ≡ None) × Any (λ p. Any (IsFromOther e p) all.now) (filter (λ s. is_wanted setup.entry.now (option_map (λ e. e.now) end.entry) answers.now s.event.now) all.now)) e) }
     ensures told { IfErr result (IsToldOf setup.entry.now.config.id) }
 {
+    let pending = pending_packets(alloc, answers)?;
     let mut wanted = Vec::new(alloc);
     for seen in all {
-        add_wanted(setup, end, answers, *seen, &mut wanted)?;
+        add_wanted(setup, end, &pending, *seen, &mut wanted)?;
     }
     Ok(wanted)
 }
@@ -438,16 +437,16 @@ fn wanted_of<'a>(
 fn add_wanted<'a>(
     setup: &'a PathSetup,
     end: Option<&str>,
-    answers: &[Saved],
+    pending: &PendingPackets<'_>,
     seen: SeenPacket<'a>,
     wanted: &mut Vec<SeenPacket<'a>>,
 ) -> Result<(), ImportError<'a>>
     ensures source { OnOk result (setup.entry.now.source_channel ≡ None → AreFromOne wanted.old.items → AreFromOne wanted.new.items) }
-    ensures wanted { OnOk result (wanted.new.items ≡ wanted.old.items ++ (if is_wanted setup.entry.now (option_map (λ e. e.now) end.entry) answers.now seen.entry.event.now then seen.entry ∷ [] else [])) }
+    ensures wanted { OnOk result (wanted.new.items ≡ wanted.old.items ++ (if is_wanted setup.entry.now (option_map (λ e. e.now) end.entry) pending.now.answers.now seen.entry.event.now then seen.entry ∷ [] else [])) }
     ensures other { IfErr result (λ e. IsTold CheckErrorName.TwoChannels ((setup.entry.now.source_channel ≡ None) × Any (λ p. IsFromOther e p seen.entry) wanted.old.items) e) }
     ensures told { IfErr result (IsToldOf setup.entry.now.config.id) }
 {
-    if is_wanted(setup, end, answers, wanted.first(), &seen)? {
+    if is_wanted(setup, end, pending, wanted.first(), &seen)? {
         wanted.push(seen)?;
     }
     Ok(())
@@ -458,12 +457,12 @@ fn add_wanted<'a>(
 fn is_wanted<'a>(
     setup: &'a PathSetup,
     end: Option<&str>,
-    answers: &[Saved],
+    pending: &PendingPackets<'_>,
     first: Option<&SeenPacket<'a>>,
     seen: &SeenPacket<'a>,
 ) -> Result<bool, ImportError<'a>>
     ensures source { OnOk result (setup.entry.now.source_channel ≡ None → IfSome first.entry (λ first. string_bytes first.now.event.now.source ≡ string_bytes seen.now.event.now.source)) }
-    ensures wanted { IfOk result (λ is. is ≡ is_wanted setup.entry.now (option_map (λ e. e.now) end.entry) answers.now seen.now.event.now) }
+    ensures wanted { IfOk result (λ is. is ≡ is_wanted setup.entry.now (option_map (λ e. e.now) end.entry) pending.now.answers.now seen.now.event.now) }
     ensures other { IfErr result (λ e. IsTold CheckErrorName.TwoChannels ((setup.entry.now.source_channel ≡ None) × IsSomeAnd first.entry (λ first. IsFromOther e first.now seen.now)) e) }
     ensures told { IfErr result (IsToldOf setup.entry.now.config.id) }
 {
@@ -484,48 +483,9 @@ fn is_wanted<'a>(
             is_source(setup, source)
                 && is_dest(end, seen.event.dest.as_str())
                 && setup.config.first.get() <= seen.event.sequence
-                && is_pending(answers, seen.event.sequence),
+                && pending.has(seen.event.sequence),
         ),
     }
-}
-
-/// Refuses the first packet that was received or cleared and not sent, or acknowledged and not received. They
-/// stand by kind and sequence.
-fn judge_packets<'a>(id: &'a str, packets: &[SeenPacket<'a>]) -> Result<(), ImportError<'a>>
-    ensures accepted { IsSorted packet_cmp packets.now → OnOk result (All (HasBefore packets.now) packets.now) }
-    ensures refused { IsSorted packet_cmp packets.now → IfErr result (IsFlawIn packets.now) }
-    ensures told { IfErr result (IsToldOf id.entry.now) }
-{
-    for seen in packets {
-        if let Some(name) = flaw_of(packets, seen.event) {
-            return Err(ImportError::at(name, id, seen.event.sequence, seen.file));
-        }
-    }
-    Ok(())
-}
-
-/// What an event wants, if it wants something.
-fn flaw_of(packets: &[SeenPacket], event: &PacketEvent) -> Option<CheckErrorName>
-    ensures { IsSorted packet_cmp packets.now → result ≡ flaw_of packets.now event.now }
-{
-    match event.kind {
-        PacketKind::Sent => None,
-        PacketKind::Received | PacketKind::Cleared | PacketKind::TimedOut => {
-            let was_sent = was(packets, PacketKind::Sent, event.sequence);
-            unless(was_sent, CheckErrorName::MissingSend)
-        }
-        PacketKind::AckWritten => {
-            let was_received = was(packets, PacketKind::Received, event.sequence);
-            unless(was_received, CheckErrorName::MissingReceive)
-        }
-    }
-}
-
-/// This problem, unless something holds.
-fn unless(holds: bool, name: CheckErrorName) -> Option<CheckErrorName>
-    ensures { result ≡ unless holds name }
-{
-    if holds { None } else { Some(name) }
 }
 
 /// Whether there is an event of this kind with this sequence, among packets that stand by kind and sequence.

@@ -1,14 +1,11 @@
 //! Which of a path's packets are pending, where answers tell of it.
-ghost use Rattle.std.specs.Prelude.{◌≡◌, ◌==◌, None, All, IfErr, OnOk, option_map};
+ghost use Rattle.std.specs.Prelude.{◌≡◌, ◌==◌, None, false, IfErr, OnOk, option_map};
 ghost use Rattle.std.specs.List.{list_any};
-ghost use Rattle.std.specs.List.Sorted.{IsSorted};
 ghost use Rattle.rb_import_check.specs.Errors.{IsToldOf};
-ghost use Rattle.rb_import_merge.specs.Committed.{HaveCommitted, IsLackIn, IsWhyNotPending, has_last_page, lack_last_page, lack_of};
-ghost use Rattle.rb_import_merge.specs.Lowest.{packet_cmp};
-ghost use Rattle.rb_import_merge.specs.Pending.{committed, committed_in, first_of, has_commitment, is_commitments, is_last, is_last_in, is_of_unreceived, is_pending, is_unreceived, lacks_receipt, least_in, least_of, pending_in, tell_commitments, tell_unreceived, tells_commitments, tells_unreceived, unreceived, unreceived_in, with_sequence};
+ghost use Rattle.rb_import_merge.specs.Committed.{IsOfLastPage};
+ghost use Rattle.rb_import_merge.specs.Pending.{committed, committed_in, first_of, has_commitment, has_last_page, is_commitments, is_last, is_last_in, is_of_unreceived, is_pending, lack_last_page, least_in, least_of, pending_in, tell_commitments, tell_unreceived, tells_commitments, tells_unreceived, unreceived, unreceived_in, with_sequence};
 
-use crate::packets::{SeenPacket, was};
-use rb_import_answers::{NodeAnswer, PacketKind, Pending};
+use rb_import_answers::{NodeAnswer, Pending};
 use rb_import_check::{CheckErrorName, ImportError, Saved};
 use rb_import_setup::PathSetup;
 
@@ -35,7 +32,7 @@ fn has_sequence(sequences: &[u64], sequence: u64) -> bool
 }
 
 /// Whether one of the answers tells of commitments.
-fn tell_commitments(answers: &[Saved]) -> bool
+pub fn tell_commitments(answers: &[Saved]) -> bool
     ensures { result ≡ tell_commitments answers.now }
 {
     answers.iter().any(|saved| tells_commitments(&saved.answer))
@@ -71,7 +68,7 @@ fn is_commitments(pending: &Pending) -> bool
 }
 
 /// The sequences of the packets to which the source holds a commitment, as an answer tells.
-fn committed_in(answer: &NodeAnswer) -> &[u64]
+pub fn committed_in(answer: &NodeAnswer) -> &[u64]
     ensures { result.now ≡ committed_in answer.now }
 {
     match pending_in(answer) {
@@ -128,7 +125,7 @@ fn is_of_unreceived(pending: &Pending) -> bool
 }
 
 /// The sequences of the packets that weren't received, as an answer tells.
-fn unreceived_in(answer: &NodeAnswer) -> &[u64]
+pub fn unreceived_in(answer: &NodeAnswer) -> &[u64]
     ensures { result.now ≡ unreceived_in answer.now }
 {
     match pending_in(answer) {
@@ -146,25 +143,11 @@ fn unreceived(pending: &Pending) -> &[u64]
     }
 }
 
-/// Whether a packet may not have been received, by its sequence: one of the answers says so, or none tells which packets weren't.
-fn is_unreceived(answers: &[Saved], sequence: u64) -> bool
-    ensures { result ≡ is_unreceived answers.now sequence }
-{
-    !tell_unreceived(answers) || lacks_receipt(answers, sequence)
-}
-
 /// Whether one of the answers tells which packets weren't received.
-fn tell_unreceived(answers: &[Saved]) -> bool
+pub fn tell_unreceived(answers: &[Saved]) -> bool
     ensures { result ≡ tell_unreceived answers.now }
 {
     answers.iter().any(|saved| tells_unreceived(&saved.answer))
-}
-
-/// Whether one of the answers tells that the packet of this sequence wasn't received.
-fn lacks_receipt(answers: &[Saved], sequence: u64) -> bool
-    ensures { result ≡ lacks_receipt answers.now sequence }
-{
-    answers.iter().any(|saved| has_sequence(unreceived_in(&saved.answer), sequence))
 }
 
 /// The sequence below which all packets of a path are finished and cleared: where answers tell of commitments, the least
@@ -228,66 +211,14 @@ fn lack_last_page(answers: &[Saved]) -> bool
     tell_commitments(answers) && !has_last_page(answers)
 }
 
-/// Refuses commitments without their last page; then, in the order of the answers and of their sequences, a packet with a
-/// commitment, from the path's first one on, of whose sending no answer tells, or of whose receiving none tells though it was
-/// received. The packets stand by kind and sequence.
-pub fn judge_pending<'a>(
-    setup: &'a PathSetup,
-    answers: &'a [Saved],
-    packets: &[SeenPacket<'a>],
-) -> Result<(), ImportError<'a>>
-    ensures accepted { IsSorted packet_cmp packets.now → OnOk result (HaveCommitted setup.entry.now answers.entry.now packets.now) }
-    ensures refused { IsSorted packet_cmp packets.now → IfErr result (IsWhyNotPending setup.entry.now answers.entry.now packets.now) }
-    ensures told { IfErr result (IsToldOf setup.entry.now.config.id) }
+/// Refuses commitments without their last page.
+pub fn judge_last_page<'a>(id: &'a str, answers: &[Saved]) -> Result<(), ImportError<'a>>
+    ensures accepted { OnOk result (lack_last_page answers.now ≡ false) }
+    ensures refused { IfErr result (IsOfLastPage answers.now) }
+    ensures told { IfErr result (IsToldOf id.entry.now) }
 {
     if lack_last_page(answers) {
-        let id = setup.config.id.as_str();
         return Err(ImportError::of(CheckErrorName::MissingCommitments, id));
     }
-    for saved in answers {
-        judge_committed(setup, answers, packets, saved)?;
-    }
     Ok(())
-}
-
-/// Refuses the first packet with a commitment, as one of the answers tells, that lacks an event.
-fn judge_committed<'a>(
-    setup: &'a PathSetup,
-    answers: &[Saved],
-    packets: &[SeenPacket<'a>],
-    saved: &'a Saved,
-) -> Result<(), ImportError<'a>>
-    ensures accepted { IsSorted packet_cmp packets.now → OnOk result (All (λ n. lack_of setup.entry.now.config.first answers.now packets.now n ≡ None) (committed_in saved.entry.now.answer)) }
-    ensures refused { IsSorted packet_cmp packets.now → IfErr result (IsLackIn setup.entry.now answers.now packets.now saved.entry.now) }
-    ensures told { IfErr result (IsToldOf setup.entry.now.config.id) }
-{
-    let id = setup.config.id.as_str();
-    let first = setup.config.first.get();
-    for sequence in committed_in(&saved.answer) {
-        if let Some(name) = lack_of(first, answers, packets, *sequence) {
-            return Err(ImportError::at(name, id, *sequence, saved.file.as_str()));
-        }
-    }
-    Ok(())
-}
-
-/// What a packet with a commitment lacks, if it lacks something: its sending, or else its receiving. The packets stand by
-/// kind and sequence.
-fn lack_of(
-    first: u64,
-    answers: &[Saved],
-    packets: &[SeenPacket<'_>],
-    sequence: u64,
-) -> Option<CheckErrorName>
-    ensures { IsSorted packet_cmp packets.now → result ≡ lack_of first answers.now packets.now sequence }
-{
-    if sequence < first {
-        None
-    } else if !was(packets, PacketKind::Sent, sequence) {
-        Some(CheckErrorName::MissingSend)
-    } else if !is_unreceived(answers, sequence) && !was(packets, PacketKind::Received, sequence) {
-        Some(CheckErrorName::MissingReceive)
-    } else {
-        None
-    }
 }

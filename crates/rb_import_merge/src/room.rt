@@ -20,12 +20,24 @@ pub fn surplus_of(chain: &SeenChain<'_>) -> usize
 pub fn with_room<'a>(alloc: Global, chain: SeenChain<'a>) -> Result<SeenChain<'a>, AllocError>
     ensures fits { IfOk result (λ fitting. FitsHeaders chain.entry.commits.items fitting.commits.items) }
     ensures sets { IfOk result (λ fitting. fitting.sets.sets.items ≡ chain.entry.sets.sets.items) }
+    ensures bare { IfOk result (λ fitting. fitting.bare.items ≡ chain.entry.bare.items) }
+    ensures unsigned { IfOk result (λ fitting. fitting.unsigned.items ≡ chain.entry.unsigned.items) }
 {
     let left_out = surplus_of(&chain);
-    let SeenChain { commits, sets } = chain;
+    let SeenChain {
+        commits,
+        bare,
+        unsigned,
+        sets,
+    } = chain;
     let (_, highest) = commits.split_at(left_out);
     let commits = Vec::from_slice(alloc, highest)?;
-    Ok(SeenChain { commits, sets })
+    Ok(SeenChain {
+        commits,
+        bare,
+        unsigned,
+        sets,
+    })
 }
 
 /// Of each client the stored records that the book of the chain that it tracks has room for.

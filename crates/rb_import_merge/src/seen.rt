@@ -4,16 +4,16 @@ ghost use Rattle.rb_import_check.specs.Errors.{IsToldOf, IsTooBig};
 ghost use Rattle.rb_import_merge.specs.Errors.{IsToldIn};
 ghost use Rattle.rb_import_merge.specs.Reasons.{HasReasonIn, IsOfDifference};
 ghost use Rattle.rb_import_merge.specs.Room.{AtEachPlace};
-ghost use Rattle.rb_import_merge.specs.Seen.{AgreesWithChain, AreSeenClients, AreSeenPaths, IsKeptSet, IsSeenChain, IsSeenIn, IsWrittenOf, answers_at, surplus_of};
+ghost use Rattle.rb_import_merge.specs.Seen.{AgreesWithChain, AreFiledIn, AreSeenClients, AreSeenPaths, IsKeptSet, IsSeenChain, IsSeenIn, IsWrittenOf, answers_at, surplus_of};
 
 use crate::kept::KeptSets;
-use crate::packets::{SeenPacket, seen_packets};
+use crate::path::{SeenPath, seen_path};
 use crate::room::{kept_records, surplus_of, with_room};
 use crate::sets::kept_sets;
 use rb_base::ChainId;
 use rb_import_check::{
-    ImportError, Saved, SavedAnswers, SeenChain, SeenClient, Stored, judge_records, seen_chain,
-    seen_client,
+    ImportError, Saved, SavedAnswers, SeenChain, SeenClient, Signatures, Stored, judge_records,
+    seen_chain, seen_client,
 };
 use rb_import_setup::{ClientSetup, Setup};
 use std::alloc::Global;
@@ -28,7 +28,7 @@ pub struct Seen<'a> {
     pub sets: Vec<KeptSets>,
     pub clients: Vec<SeenClient<'a>>,
     pub records: Vec<Vec<Stored<'a>>>,
-    pub paths: Vec<Vec<SeenPacket<'a>>>,
+    pub paths: Vec<SeenPath<'a>>,
 }
 
 impl Seen<'_> {
@@ -111,21 +111,22 @@ fn has_kept(chain: &SeenChain<'_>, kept: &KeptSets, hash: &[u8; 32]) -> bool
     }
 }
 
-/// What was seen of a setup's chains, clients and paths in their answers, as much of it as books have room for. The first
-/// problem is answered: of the chains, of the clients, then of the paths, each in order. `NoMemory` comes where a growth
+/// What was seen of a setup's chains, clients and paths in their answers, as much of it as books have room for; headers that
+/// too few signed, of these signatures, are left out. The first problem is answered: of the chains, of the clients, then of the paths, each in order. `NoMemory` comes where a growth
 /// is refused.
 #[tactic(auto, using(crate::proofs::Reasoning::not_too_big))]
 pub fn seen_in<'a>(
     alloc: Global,
     setup: &'a Setup,
+    signatures: Signatures,
     answers: &'a SavedAnswers,
 ) -> Result<Seen<'a>, ImportError<'a>>
-    ensures seen { IfOk result (IsSeenIn setup.entry.now answers.entry.now) }
+    ensures seen { IfOk result (IsSeenIn setup.entry.now signatures answers.entry.now) }
     ensures reason { IfErr result (HasReasonIn setup.entry.now answers.entry.now) }
     ensures names { IfErr result (λ e. ¬ IsTooBig e) }
     ensures told { IfErr result (IsToldIn setup.entry.now) }
 {
-    let fitting = seen_chains(alloc, setup, answers)?;
+    let fitting = seen_chains(alloc, setup, signatures, answers)?;
     let (chains, surplus) = fitting;
     let clients = seen_clients(alloc, setup, answers, chains.as_slice())?;
     let paths = seen_paths(alloc, setup, answers)?;
@@ -141,23 +142,25 @@ pub fn seen_in<'a>(
     })
 }
 
-/// What was seen of each chain, with the headers that its book has room for; and how many of each it hasn't.
+/// What was seen of each chain, with the signed headers that its book has room for; and how many of each it hasn't.
 #[tactic(auto, using(crate::proofs::Told::naming, crate::proofs::Reasoning::reasoning))]
 fn seen_chains<'a>(
     alloc: Global,
     setup: &'a Setup,
+    signatures: Signatures,
     answers: &'a SavedAnswers,
 ) -> Result<(Vec<SeenChain<'a>>, Vec<usize>), ImportError<'a>>
     ensures fit { IfOk result (λ seen. All (λ c. length c.commits.items ≤ 4096) seen.0.items) }
-    ensures seen { IfOk result (λ seen. AtEachPlace (λ i id chain. IsSeenChain id (answers_at answers.entry.now.chains.items i) chain) setup.entry.now.chains.items seen.0.items) }
-    ensures surplus { IfOk result (λ seen. AtEachPlace (λ i id surplus. surplus ≡ surplus_of (answers_at answers.entry.now.chains.items i)) setup.entry.now.chains.items seen.1.items) }
+    ensures seen { IfOk result (λ seen. AtEachPlace (λ i id chain. IsSeenChain id signatures (answers_at answers.entry.now.chains.items i) chain) setup.entry.now.chains.items seen.0.items) }
+    ensures surplus { IfOk result (λ seen. AtEachPlace (λ i chain surplus. surplus ≡ surplus_of (answers_at answers.entry.now.chains.items i) chain) seen.0.items seen.1.items) }
     ensures reason { IfErr result (HasReasonIn setup.entry.now answers.entry.now) }
     ensures told { IfErr result (IsToldIn setup.entry.now) }
 {
     let mut chains = Vec::with_capacity(alloc, setup.chains.len())?;
     let mut surplus = Vec::with_capacity(alloc, setup.chains.len())?;
     for (place, id) in setup.chains.iter().enumerate() {
-        let chain = seen_chain(alloc, id.as_str(), answers_at(&answers.chains, place))?;
+        let saved = answers_at(&answers.chains, place);
+        let chain = seen_chain(alloc, id.as_str(), signatures, saved)?;
         surplus.push(surplus_of(&chain))?;
         let fitting = with_room(alloc, chain)?;
         chains.push(fitting)?;
@@ -181,7 +184,7 @@ fn seen_clients<'a>(
     answers: &'a SavedAnswers,
     chains: &[SeenChain<'a>],
 ) -> Result<Vec<SeenClient<'a>>, ImportError<'a>>
-    requires { AtEachPlace (λ i id chain. IsSeenChain id (answers_at answers.now.chains.items i) chain) setup.now.chains.items chains.now }
+    requires { AtEachPlace (λ i id chain. AreFiledIn (answers_at answers.now.chains.items i) chain) setup.now.chains.items chains.now }
     ensures seen { IfOk result (λ clients. AreSeenClients setup.entry.now answers.entry.now.clients.items chains.now clients.items) }
     ensures reason { IfErr result (HasReasonIn setup.entry.now answers.entry.now) }
     ensures told { IfErr result (IsToldIn setup.entry.now) }
@@ -220,7 +223,7 @@ fn seen_paths<'a>(
     alloc: Global,
     setup: &'a Setup,
     answers: &'a SavedAnswers,
-) -> Result<Vec<Vec<SeenPacket<'a>>>, ImportError<'a>>
+) -> Result<Vec<SeenPath<'a>>, ImportError<'a>>
     ensures seen { IfOk result (λ paths. AreSeenPaths setup.entry.now answers.entry.now.paths.items paths.items) }
     ensures reason { IfErr result (HasReasonIn setup.entry.now answers.entry.now) }
     ensures told { IfErr result (IsToldIn setup.entry.now) }
@@ -229,7 +232,7 @@ fn seen_paths<'a>(
     for (place, path) in setup.paths.iter().enumerate() {
         let dest = chain_at(setup, path.config.destination);
         let saved = answers_at(&answers.paths, place);
-        let seen = seen_packets(alloc, path, dest, saved)?;
+        let seen = seen_path(alloc, path, dest, saved)?;
         paths.push(seen)?;
     }
     Ok(paths)

@@ -1,13 +1,13 @@
 use Rattle.std.proofs.Common.{ℕ, ◌+◌, ◌<◌, All, length, get_or, sym, subst}
 use Rattle.std.specs.Prelude.{Any, Contains}
 use Rattle.std.specs.List.{IsDistinct}
-use Rattle.std.specs.List.Sorted.{IsSorted}
+use Rattle.std.specs.List.Sorted.{IsStrictlySortedBy}
 use Rattle.std.proofs.lemmas.List.Sorted.{IsPermutation-sym}
 use Rattle.std.proofs.lemmas.Result.{err_from_is_err_and}
 use Rattle.rb_import_merge.specs.declared.packets.SeenPacket.{SeenPacket}
 use Rattle.rb_import_merge.specs.Packets.{StandsFor, are_of_one}
 use Rattle.rb_import_merge.specs.Lowest.{AreEqualSendings, AreTwoOf, packet_cmp}
-use Rattle.rb_import_merge.proofs.Lowering.{among, standing, once, rising, two_too}
+use Rattle.rb_import_merge.proofs.Lowering.{among, standing, once, strictly, two_too}
 use Rattle.rb_import_merge.proofs.lowest.lowest_of.Goals as goal
 
 pub returns-clause-among : goal.returns-clause-among
@@ -24,7 +24,7 @@ pub returns-clause-once : goal.returns-clause-once
 returns-clause-once c = subst (IsDistinct are_of_one) (sym c.firsts_of.ensures) (once c.in_ok-sorted.sorted.items c.in_ok-sorted.ensures.order)
 
 pub returns-clause-order : goal.returns-clause-order
-returns-clause-order c = subst (IsSorted packet_cmp) (sym c.firsts_of.ensures) (rising c.in_ok-sorted.sorted.items c.in_ok-sorted.ensures.order)
+returns-clause-order c = subst (IsStrictlySortedBy packet_cmp) (sym c.firsts_of.ensures) (strictly c.in_ok-sorted.sorted.items c.in_ok-sorted.ensures.order)
 
 pub returns-in_err-judge_sendings-clause-refused : goal.returns-in_err-judge_sendings-clause-refused
 returns-in_err-judge_sendings-clause-refused c =

@@ -1,7 +1,7 @@
 use Rattle.std.proofs.Common.{◌≡◌, Some, true, false, refl, rules, sym, subst, ap}
 use Rattle.rb_import_check.specs.declared.saved.Saved.{Saved}
 use Rattle.rb_import_merge.specs.Packets.{IsOfOtherFolder, is_on_packets}
-use Rattle.rb_import_merge.proofs.Committing.{at_end, one_more}
+use Rattle.rb_import_merge.proofs.Searching.{at_end, one_more}
 use Rattle.rb_import_merge.proofs.packets.judge_kinds.Goals as goal
 
 pub returns-then-not-is_on_packets-clause-refused : goal.returns-then-not-is_on_packets-clause-refused

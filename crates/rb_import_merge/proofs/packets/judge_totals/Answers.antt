@@ -1,7 +1,7 @@
 use Rattle.std.proofs.Common.{◌≡◌, true, false, map, refl, rules, sym, subst}
 use Rattle.rb_import_merge.specs.declared.packets.Page.{Page}
 use Rattle.rb_import_merge.specs.Totals.{IsCutShort, is_whole}
-use Rattle.rb_import_merge.proofs.Committing.{at_end, one_more}
+use Rattle.rb_import_merge.proofs.Searching.{at_end, one_more}
 use Rattle.rb_import_merge.proofs.packets.judge_totals.Goals as goal
 
 pub returns-then-not-is_whole-clause-refused : goal.returns-then-not-is_whole-clause-refused

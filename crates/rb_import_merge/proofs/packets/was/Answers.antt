@@ -1,6 +1,6 @@
 use Rattle.std.proofs.Common.{rules, ◌∙◌}
 use Rattle.std.proofs.lemmas.List.Sorted.{answers_always}
-use Rattle.rb_import_merge.proofs.Committing.{key, searched}
+use Rattle.rb_import_merge.proofs.Searching.{key, searched}
 use Rattle.rb_import_merge.proofs.packets.was.Goals as goal
 
 pub returns : goal.returns
