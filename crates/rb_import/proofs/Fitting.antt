@@ -10,6 +10,7 @@ use Rattle.rb_import_setup.specs.declared.setup.Setup.{Setup}
 use Rattle.rb_import_check.specs.declared.error.ImportError.{ImportError}
 use Rattle.rb_import_check.specs.declared.error.ImportError.TheVariants as errors
 use Rattle.rb_import_check.specs.declared.saved.SavedAnswers.{SavedAnswers}
+use Rattle.rb_import_check.specs.declared.signed.Signatures.{Signatures}
 use Rattle.rb_import_merge.specs.Reasons.{HasReasonIn}
 use Rattle.rb_import_merge.specs.Room.{AtEachPlace}
 use Rattle.rb_import_merge.specs.declared.kept.KeptSets.{KeptSets}
@@ -53,6 +54,6 @@ unfolding IsFitting
 fits_in_part setup answers seen whole text sets is big needed part = inr (whole, is, big, sets, needed, part)
 
 -- a reason in the answers is one of the script
-pub of_answers : (setup : Setup) (answers : SavedAnswers) (e : ImportError) → HasReasonIn setup answers e → HasReasonOfScript setup answers e
-of_answers setup answers (errors.CheckError p) w = inl w
-of_answers setup answers errors.NoMemory w = tt
+pub of_answers : (setup : Setup) (signatures : Signatures) (answers : SavedAnswers) (e : ImportError) → HasReasonIn setup answers e → HasReasonOfScript setup signatures answers e
+of_answers setup signatures answers (errors.CheckError p) w = inl w
+of_answers setup signatures answers errors.NoMemory w = tt

@@ -8,3 +8,4 @@ pub mod Tallying
 pub mod Firsts
 pub mod Fitting
 pub mod Crediting
+pub mod Sizing

@@ -5,5 +5,6 @@ pub mod Starts
 pub mod Parts
 pub mod Finding
 pub mod Tallies
+pub mod Shares
 pub mod Scripts
 pub mod Reasons

@@ -6,13 +6,14 @@ ghost use Rattle.rb_import_merge.specs.Errors.{IsToldIn};
 ghost use Rattle.rb_import_merge.specs.Seen.{HoldsOfSeen};
 ghost use Rattle.rb_import_notices.specs.Whole.{AreNoticesOf};
 ghost use Rattle.rb_import.specs.Openings.{Opens, hold_verdicts};
-ghost use Rattle.rb_import.specs.Reasons.{HasReasonOfScript};
+ghost use Rattle.rb_import.specs.Reasons.{HasReasonOfScript, NamesLargest};
 ghost use Rattle.rb_import.specs.Scripts.{IsFitting, IsText, IsTooLong};
 ghost use Rattle.rb_import.specs.Texts.{heading};
 
 use crate::needed::needed_sets;
 use crate::opening::opening_of;
-use rb_import_check::{CheckErrorName, ImportError, SavedAnswers};
+use crate::shares::largest_id;
+use rb_import_check::{CheckErrorName, ImportError, SavedAnswers, Signatures};
 use rb_import_merge::{Seen, seen_in};
 use rb_import_notices::{Notices, notices_of};
 use rb_import_setup::Setup;
@@ -31,26 +32,29 @@ pub struct Composed<'a> {
 /// which begins with a line that says who verified signatures, or that nobody did; and what isn't among the
 /// answers, though the script stands without it, or isn't written, since no book has room for it. A script that
 /// would be too big has the validator sets alone that its plans need. The first problem is answered: of the chains,
-/// of the clients, then of the paths, each in order, then `ScriptTooBig`, where those sets alone are too many. `NoMemory`
-/// comes where a growth is refused.
+/// of the clients, then of the paths, each in order, then `ScriptTooBig`, where those sets alone are too many, of the
+/// client that brings the most. `NoMemory` comes where a growth is refused.
 pub fn compose<'a>(
     alloc: Global,
     setup: &'a Setup,
+    signatures: Signatures,
     answers: &'a SavedAnswers,
 ) -> Result<Composed<'a>, ImportError<'a>>
     ensures size { IfOk result (λ script. length (string_bytes script.text) ≤ max_bytes) }
     ensures opening { IfOk result (λ script. Opens (hold_verdicts answers.entry.now) (string_bytes script.text)) }
-    ensures script { IfOk result (λ script. HoldsOfSeen setup.entry.now answers.entry.now (λ seen.
+    ensures script { IfOk result (λ script. HoldsOfSeen setup.entry.now signatures answers.entry.now (λ seen.
         AreNoticesOf setup.entry.now answers.entry.now seen script.notices × IsFitting setup.entry.now answers.entry.now seen (string_bytes script.text))) }
-    ensures reason { IfErr result (HasReasonOfScript setup.entry.now answers.entry.now) }
+    ensures reason { IfErr result (HasReasonOfScript setup.entry.now signatures answers.entry.now) }
     ensures told { IfErr result (IsToldIn setup.entry.now) }
-    ensures big { IfErr result (λ e. IsTooBig e → HoldsOfSeen setup.entry.now answers.entry.now (λ seen. IsTooLong setup.entry.now answers.entry.now seen)) }
+    ensures big { IfErr result (λ e. IsTooBig e → HoldsOfSeen setup.entry.now signatures answers.entry.now (λ seen.
+        IsTooLong setup.entry.now answers.entry.now seen × NamesLargest setup.entry.now seen e)) }
 {
-    let seen = seen_in(alloc, setup, answers)?;
+    let seen = seen_in(alloc, setup, signatures, answers)?;
     let notices = notices_of(alloc, setup, answers, &seen)?;
+    let largest = largest_id(alloc, setup, &seen)?;
     let text = fitting_text(alloc, setup, answers, seen)?;
     if text.len() > MAX_BYTES {
-        return Err(ImportError::of(CheckErrorName::ScriptTooBig, "-"));
+        return Err(ImportError::of(CheckErrorName::ScriptTooBig, largest));
     }
     Ok(Composed { text, notices })
 }

@@ -6,6 +6,7 @@ mod composing;
 mod needed;
 mod opening;
 mod order;
+mod shares;
 mod starts;
 mod steps;
 

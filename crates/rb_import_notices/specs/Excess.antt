@@ -1,13 +1,12 @@
 -- What there is no room for: headers and sets of a chain, records of a client, packets of a path.
-use Rattle.std.specs.Prelude.{◌≡◌, ◌<◌, ◌-◌, ℕ, Bool, true, false, not, List, [], Vec, Option, Some, None, IsSomeAnd, count_by, filter, get_or, slice_get}
-use Rattle.std.specs.Global.{Global}
-use Rattle.rb_import_answers.specs.declared.packets.PacketKind.{PacketKind}
+use Rattle.std.specs.Prelude.{◌≡◌, ◌<◌, ℕ, Bool, not, List, [], Option, Some, None, IsSome, count_by, get_or, slice_get}
 use Rattle.rb_import_setup.specs.declared.setup.ClientSetup.{ClientSetup}
 use Rattle.rb_import_setup.specs.declared.setup.PathSetup.{PathSetup}
 use Rattle.rb_import_setup.specs.declared.setup.Setup.{Setup}
 use Rattle.rb_import_check.specs.declared.chain.Commit.{Commit}
 use Rattle.rb_import_check.specs.declared.chain.SeenChain.{SeenChain}
-use Rattle.rb_import_merge.specs.declared.packets.SeenPacket.{SeenPacket}
+use Rattle.rb_import_merge.specs.declared.surplus.Surplus.{Surplus}
+use Rattle.rb_import_merge.specs.declared.path.SeenPath.{SeenPath}
 use Rattle.rb_import_merge.specs.declared.seen.Seen.{Seen}
 use Rattle.rb_import_merge.specs.Seen.{is_written, left_out, sets_left_out}
 use Rattle.rb_import_notices.specs.declared.excess.TooManyHeaders.{TooManyHeaders}
@@ -73,34 +72,22 @@ TellExcessRecords setup seen notices = AreNotices (λ place c. LeavesRecords see
 
 -- ---- packets
 
-abbrev is_sending : PacketKind → Bool
-is_sending PacketKind.Sent = true
-is_sending other = false
+abbrev surplus_in : Option SeenPath → Option Surplus
+surplus_in (Some path) = path.surplus
+surplus_in None = None
 
--- whether a packet was sent
-abbrev pub is_sent : SeenPacket → Bool
-is_sent p = is_sending p.event.now.kind
+-- the packets for which the path at a place has no room, if there are some
+abbrev pub surplus_at : Seen → ℕ → Option Surplus
+surplus_at seen place = surplus_in (slice_get seen.paths.items place)
 
--- those of these that were sent, and how many they are
-abbrev pub sent_of : List SeenPacket → List SeenPacket
-sent_of packets = filter is_sent packets
-
-abbrev pub sent_in : List SeenPacket → ℕ
-sent_in packets = count_by is_sent packets
-
--- of the path at a place more packets were sent than a path holds
+-- the path at a place has no room for some of its packets
 abbrev pub LeavesPackets : Seen → ℕ → Type 0
-LeavesPackets seen place = IsSomeAnd (slice_get seen.paths.items place) (λ (packets : Vec SeenPacket Global). 4096 < sent_in packets.items)
+LeavesPackets seen place = IsSome (surplus_at seen place)
 
--- so many of these packets were sent, and this is the sequence of the first of the last 4,096 of them
-abbrev pub TellsSent : List SeenPacket → ℕ → ℕ → Type 0
-TellsSent packets sent first = (sent ≡ sent_in packets) × IsSomeAnd (slice_get (sent_of packets) (sent - 4096)) (λ (p : SeenPacket). first ≡ p.event.now.sequence)
-
--- it is told of this path, and of its packets
+-- it is told of this path, and of those packets
 abbrev pub SaysPackets : Seen → ℕ → PathSetup → TooManyPackets → Type 0
-SaysPackets seen place path notice =
-    (notice.path.now ≡ path.config.id) × IsSomeAnd (slice_get seen.paths.items place) (λ (packets : Vec SeenPacket Global). TellsSent packets.items notice.sent notice.first)
+SaysPackets seen place path notice = (notice.path.now ≡ path.config.id) × (surplus_at seen place ≡ Some notice.surplus)
 
--- a notice for each path of the setup of which more packets were sent than a path holds
+-- a notice for each path of the setup that has no room for some of its packets
 unfoldable pub TellExcessPackets : Setup → Seen → List TooManyPackets → Type 0
 TellExcessPackets setup seen notices = AreNotices (λ place path. LeavesPackets seen place) (SaysPackets seen) setup.paths.items notices

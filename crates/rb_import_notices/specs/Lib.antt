@@ -2,10 +2,14 @@ pub mod Canonical
 pub mod Channels
 pub mod Counterparties
 pub mod Excess
+pub mod Headers
 pub mod Latest
 pub mod Missing
 pub mod Notices
+pub mod Packets
+pub mod Pages
 pub mod Stale
+pub mod Starts
 pub mod Unsearched
 pub mod Unusable
 pub mod Verified

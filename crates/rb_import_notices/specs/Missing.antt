@@ -11,6 +11,8 @@ use Rattle.rb_import_check.specs.declared.client.Stored.{Stored}
 use Rattle.rb_import_check.specs.declared.sets.SeenSet.{SeenSet}
 use Rattle.rb_import_merge.specs.declared.seen.Seen.{Seen}
 use Rattle.rb_import_merge.specs.Seen.{LacksHeaders, is_written}
+use Rattle.rb_import_notices.specs.declared.starts.Starts.{Starts}
+use Rattle.rb_import_notices.specs.Starts.{is_start, starts_at}
 use Rattle.rb_import_notices.specs.declared.missing.MissingHeaders.{MissingHeaders}
 use Rattle.rb_import_notices.specs.declared.missing.MissingNextSet.{MissingNextSet}
 use Rattle.rb_import_notices.specs.Notices.{AreNotices}
@@ -36,14 +38,15 @@ abbrev pub was_seen : Option SeenChain → List ℕ → Bool
 was_seen (Some chain) hash = list_any (λ (s : SeenSet). bytes_eq (set_hash s.set) hash) chain.sets.sets.items
 was_seen None hash = false
 
--- whether no answer on the chain at a place has the set that a record names as its next
-abbrev pub is_unseen : Seen → ℕ → Stored → Bool
-is_unseen seen chain s = not (was_seen (slice_get seen.chains.items chain) s.state.now.next)
+-- whether a record is of these heights, and no answer on the chain at a place has the set that it names as its next
+abbrev pub is_unseen : Seen → ℕ → Starts → Stored → Bool
+is_unseen seen chain starts s = is_start starts s && not (was_seen (slice_get seen.chains.items chain) s.state.now.next)
 
--- whether that set was seen, and isn't written
-abbrev pub is_left_out : Seen → ℕ → Stored → Bool
-is_left_out seen chain s =
-    was_seen (slice_get seen.chains.items chain) s.state.now.next
+-- whether it is, and that set was seen, and isn't written
+abbrev pub is_left_out : Seen → ℕ → Starts → Stored → Bool
+is_left_out seen chain starts s =
+    is_start starts s
+    && was_seen (slice_get seen.chains.items chain) s.state.now.next
     && not (is_written (slice_get seen.chains.items chain) (slice_get seen.sets.items chain) s.state.now.next)
 
 abbrev items_of : Option (Vec Stored Global) → List Stored
@@ -58,33 +61,35 @@ written_at seen place = items_of (slice_get seen.records.items place)
 abbrev pub next_height : Stored → ℕ
 next_height s = s.state.now.height + 1
 
--- of how many of these no answer on the chain at another place has the next set; the height of that set of the highest of them; and of how many the
--- next set was seen, and isn't written
-abbrev pub unseen_at : Seen → ℕ → ℕ → ℕ
-unseen_at seen place chain = count_by (is_unseen seen chain) (written_at seen place)
+-- of how many of these, of some heights, no answer on the chain at another place has the next set; the height of that set of the highest of them; and
+-- of how many the next set was seen, and isn't written
+abbrev pub unseen_at : Seen → ℕ → ℕ → Starts → ℕ
+unseen_at seen place chain starts = count_by (is_unseen seen chain starts) (written_at seen place)
 
-abbrev pub next_in : Seen → ℕ → List Stored → Option ℕ
-next_in seen chain records = reduce max (map next_height (filter (is_unseen seen chain) records))
+abbrev pub next_in : Seen → ℕ → Starts → List Stored → Option ℕ
+next_in seen chain starts records = reduce max (map next_height (filter (is_unseen seen chain starts) records))
 
-abbrev pub next_unseen : Seen → ℕ → ℕ → Option ℕ
-next_unseen seen place chain = next_in seen chain (written_at seen place)
+abbrev pub next_unseen : Seen → ℕ → ℕ → Starts → Option ℕ
+next_unseen seen place chain starts = next_in seen chain starts (written_at seen place)
 
-abbrev pub left_out_at : Seen → ℕ → ℕ → ℕ
-left_out_at seen place chain = count_by (is_left_out seen chain) (written_at seen place)
+abbrev pub left_out_at : Seen → ℕ → ℕ → Starts → ℕ
+left_out_at seen place chain starts = count_by (is_left_out seen chain starts) (written_at seen place)
 
--- the client at a place tracks a chain of the setup, and the next sets of some of its written records aren't written
+-- the client at a place tracks a chain of the setup, and the next sets of some of its written records that could be of use to a plan aren't written
 abbrev pub LacksNext : Setup → Seen → ℕ → ClientSetup → Type 0
-LacksNext setup seen place c = (c.tracks < length setup.chains.items) × (0 < unseen_at seen place c.tracks + left_out_at seen place c.tracks)
+LacksNext setup seen place c =
+    (c.tracks < length setup.chains.items)
+    × (0 < unseen_at seen place c.tracks (starts_at setup seen place c) + left_out_at seen place c.tracks (starts_at setup seen place c))
 
 -- it is told of this client, of the chain that it tracks, of how many of its records each is so, and what to fetch for the highest
 abbrev pub SaysNext : Setup → Seen → ℕ → ClientSetup → MissingNextSet → Type 0
 SaysNext setup seen place c notice =
     (notice.client.now ≡ c.id)
     × (slice_get setup.chains.items c.tracks ≡ Some notice.chain.now)
-    × (notice.unseen ≡ unseen_at seen place c.tracks)
-    × (notice.next ≡ next_unseen seen place c.tracks)
-    × (notice.left_out ≡ left_out_at seen place c.tracks)
+    × (notice.unseen ≡ unseen_at seen place c.tracks (starts_at setup seen place c))
+    × (notice.next ≡ next_unseen seen place c.tracks (starts_at setup seen place c))
+    × (notice.left_out ≡ left_out_at seen place c.tracks (starts_at setup seen place c))
 
--- a notice for each client of the setup of whose written records some next sets aren't written
+-- a notice for each client of the setup of whose written records, that could be of use to a plan, some next sets aren't written
 unfoldable pub TellNextSets : Setup → Seen → List MissingNextSet → Type 0
 TellNextSets setup seen notices = AreNotices (LacksNext setup seen) (SaysNext setup seen) setup.clients.items notices

@@ -6,6 +6,7 @@ use Rattle.rb_script_toml.specs.KeyPaths.{shown}
 use Rattle.rb_import_answers.specs.declared.query.Query.{Query}
 use Rattle.rb_import_answers.specs.Queries.{query_path}
 use Rattle.rb_import_check.specs.declared.saved.Saved.{Saved}
+use Rattle.rb_import_merge.specs.declared.left_out.PacketLack.{PacketLack}
 use Rattle.rb_import_merge.specs.declared.packets.Searches.{Searches}
 use Rattle.rb_import_notices.specs.Lines.{lines_of}
 use Rattle.rb_import_notices.specs.Passed.{is_to}
@@ -16,10 +17,14 @@ use Rattle.rb_import_notices.specs.declared.excess.TooManyHeaders.{TooManyHeader
 use Rattle.rb_import_notices.specs.declared.excess.TooManyPackets.{TooManyPackets}
 use Rattle.rb_import_notices.specs.declared.excess.TooManyRecords.{TooManyRecords}
 use Rattle.rb_import_notices.specs.declared.excess.TooManySets.{TooManySets}
+use Rattle.rb_import_notices.specs.declared.headers.MissingSets.{MissingSets}
+use Rattle.rb_import_notices.specs.declared.headers.UnsignedHeaders.{UnsignedHeaders}
 use Rattle.rb_import_notices.specs.declared.latest.MissingLatest.{MissingLatest}
 use Rattle.rb_import_notices.specs.declared.missing.MissingHeaders.{MissingHeaders}
 use Rattle.rb_import_notices.specs.declared.missing.MissingNextSet.{MissingNextSet}
 use Rattle.rb_import_notices.specs.declared.notice.Notices.{Notices}
+use Rattle.rb_import_notices.specs.declared.packets.PacketLeftOut.{PacketLeftOut}
+use Rattle.rb_import_notices.specs.declared.pages.MissingStates.{MissingStates}
 use Rattle.rb_import_notices.specs.declared.passed.PassedOver.{PassedOver}
 use Rattle.rb_import_notices.specs.declared.stale.NothingFresh.{NothingFresh}
 use Rattle.rb_import_notices.specs.declared.unsearched.MissingSearches.{MissingSearches}
@@ -27,6 +32,7 @@ use Rattle.rb_import_notices.specs.declared.unusable.FutureHeaders.{FutureHeader
 use Rattle.rb_import_notices.specs.declared.unusable.NothingTrusted.{NothingTrusted}
 use Rattle.rb_import_notices.specs.declared.unusable.UnseenGoal.{UnseenGoal}
 use Rattle.rb_import_notices.specs.declared.verified.NotVerified.{NotVerified}
+use Rattle.rb_import_notices.specs.declared.verified.UnverifiedCommits.{UnverifiedCommits}
 
 abbrev pub too_many_headers_text : TooManyHeaders → List ℕ
 too_many_headers_text n =
@@ -59,18 +65,85 @@ too_many_packets_text n =
     codes "notice TooManyPackets at "
     ++ n.path.now
     ++ codes ": "
-    ++ decimal n.sent
-    ++ codes " packets were sent, and a path holds 4,096, so that the later ones are refused; if all packets before "
-    ++ decimal n.first
+    ++ decimal n.surplus.count
+    ++ codes " of its packets, from "
+    ++ decimal n.surplus.first
+    ++ codes " on, are left out, since a path holds 4,096; if all packets before "
+    ++ decimal n.surplus.fitting_from
     ++ codes " are finished, give the path first = "
-    ++ decimal n.first
+    ++ decimal n.surplus.fitting_from
     ++ codes " in the setup"
+
+-- ---- packets that are left out
+
+unfoldable pub lack_name : PacketLack → List ℕ
+lack_name PacketLack.Send = codes "MissingSend"
+lack_name PacketLack.Receive = codes "MissingReceive"
+lack_name PacketLack.Receipt = codes "MissingReceipt"
+
+unfoldable pub lack_words : PacketLack → List ℕ
+lack_words PacketLack.Send = codes "no answer has the packet's send_packet"
+lack_words PacketLack.Receive = codes "no answer has the packet's recv_packet"
+lack_words PacketLack.Receipt = codes "no answer tells whether the packet was received"
+
+unfoldable pub lack_remedy : PacketLack → List ℕ
+lack_remedy PacketLack.Send = codes "/tx_search with it (where the node keeps it no more, set the path's `first` above the packet)"
+lack_remedy PacketLack.Receive = codes "/tx_search with it"
+lack_remedy PacketLack.Receipt = codes "unreceived_packets of the destination, with this packet among them,"
+
+abbrev pub packet_left_out_by : List ℕ → List ℕ → List ℕ → PacketLeftOut → List ℕ
+packet_left_out_by name words remedy n =
+    codes "notice "
+    ++ name
+    ++ codes " at "
+    ++ n.path.now
+    ++ codes " "
+    ++ decimal n.packet.sequence
+    ++ codes ": "
+    ++ n.packet.file.now
+    ++ codes ": "
+    ++ words
+    ++ codes ", so that it is left out, on an ordered path with those behind it; fetch "
+    ++ remedy
+    ++ codes " into files *.json of the folder "
+    ++ n.path.now
+
+abbrev pub packet_left_out_text : PacketLeftOut → List ℕ
+packet_left_out_text n = packet_left_out_by (lack_name n.packet.lack) (lack_words n.packet.lack) (lack_remedy n.packet.lack) n
+
+-- ---- headers
+
+abbrev pub missing_sets_text : MissingSets → List ℕ
+missing_sets_text n =
+    codes "notice MissingSets at "
+    ++ n.chain.now
+    ++ codes " "
+    ++ decimal n.highest
+    ++ codes ": "
+    ++ decimal n.headers
+    ++ codes " headers, this the highest, are left out, since no answers have all validators of their sets; fetch all pages of /validators?height="
+    ++ decimal n.highest
+    ++ codes "&per_page=100 into files *.json of the folder "
+    ++ n.chain.now
+
+abbrev pub unsigned_headers_text : UnsignedHeaders → List ℕ
+unsigned_headers_text n =
+    codes "notice UnsignedHeaders at "
+    ++ n.chain.now
+    ++ codes " "
+    ++ decimal n.highest
+    ++ codes ": "
+    ++ decimal n.headers
+    ++ (codes " headers, this the highest, are left out, since the votes that count for them are not more than two thirds of their "
+    ++ codes "validators' power; fetch /commit?height=")
+    ++ decimal n.highest
+    ++ codes " again, from another node if it stays; with --verified run tools/verify_commits first"
 
 abbrev pub missing_headers_text : MissingHeaders → List ℕ
 missing_headers_text n =
     codes "notice MissingHeaders at "
     ++ n.chain.now
-    ++ (codes ": no answer is of /commit, so that there is nothing to update to; fetch /commit and /validators of some heights into "
+    ++ (codes ": no header of it is written, so that there is nothing to update to; fetch /commit and /validators of some heights into "
     ++ codes "files *.json of the folder ")
     ++ n.chain.now
 
@@ -121,6 +194,12 @@ missing_latest_text n =
     ++ codes "files *.json of the folder ")
     ++ n.client.now
 
+abbrev pub missing_states_text : MissingStates → List ℕ
+missing_states_text n =
+    codes "notice MissingStates at " ++ n.client.now ++ codes " " ++ decimal n.page
+    ++ codes ": the answers have a later page of the client's consensus states, and not this one; delete the files consensus_states-*.json of higher "
+    ++ codes "numbers in the folder " ++ n.client.now ++ codes ", and fetch the pages from this one on"
+
 abbrev pub not_verified_text : NotVerified → List ℕ
 not_verified_text n =
     codes "notice NotVerified at "
@@ -128,6 +207,13 @@ not_verified_text n =
     ++ codes ": verdicts.json has no verdict on the commits of "
     ++ decimal n.unverified
     ++ codes " headers, so that their signatures were not verified; run tools/verify_commits again"
+
+abbrev pub unverified_commits_text : UnverifiedCommits → List ℕ
+unverified_commits_text n =
+    codes "notice UnverifiedCommits at "
+    ++ n.chain.now
+    ++ (codes ": its folder has no verdicts.json, so that signatures count as the node gave them; run tools/verify_commits, and import with "
+    ++ codes "--verified")
 
 unfoldable pub expired_text : ℕ → List ℕ
 expired_text n =
@@ -296,12 +382,19 @@ passed_over_text n =
 
 -- ---- all notices
 
+abbrev pub header_lines : Notices → List ℕ
+header_lines n =
+    lines_of missing_headers_text n.headers.items
+    ++ lines_of missing_sets_text n.sets.items
+    ++ lines_of unsigned_headers_text n.unsigned.items
+
 abbrev pub excess_lines : Notices → List ℕ
 excess_lines n =
     lines_of too_many_headers_text n.too_many_headers.items
     ++ lines_of too_many_sets_text n.too_many_sets.items
     ++ lines_of too_many_records_text n.too_many.items
     ++ lines_of too_many_packets_text n.too_many_packets.items
+    ++ lines_of packet_left_out_text n.packets.items
 
 abbrev pub unusable_lines : Notices → List ℕ
 unusable_lines n =
@@ -311,12 +404,16 @@ unusable_lines n =
     ++ lines_of nothing_fresh_text n.stale.items
 
 abbrev pub commit_lines : Notices → List ℕ
-commit_lines n = lines_of not_canonical_text n.not_canonical.items ++ lines_of not_verified_text n.not_verified.items
+commit_lines n =
+    lines_of not_canonical_text n.not_canonical.items
+    ++ lines_of not_verified_text n.not_verified.items
+    ++ lines_of unverified_commits_text n.unverified.items
 
 abbrev pub unsure_lines : Notices → List ℕ
 unsure_lines n =
     lines_of missing_next_set_text n.next_sets.items
     ++ lines_of missing_latest_text n.latest.items
+    ++ lines_of missing_states_text n.states.items
     ++ lines_of missing_searches_text n.searches.items
     ++ lines_of several_counterparties_text n.counterparties.items
     ++ lines_of other_channel_text n.channels.items
@@ -330,5 +427,4 @@ passed_over_lines n =
 
 -- what isn't there or isn't written, what can't be used, what isn't sure, what isn't needed
 abbrev pub notices_text : Notices → List ℕ
-notices_text n =
-    lines_of missing_headers_text n.headers.items ++ excess_lines n ++ unusable_lines n ++ unsure_lines n ++ passed_over_lines n
+notices_text n = header_lines n ++ excess_lines n ++ unusable_lines n ++ unsure_lines n ++ passed_over_lines n

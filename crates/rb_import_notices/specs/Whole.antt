@@ -7,19 +7,26 @@ use Rattle.rb_import_notices.specs.Canonical.{TellUncanonical}
 use Rattle.rb_import_notices.specs.Channels.{TellChannels}
 use Rattle.rb_import_notices.specs.Counterparties.{TellCounterparties}
 use Rattle.rb_import_notices.specs.Excess.{TellExcessHeaders, TellExcessPackets, TellExcessRecords, TellExcessSets}
+use Rattle.rb_import_notices.specs.Headers.{TellSets, TellUnsigned}
 use Rattle.rb_import_notices.specs.Latest.{TellLatest}
 use Rattle.rb_import_notices.specs.Missing.{TellHeaders, TellNextSets}
+use Rattle.rb_import_notices.specs.Packets.{TellLeftOut}
+use Rattle.rb_import_notices.specs.Pages.{TellPages}
 use Rattle.rb_import_notices.specs.Passed.{TellOthersOfChains, TellOthersOfClients, TellOthersOfPaths}
 use Rattle.rb_import_notices.specs.Stale.{TellFresh}
 use Rattle.rb_import_notices.specs.Unsearched.{TellSearches}
 use Rattle.rb_import_notices.specs.Unusable.{TellFuture, TellGoals, TellUntrusted}
-use Rattle.rb_import_notices.specs.Verified.{TellUnverified}
+use Rattle.rb_import_notices.specs.Verified.{TellUnchecked, TellUnverified}
 
--- they tell what isn't among the answers: headers, next sets, records of latest heights, searches
+-- they tell what is left out by itself: headers without sets, headers that too few validators signed, packets on which answers are lacking
+abbrev pub TellLeft : Setup → Seen → Notices → Type 0
+TellLeft setup seen n = TellSets setup seen n.sets.items × TellUnsigned setup seen n.unsigned.items × TellLeftOut setup seen n.packets.items
+
+-- they tell what isn't among the answers: headers, next sets, records of latest heights, pages of records, searches
 abbrev pub TellMissing : Setup → SavedAnswers → Seen → Notices → Type 0
 TellMissing setup answers seen n =
     TellHeaders setup seen n.headers.items × TellNextSets setup seen n.next_sets.items × TellLatest setup seen n.latest.items
-    × TellSearches setup answers.paths.items n.searches.items
+    × TellPages setup answers.clients.items n.states.items × TellSearches setup answers.paths.items n.searches.items
 
 -- they tell what there is no room for: headers, sets, records, packets
 abbrev pub TellExcess : Setup → Seen → Notices → Type 0
@@ -43,9 +50,10 @@ TellPassed setup answers n =
     TellOthersOfChains setup answers.chains.items n.others_of_chains.items × TellOthersOfClients setup answers.clients.items n.others_of_clients.items
     × TellOthersOfPaths setup answers.paths.items n.others_of_paths.items
 
--- they tell of commits without a verdict, where their chain has some
+-- they tell of commits without a verdict, where their chain has some, and of chains that have none
 abbrev pub TellNotVerified : Setup → SavedAnswers → Seen → Notices → Type 0
-TellNotVerified setup answers seen n = TellUnverified setup answers.chains.items seen n.not_verified.items
+TellNotVerified setup answers seen n =
+    TellUnverified setup answers.chains.items seen n.not_verified.items × TellUnchecked setup answers.chains.items seen n.unverified.items
 
 -- they tell of commits that aren't canonical yet
 abbrev pub TellNotCanonical : Setup → Seen → Notices → Type 0
@@ -54,5 +62,5 @@ TellNotCanonical setup seen n = TellUncanonical setup seen n.not_canonical.items
 -- these are all notices of a setup, its answers and what was seen in them
 abbrev pub AreNoticesOf : Setup → SavedAnswers → Seen → Notices → Type 0
 AreNoticesOf setup answers seen n =
-    TellMissing setup answers seen n × TellExcess setup seen n × TellUnusable setup seen n × TellUnsure setup answers n
+    TellLeft setup seen n × TellMissing setup answers seen n × TellExcess setup seen n × TellUnusable setup seen n × TellUnsure setup answers n
     × TellPassed setup answers n × TellNotVerified setup answers seen n × TellNotCanonical setup seen n

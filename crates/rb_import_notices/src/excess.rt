@@ -1,10 +1,9 @@
 //! Notices of what there is no room for: headers and sets of a chain, records of a client, packets of a path.
-ghost use Rattle.std.specs.Prelude.{◌≡◌, IfOk, MatchOption, slice_get};
-ghost use Rattle.rb_import_notices.specs.Excess.{LeavesHeaders, LeavesPackets, LeavesRecords, LeavesSets, SaysHeaders, SaysPackets, SaysRecords, SaysSets, TellExcessHeaders, TellExcessPackets, TellExcessRecords, TellExcessSets, headers_without_set, is_sent, lacks_set, sent_in, sent_of};
+ghost use Rattle.std.specs.Prelude.{◌≡◌, IfOk, MatchOption};
+ghost use Rattle.rb_import_notices.specs.Excess.{LeavesHeaders, LeavesPackets, LeavesRecords, LeavesSets, SaysHeaders, SaysPackets, SaysRecords, SaysSets, TellExcessHeaders, TellExcessPackets, TellExcessRecords, TellExcessSets, headers_without_set, lacks_set, surplus_at};
 
-use rb_import_answers::PacketKind;
 use rb_import_check::Commit;
-use rb_import_merge::{Seen, SeenPacket};
+use rb_import_merge::{Seen, Surplus};
 use rb_import_setup::{ClientSetup, PathSetup, Setup};
 use std::alloc::{AllocError, Global};
 use std::fmt;
@@ -81,13 +80,11 @@ impl fmt::Display for TooManyRecords<'_> {
     }
 }
 
-/// A path, of which so many packets were sent, more than a path holds, so that the others are refused as the script
-/// runs; and the sequence of the first of the last ones that it holds.
+/// A path, and the packets of it for which it has no room.
 #[derive(Clone, Copy)]
 pub struct TooManyPackets<'a> {
     pub path: &'a str,
-    pub sent: usize,
-    pub first: u64,
+    pub surplus: Surplus,
 }
 
 impl fmt::Display for TooManyPackets<'_> {
@@ -98,17 +95,15 @@ impl fmt::Display for TooManyPackets<'_> {
 
     fn fmt<W: fmt::Write>(&self, f: &mut fmt::Formatter<W>) -> fmt::Result {
         let path = self.path;
-        let sent = self.sent;
-        let first = self.first;
+        let count = self.surplus.count;
+        let first = self.surplus.first;
+        let fitting = self.surplus.fitting_from;
         write!(
             f,
-            "notice TooManyPackets at {path}: {sent} packets were sent, and a path holds 4,096, so that the later ones are refused; if all packets before {first} are finished, give the path first = {first} in the setup"
+            "notice TooManyPackets at {path}: {count} of its packets, from {first} on, are left out, since a path holds 4,096; if all packets before {fitting} are finished, give the path first = {fitting} in the setup"
         )
     }
 }
-
-/// How many packets a path holds.
-const PATH_PACKETS: usize = 4096;
 
 /// The chains of which headers are left out.
 pub fn too_many_headers<'a>(
@@ -223,7 +218,7 @@ fn records_at<'a>(
     }
 }
 
-/// The paths of which more packets were sent than a path holds.
+/// The paths that have no room for some of their packets.
 pub fn too_many_packets<'a>(
     alloc: Global,
     setup: &'a Setup,
@@ -240,50 +235,21 @@ pub fn too_many_packets<'a>(
     Ok(found)
 }
 
-/// The path at a place, where more of its packets were sent than a path holds.
+/// The path at a place, where it has no room for some of its packets.
 fn packets_at<'a>(seen: &Seen<'_>, place: usize, path: &'a PathSetup) -> Option<TooManyPackets<'a>>
     ensures { MatchOption result (¬ LeavesPackets seen.now place) (λ n. LeavesPackets seen.now place × SaysPackets seen.now place path.entry.now n) }
 {
-    let packets = seen.paths.get(place)?;
-    let sent = count_sent(packets.as_slice());
-    if sent <= PATH_PACKETS {
-        return None;
+    let surplus = surplus_at(seen, place)?;
+    let path = path.config.id.as_str();
+    Some(TooManyPackets { path, surplus })
+}
+
+/// The packets for which the path at a place has no room, if there are some.
+fn surplus_at(seen: &Seen<'_>, place: usize) -> Option<Surplus>
+    ensures { result ≡ surplus_at seen.now place }
+{
+    match seen.paths.get(place) {
+        Some(path) => path.surplus,
+        None => None,
     }
-    let first = sequence_after(packets.as_slice(), sent - PATH_PACKETS);
-    Some(TooManyPackets {
-        path: path.config.id.as_str(),
-        sent,
-        first,
-    })
-}
-
-/// How many of these packets were sent.
-fn count_sent(packets: &[SeenPacket<'_>]) -> usize
-    ensures { result ≡ sent_in packets.now }
-{
-    packets.iter().filter(|packet| is_sent(packet)).count()
-}
-
-/// Whether a packet was sent.
-fn is_sent(packet: &SeenPacket<'_>) -> bool
-    ensures { result ≡ is_sent packet.now }
-{
-    matches!(packet.event.kind, PacketKind::Sent)
-}
-
-/// The sequence of the packet that was sent after so many others, 0 if there is none.
-#[tactic(auto, using(crate::proofs::Sent::skipping))]
-fn sequence_after(packets: &[SeenPacket<'_>], skipped: usize) -> u64
-    ensures { MatchOption (slice_get (sent_of packets.now) skipped) (result ≡ 0) (λ p. result ≡ p.event.now.sequence) }
-{
-    let mut left = skipped;
-    for packet in packets {
-        if is_sent(packet) {
-            if left == 0 {
-                return packet.event.sequence;
-            }
-            left -= 1;
-        }
-    }
-    0
 }

@@ -1,16 +1,17 @@
 //! Notices of what isn't among the answers: a chain's headers, and the sets that records name as their next.
-ghost use Rattle.std.specs.Prelude.{◌≡◌, ◌↔◌, slice_get, IsTrue, IfOk, MatchOption};
+ghost use Rattle.std.specs.Prelude.{◌≡◌, ◌+◌, ◌<◌, ◌↔◌, slice_get, IsTrue, IfOk, MatchOption};
 ghost use Rattle.std.specs.Fmt.{WritesOnOk};
 ghost use Rattle.rb_import_notices.specs.Missing.{IsTracked, LacksNext, MissesHeaders, SaysNext, TellHeaders, TellNextSets, is_left_out, is_unseen, left_out_at, next_height, next_in, next_unseen, unseen_at, was_seen};
 ghost use Rattle.rb_import_notices.specs.NoticeTexts.{left_out_of, unseen_of};
 
+use crate::starts::{Starts, starts_at};
 use rb_import_check::Stored;
 use rb_import_merge::Seen;
 use rb_import_setup::{ClientSetup, Setup};
 use std::alloc::{AllocError, Global};
 use std::fmt;
 
-/// A chain that a client tracks, of which there is no header.
+/// A chain that a client tracks, of which no header is written.
 #[derive(Clone, Copy)]
 pub struct MissingHeaders<'a> {
     pub chain: &'a str,
@@ -26,13 +27,13 @@ impl fmt::Display for MissingHeaders<'_> {
         let chain = self.chain;
         write!(
             f,
-            "notice MissingHeaders at {chain}: no answer is of /commit, so that there is nothing to update to; fetch /commit and /validators of some heights into files *.json of the folder {chain}"
+            "notice MissingHeaders at {chain}: no header of it is written, so that there is nothing to update to; fetch /commit and /validators of some heights into files *.json of the folder {chain}"
         )
     }
 }
 
-/// A client, of whose written records some name a next set that isn't written, so that no update starts from them, and
-/// the chain that it tracks. No answer on that chain has the sets of `unseen` of them, that of the highest of which is of
+/// A client, of whose written records some could be of use to a plan and name a next set that isn't written, so that no
+/// update starts from them, and the chain that it tracks. No answer on that chain has the sets of `unseen` of them, that of the highest of which is of
 /// height `next`; those of `left_out` of them were seen, and the chain's book has no room for them.
 #[derive(Clone, Copy)]
 pub struct MissingNextSet<'a> {
@@ -155,7 +156,7 @@ fn is_tracked(setup: &Setup, place: usize) -> bool
     setup.clients.iter().any(|client| client.tracks == place)
 }
 
-/// The clients with written records whose next sets aren't written.
+/// The clients with written records that could be of use to a plan and whose next sets aren't written.
 pub fn missing_next_sets<'a>(
     alloc: Global,
     setup: &'a Setup,
@@ -172,7 +173,7 @@ pub fn missing_next_sets<'a>(
     Ok(found)
 }
 
-/// The client at a place, where the next sets of some of its written records aren't written.
+/// The client at a place, where the next sets of some of its written records that could be of use aren't written.
 fn next_sets_missing_at<'a>(
     setup: &'a Setup,
     seen: &Seen<'_>,
@@ -182,50 +183,57 @@ fn next_sets_missing_at<'a>(
     ensures { MatchOption result (¬ LacksNext setup.entry.now seen.now place client.entry.now) (λ n. LacksNext setup.entry.now seen.now place client.entry.now × SaysNext setup.entry.now seen.now place client.entry.now n) }
 {
     let chain = setup.chains.get(client.tracks)?;
-    let unseen = unseen_at(seen, place, client.tracks);
-    let left_out = left_out_at(seen, place, client.tracks);
-    if unseen == 0 && left_out == 0 {
+    let starts = starts_at(setup, seen, place, client);
+    let unseen = unseen_at(seen, place, client.tracks, starts);
+    let left_out = left_out_at(seen, place, client.tracks, starts);
+    if !are_some(unseen, left_out) {
         return None;
     }
     Some(MissingNextSet {
         client: client.id.as_str(),
         chain: chain.as_str(),
         unseen,
-        next: next_unseen(seen, place, client.tracks),
+        next: next_unseen(seen, place, client.tracks, starts),
         left_out,
     })
 }
 
-/// Of how many written records of the client at a place no answer on the chain at another has the next set.
-fn unseen_at(seen: &Seen<'_>, place: usize, chain: usize) -> usize
-    ensures { result ≡ unseen_at seen.now place chain }
+fn are_some(unseen: usize, left_out: usize) -> bool
+    ensures { IsTrue result ↔ (0 < unseen + left_out) }
+{
+    unseen != 0 || left_out != 0
+}
+
+/// Of how many written records of the client at a place, of these heights, no answer on the chain at another has the next set.
+fn unseen_at(seen: &Seen<'_>, place: usize, chain: usize, starts: Starts) -> usize
+    ensures { result ≡ unseen_at seen.now place chain starts }
 {
     match seen.records.get(place) {
         Some(records) => records
             .iter()
-            .filter(|record| is_unseen(seen, chain, record))
+            .filter(|record| is_unseen(seen, chain, starts, record))
             .count(),
         None => 0,
     }
 }
 
 /// The height of the next set of the highest of these records.
-fn next_unseen(seen: &Seen<'_>, place: usize, chain: usize) -> Option<u64>
-    ensures { result ≡ next_unseen seen.now place chain }
+fn next_unseen(seen: &Seen<'_>, place: usize, chain: usize, starts: Starts) -> Option<u64>
+    ensures { result ≡ next_unseen seen.now place chain starts }
 {
     match seen.records.get(place) {
-        Some(records) => next_in(seen, chain, records.as_slice()),
+        Some(records) => next_in(seen, chain, starts, records.as_slice()),
         None => None,
     }
 }
 
 /// The height of the next set of the highest of those of these records whose next set no answer on the chain at a place has.
-fn next_in(seen: &Seen<'_>, chain: usize, records: &[Stored<'_>]) -> Option<u64>
-    ensures { result ≡ next_in seen.now chain records.now }
+fn next_in(seen: &Seen<'_>, chain: usize, starts: Starts, records: &[Stored<'_>]) -> Option<u64>
+    ensures { result ≡ next_in seen.now chain starts records.now }
 {
     records
         .iter()
-        .filter(|record| is_unseen(seen, chain, record))
+        .filter(|record| is_unseen(seen, chain, starts, record))
         .map(|record| next_height(record))
         .max()
 }
@@ -237,31 +245,34 @@ fn next_height(stored: &Stored<'_>) -> u64
     stored.state.height.get().saturating_add(1)
 }
 
-/// Of how many written records of the client at a place the next set was seen of the chain at another, and isn't written.
-fn left_out_at(seen: &Seen<'_>, place: usize, chain: usize) -> usize
-    ensures { result ≡ left_out_at seen.now place chain }
+/// Of how many written records of the client at a place, of these heights, the next set was seen of the chain at another, and
+/// isn't written.
+fn left_out_at(seen: &Seen<'_>, place: usize, chain: usize, starts: Starts) -> usize
+    ensures { result ≡ left_out_at seen.now place chain starts }
 {
     match seen.records.get(place) {
         Some(records) => records
             .iter()
-            .filter(|record| is_left_out(seen, chain, record))
+            .filter(|record| is_left_out(seen, chain, starts, record))
             .count(),
         None => 0,
     }
 }
 
-/// Whether no answer on the chain at a place has a record's next set.
-fn is_unseen(seen: &Seen<'_>, chain: usize, stored: &Stored<'_>) -> bool
-    ensures { result ≡ is_unseen seen.now chain stored.now }
+/// Whether a record is of these heights, and no answer on the chain at a place has its next set.
+fn is_unseen(seen: &Seen<'_>, chain: usize, starts: Starts, stored: &Stored<'_>) -> bool
+    ensures { result ≡ is_unseen seen.now chain starts stored.now }
 {
-    !was_seen(seen, chain, &stored.state.next)
+    starts.has(stored) && !was_seen(seen, chain, &stored.state.next)
 }
 
-/// Whether a record's next set was seen of the chain at a place, and isn't written.
-fn is_left_out(seen: &Seen<'_>, chain: usize, stored: &Stored<'_>) -> bool
-    ensures { result ≡ is_left_out seen.now chain stored.now }
+/// Whether a record is of these heights, and its next set was seen of the chain at a place, and isn't written.
+fn is_left_out(seen: &Seen<'_>, chain: usize, starts: Starts, stored: &Stored<'_>) -> bool
+    ensures { result ≡ is_left_out seen.now chain starts stored.now }
 {
-    was_seen(seen, chain, &stored.state.next) && !seen.is_written(chain, &stored.state.next)
+    starts.has(stored)
+        && was_seen(seen, chain, &stored.state.next)
+        && !seen.is_written(chain, &stored.state.next)
 }
 
 /// Whether the set of this hash was seen of the chain at a place.

@@ -4,12 +4,13 @@ ghost use Rattle.rb_import_notices.specs.NoticeTexts.{lacking_names};
 ghost use Rattle.rb_import_notices.specs.Unsearched.{LacksSearches, SaysSearches, TellSearches};
 
 use rb_import_check::Saved;
-use rb_import_merge::{Searches, searches_of};
+use rb_import_merge::{Searches, first_of, is_pending, searches_of};
 use rb_import_setup::{PathSetup, Setup};
 use std::alloc::{AllocError, Global};
 use std::fmt;
 
-/// A path, and what its answers tell nothing of; fewer answers are empty than searches for that.
+/// A path some of whose packets may be pending, and what its answers tell nothing of; fewer answers are empty than searches
+/// for that.
 #[derive(Clone, Copy)]
 pub struct MissingSearches<'a> {
     pub path: &'a str,
@@ -82,11 +83,11 @@ fn missing_of<'a>(
     place: usize,
     path: &'a PathSetup,
 ) -> Option<MissingSearches<'a>>
-    ensures { MatchOption result (¬ LacksSearches answers.now place) (λ n. LacksSearches answers.now place × SaysSearches answers.now place path.entry.now n) }
+    ensures { MatchOption result (¬ LacksSearches answers.now place path.entry.now) (λ n. LacksSearches answers.now place path.entry.now × SaysSearches answers.now place path.entry.now n) }
 {
-    let saved = answers.get(place)?;
-    let searches = searches_of(saved.as_slice());
-    if !searches.are_missing() {
+    let saved = answers.get(place)?.as_slice();
+    let searches = searches_of(saved);
+    if !searches.are_missing() || !is_pending(saved, first_of(path, saved)) {
         return None;
     }
     let path = path.config.id.as_str();

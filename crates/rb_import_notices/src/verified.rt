@@ -1,8 +1,8 @@
-//! Notices of chains of which some commits have no verdict on their signatures.
-ghost use Rattle.std.specs.Prelude.{◌≡◌, IfOk, MatchOption};
+//! Notices of chains of which some commits have no verdict on their signatures, or none has.
+ghost use Rattle.std.specs.Prelude.{◌≡◌, ◌++◌, IfOk, MatchOption, OnOk, map};
 ghost use Rattle.rb_import_check.specs.Verdicts.{has_verdicts};
 ghost use Rattle.rb_import_merge.specs.Seen.{answers_at};
-ghost use Rattle.rb_import_notices.specs.Verified.{LacksVerdicts, SaysUnverified, TellUnverified, is_unverified, unverified_at, unverified_in};
+ghost use Rattle.rb_import_notices.specs.Verified.{LacksVerdicts, SaysUnverified, TellUnchecked, TellUnverified, chain_of, has_commits, is_unverified, unchecked_at, unverified_at, unverified_in};
 
 use rb_import_check::{Commit, SavedAnswers, has_verdicts};
 use rb_import_merge::{Seen, answers_at};
@@ -29,6 +29,27 @@ impl fmt::Display for NotVerified<'_> {
         write!(
             f,
             "notice NotVerified at {chain}: verdicts.json has no verdict on the commits of {unverified} headers, so that their signatures were not verified; run tools/verify_commits again"
+        )
+    }
+}
+
+/// A chain whose answers hold no verdicts, and which has headers.
+#[derive(Clone, Copy)]
+pub struct UnverifiedCommits<'a> {
+    pub chain: &'a str,
+}
+
+impl fmt::Display for UnverifiedCommits<'_> {
+    ghost use Rattle.std.specs.Prelude.{Some};
+    ghost use Rattle.rb_import_notices.specs.NoticeTexts.{unverified_commits_text};
+
+    ghost output = { λ n. Some (unverified_commits_text n) };
+
+    fn fmt<W: fmt::Write>(&self, f: &mut fmt::Formatter<W>) -> fmt::Result {
+        let chain = self.chain;
+        write!(
+            f,
+            "notice UnverifiedCommits at {chain}: its folder has no verdicts.json, so that signatures count as the node gave them; run tools/verify_commits, and import with --verified"
         )
     }
 }
@@ -100,4 +121,47 @@ fn is_unverified(commit: &Commit<'_>) -> bool
     ensures { result ≡ is_unverified commit.now }
 {
     commit.verdict.is_none()
+}
+
+/// The chains with headers whose answers hold no verdicts.
+#[tactic(auto, unfolding(crate::specs::Verified::TellUnchecked))]
+pub fn unverified_commits<'a>(
+    alloc: Global,
+    setup: &'a Setup,
+    answers: &'a SavedAnswers,
+    seen: &Seen<'a>,
+) -> Result<Vec<UnverifiedCommits<'a>>, AllocError>
+    ensures { IfOk result (λ found. TellUnchecked setup.entry.now answers.entry.now.chains.items seen.now found.items) }
+{
+    let mut found = Vec::new(alloc);
+    for (place, id) in setup.chains.iter().enumerate() {
+        add_unchecked(answers, seen, place, id.as_str(), &mut found)?;
+    }
+    Ok(found)
+}
+
+/// Adds the chain at a place, where it has headers and its answers hold no verdicts.
+fn add_unchecked<'a>(
+    answers: &SavedAnswers,
+    seen: &Seen<'_>,
+    place: usize,
+    chain: &'a str,
+    found: &mut Vec<UnverifiedCommits<'a>>,
+) -> Result<(), AllocError>
+    ensures { OnOk result (map chain_of found.new.items ≡ map chain_of found.old.items ++ unchecked_at answers.now.chains.items seen.now (place, chain.entry.now)) }
+{
+    if has_commits(seen, place) && !hold_verdicts(answers, place) {
+        found.push(UnverifiedCommits { chain })?;
+    }
+    Ok(())
+}
+
+/// Whether the chain at a place has headers.
+fn has_commits(seen: &Seen<'_>, place: usize) -> bool
+    ensures { result ≡ has_commits seen.now place }
+{
+    match seen.chains.get(place) {
+        Some(chain) => !chain.commits.is_empty(),
+        None => false,
+    }
 }

@@ -11,6 +11,7 @@ use Rattle.rb_import_check.specs.declared.client.Stored.{Stored}
 use Rattle.rb_import_check.specs.declared.sets.SeenSet.{SeenSet}
 use Rattle.rb_import_merge.specs.declared.kept.KeptSets.{KeptSets}
 use Rattle.rb_import_merge.specs.declared.packets.SeenPacket.{SeenPacket}
+use Rattle.rb_import_merge.specs.declared.path.SeenPath.{SeenPath}
 use Rattle.rb_import_merge.specs.declared.seen.Seen.{Seen}
 use Rattle.rb_import_merge.specs.Seen as merge
 use Rattle.rb_import_text.specs.EventTexts.{header_event, packet_event, set_event, stored_event}
@@ -88,11 +89,11 @@ clients_events setup seen = flat_map (client_at seen) (enumerate_from 0 setup.cl
 unfoldable pub packets_text : List ℕ → List SeenPacket → List ℕ
 packets_text id packets = flat_map (packet_event id) packets
 
-unfoldable pub path_events : PathSetup → List SeenPacket → List ℕ
-path_events path packets = packets_text path.config.id packets ++ closing path packets
+unfoldable pub path_events : PathSetup → SeenPath → List ℕ
+path_events path seen = packets_text path.config.id seen.packets.items ++ closing path seen.timed_out
 
-abbrev pub packets_of : PathSetup → Option (Vec SeenPacket Global) → List ℕ
-packets_of path (Some packets) = path_events path packets.items
+abbrev pub packets_of : PathSetup → Option SeenPath → List ℕ
+packets_of path (Some seen) = path_events path seen
 packets_of path None = []
 
 abbrev pub path_at : Seen → ℕ × PathSetup → List ℕ

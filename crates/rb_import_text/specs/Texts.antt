@@ -7,8 +7,6 @@ use Rattle.rb_script_types.specs.declared.channel.Channel.{Channel}
 use Rattle.rb_script_types.specs.declared.channel.ChannelEnd.{ChannelEnd}
 use Rattle.rb_script_types.specs.declared.waits.Waits.{Waits}
 use Rattle.rb_import_setup.specs.declared.setup.PathSetup.{PathSetup}
-use Rattle.rb_import_merge.specs.declared.packets.SeenPacket.{SeenPacket}
-use Rattle.rb_import_merge.specs.Packets.{some_timed_out}
 use Rattle.rb_import_answers.specs.declared.commit.Signature.{Signature}
 use Rattle.rb_import_answers.specs.declared.verdicts.Verdict.{Verdict}
 use Rattle.rb_import_check.specs.declared.chain.Commit.{Commit}
@@ -39,17 +37,17 @@ abbrev pub is_ordered : Order → Bool
 is_ordered Ordered = true
 is_ordered Unordered = false
 
--- the path is ordered, and one of its packets timed out, which closed its channel (ICS 4)
-abbrev pub is_closed : PathSetup → List SeenPacket → Bool
-is_closed path packets = is_ordered path.config.order && some_timed_out packets
+-- the path is ordered, and one of its packets timed out, if that is so, which closed its channel (ICS 4)
+abbrev pub is_closed : PathSetup → Bool → Bool
+is_closed path timed_out = is_ordered path.config.order && timed_out
 
 -- the event that the path of an identifier was closed
 abbrev pub closed : List ℕ → List ℕ
 closed id = codes "  { kind = \"closed\", path = \"" ++ id ++ (codes "\" }," ++ 10 ∷ [])
 
 -- the event of a path's closing; nothing of a path that isn't closed
-abbrev pub closing : PathSetup → List SeenPacket → List ℕ
-closing path packets = if is_closed path packets then closed path.config.id else []
+abbrev pub closing : PathSetup → Bool → List ℕ
+closing path timed_out = if is_closed path timed_out then closed path.config.id else []
 
 -- ---- votes
 

@@ -10,7 +10,7 @@ use rb_import_answers::{
     BlockIdFlag, ConsensusState, PacketKind, Signature, SignedHeader, Verdict,
 };
 use rb_import_check::{Commit, Stored, vote_letter};
-use rb_import_merge::{SeenPacket, some_timed_out};
+use rb_import_merge::SeenPacket;
 use rb_import_setup::PathSetup;
 use rb_moments::push_moment;
 use rb_scan::Order;
@@ -355,14 +355,10 @@ fn moment_of(nanoseconds: u64) -> Moment
 
 /// Adds the event of a path's closing, behind those of its packets: an ordered path of which a packet timed out is
 /// closed (ICS 4).
-pub fn push_closing(
-    text: &mut String,
-    path: &PathSetup,
-    packets: &[SeenPacket<'_>],
-) -> Result<(), AllocError>
-    ensures { OnOk result (string_bytes text.new ≡ string_bytes text.old ++ closing path.now packets.now) }
+pub fn push_closing(text: &mut String, path: &PathSetup, timed_out: bool) -> Result<(), AllocError>
+    ensures { OnOk result (string_bytes text.new ≡ string_bytes text.old ++ closing path.now timed_out) }
 {
-    if is_closed(path, packets) {
+    if is_closed(path, timed_out) {
         push_closed(text, path.config.id.as_str())
     } else {
         Ok(())
@@ -380,11 +376,11 @@ fn push_closed(text: &mut String, id: &str) -> Result<(), AllocError>
 }
 
 /// Whether a path is ordered, and one of its packets timed out.
-fn is_closed(path: &PathSetup, packets: &[SeenPacket<'_>]) -> bool
-    ensures { result ≡ is_closed path.now packets.now }
+fn is_closed(path: &PathSetup, timed_out: bool) -> bool
+    ensures { result ≡ is_closed path.now timed_out }
 {
     match path.config.order {
-        Order::Ordered => some_timed_out(packets),
+        Order::Ordered => timed_out,
         Order::Unordered => false,
     }
 }

@@ -5,7 +5,7 @@ ghost use Rattle.rb_import_text.specs.HappenedTexts.{chain_at, chain_events, cha
 
 use crate::event_text::{push_closing, push_header, push_packet, push_set, push_stored};
 use rb_import_check::{Commit, SeenChain, Stored};
-use rb_import_merge::{Seen, SeenPacket};
+use rb_import_merge::{Seen, SeenPacket, SeenPath};
 use rb_import_setup::{ClientSetup, PathSetup, Setup};
 use std::alloc::AllocError;
 
@@ -236,21 +236,17 @@ fn push_path_at(
     ensures { OnOk result (string_bytes text.new ≡ string_bytes text.old ++ path_at seen.now (place, path.now)) }
 {
     match seen.paths.get(place) {
-        Some(packets) => push_path(text, path, packets.as_slice()),
+        Some(seen) => push_path(text, path, seen),
         None => Ok(()),
     }
 }
 
 #[tactic(auto, using(crate::proofs::Added::added), unfolding(crate::specs::HappenedTexts::path_events))]
-fn push_path(
-    text: &mut String,
-    path: &PathSetup,
-    packets: &[SeenPacket<'_>],
-) -> Result<(), AllocError>
-    ensures { OnOk result (string_bytes text.new ≡ string_bytes text.old ++ path_events path.now packets.now) }
+fn push_path(text: &mut String, path: &PathSetup, seen: &SeenPath<'_>) -> Result<(), AllocError>
+    ensures { OnOk result (string_bytes text.new ≡ string_bytes text.old ++ path_events path.now seen.now) }
 {
-    push_packets(text, path.config.id.as_str(), packets)?;
-    push_closing(text, path, packets)
+    push_packets(text, path.config.id.as_str(), seen.packets.as_slice())?;
+    push_closing(text, path, seen.timed_out)
 }
 
 #[tactic(auto, using(crate::proofs::Added::added), unfolding(crate::specs::HappenedTexts::packets_text))]

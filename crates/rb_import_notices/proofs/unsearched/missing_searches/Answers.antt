@@ -7,13 +7,13 @@ use Rattle.rb_import_notices.proofs.unsearched.missing_searches.Goals.{in-Some+i
 
 pub loop-place-init : goal.loop-place-init
 loop-place-init c =
-    let Due : ℕ → PathSetup → Type 0 = λ i x. LacksSearches c.args.answers.now i in
+    let Due : ℕ → PathSetup → Type 0 = λ i x. LacksSearches c.args.answers.now i x in
     let Says = SaysSearches c.args.answers.now in
     subst (AreNoticesBefore 0 Due Says c.args.setup.now.paths.items) (sym c.new-found.ensures.items) (notices_none Due Says c.args.setup.now.paths.items)
 
 pub loop-place-preserved : goal.loop-place-preserved
 loop-place-preserved c =
-    let Due : ℕ → PathSetup → Type 0 = λ i x. LacksSearches c.args.answers.now i in
+    let Due : ℕ → PathSetup → Type 0 = λ i x. LacksSearches c.args.answers.now i x in
     let Says = SaysSearches c.args.answers.now in
     let xs = c.args.setup.now.paths.items in
     elim c.match-missing_of.branch [
@@ -26,4 +26,4 @@ loop-place-preserved c =
 pub returns : goal.returns
 unfolding TellSearches
 returns c =
-    notices_all (λ (i : ℕ) (x : PathSetup). LacksSearches c.args.answers.now i) (SaysSearches c.args.answers.now) c.args.setup.now.paths.items c.loop-place.place c.loop-place.found.items (search rules) c.loop-place.invariant
+    notices_all (λ (i : ℕ) (x : PathSetup). LacksSearches c.args.answers.now i x) (SaysSearches c.args.answers.now) c.args.setup.now.paths.items c.loop-place.place c.loop-place.found.items (search rules) c.loop-place.invariant

@@ -1,12 +1,10 @@
-use Rattle.std.proofs.Common.{append_assoc, refl}
+use Rattle.std.proofs.Common.{refl}
 use Rattle.std.proofs.Output.{has_written_append}
-use Rattle.rb_import_notices.specs.NoticeTexts.{missing_headers_text}
-use Rattle.rb_import_notices.proofs.Writing.{lines_written}
 use Rattle.rb_import_notices.proofs.notice.NoticesDisplay.fmt.Goals as goal
 
 pub returns-clause-writes : goal.returns-clause-writes
 returns-clause-writes g c = λ plain ok.
-    let headers = lines_written _ _ _ missing_headers_text _ _ c.as_slice.ensures.value (c.in_ok-write_lines.ensures missing_headers_text (λ n. refl) plain refl) in
+    let headers = c.in_ok-write_headers.ensures plain refl in
     let excess = c.in_ok-write_excess.ensures headers.plain refl in
     let unusable = c.in_ok-write_unusable.ensures excess.plain refl in
     let unsure = c.in_ok-write_unsure.ensures unusable.plain refl in
