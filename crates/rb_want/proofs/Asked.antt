@@ -1,15 +1,16 @@
 -- What is asked of what is needed.
-use Rattle.std.proofs.Common.{◌≡◌, ◌<◌, ◌≤◌, List, [], ◌∷◌, ◌++◌, ◌||◌, Bool, true, false, All, length, length-append, get_or, ap, sym, subst, refl, ◌∙◌, arith}
-use Rattle.std.specs.Prelude.{Contains, if◌then◌else◌}
+use Rattle.std.proofs.Common.{◌≡◌, ◌+◌, ◌<◌, ◌≤◌, List, [], ◌∷◌, ◌++◌, ◌||◌, Bool, true, false, cond, All, length, length-append, get_or, ap, sym, subst, refl, ◌∙◌, arith}
+use Rattle.std.specs.Prelude.{Contains, count_by, if◌then◌else◌}
 use Rattle.std.specs.List.{list_any}
 use Rattle.std.proofs.lemmas.Grind.{common_steps}
 use Rattle.std.proofs.lemmas.List.{get_or_default}
 use Rattle.std.proofs.lemmas.List.Elements.{All-cons, All-nil, All-push, All-tail}
 use Rattle.std.proofs.lemmas.List.Folds.{list_any-append}
+use Rattle.std.proofs.lemmas.List.Sums.{sum_by_push}
 use Rattle.rb_want_requests.specs.declared.content.Folders.{Folders}
 use Rattle.rb_want_requests.specs.declared.request.Request.{Request}
-use Rattle.rb_want_requests.specs.Requests.{is_new, is_same, may_be_added}
-use Rattle.rb_want.specs.Adding.{with_needed, with_request}
+use Rattle.rb_want_requests.specs.Requests.{is_new, is_same, is_to_same, may_be_added}
+use Rattle.rb_want.specs.Adding.{EachIsAsked, with_needed, with_request}
 use Rattle.rb_want.specs.Laws.{NeedsAreAsked, NoneIsIdle}
 
 one_grows : (b : Bool) (rs : List Request) (r : Request) → length rs ≤ length (if b then rs ++ r ∷ [] else rs)
@@ -21,6 +22,19 @@ pub grows : (f : Folders) (rs needed : List Request) → length rs ≤ length (w
 unfolding with_needed
 grows f rs [] = omega arith
 grows f rs (r ∷ needed) = omega (arith, one_grows (may_be_added f rs r) rs r, grows f (with_request f rs r) needed)
+
+count_push : (p : Request → Bool) (rs : List Request) (r : Request) → count_by p (rs ++ r ∷ []) ≡ count_by p rs + cond (p r) 1 0
+count_push p rs r = sum_by_push (λ x. cond (p x) 1 0) rs r
+
+one_counts : (b : Bool) (p : Request → Bool) (rs : List Request) (r : Request) → count_by p rs ≤ count_by p (if b then rs ++ r ∷ [] else rs)
+one_counts true p rs r = omega (arith, count_push p rs r)
+one_counts false p rs r = omega arith
+
+-- nor do those that pass a test
+counts : (f : Folders) (p : Request → Bool) (rs needed : List Request) → count_by p rs ≤ count_by p (with_needed f rs needed)
+unfolding with_needed
+counts f p rs [] = omega arith
+counts f p rs (r ∷ needed) = omega (arith, one_counts (may_be_added f rs r) p rs r, counts f p (with_request f rs r) needed)
 
 one_stays : (b : Bool) (p : Request → Bool) (rs : List Request) (r : Request) → list_any p rs ≡ true → list_any p (if b then rs ++ r ∷ [] else rs) ≡ true
 one_stays true p rs r there = list_any-append p rs (r ∷ []) ∙ ap (λ b. b || list_any p (r ∷ [])) there
@@ -40,7 +54,7 @@ pushed : (rs : List Request) (r : Request) → list_any (is_same r) (rs ++ r ∷
 pushed rs r = grind (arith, common_steps, list_any-append (is_same r) rs (r ∷ []), same r)
 
 -- a new request is asked for, or one that is the same
-one_asked : (f : Folders) (rs : List Request) (r : Request) → length rs < 30 → is_new f r ≡ true → list_any (is_same r) (with_request f rs r) ≡ true
+one_asked : (f : Folders) (rs : List Request) (r : Request) → count_by (is_to_same r) rs < 30 → is_new f r ≡ true → list_any (is_same r) (with_request f rs r) ≡ true
 one_asked f rs r small new = go (list_any (is_same r) rs) refl
   where
     go : (b : Bool) → list_any (is_same r) rs ≡ b → list_any (is_same r) (with_request f rs r) ≡ true
@@ -49,18 +63,19 @@ one_asked f rs r small new = go (list_any (is_same r) rs) refl
         let may : may_be_added f rs r ≡ true = grind (arith, common_steps, e, new, small) in
         subst (λ b. list_any (is_same r) (if b then rs ++ r ∷ [] else rs) ≡ true) (sym may) (pushed rs r)
 
-each : (f : Folders) (rs needed : List Request) → length (with_needed f rs needed) < 30
-    → All (λ r. is_new f r ≡ true → list_any (is_same r) (with_needed f rs needed) ≡ true) needed
+each : (f : Folders) (rs needed : List Request) → EachIsAsked f needed (with_needed f rs needed)
 unfolding with_needed
-each f rs [] few = All-nil (λ r. is_new f r ≡ true → list_any (is_same r) (with_needed f rs []) ≡ true)
-each f rs (r ∷ needed) few =
-    let before : length rs < 30 = omega (arith, few, one_grows (may_be_added f rs r) rs r, grows f (with_request f rs r) needed) in
-    All-cons (λ q. is_new f q ≡ true → list_any (is_same q) (with_needed f (with_request f rs r) needed) ≡ true) r needed
-    (λ new. stays f (is_same r) (with_request f rs r) needed (one_asked f rs r before new))
-    (each f (with_request f rs r) needed few)
+each f rs [] = All-nil (λ r. is_new f r ≡ true → count_by (is_to_same r) (with_needed f rs []) < 30 → list_any (is_same r) (with_needed f rs []) ≡ true)
+each f rs (r ∷ needed) =
+    let few : count_by (is_to_same r) rs ≤ count_by (is_to_same r) (with_needed f (with_request f rs r) needed) =
+    omega (arith, one_counts (may_be_added f rs r) (is_to_same r) rs r, counts f (is_to_same r) (with_request f rs r) needed) in
+    All-cons (λ q. is_new f q ≡ true → count_by (is_to_same q) (with_needed f (with_request f rs r) needed) < 30
+    → list_any (is_same q) (with_needed f (with_request f rs r) needed) ≡ true) r needed
+    (λ new small. stays f (is_same r) (with_request f rs r) needed (one_asked f rs r (omega (arith, few, small)) new))
+    (each f (with_request f rs r) needed)
 
 pub asked : NeedsAreAsked
-asked f needed few = each f [] needed few
+asked f needed = each f [] needed
 
 one_of : (b : Bool) (P : Request → Type 0) (rs : List Request) (r : Request) → All P rs → P r → All P (if b then rs ++ r ∷ [] else rs)
 one_of true P rs r all one = All-push P rs r all one

@@ -1,6 +1,7 @@
 pub mod Adding
 pub mod Asked
 pub mod Firsts
+pub mod Importing
 pub mod Judging
 pub mod Pages
 pub mod Searches

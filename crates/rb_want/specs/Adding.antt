@@ -1,7 +1,7 @@
 -- What becomes of requests to which others are added in turn.
-use Rattle.std.specs.Prelude.{◌≡◌, ◌<◌, ◌++◌, ◌∷◌, [], All, List, Bool, true, false, length, fold, nat_lt, if◌then◌else◌}
+use Rattle.std.specs.Prelude.{◌≡◌, ◌<◌, ◌++◌, ◌∷◌, [], All, List, Bool, true, false, count_by, length, fold, nat_lt, if◌then◌else◌}
 use Rattle.std.specs.List.{list_any}
-use Rattle.rb_want_requests.specs.Requests.{is_new, is_same, may_be_added}
+use Rattle.rb_want_requests.specs.Requests.{is_new, is_same, is_to_same, may_be_added}
 use Rattle.rb_want_requests.specs.Ends.{with_end}
 use Rattle.rb_want_requests.specs.declared.content.Folders.{Folders}
 use Rattle.rb_want_requests.specs.declared.reason.End.{End}
@@ -14,14 +14,14 @@ use Rattle.rb_want_requests.specs.declared.wanted.Wanted.{Wanted}
 abbrev pub with_request : Folders → List Request → Request → List Request
 with_request folders requests r = if may_be_added folders requests r then requests ++ r ∷ [] else requests
 
--- the requests, and behind them each that is needed, in this order: once, if it is neither answered nor refused, while they are fewer than 30
+-- the requests, and behind them each that is needed, in this order: once, if it is neither answered nor refused, while fewer than 30 go to its address
 unfoldable pub with_needed : Folders → List Request → List Request → List Request
 with_needed folders requests needed = fold (with_request folders) requests needed
 
--- each request that is needed, and that is neither answered nor refused, is asked for where fewer than 30 are
+-- each request that is needed, and that is neither answered nor refused, is asked for where fewer than 30 go to its address
 abbrev pub EachIsAsked : Folders → List Request → List Request → Type 0
 EachIsAsked folders needed requests =
-    length requests < 30 → All (λ r. is_new folders r ≡ true → list_any (is_same r) requests ≡ true) needed
+    All (λ r. is_new folders r ≡ true → count_by (is_to_same r) requests < 30 → list_any (is_same r) requests ≡ true) needed
 
 -- the ends, and behind them these
 unfoldable pub with_ends : List End → List End → List End

@@ -1,5 +1,5 @@
 -- The lines that say why something is asked for, or no more is.
-use Rattle.std.specs.Prelude.{ℕ, ◌*◌, ◌/◌, List, ◌++◌, codes, Option, Some, None}
+use Rattle.std.specs.Prelude.{ℕ, ◌+◌, ◌*◌, ◌/◌, List, ◌++◌, codes, Option, Some, None}
 use Rattle.std.specs.Fmt.{decimal}
 use Rattle.rb_import_answers.specs.declared.client.TrustLevel.{TrustLevel}
 use Rattle.rb_step.specs.Reasons.{name_of}
@@ -16,21 +16,21 @@ use Rattle.rb_want_requests.specs.declared.reason.Why.{Why}
 abbrev pub needed_of : ℕ → TrustLevel → ℕ
 needed_of total trust = total * trust.numerator / trust.denominator
 
--- why a height is refused, by what the step rule says of it where it was judged
-abbrev pub verdict_text : Option Verdict → TrustLevel → List ℕ
-verdict_text None trust = codes " not given by the node"
-verdict_text (Some verdicts.Success) trust = codes " accepted"
-verdict_text (Some (verdicts.Invalid reason)) trust = codes " refused (" ++ name_of reason ++ codes ")"
-verdict_text (Some (verdicts.NotEnoughTrust signed total)) trust =
+-- why a height is refused from a trusted one, by what the step rule says of it where it was judged; else a set of these or the header isn't given
+abbrev pub verdict_text : Option Verdict → ℕ → TrustLevel → List ℕ
+verdict_text None trusted trust = codes " not judged: the node doesn't give its header, its validators or those of " ++ decimal (trusted + 1)
+verdict_text (Some verdicts.Success) trusted trust = codes " accepted"
+verdict_text (Some (verdicts.Invalid reason)) trusted trust = codes " refused (" ++ name_of reason ++ codes ")"
+verdict_text (Some (verdicts.NotEnoughTrust signed total)) trusted trust =
     codes " refused (" ++ (decimal signed ++ (codes " of " ++ (decimal total ++ (codes " signed, more than " ++ (decimal (needed_of total trust) ++ codes " needed)")))))
 
 -- a height that is refused, and why
 abbrev pub refused_text : Refused → List ℕ
-refused_text r = decimal r.height ++ verdict_text r.verdict r.trust
+refused_text r = decimal r.height ++ verdict_text r.verdict r.trusted r.trust
 
 -- the height that a reason has as refused
 abbrev pub refused_of : ℕ → Why → Refused
-refused_of height w = record { height = height; verdict = w.verdict; trust = w.trust }
+refused_of height w = record { height = height; trusted = w.trusted; verdict = w.verdict; trust = w.trust }
 
 -- between which heights is searched
 abbrev pub between_text : Why → Option ℕ → Option ℕ → List ℕ

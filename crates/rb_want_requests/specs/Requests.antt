@@ -1,5 +1,5 @@
 -- Which requests are the same, and which of them is still to be answered.
-use Rattle.std.specs.Prelude.{◌≡◌, ◌==◌, ◌++◌, ℕ, nat_lt, Bool, false, not, ◌&&◌, List, Option, Some, None, String, codes, length, slice_get, string_bytes}
+use Rattle.std.specs.Prelude.{◌≡◌, ◌≤◌, ◌==◌, ◌++◌, ℕ, nat_lt, count_by, Bool, true, false, not, if◌then◌else◌, ◌&&◌, List, Option, Some, None, String, codes, slice_get, string_bytes}
 use Rattle.std.specs.List.{AllPairs, list_any}
 use Rattle.std.specs.Str.{bytes_eq}
 use Rattle.std.specs.Fmt.{decimal}
@@ -85,6 +85,32 @@ is_new_at None query = false
 abbrev pub is_new : Folders → Request → Bool
 is_new folders r = is_new_at (folder_of folders r.owner) r.query
 
--- whether a request may be added to these: they are fewer than 30, none of them is the same, and it is new
+-- whether a query is asked of a gateway (ibc-go), and not of a node (CometBFT)
+abbrev pub is_of_gateway : Query → Bool
+is_of_gateway queries.ClientState = true
+is_of_gateway (queries.ConsensusStates page) = true
+is_of_gateway queries.Status = false
+is_of_gateway (queries.Commit height) = false
+is_of_gateway (queries.Validators height page size) = false
+is_of_gateway (queries.Commitments page) = true
+is_of_gateway (queries.Unreceived part) = true
+is_of_gateway (queries.Acknowledgements part) = true
+is_of_gateway (queries.Sent sequence) = false
+is_of_gateway (queries.Received sequence) = false
+is_of_gateway (queries.AckWritten sequence) = false
+
+-- whether a request goes to this address: the gateway or the node of a chain
+abbrev pub is_to : List ℕ → Bool → Request → Bool
+is_to chain gateway r = bytes_eq chain r.chain && (if gateway then is_of_gateway r.query else not (is_of_gateway r.query))
+
+-- whether another request goes to the same address
+abbrev pub is_to_same : Request → Request → Bool
+is_to_same r other = is_to r.chain (is_of_gateway r.query) other
+
+-- at most 30 go to each address
+abbrev pub AreFew : List Request → Type 0
+AreFew requests = (chain : List ℕ) (gateway : Bool) → count_by (is_to chain gateway) requests ≤ 30
+
+-- whether a request may be added to these: fewer than 30 of them go to its address, none of them is the same, and it is new
 abbrev pub may_be_added : Folders → List Request → Request → Bool
-may_be_added folders requests r = nat_lt (length requests) 30 && not (list_any (is_same r) requests) && is_new folders r
+may_be_added folders requests r = nat_lt (count_by (is_to_same r) requests) 30 && not (list_any (is_same r) requests) && is_new folders r

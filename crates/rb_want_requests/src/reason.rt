@@ -49,10 +49,11 @@ impl fmt::Display for Why {
     }
 }
 
-/// A height that is refused, and why, where that was judged.
+/// A height that is refused from a trusted one, and why, where that was judged.
 #[derive(Clone, Copy)]
 struct Refused {
     height: Height,
+    trusted: Height,
     verdict: Option<Verdict>,
     trust: TrustLevel,
 }
@@ -63,6 +64,7 @@ fn refused_of(height: Height, why: &Why) -> Refused
 {
     Refused {
         height,
+        trusted: why.trusted,
         verdict: why.verdict,
         trust: why.trust,
     }
@@ -77,7 +79,13 @@ impl fmt::Display for Refused {
     fn fmt<W: fmt::Write>(&self, f: &mut fmt::Formatter<W>) -> fmt::Result {
         let height = self.height;
         match self.verdict {
-            None => write!(f, "{height} not given by the node"),
+            None => {
+                let next = self.trusted.get() + 1;
+                write!(
+                    f,
+                    "{height} not judged: the node doesn't give its header, its validators or those of {next}"
+                )
+            }
             Some(Verdict::Success) => write!(f, "{height} accepted"),
             Some(Verdict::Invalid(reason)) => {
                 let name = reason.name();

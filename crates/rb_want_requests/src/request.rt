@@ -1,7 +1,7 @@
 //! Requests to nodes and gateways.
 ghost use Rattle.std.specs.Prelude.{◌≡◌, IfOk};
 ghost use Rattle.std.specs.Option.{option_copied};
-ghost use Rattle.rb_want_requests.specs.Requests.{folder_of, is_new, is_of_same, is_new_in, is_of_same_place, is_named, is_same, key_of, place_key};
+ghost use Rattle.rb_want_requests.specs.Requests.{folder_of, is_new, is_of_same, is_new_in, is_of_gateway, is_of_same_place, is_named, is_same, is_to_same, key_of, place_key};
 
 use crate::answered::is_answered;
 use crate::content::{Folder, Folders};
@@ -80,6 +80,14 @@ impl Request {
         is_of_same_place(&self.owner, &other.owner) && is_of_same(&self.query, &other.query)
     }
 
+    /// Whether it goes to the same address as another: the node or the gateway of a chain.
+    pub fn is_to_same(&self, other: &Request) -> bool
+        ensures { result ≡ is_to_same self.now other.now }
+    {
+        self.chain.as_str() == other.chain.as_str()
+            && is_of_gateway(&self.query) == is_of_gateway(&other.query)
+    }
+
     /// Whether its folder has no answer to it, and it wasn't refused.
     pub fn is_new(&self, alloc: Global, folders: &Folders) -> Result<bool, AllocError>
         ensures { IfOk result (λ answer. answer ≡ is_new folders.now self.now) }
@@ -142,6 +150,25 @@ fn is_of_same(query: &Query, other: &Query) -> bool
     let (kind, number, page) = key_of(query);
     let (other_kind, other_number, other_page) = key_of(other);
     kind == other_kind && number == other_number && page == other_page
+}
+
+/// Whether a query is asked of a gateway, and not of a node.
+fn is_of_gateway(query: &Query) -> bool
+    ensures { result ≡ is_of_gateway query.now }
+{
+    match query {
+        Query::ClientState
+        | Query::ConsensusStates { .. }
+        | Query::Commitments { .. }
+        | Query::Unreceived { .. }
+        | Query::Acknowledgements { .. } => true,
+        Query::Status
+        | Query::Commit(_)
+        | Query::Validators { .. }
+        | Query::Sent(_)
+        | Query::Received(_)
+        | Query::AckWritten(_) => false,
+    }
 }
 
 /// What a query is of: its kind, its height, page, part or sequence, and of validators the page.

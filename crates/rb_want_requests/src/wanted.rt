@@ -1,8 +1,8 @@
-//! Requests, each once and at most 30 at a time, and their reasons.
-ghost use Rattle.std.specs.Prelude.{◌≡◌, ◌<◌, ◌≤◌, ◌++◌, ◌∷◌, [], All, if◌then◌else◌, false, true, IfOk, OnErr, OnOk, length};
+//! Requests, each once and at most 30 for each address at a time, and their reasons.
+ghost use Rattle.std.specs.Prelude.{◌≡◌, ◌<◌, ◌≤◌, ◌++◌, ◌∷◌, [], All, count_by, if◌then◌else◌, false, true, IfOk, OnErr, OnOk};
 ghost use Rattle.std.specs.List.{list_any};
 ghost use Rattle.rb_want_requests.specs.Ends.{AreDistinctEnds, is_same_end, with_end};
-ghost use Rattle.rb_want_requests.specs.Requests.{AreDistinct, is_new, is_same, may_be_added};
+ghost use Rattle.rb_want_requests.specs.Requests.{AreDistinct, AreFew, is_new, is_same, is_to_same, may_be_added};
 
 use crate::content::Folders;
 use crate::lines::RequestLine;
@@ -11,10 +11,11 @@ use crate::request::Request;
 use std::alloc::{AllocError, Global};
 use std::fmt;
 
-/// The most requests that are named at once.
+/// The most requests that are named at once for one address: the node or the gateway of a chain. So one that doesn't answer
+/// keeps no request from the others.
 pub const MOST_REQUESTS: usize = 30;
 
-/// The next requests: at most 30, each once, none with an answer and none that was refused. Then the reasons,
+/// The next requests: at most 30 for each address, each once, none with an answer and none that was refused. Then the reasons,
 /// by client. Then the clients and paths for which no more is asked though they aren't where they should be, of
 /// a path each chain once.
 #[derive(Drop)]
@@ -24,7 +25,7 @@ pub struct Wanted<'a> {
     pub reasons: Vec<Why>,
     pub ends: Vec<End>,
     pub path_ends: Vec<PathEnd>,
-    ghost few: { length requests.items ≤ 30 },
+    ghost few: { AreFew requests.items },
     ghost distinct: { AreDistinct requests.items },
     ghost unanswered: { All (λ r. is_new folders.now r ≡ true) requests.items },
     ghost told_once: { AreDistinctEnds path_ends.items },
@@ -67,7 +68,8 @@ impl<'a> Wanted<'a> {
         }
     }
 
-    /// Adds a request, unless it is answered, was refused or is there already, or there are as many as are named at once.
+    /// Adds a request, unless it is answered, was refused or is there already, or there are as many for its address as are
+    /// named at once.
     /// `AllocError` comes where a growth is refused.
     #[tactic(auto, using(crate::proofs::Distinct::adding))]
     pub fn ask(&mut self, alloc: Global, request: &Request) -> Result<(), AllocError>
@@ -114,15 +116,26 @@ impl<'a> Wanted<'a> {
     /// Whether a request may be added.
     fn takes(&self, alloc: Global, request: &Request) -> Result<bool, AllocError>
         ensures value { IfOk result (λ answer. answer ≡ may_be_added self.now.folders.now self.now.requests.items request.now) }
-        ensures few { IfOk result (λ answer. answer ≡ true → length self.now.requests.items < 30) }
+        ensures few { IfOk result (λ answer. answer ≡ true → count_by (is_to_same request.now) self.now.requests.items < 30) }
         ensures distinct { IfOk result (λ answer. answer ≡ true → list_any (is_same request.now) self.now.requests.items ≡ false) }
         ensures unanswered { IfOk result (λ answer. answer ≡ true → is_new self.now.folders.now request.now ≡ true) }
     {
-        if self.requests.len() >= MOST_REQUESTS || is_among(self.requests.as_slice(), request) {
+        let requests = self.requests.as_slice();
+        if count_to_same(requests, request) >= MOST_REQUESTS || is_among(requests, request) {
             return Ok(false);
         }
         request.is_new(alloc, self.folders)
     }
+}
+
+/// How many of these go to the address of a request.
+fn count_to_same(requests: &[Request], request: &Request) -> usize
+    ensures { result ≡ count_by (is_to_same request.now) requests.now }
+{
+    requests
+        .iter()
+        .filter(|other| request.is_to_same(other))
+        .count()
 }
 
 /// Whether a request is among others.

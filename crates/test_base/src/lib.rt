@@ -1,6 +1,6 @@
 //! What no contract of small layers says, by their public calls: identifiers, columns, messages that are owed, transactions
-//! and lanes between threads; how many steps the search for what to fetch asks for, what saved files contain, and the lines
-//! of requests. They are tables of cases with values from outside.
+//! and lanes between threads; how many steps the search for what to fetch asks for, what saved files contain, how many requests
+//! go to an address at once, and their lines. They are tables of cases with values from outside.
 #![tactic(auto)]
 
 #[cfg(test)]
@@ -13,6 +13,8 @@ mod lanes;
 mod same;
 #[cfg(test)]
 mod scan;
+#[cfg(test)]
+mod want_asking;
 #[cfg(test)]
 mod want_content;
 #[cfg(test)]

@@ -1,6 +1,6 @@
-use Rattle.std.proofs.Common.{rules, ◌≡◌, ◌≤◌, true, length, subst, sym}
+use Rattle.std.proofs.Common.{rules, ◌≡◌, true, subst, sym}
 use Rattle.std.specs.Prelude.{All, is_ok}
-use Rattle.rb_want_requests.specs.Requests.{AreDistinct, is_new}
+use Rattle.rb_want_requests.specs.Requests.{AreDistinct, AreFew, is_new}
 use Rattle.rb_want_requests.proofs.Distinct.{distinct, few, unanswered}
 use Rattle.rb_want_requests.proofs.wanted.Wanted.ask.Goals as goal
 
@@ -11,7 +11,7 @@ invariant_of-self c =
     let request = c.args.request.now in
     let folders = c.args.self.now.folders.now in
     record {
-      few = subst (λ xs. length xs ≤ 30) (sym c.push.ensures.items) (few (is_ok c.push.result) requests request (search rules));
+      few = subst AreFew (sym c.push.ensures.items) (few (is_ok c.push.result) requests request c.args.self.now.few (search rules));
       distinct = subst AreDistinct (sym c.push.ensures.items) (distinct (is_ok c.push.result) requests request (search rules) (search rules));
       unanswered = subst (All (λ r. is_new folders r ≡ true)) (sym c.push.ensures.items)
           (unanswered (is_ok c.push.result) (λ r. is_new folders r ≡ true) requests request (search rules) (search rules));
