@@ -120,7 +120,15 @@ fn done_of<'a, R: Host, W: Sink>(
             setup,
             folder,
             is_all_or_nothing,
-        } => import_files(rt, setup, folder, is_all_or_nothing, output),
+            is_verified,
+        } => {
+            let answers = Answers {
+                folder,
+                is_all_or_nothing,
+                is_verified,
+            };
+            import_files(rt, setup, answers, output)
+        }
         Request::Setup { config, clients } => setup_file(rt, config, clients.as_slice(), output),
         Request::Want { setup, folder } => want_files(rt, setup, folder, output),
         Request::Certify {
@@ -285,16 +293,11 @@ fn write_messages<'a, R: Host, W: Sink>(
 fn import_files<'a, R: Host, W: Sink>(
     rt: &R,
     setup: &'a str,
-    folder: &str,
-    is_all_or_nothing: bool,
+    answers: Answers<'_>,
     output: &mut W,
 ) -> Result<Done, ProgramError<'a>>
     requires { W.is_broken output.old ≡ false }
 {
-    let answers = Answers {
-        folder,
-        is_all_or_nothing,
-    };
     let setup = Input::read(rt, setup)?;
     let ImportedText {
         script,

@@ -21,11 +21,13 @@ pub enum Request<'a> {
         script: &'a str,
         wanted: Wanted<'a>,
     },
-    /// Write the script that a setup and the answers in a folder make; or nothing, where some of them are refused.
+    /// Write the script that a setup and the answers in a folder make, maybe of verified votes alone; or nothing, where some
+    /// of them are refused.
     Import {
         setup: &'a str,
         folder: &'a str,
         is_all_or_nothing: bool,
+        is_verified: bool,
     },
     /// Write a setup for clients, of the configuration of Hermes.
     Setup {
@@ -142,6 +144,8 @@ pub(crate) const FOLDER: &str = "FOLDER";
 
 const ALL_OR_NOTHING: &str = "all-or-nothing";
 
+const VERIFIED: &str = "verified";
+
 const CERT: &str = "CERT";
 
 const AFTER_HELP: &str = "Examples (in the folder of the repository):
@@ -193,10 +197,13 @@ const AFTER_IMPORT: &str = "Examples (in the folder of the repository):
   ./ibcplan import examples/import/setup.toml examples/import/answers > script.toml
   ./ibcplan import setup.toml answers | ./ibcplan plan -
   ./ibcplan import --all-or-nothing setup.toml answers > script.toml
+  ./ibcplan import --verified setup.toml answers > script.toml
 
 FOLDER has a folder for each client, each path and each chain that is tracked, by
 its identifier, with saved answers in files *.json. To have signatures verified, run
-tools/verify_commits FOLDER before.
+tools/verify_commits FOLDER before: it writes verdicts.json in each chain's folder.
+With --verified, headers are left out unless verdicts call the votes of more than
+2/3 of their set good.
 
 Where answers of a client or a path are refused, it is left out, and the others
 are written (exit status 7). With a chain go all clients that track it, with a
@@ -363,6 +370,11 @@ fn import_command<'a>(alloc: Global) -> Result<Command<'a>, AllocError> {
             alloc,
             ALL_OR_NOTHING,
             "Writes nothing where answers of one client or path are refused",
+        ))?
+        .arg(flag(
+            alloc,
+            VERIFIED,
+            "Takes only headers that more than 2/3 of their set signed, by good verdicts",
         ))
 }
 
@@ -509,11 +521,11 @@ fn folder_task_of<'a>(name: &str, given: &ArgMatches<'a>) -> Option<Request<'a>>
     if name == WANT {
         return Some(Request::Want { setup, folder });
     }
-    let is_all_or_nothing = given.get_flag(ALL_OR_NOTHING);
     Some(Request::Import {
         setup,
         folder,
-        is_all_or_nothing,
+        is_all_or_nothing: given.get_flag(ALL_OR_NOTHING),
+        is_verified: given.get_flag(VERIFIED),
     })
 }
 

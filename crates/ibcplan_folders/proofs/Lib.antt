@@ -1,2 +1,3 @@
 pub mod Lefts
 pub mod Wholes
+pub mod Files

@@ -1,8 +1,11 @@
 //! Importing: the files of a folder are read, and the script that they make is written, without the clients and the
 //! paths whose answers are refused.
 ghost use Rattle.std.specs.Prelude.{◌≡◌, IfOk, MatchOption, is_some, slice_get, string_bytes, true};
+ghost use Rattle.sha2.specs.Sha256.{sha256};
+ghost use Rattle.rb_import_answers.specs.Answers.{answer_view, told_in, verdicts_file};
 ghost use Rattle.rb_import_answers.specs.Revisions.{IsRevision};
 ghost use Rattle.rb_import.specs.Openings.{Opens, hold_verdicts};
+ghost use Rattle.ibcplan_folders.specs.Files.{HasVerdicts, IsScriptOfRest, TellsIn, signatures_of};
 ghost use Rattle.ibcplan_folders.specs.LeftOut.{import_status};
 
 use crate::file_system::FileSystem;
@@ -11,18 +14,20 @@ use ibcplan_errors::{Input, ProgramError, bytes_of, shown_text};
 use rb_base::ChainId;
 use rb_import::{Composed, compose};
 use rb_import_answers::revision_of;
-use rb_import_check::{CheckErrorName, ImportError, Saved, SavedAnswers, SavedError, read_saved};
+use rb_import_check::{ImportError, Saved, SavedAnswers, SavedError, Signatures, read_saved};
 use rb_import_json::{FieldError, FieldErrorName};
 use rb_import_setup::{ClientSetup, Setup, read_setup};
 use std::alloc::{AllocError, Global};
 use std::fs::File;
 use std::{fs, io};
 
-/// The folder with the answers of nodes, and whether nothing is written where some of them are refused.
+/// The folder with the answers of nodes, whether nothing is written where some of them are refused, and whether only
+/// votes with a good verdict count.
 #[derive(Clone, Copy)]
 pub struct Answers<'f> {
     pub folder: &'f str,
     pub is_all_or_nothing: bool,
+    pub is_verified: bool,
 }
 
 /// The text of a script, lines that tell what is left out and which answers aren't there, and the status to end with.
@@ -45,7 +50,7 @@ pub fn imported<'a, R: FileSystem>(
     };
     let mut left_out = LeftOut::nothing(rt.alloc());
     let fleet = read_fleet(rt, setup, answers, &mut left_out)?;
-    composed(rt.alloc(), fleet, answers.is_all_or_nothing, left_out)
+    composed(rt.alloc(), fleet, answers, left_out)
 }
 
 /// The script that a fleet makes, without the clients and the paths whose answers are refused. Each round leaves out
@@ -53,23 +58,36 @@ pub fn imported<'a, R: FileSystem>(
 fn composed<'a>(
     alloc: Global,
     fleet: Fleet,
-    is_all_or_nothing: bool,
+    source: Answers<'_>,
     left_out: LeftOut<'a>,
 ) -> Result<ImportedText, ProgramError<'a>>
     ensures whole { IfOk result (λ text. text.status ≡ 0 → Opens (hold_verdicts fleet.answers) (string_bytes text.script)) }
     ensures in_part { IfOk result (λ text. is_some left_out.entry.first ≡ true → text.status ≡ 7) }
+    ensures script { IfOk result (IsScriptOfRest fleet (signatures_of source.entry)) }
 {
     let mut fleet = fleet;
     let mut left_out = left_out;
     'rounds: loop {
-        let failure = match compose(alloc, &fleet.setup, &fleet.answers) {
+        let signatures = signatures_of(source);
+        let failure = match compose(alloc, &fleet.setup, signatures, &fleet.answers) {
             Ok(composed) => return imported_text(alloc, composed, &left_out),
             Err(error) => failure_of(alloc, &error)?,
         };
-        if is_all_or_nothing {
+        if source.is_all_or_nothing {
             return Err(failure.error);
         }
         fleet = left_out.without(alloc, fleet, failure)?;
+    }
+}
+
+/// Which votes count.
+fn signatures_of(source: Answers<'_>) -> Signatures
+    ensures { result ≡ signatures_of source.entry }
+{
+    if source.is_verified {
+        Signatures::Verified
+    } else {
+        Signatures::AsGiven
     }
 }
 
@@ -100,10 +118,7 @@ fn failure_of<'a>(alloc: Global, error: &ImportError<'_>) -> Result<Failure<'a>,
         return Err(ProgramError::NoMemory);
     };
     let error = refused(format!(in alloc; "{problem}"));
-    match problem.name {
-        CheckErrorName::ScriptTooBig => Err(error),
-        _ => failure_at(alloc, problem.object, error),
-    }
+    failure_at(alloc, problem.object, error)
 }
 
 /// A failure of the chain, the client or the path of an identifier.
@@ -352,7 +367,9 @@ fn read_file<'a, R: FileSystem>(
     folder: &str,
     name: &str,
     since: u64,
-) -> Result<Saved, ProgramError<'a>> {
+) -> Result<Saved, ProgramError<'a>>
+    ensures verdicts { IfOk result (λ saved. HasVerdicts saved.answer → name.now ≡ verdicts_file) }
+{
     let file = path_in(rt.alloc(), folder, name)?;
     match read_bytes(rt, file.as_str()) {
         Ok(bytes) => saved_of(rt.alloc(), folder, name, bytes.as_slice(), since),
@@ -371,7 +388,11 @@ pub fn saved_of<'a>(
     name: &str,
     bytes: &[u8],
     since: u64,
-) -> Result<Saved, ProgramError<'a>> {
+) -> Result<Saved, ProgramError<'a>>
+    ensures digest { IfOk result (λ saved. saved.digest ≡ sha256 bytes.now) }
+    ensures answer { IfOk result (λ saved. TellsIn name.now since bytes.now (answer_view saved.answer)) }
+    ensures verdicts { IfOk result (λ saved. HasVerdicts saved.answer → name.now ≡ verdicts_file) }
+{
     let file = path_in(alloc, folder, name)?;
     let Ok(shown) = shown_text(alloc, file.as_str()) else {
         return Err(ProgramError::NoMemory);
@@ -386,7 +407,12 @@ pub fn saved_of<'a>(
 }
 
 /// An answer as the file of a name has it.
-fn in_file(saved: Saved, name: &str) -> Saved {
+#[tactic(auto, using(crate::proofs::Files::naming))]
+fn in_file(saved: Saved, name: &str) -> Saved
+    ensures digest { result.digest ≡ saved.digest }
+    ensures answer { answer_view result.answer ≡ told_in name.now (answer_view saved.answer) }
+    ensures verdicts { HasVerdicts result.answer → name.now ≡ verdicts_file }
+{
     let Saved {
         file,
         digest,
