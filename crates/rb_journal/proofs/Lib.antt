@@ -4,3 +4,4 @@ pub mod Entries
 pub mod Stores
 pub mod Damages
 mod Closings
+pub mod Refusals

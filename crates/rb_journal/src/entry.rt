@@ -5,6 +5,7 @@ ghost use Rattle.toml.specs.Text.{IsDocumentText};
 ghost use Rattle.toml.specs.View.{view, table_view, items_view};
 ghost use Rattle.rb_script_toml.specs.Documents.{max_bytes, document, whole};
 ghost use Rattle.rb_journal.specs.Parts.{gap, closing};
+ghost use Rattle.rb_journal.specs.Refusals.{IsRefusal, HasNoText, MakesNoPart, MakesNoOpening, MakesNoEntry};
 ghost use Rattle.rb_journal.specs.Entries.{script_of, only_table, turn_in, IsWritable, IsTooMuch, IsPart, IsOpening, IsEntry, Restores, Unrestored};
 
 use crate::depth::table_fits;
@@ -29,6 +30,7 @@ fn text_of(alloc: Global, table: &Table) -> Result<String, RunError>
     ensures written { IfOk result (λ text. IsDocumentText false (table_view table.now) (string_bytes text)) }
     ensures writable { IfOk result (λ _. IsWritable (table_view table.now)) }
     ensures refused { IfErr result (λ e. IsWritable (table_view table.now) → IsTooMuch e) }
+    ensures unwritten { IfErr result (λ e. IsRefusal (HasNoText (table_view table.now)) e) }
     ensures fits { IfOk result (λ text. length (string_bytes text) ≤ max_bytes) }
     ensures read { IfOk result (λ text. document (string_bytes text) ≡ Ok (whole (table_view table.now))) }
 {
@@ -52,7 +54,8 @@ fn text_of(alloc: Global, table: &Table) -> Result<String, RunError>
 /// A part of a journal: a line, the text of a table, and what ends it. `InputTooBig` where it has more bytes than a
 /// script may have, and `NotToml` where a line of the table looks like the last.
 fn part_of(alloc: Global, digests: bool, before: &str, table: &Table) -> Result<String, RunError>
-    ensures { IfOk result (λ part. IsPart digests before.now (table_view table.now) (string_bytes part)) }
+    ensures part { IfOk result (λ part. IsPart digests before.now (table_view table.now) (string_bytes part)) }
+    ensures refused { IfErr result (λ e. IsRefusal (MakesNoPart digests before.now (table_view table.now)) e) }
 {
     let text = text_of(alloc, table)?;
     let mut part = String::new(alloc);
@@ -112,7 +115,8 @@ fn turn_in(script: &Table) -> Option<&Table>
 /// order of its keys. `Fault` is the text's, `NotToml` where a line of it looks like the one that ends a part, and
 /// `InputTooBig` or `TooManyTables` where the part is more than a script may be.
 pub fn opening_text(alloc: Global, digests: bool, setup: &[u8]) -> Result<String, RunError>
-    ensures { IfOk result (λ part. IsOpening digests setup.now (string_bytes part)) }
+    ensures written { IfOk result (λ part. IsOpening digests setup.now (string_bytes part)) }
+    ensures refused { IfErr result (λ e. MakesNoOpening digests setup.now e) }
 {
     let mut table = read_table(alloc, setup)?;
     let _ = table.remove(TURN);
@@ -122,7 +126,8 @@ pub fn opening_text(alloc: Global, digests: bool, setup: &[u8]) -> Result<String
 /// The part of a journal for a document with the keys of a turn at its top: the turn of a script. It fails as
 /// `opening_text` does.
 pub fn entry_text(alloc: Global, digests: bool, document: &[u8]) -> Result<String, RunError>
-    ensures { IfOk result (λ part. IsEntry digests document.now (string_bytes part)) }
+    ensures written { IfOk result (λ part. IsEntry digests document.now (string_bytes part)) }
+    ensures refused { IfErr result (λ e. MakesNoEntry digests document.now e) }
 {
     let turn = read_table(alloc, document)?;
     let script = script_of(alloc, turn)?;
