@@ -1,0 +1,250 @@
+package ibcplan
+
+import (
+	"bufio"
+	"encoding/json"
+	"io"
+	"os"
+	"os/exec"
+	"strings"
+	"sync"
+)
+
+const mostSaid = 1 << 16 // bytes of standard error that are remembered
+
+// A Follower is a process that answers turns as they come, for one goroutine at a time.
+type Follower struct {
+	Past []Turn // the answers to the turns that the journal had
+
+	planner        Planner
+	setup, journal string
+	turns          int
+	lock           sync.Mutex // of run, which Stop reads
+	run            *run
+}
+
+// Follow starts a process that answers turns as they come, of a setup: a script without turns. With a journal, the path of a
+// file, each turn is on the disk before its answer, and a journal that is there is gone on with.
+func (planner Planner) Follow(setup, journal string) (*Follower, error) {
+	follower := &Follower{planner: planner, setup: setup, journal: journal}
+	lines, err := follower.start()
+	if err != nil {
+		return nil, err
+	}
+	for _, line := range lines {
+		turn, err := answerOf(line)
+		if err != nil {
+			follower.Close()
+			return nil, err
+		}
+		follower.Past = append(follower.Past, *turn)
+	}
+	return follower, nil
+}
+
+// Turns is how many turns were answered, those of the journal, too.
+func (follower *Follower) Turns() int { return follower.turns }
+
+// Answer gives the answer to a turn. After a *Fault all is as before; after a *Failed the process has ended: Restart.
+func (follower *Follower) Answer(turn string) (*Turn, error) {
+	document, err := documentOf(turn)
+	if err != nil {
+		return nil, err
+	}
+	line, err := follower.run.exchange(document)
+	if err != nil {
+		return nil, err
+	}
+	if _, isFault := faultOf(line); !isFault {
+		follower.turns++
+	}
+	return answerOf(line)
+}
+
+// Restart starts the process again, which ended, by the same journal. It gives the answer to the turn that the process ended
+// upon, if the journal has that turn, or else nil: ask again.
+func (follower *Follower) Restart() (*Turn, error) {
+	if follower.journal == "" {
+		return nil, &Misused{"without a journal turns are lost: begin another follower"}
+	}
+	follower.Close()
+	before := follower.turns
+	lines, err := follower.start()
+	if err != nil || len(lines) <= before {
+		return nil, err
+	}
+	return answerOf(lines[len(lines)-1])
+}
+
+// AnswerOrRestart gives the answer to a turn, by another process where one ended: with a journal no turn is lost, and none
+// counts twice.
+func (follower *Follower) AnswerOrRestart(turn string) (*Turn, error) {
+	answer, err := follower.Answer(turn)
+	if _, failed := err.(*Failed); !failed {
+		return answer, err
+	}
+	if answer, err = follower.Restart(); err != nil || answer != nil {
+		return answer, err
+	}
+	return follower.Answer(turn)
+}
+
+// Said is the end of what the process wrote to standard error, for a log.
+func (follower *Follower) Said() string { return follower.run.said.text() }
+
+// Stop kills the process; any goroutine may call it while another one waits for an answer.
+func (follower *Follower) Stop() {
+	follower.lock.Lock()
+	defer follower.lock.Unlock()
+	_ = follower.run.command.Process.Kill() // it may have ended
+}
+
+// Close ends the process.
+func (follower *Follower) Close() {
+	follower.Stop()
+	follower.run.wait()
+}
+
+// start starts the process, and gives the answers to the journal's turns.
+func (follower *Follower) start() ([]string, error) {
+	path, err := fileWith(follower.setup)
+	if err != nil {
+		return nil, err
+	}
+	defer os.Remove(path)
+	words := follower.planner.withWorkers([]string{"follow", "--json", path})
+	if follower.journal != "" {
+		words = append(words, "--journal", follower.journal)
+	}
+	started, err := startRun(exec.Command(follower.planner.Program, words...))
+	if err != nil {
+		return nil, err
+	}
+	follower.lock.Lock()
+	follower.run = started
+	follower.lock.Unlock()
+	lines, err := started.begin()
+	if err != nil {
+		follower.Close()
+		return nil, err
+	}
+	follower.turns = len(lines)
+	return lines, nil
+}
+
+// A run is a process and its pipes.
+type run struct {
+	command *exec.Cmd
+	turns   io.Writer
+	answers *bufio.Reader
+	said    tail
+	once    sync.Once
+}
+
+func startRun(command *exec.Cmd) (*run, error) {
+	turns, err := command.StdinPipe()
+	if err != nil {
+		return nil, err
+	}
+	answers, err := command.StdoutPipe()
+	if err != nil {
+		return nil, err
+	}
+	started := &run{command: command, turns: turns, answers: bufio.NewReader(answers)}
+	command.Stderr = &started.said // somebody has to read it: the process waits where nobody does
+	return started, command.Start()
+}
+
+// begin gives the old answers: a fault, to an empty document, marks their end.
+func (run *run) begin() ([]string, error) {
+	var past []string
+	for line, err := run.exchange("\n---\n"); ; line, err = run.line() {
+		if err != nil {
+			return nil, err
+		}
+		// later releases begin with an object that tells what they are, which answers nothing
+		if strings.HasPrefix(line, `{"ibcplan"`) {
+			continue
+		}
+		if _, isFault := faultOf(line); isFault {
+			return past, nil
+		}
+		past = append(past, line)
+	}
+}
+
+// exchange writes a document, and reads a line.
+func (run *run) exchange(document string) (string, error) {
+	if _, err := io.WriteString(run.turns, document); err != nil {
+		return "", run.ended() // it said why
+	}
+	return run.line()
+}
+
+func (run *run) line() (string, error) {
+	line, err := run.answers.ReadString('\n')
+	if err != nil {
+		return "", run.ended()
+	}
+	return line, nil
+}
+
+func (run *run) wait() {
+	run.once.Do(func() { _ = run.command.Wait() }) // the status is that of ProcessState
+}
+
+// ended tells why the process ended.
+func (run *run) ended() error {
+	run.wait()
+	return errorOf(run.command.ProcessState.ExitCode(), run.said.text())
+}
+
+// A tail remembers the end of what is written to it.
+type tail struct {
+	lock  sync.Mutex
+	bytes []byte
+}
+
+func (tail *tail) Write(piece []byte) (int, error) {
+	tail.lock.Lock()
+	defer tail.lock.Unlock()
+	tail.bytes = append(tail.bytes, piece...)
+	if beyond := len(tail.bytes) - mostSaid; beyond > 0 {
+		tail.bytes = append([]byte(nil), tail.bytes[beyond:]...)
+	}
+	return len(piece), nil
+}
+
+func (tail *tail) text() string {
+	tail.lock.Lock()
+	defer tail.lock.Unlock()
+	return string(tail.bytes)
+}
+
+// documentOf gives a turn as the process reads it.
+func documentOf(turn string) (string, error) {
+	for _, line := range strings.Split(turn, "\n") {
+		if strings.TrimSuffix(line, "\r") == "---" {
+			return "", &Misused{"a line of the turn is ---, which would end it"}
+		}
+	}
+	return turn + "\n---\n", nil
+}
+
+func faultOf(line string) (*Fault, bool) {
+	var fault Fault
+	isFault := strings.HasPrefix(line, `{"fault"`) && json.Unmarshal([]byte(line), &fault) == nil
+	return &fault, isFault
+}
+
+// answerOf gives the answer of a line, or its fault.
+func answerOf(line string) (*Turn, error) {
+	if fault, isFault := faultOf(line); isFault {
+		return nil, fault
+	}
+	var turn Turn
+	if err := json.Unmarshal([]byte(line), &turn); err != nil {
+		return nil, err
+	}
+	return &turn, nil
+}

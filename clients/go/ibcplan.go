@@ -1,0 +1,284 @@
+// Package ibcplan starts the planner ibcplan, for relayers in Go: scripts, reports with types, and turns as they come.
+//
+// Scripts, setups and turns are TOML: texts, or what Document makes of a Table. The project's docs/FORMATS.md has the keys of
+// scripts and reports, docs/EMBEDDING.md the use.
+package ibcplan
+
+import (
+	"bytes"
+	"encoding/json"
+	"errors"
+	"fmt"
+	"os"
+	"os/exec"
+	"strconv"
+	"strings"
+)
+
+// A Report is that of a script, as "The report as JSON" of docs/FORMATS.md has it.
+type Report struct {
+	Format  uint64   `json:"ibcplan"`
+	Turns   []Turn   `json:"turns"`
+	Clients []Health `json:"clients"`
+}
+
+// A Turn is the report of a turn.
+type Turn struct {
+	WindowBack  bool           `json:"window_back"`
+	Refused     []RefusedEvent `json:"refused"`
+	Clients     []Client       `json:"clients"`
+	Settlements []Settlement   `json:"settlements"`
+}
+
+// A RefusedEvent is an event by its place in the turn, from 0, and why it was refused.
+type RefusedEvent struct {
+	Event  uint64 `json:"event"`
+	Number uint64 `json:"number"`
+	Name   string `json:"name"`
+}
+
+// A Settlement has a number and a name if it was refused.
+type Settlement struct {
+	Client string `json:"client"`
+	Batch  uint64 `json:"batch"`
+	Done   uint64 `json:"done"`
+	Number uint64 `json:"number"`
+	Name   string `json:"name"`
+}
+
+// The outcomes of a client.
+const (
+	Held        = "held"
+	Idle        = "idle"
+	Unreachable = "unreachable"
+	Plan        = "plan"
+)
+
+// A Client is what a turn has for a client. By Outcome: Held has Batch; Idle has Next; Unreachable has Goal and Labels; Plan has
+// all. Of a plan Batch is 0 if nothing is to be sent.
+type Client struct {
+	ID           string        `json:"id"`
+	Outcome      string        `json:"outcome"`
+	Goal         Goal          `json:"goal"`
+	Labels       []Label       `json:"labels"`
+	Updates      []Update      `json:"updates"`
+	Total        Total         `json:"total"`
+	Messages     []Message     `json:"messages"`
+	TooBig       *uint64       `json:"too_big"`
+	Batch        uint64        `json:"batch"`
+	Proof        uint64        `json:"proof"`
+	Transactions []Transaction `json:"transactions"`
+	Next         string        `json:"next"`
+}
+
+// A Goal is a wanted height: the one that isn't 0.
+type Goal struct {
+	AtLeast uint64 `json:"at_least"`
+	Exactly uint64 `json:"exactly"`
+}
+
+// A Label is the least fee at which a height is reached, and the least number of updates at this fee.
+type Label struct {
+	Height uint64 `json:"height"`
+	Fee    uint64 `json:"fee"`
+	Count  uint64 `json:"count"`
+}
+
+// An Update has votes if it doesn't carry all: the addresses of those that go, of so many commits.
+type Update struct {
+	Height  uint64   `json:"height"`
+	Trusted uint64   `json:"trusted"`
+	Fee     uint64   `json:"fee"`
+	Commits uint64   `json:"commits"`
+	Votes   []string `json:"votes"`
+}
+
+// A Total is what all updates cost, and their number.
+type Total struct {
+	Fee     uint64 `json:"fee"`
+	Updates uint64 `json:"updates"`
+}
+
+// A Message is a packet message: its kind is recv, ack or timeout.
+type Message struct {
+	Kind     string `json:"kind"`
+	Path     string `json:"path"`
+	Sequence uint64 `json:"sequence"`
+}
+
+// A Transaction has so many messages from the first on; updates are counted first, from 0.
+type Transaction struct {
+	First uint64 `json:"first"`
+	Count uint64 `json:"count"`
+	Gas   uint64 `json:"gas"`
+}
+
+// Health tells when a client expires; Expires is empty if nothing is stored.
+type Health struct {
+	ID      string `json:"id"`
+	Expires string `json:"expires"`
+	Live    bool   `json:"live"`
+}
+
+// Taken is what to tell by `settle` when all transactions of the turn's new batches were taken; lower `done` where
+// fewer were.
+func (turn *Turn) Taken() []Table {
+	var settled []Table
+	for _, client := range turn.Clients {
+		if client.Outcome == Plan && client.Batch > 0 {
+			settled = append(settled, Table{"client": client.ID, "batch": client.Batch, "done": len(client.Transactions)})
+		}
+	}
+	return settled
+}
+
+// A Fault of a text: mend it, since the same text fails again. A follower goes on as if it had not been given the turn.
+type Fault struct {
+	Number uint64 `json:"fault"`
+	Name   string `json:"name"`
+	Path   string `json:"path"`
+	Advice string `json:"-"` // what belongs there, for a person; nothing of a turn
+}
+
+func (fault *Fault) Error() string {
+	return fmt.Sprintf("fault %d %s at %s", fault.Number, fault.Name, fault.Path)
+}
+
+// Event is the event of the turn, from 0, that the fault is in, or -1: without it the turn may be right.
+func (fault *Fault) Event() int {
+	place, _, _ := strings.Cut(strings.TrimPrefix(fault.Path, "event["), "]")
+	event, err := strconv.Atoi(place)
+	if err != nil || !strings.HasPrefix(fault.Path, "event[") {
+		return -1
+	}
+	return event
+}
+
+// Misused says that the command line is wrong; or that a journal is another one, damaged, or in use.
+type Misused struct{ Said string }
+
+func (misused *Misused) Error() string { return "ibcplan was called wrongly: " + misused.Said }
+
+// Failed says that memory, a file or the process failed: the same call may succeed later. Status is -1 after a signal.
+type Failed struct {
+	Status int
+	Said   string
+}
+
+func (failed *Failed) Error() string {
+	return fmt.Sprintf("ibcplan failed with status %d: %s", failed.Status, failed.Said)
+}
+
+// errorOf gives the error that an exit status and standard error tell.
+func errorOf(status int, said string) error {
+	said = strings.TrimSpace(said)
+	if status == 1 {
+		if _, rest, found := strings.Cut("\n"+said, "\nfault "); found {
+			line, advice, _ := strings.Cut(rest, "\n")
+			words := strings.SplitN(line, " ", 4)
+			if number, err := strconv.ParseUint(words[0], 10, 64); err == nil && len(words) == 4 && words[2] == "at" {
+				return &Fault{number, words[1], words[3], strings.TrimSpace(advice)}
+			}
+		}
+	}
+	if status == 1 || status == 2 {
+		return &Misused{said}
+	}
+	return &Failed{status, said}
+}
+
+// A Planner starts the program of this path, or of this name on the path; with Workers, 1 to 64, by so many threads.
+type Planner struct {
+	Program string
+	Workers int
+}
+
+func (planner Planner) withWorkers(words []string) []string {
+	if planner.Workers == 0 {
+		return words
+	}
+	return append(words, "--workers", strconv.Itoa(planner.Workers))
+}
+
+// run gives the status of a run, what it wrote to standard output and to standard error.
+func (planner Planner) run(input string, words ...string) (int, []byte, string, error) {
+	var output, said bytes.Buffer
+	command := exec.Command(planner.Program, words...)
+	command.Stdin, command.Stdout, command.Stderr = strings.NewReader(input), &output, &said
+	err := command.Run()
+	var exit *exec.ExitError
+	if err != nil && !errors.As(err, &exit) {
+		return 0, nil, "", err
+	}
+	return command.ProcessState.ExitCode(), output.Bytes(), said.String(), nil
+}
+
+// written gives what a run writes that ends well.
+func (planner Planner) written(input string, words ...string) ([]byte, error) {
+	status, output, said, err := planner.run(input, words...)
+	if err == nil && status != 0 {
+		err = errorOf(status, said)
+	}
+	return output, err
+}
+
+// Plan gives the report of a script.
+func (planner Planner) Plan(script string) (*Report, error) {
+	words := []string{"plan", "--json", "-"}
+	if planner.Workers > 0 {
+		words = planner.withWorkers([]string{"run", "--json", "-"})
+	}
+	output, err := planner.written(script, words...)
+	if err != nil {
+		return nil, err
+	}
+	var report Report
+	if err := json.Unmarshal(output, &report); err != nil {
+		return nil, err
+	}
+	if report.Format != 1 && report.Format != 3 {
+		return nil, &Misused{fmt.Sprintf("reports of format %d are newer than this package", report.Format)}
+	}
+	return &report, nil
+}
+
+// Explain gives the explanation of a script, as docs/FORMATS.md has it.
+func (planner Planner) Explain(script string) (json.RawMessage, error) {
+	return planner.written(script, "explain", "--json", "-")
+}
+
+// Certify gives the first reason against a certificate, as "601 SourceLabel 5"; none if its updates are the plan.
+func (planner Planner) Certify(script, certificate string) (string, error) {
+	path, err := fileWith(certificate)
+	if err != nil {
+		return "", err
+	}
+	defer os.Remove(path)
+	status, output, said, err := planner.run(script, "certify", "-", path)
+	if err == nil && status != 0 && status != 3 {
+		err = errorOf(status, said)
+	}
+	if err != nil || status == 0 {
+		return "", err
+	}
+	return strings.TrimPrefix(strings.TrimSpace(string(output)), "no "), nil
+}
+
+// Version gives the name of the program and its version, as "ibcplan 0.1.0".
+func (planner Planner) Version() (string, error) {
+	output, err := planner.written("", "--version")
+	return strings.TrimSpace(string(output)), err
+}
+
+// fileWith makes a file with a text that the program doesn't read from standard input.
+func fileWith(text string) (string, error) {
+	file, err := os.CreateTemp("", "ibcplan-*.toml")
+	if err != nil {
+		return "", err
+	}
+	_, err = file.WriteString(text)
+	if closed := file.Close(); err == nil {
+		err = closed
+	}
+	return file.Name(), err
+}
