@@ -99,6 +99,10 @@ def public_key(key):
     return {"type": f"tendermint/PubKey{'Ed25519' if len(key) == 32 else 'Secp256k1'}", "value": base64.b64encode(key).decode()}
 
 
+# how a validator votes: mostly for the block
+VOTES = [2] * 11 + [1, 3]
+
+
 class Chain:
     """Blocks from 1 on, whose validators change every few blocks; each third key is of secp256k1."""
 
@@ -122,7 +126,7 @@ class Chain:
     def some_hash(self):
         return upper(self.chance.randbytes(32))
 
-    def commit(self, height):
+    def commit(self, height, votes=VOTES):
         header = {"version": {"block": "11"}, "chain_id": self.name, "height": str(height), "time": stamp(self.times[height]),
                   "last_block_id": {"hash": self.some_hash(), "parts": {"total": 1, "hash": self.some_hash()}},
                   **{name: upper(sha(f"{name} {height}".encode())) for name in ("last_commit_hash", "last_results_hash", "evidence_hash")},
@@ -131,7 +135,7 @@ class Chain:
                   "proposer_address": upper(self.sets[height][0][1])}
         signatures = []
         for place, (_, address, _) in enumerate(self.sets[height]):
-            flag = self.chance.choice([2] * 11 + [1, 3]) if place > 1 else 2
+            flag = self.chance.choice(votes) if place > 1 else 2
             signatures.append({"block_id_flag": 1, "validator_address": "", "timestamp": "0001-01-01T00:00:00Z", "signature": None}
                               if flag == 1 else
                               {"block_id_flag": flag, "validator_address": upper(address), "timestamp": stamp(self.times[height]),
@@ -223,10 +227,10 @@ def make(folder, seed, between=6):
 
 
 def make_busy(folder, stored, headers, every):
-    """Writes the answers on hub-4, of which these heights have a header, and of clients of it that have stored these records, by client."""
+    """Writes the answers on hub-4, of which these heights have a header that all signed, and of clients of it that have stored these records, by client."""
     hub = Chain(random.Random(1), "hub-4", max(headers), every=every)
     for height in headers:
-        write(folder / hub.name / f"commit-{height}.json", hub.commit(height))
+        write(folder / hub.name / f"commit-{height}.json", hub.commit(height, [2]))
     for height in sorted({*headers, *range(every, max(headers) + 2, every), 1}):  # each set
         for number, page in enumerate(hub.validators(height), 1):
             write(folder / hub.name / f"validators-{height}-{number}.json", page)
@@ -301,13 +305,13 @@ def is_needed(answer):
     return any(name in answer.get("result", answer) for name in ("signed_header", "validators"))
 
 
-def bad_votes(folder):
-    """The places of bad votes of the commits of a chain's folder that its verdicts.json tells of, by height."""
-    found, file = {}, folder / "verdicts.json"
-    for verdict in json.loads(file.read_text())["verdicts"]["commits"] if file.exists() else []:
+def verdicts_on(folder):
+    """What verdicts.json of a chain's folder says of its commits, by height."""
+    found = {}
+    for verdict in json.loads((folder / "verdicts.json").read_text())["verdicts"]["commits"] if (folder / "verdicts.json").exists() else []:
         for path in folder.glob("*.json"):
             if sha(path.read_bytes()).hex() == verdict["sha256"]:
-                found[int(json.loads(path.read_text())["result"]["signed_header"]["header"]["height"])] = verdict["bad"]
+                found[int(json.loads(path.read_text())["result"]["signed_header"]["header"]["height"])] = verdict
     return found
 
 
@@ -316,41 +320,60 @@ def votes_of(signatures, bad):
     return "".join("B" if place in bad and s["block_id_flag"] == 2 else LETTERS[s["block_id_flag"]] for place, s in enumerate(signatures))
 
 
+def is_signed(signatures, members, verdict, verified):
+    """Whether the votes for the block that count have more than two thirds of a set's power: those that aren't bad, or of verified votes those that are good."""
+    places = range(len(signatures)) if verdict or not verified else []
+    out = {*verdict["bad"], *(verdict["unchecked"] if verified else [])} if verdict else set()
+    voted = sum(members[place][0] for place in places if signatures[place]["block_id_flag"] == 2 and place not in out)
+    return 3 * voted > 2 * sum(power for power, _, _ in members)
+
+
 def root_of(data):
     """The root that a script has of bytes in an answer."""
     return (data if len(data) == 32 else sha(data)).hex()
 
 
-def chain_events(folder, name, named):
-    """The sets that headers or records name, the highest first and no more than 1,024, and the headers, no more than 4,096, of them."""
-    headers, pages, bad = {}, {}, bad_votes(folder / name)
-    for answer in filter(is_needed, answers_in(folder / name)):
-        result = answer["result"]
-        if "signed_header" in result:
-            signed = result["signed_header"]
-            headers[int(signed["header"]["height"])] = signed
-        else:
-            pages.setdefault(int(result["block_height"]), []).extend(result["validators"])
-    for height in sorted(headers)[:-4096]:
-        del headers[height]
-    for signed in headers.values():
+class Told:
+    """What a folder tells of a chain: its headers by height, no more than 4,096, that more than two thirds of their sets signed, the heights of those of which no
+    answers make the set (`bare`) and of those that too few signed (`unsigned`), its sets by their hash from low heights up, and the verdicts by height."""
+
+    def __init__(self, folder, verified=False):
+        self.headers, self.sets, self.verdicts, pages = {}, {}, verdicts_on(folder), {}
+        for answer in filter(is_needed, answers_in(folder)):
+            result = answer["result"]
+            if "signed_header" in result:
+                signed = result["signed_header"]
+                self.headers[int(signed["header"]["height"])] = signed
+            else:
+                pages.setdefault(int(result["block_height"]), []).extend(result["validators"])
+        for height in sorted(pages):
+            members = in_order([(base64.b64decode(v["pub_key"]["value"]), int(v["voting_power"])) for v in pages[height]])
+            self.sets.setdefault(set_hash(members).hex(), members)
+        own = {height: self.sets.get(signed["header"]["validators_hash"].lower()) for height, signed in self.headers.items()}
+        self.bare = sorted(height for height, members in own.items() if members is None)
+        self.unsigned = sorted(height for height, members in own.items() if members is not None and not is_signed(
+            self.headers[height]["commit"]["signatures"], members, self.verdicts.get(height), verified))
+        rest = sorted(own.keys() - {*self.bare, *self.unsigned})[-4096:]
+        self.headers = {height: self.headers[height] for height in rest}
+
+
+def chain_events(name, told, named):
+    """The sets that headers or records name, the highest first and no more than 1,024, and the headers of them."""
+    for signed in told.headers.values():
         named |= {signed["header"]["validators_hash"].lower(), signed["header"]["next_validators_hash"].lower()}
-    known = {}
-    for height in sorted(pages):
-        members = in_order([(base64.b64decode(v["pub_key"]["value"]), int(v["voting_power"])) for v in pages[height]])
-        known.setdefault(set_hash(members).hex(), members)
-    written = [(digits, members) for digits, members in reversed(known.items()) if digits in named][:1024]
+    written = [(digits, members) for digits, members in reversed(told.sets.items()) if digits in named][:1024]
     events = [{"kind": "set", "chain": name, "name": digits[:32], "validators": [[key.hex(), power] for power, _, key in members]}
               for digits, members in written]
     reference = {digits: digits[:32] for digits, _ in written}
-    for height in sorted(headers):
-        header, commit = headers[height]["header"], headers[height]["commit"]
+    for height, signed in told.headers.items():
+        header, commit = signed["header"], signed["commit"]
         if header["validators_hash"].lower() not in reference:
             continue
+        bad = told.verdicts[height]["bad"] if height in told.verdicts else []
         events.append({"kind": "header", "chain": name, "height": height, "time": nanoseconds(header["time"]),
                        "root": root_of(bytes.fromhex(header["app_hash"])), "set": reference[header["validators_hash"].lower()],
                        "next": reference.get(header["next_validators_hash"].lower(), header["next_validators_hash"].lower()),
-                       "votes": votes_of(commit["signatures"], bad.get(height, []))})
+                       "votes": votes_of(commit["signatures"], bad)})
     return events, reference
 
 
@@ -368,18 +391,41 @@ def pending_of(folder, path):
     return {int(state["sequence"]) for page in pages for state in page if int(state["sequence"]) >= path.get("first", 1)} if pages else None
 
 
-def packet_events(folder, path):
-    """The packets of a path, where answers tell of commitments those with one: of those that go to the counterparty, or else to the first sent one's
-    destination, the one of the lowest block by kind and sequence; and that the path is closed, if it is ordered and one of them timed out."""
-    found, dest_revision = [], int(path["dest"].rsplit("-", 1)[1])
-    for answer in answers_in(folder / path["id"]):
+def events_in(answers):
+    """The events on packets of a channel in answers of /tx_search: of each its kind by its place in KINDS, its block, its sequence, its name and its values."""
+    for answer in answers:
         for tx in answer.get("result", {}).get("txs", []):
             for event in tx["tx_result"]["events"] if tx["tx_result"]["code"] == 0 else []:
                 values = {a["key"]: a["value"] for a in event["attributes"]}
                 if "cGFja2V0X3NlcXVlbmNl" in values:
                     values = {base64.b64decode(k).decode(): base64.b64decode(v).decode() for k, v in values.items()}
                 if event["type"] in KINDS and "packet_source_client" not in values:
-                    found.append((list(KINDS).index(event["type"]), int(tx["height"]), int(values["packet_sequence"]), event["type"], values))
+                    yield list(KINDS).index(event["type"]), int(tx["height"]), int(values["packet_sequence"]), event["type"], values
+
+
+def lacks(answers, events, pending):
+    """What packets lack that these events or commitments tell of, by sequence: their sending (`send`), their receiving (`receive`), or an answer on whether they
+    were received (`receipt`)."""
+    was = {(KINDS[name], sequence) for _, _, sequence, name, _ in events}
+    unreceived = [int(sequence) for answer in answers for sequence in answer.get("sequences", [])]
+    tells_unreceived = any("sequences" in answer for answer in answers)
+    searched = any(name == "recv_packet" for _, _, _, name, _ in events_in(answers)) or any("txs" in answer.get("result", {}) and not [*events_in([answer])] for answer in answers)
+    for sequence in {sequence for _, sequence in was} | (pending or set()):
+        is_received = pending is not None and tells_unreceived and sequence not in unreceived
+        if ("sent", sequence) not in was:
+            yield sequence, "send"
+        elif ("received", sequence) not in was and (("ack", sequence) in was or is_received):
+            yield sequence, "receive"
+        elif not {("received", sequence), ("cleared", sequence)} & was and not (searched if pending is None else tells_unreceived):
+            yield sequence, "receipt"
+
+
+def packet_events(folder, path):
+    """The packets of a path, where answers tell of commitments those with one: of those that go to the counterparty, or else to the first sent one's
+    destination, the one of the lowest block by kind and sequence; no more than the first 4,096. Left out is a packet that lacks something, on an ordered path with
+    all behind it. At the end the path is closed, if it is ordered and one of them timed out."""
+    answers, dest_revision = answers_in(folder / path["id"]), int(path["dest"].rsplit("-", 1)[1])
+    found = [*events_in(answers)]
     source, dest = ([f"packet_{end}_{part}" for part in ("port", "channel")] for end in ("src", "dst"))
     if "port" in path:
         found = [f for f in found if [f[4][name] for name in source] == [path["port"], path["channel"]]]
@@ -389,12 +435,15 @@ def packet_events(folder, path):
     pending = pending_of(folder, path)
     found = [f for f in found if pending is None or f[2] in pending]
     found = [f for f in found if f[2] >= path.get("first", 1) and [f[4][name] for name in dest] in (ends or [[f[4][name] for name in dest]])]
+    is_ordered, lacking = path["order"] == "ordered", dict(lacks(answers, found, pending))
+    out = {f[2] for f in found if f[2] in lacking or is_ordered and f[2] > min(lacking, default=f[2])}
+    out |= {*sorted({f[2] for f in found if f[3] == "send_packet"} - out)[4096:]}
     lowest = {}
     for kind, height, sequence, name, values in found:
         key = kind, sequence
         if key not in lowest or height < lowest[key][1]:
             lowest[key] = kind, height, sequence, name, values
-    for _, height, sequence, kind, values in sorted(lowest.values(), key=lambda f: f[:3]):
+    for _, height, sequence, kind, values in sorted((f for f in lowest.values() if f[2] not in out), key=lambda f: f[:3]):
         event = {"kind": KINDS[kind], "path": path["id"], "seq": sequence}
         if KINDS[kind] != "cleared":
             event["height"] = height
@@ -408,7 +457,7 @@ def packet_events(folder, path):
             time = int(values["packet_timeout_timestamp"])
             event |= {"timeout_time": time} if time else {}
         yield event
-    if path["order"] == "ordered" and any(f[3] == "timeout_packet" for f in lowest.values()):
+    if is_ordered and any(f[3] == "timeout_packet" for f in found):
         yield {"kind": "closed", "path": path["id"]}
 
 
@@ -416,11 +465,10 @@ def height_of(state):
     return int(state["height"]["revision_height"])
 
 
-def kept(records, folder):
+def kept(records, chains):
     """The records that a book of 4,096 has room for beside its chain's headers: the highest, and those of a header's height."""
     for chain in {client["of"] for client, _ in records}:
-        headers = {int(a["result"]["signed_header"]["header"]["height"]) for a in answers_in(folder / chain) if "signed_header" in a.get("result", {})}
-        headers = set(sorted(headers)[-4096:])
+        headers = chains[chain].headers.keys()
         bare = sorted({height_of(state) for client, state in records if client["of"] == chain} - headers)
         gone = set(bare[:max(len(bare) + len(headers) - 4096, 0)])
         records = [(client, state) for client, state in records if client["of"] != chain or height_of(state) not in gone]
@@ -433,7 +481,7 @@ def revision_of(state):
     return int(height.get("revision_number", 0)) if isinstance(height, dict) else 0
 
 
-def script_of(setup, folder):
+def script_of(setup, folder, verified=False):
     """The script of a setup's text and of the answers, as TOML's values, its times in nanoseconds."""
     script = tomllib.loads(setup) | {"version": 3}
     records, by_chain = [], {}
@@ -446,15 +494,16 @@ def script_of(setup, folder):
         client.setdefault("refresh_ns", 0)
         revision = int(client["of"].rsplit("-", 1)[1])
         stored = [s for a in states for s in a.get("consensus_states", []) if revision_of(s) >= revision]
-        records += [(client, state) for state in sorted(stored, key=height_of)]
+        records += [(client, state) for state in sorted({height_of(state): state for state in stored}.values(), key=height_of)]
         by_chain.setdefault(client["of"], set())
-    records = kept(records, folder)
+    chains = {name: Told(folder / name, verified) for name in by_chain}
+    records = kept(records, chains)
     for client, state in records:
         by_chain[client["of"]].add(state["consensus_state"]["next_validators_hash"].lower())
     events, references = [], {}
     for chain in script["chain"]:
         if chain["id"] in by_chain:
-            found, references[chain["id"]] = chain_events(folder, chain["id"], by_chain[chain["id"]])
+            found, references[chain["id"]] = chain_events(chain["id"], chains[chain["id"]], by_chain[chain["id"]])
             events += found
     for client, state in records:
         inner = state["consensus_state"]

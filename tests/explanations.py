@@ -15,6 +15,7 @@ import xml.etree.ElementTree as ElementTree
 
 sys.dont_write_bytecode = True
 from program import TOP, Case, run_program
+from schema import read_json
 from script_text import LATER, a_set, chains, client, members, packet, path, stored, turn
 
 sys.path.insert(0, str(TOP / "tests" / "reference"))
@@ -62,7 +63,7 @@ def explain_cases():
             print(f"== the text beside {file} isn't the second planner's")
             text = ""
         yield Case(f"{file.name}, explained", ["explain", "-"], file.read_bytes(), text.encode(), b"", 0)
-        yield Case(f"{file.name}, explained as JSON", ["explain", "--json", "-"], file.read_bytes(), value, b"", 0, reader=json.loads)
+        yield Case(f"{file.name}, explained as JSON", ["explain", "--json", "-"], file.read_bytes(), value, b"", 0, reader=read_json)
     yield from chosen_cases()
     yield from whole_cases()
     yield from refused_cases()
@@ -81,7 +82,7 @@ def chosen_cases():
         for words, error in EXPLAIN_WORDS:
             yield Case(f"{command} {' '.join(words)}", [command, *words, "-"], given, b"", error, 2)
         yield Case(f"a fault of {command}", [command, "-"], b"version =", b"", b"fault 1001 NotToml at -\n", 1)
-    for words, output, reader in ([], b"", None), (["--json"], {"ibcplan": 1, "turns": []}, json.loads):
+    for words, output, reader in ([], b"", None), (["--json"], {"ibcplan": 1, "turns": []}, read_json):
         yield Case(f"explain {words} of no turn", ["explain", "--last", *words, "-"], b"version = 1\n", output, b"", 0, reader=reader)
 
 
@@ -125,7 +126,7 @@ def refused_cases():
             print(f"== {name}: the second planner doesn't refuse the last event alone")
             value = None
         yield Case(f"{name}, explained", ["explain", "-"], given, explain.text_of(value).encode() if value else b"", b"", 0)
-        yield Case(f"{name}, explained as JSON", ["explain", "--json", "-"], given, value, b"", 0, reader=json.loads)
+        yield Case(f"{name}, explained as JSON", ["explain", "--json", "-"], given, value, b"", 0, reader=read_json)
 
 
 # ---- pictures
@@ -198,7 +199,7 @@ def random_cases(count, seed):
         value = explain.value_of(script)
         last = chosen(value, len(script.turns))
         yield Case(f"script {number}", ["explain", "-"], given, explain.text_of(value).encode(), b"", 0)
-        yield Case(f"script {number} as JSON", ["explain", "--json", "-"], given, value, b"", 0, reader=json.loads)
+        yield Case(f"script {number} as JSON", ["explain", "--json", "-"], given, value, b"", 0, reader=read_json)
         yield Case(f"script {number}, a picture", ["picture", "-"], given, expected_shapes(last), b"", 0, reader=shapes)
 
 

@@ -5,7 +5,9 @@ import shlex
 import shutil
 
 import answers
-from imports import CLIENT, COMMIT, CONSENSUS, FRESH, HEAD, HEADER, ONE, STATE, TURN, edited, gone, moved, put, removed, removed_folder, values_of, written
+from answer_edits import COMMIT, CONSENSUS, HEADER, STATE, edited, moved, removed, removed_folder, written
+from imports import CLIENT, FRESH, HEAD, ONE, TURN, UNCHECKED, values_of
+from json_paths import gone, put
 from program import Case
 
 PATH = '[[path]]\nid = "%s"\nsource = "hub-4"\ndest = "zone-1"\norder = "unordered"\nforward = "%s"\nback = "zone-on-hub"\ngas = [5, 5, 5]\n'
@@ -15,7 +17,7 @@ COMMITS, STATES, RECORDS = "%s/commit-20.json", "%s/client_state.json", "%s/cons
 CHAINS = {
     "page-1": (written(COMMITS % "page-1", PAGE), "refused ErrorPage at -"),
     "void-1": (removed_folder("void-1"), "device"),
-    "short-1": (removed("short-1/validators-20-2.json"), "refused MissingPage at short-1 20"),
+    "short-1": (edited("short-1/validators-20-2.json", put("result.total", "5")), "refused OtherTotal at short-1 20"),
     "forged-1": (edited(COMMITS % "forged-1", put(f"{HEADER}.data_hash", "00" * 32)), "refused OtherHeader at forged-1 20"),
     "other-1": (edited(COMMITS % "other-1", put(f"{HEADER}.chain_id", "hub-9")), "refused OtherChain at other-1 20"),
     "cut-1": (edited(COMMITS % "cut-1", gone(f"{COMMIT}.signatures[5]")), "refused SignatureCount at cut-1 20"),
@@ -40,7 +42,7 @@ CLIENTS = {
 PATHS = {
     "cut-short": (written("cut-short/sent.json", '{"result": {"txs": ['), "refused CutShort at -"),
     "no-folder": (removed_folder("no-folder"), "device"),
-    "unsent": (removed("unsent/sent.json"), "refused MissingSend at unsent 2"),
+    "counted": (edited("counted/received.json", put("result.total_count", "7")), "refused MissingTransactions at counted 7"),
 }
 MOST_BYTES = 16_777_216
 OF_FILES = ("ErrorPage", "FrozenClient", "UnsupportedClient", "NotJson", "Empty", "NodeError", "CutShort", "device")
@@ -95,7 +97,7 @@ def told_of(chains=(), clients=(), paths=(), is_sound=True):
 
 def fleet_case(top, what, status, *words, **parts):
     """The import of a setup with these parts, where nothing or the sound part is written."""
-    setup, folder, told = top / f"fleet-{what}.toml", top / "fleet", [*told_of(**parts), FRESH.encode()]
+    setup, folder, told = top / f"fleet-{what}.toml", top / "fleet", [*told_of(**parts), FRESH.encode(), *((UNCHECKED % chain).encode() for chain in ("hub-4", "zone-1"))]
     setup.write_text(setup_of(**parts))
     words = ["import", *words, str(setup), str(folder)]
     if status in (0, 7):

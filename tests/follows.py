@@ -11,6 +11,8 @@ import subprocess
 import time
 import tomllib
 
+from schema import read_json
+
 TOP = pathlib.Path(__file__).resolve().parent.parent
 ROWS, EXAMPLES = TOP / "tests" / "rows", TOP / "examples"
 MARK = "---\n"
@@ -179,8 +181,8 @@ def script_runs(program, folder, is_quick):
             wrong += check(f"{name}, followed in pieces of {size} by {workers} workers", (done.output, done.error, done.status), (followed(report), "", 0))
             runs += 1
         done = run_in_pieces([*program, "plan", "--json", "-"], script.encode(), 4096)
-        lines = [json.loads(line) for line in run_in_pieces([*program, "follow", "--json", str(path)], ended(documents), 4096).output.splitlines()]
-        wrong += check(f"{name}, followed as JSON", lines, json.loads(done.output)["turns"])
+        lines = [read_json(line) for line in run_in_pieces([*program, "follow", "--json", str(path)], ended(documents), 4096).output.splitlines()]
+        wrong += check(f"{name}, followed as JSON", lines, read_json(done.output)["turns"])
         runs += 1
     return runs, wrong
 
@@ -231,7 +233,7 @@ def fault_runs(program, folder):
     done = run_in_pieces([*program, "follow", str(path), "--workers", "2"], given, 4096)
     wrong += check("all faults in a row", (done.output, done.status), (wanted, 0))
     done = run_in_pieces([*program, "follow", "--json", str(path)], ended([document for _, document, _ in faults]), 4096)
-    got = [f'{item["fault"]} {item["name"]} at {item["path"]}' for item in map(json.loads, done.output.splitlines())]
+    got = [f'{item["fault"]} {item["name"]} at {item["path"]}' for item in map(read_json, done.output.splitlines())]
     wrong += check("all faults as JSON", got, [fault for _, _, fault in faults])
     return runs + 2, wrong
 

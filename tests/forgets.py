@@ -1,7 +1,6 @@
 """What `ibcplan follow` forgets from version 3 on: its answers are those of a planner that forgets nothing and has no limits, and events that
 speak of what was forgotten are refused."""
 import datetime
-import json
 import os
 import pathlib
 import signal
@@ -10,6 +9,7 @@ import sys
 import threading
 
 from follows import MARK, TOP, answers_of, check, ended, run_in_pieces
+from schema import read_json
 
 CHAINS = """version = %d
 
@@ -152,7 +152,7 @@ def height_runs(program, folder):
     path.write_text(expiring_setup(3, False))
     given = ended([document.encode() for document in (*expiring_turns(False), late[0][0])])
     lines = run_in_pieces([*program, "follow", "--json", str(path)], given, 4096).output.splitlines()
-    wrong += check("a height that is forgotten, as JSON", json.loads(lines[-1]), {"fault": 1033, "name": "Forgotten", "path": "event[1]"})
+    wrong += check("a height that is forgotten, as JSON", read_json(lines[-1]), {"fault": 1033, "name": "Forgotten", "path": "event[1]"})
     return len(cases) + 1, wrong
 
 

@@ -5,18 +5,16 @@ import shlex
 import subprocess
 
 import answers
-from imports import NEXT_SET, SETS, reference, without_envelope
-from program import TOP, Case
+from imports import SETS, reference, told_by, without_envelope
+from program import TOP, Case, ToldCase
 
 
 def chain_cases(top, program):
     """`import` and `plan` in a row by a shell; at last over what `examples/collect` got of made-up nodes, also of one without JSON-RPC's envelope."""
     words = " ".join(map(shlex.quote, program))
-    folders = [(top / f"seed-{seed}", top / f"setup-{seed}-0.toml", "") for seed in range(1, 21)]
-    # `collect` asks for what a plan needs, and no update has to start from the older states.
-    older = NEXT_SET % (2, 31)
-    folders += [(top / "collected", top / "setup-4-0.toml", older), (top / "busy-1500", top / "busy-1500.toml", SETS % (482, 0))]
-    folders.append((top / "collected-bare", top / "setup-4-0.toml", older))
+    folders = [(top / f"seed-{seed}", top / f"setup-{seed}-0.toml", []) for seed in range(1, 21)]
+    folders += [(top / "collected", top / "setup-4-0.toml", []), (top / "busy-1500", top / "busy-1500.toml", [SETS % (482, 0)])]
+    folders.append((top / "collected-bare", top / "setup-4-0.toml", []))
     for name, shape in ("collected-bare", without_envelope), ("collected", lambda answer: answer):
         with answers.serve(random.Random(7), shape) as (rpc, rest):
             subprocess.run([TOP / "examples" / "collect", top / name, "hub-on-zone", "hub-4", rpc, rest], env={**os.environ, "IBCPLAN": program[0]}, check=True)
@@ -24,9 +22,10 @@ def chain_cases(top, program):
         told = f"collect: {top}/collected/{there}.json is there already; name a new folder, or take the answers out of this one\n"
         asked = [str(TOP / "examples" / "collect"), str(top / "collected"), client, chain, rpc, rest]
         yield Case(f"collecting {client} of {chain} again", asked, b"", b"", told.encode(), 1)
-    for folder, setup, told in folders:
+    for folder, setup, lines in folders:
         enveloped = top / "collected" if folder.name == "collected-bare" else folder
         toml = answers.in_toml(answers.script_of(setup.read_text(), enveloped))
         report = reference.report(reference.read_script(toml)).encode()
         line = f'{words} import "$0" "$1" | {words} plan -'
-        yield Case(f"import and plan of {folder.name}", ["sh", "-c", line, str(setup), str(folder)], b"", report, told.encode(), 0)
+        told = told_by(setup.read_text(), enveloped, lines)
+        yield ToldCase(f"import and plan of {folder.name}", ["sh", "-c", line, str(setup), str(folder)], b"", report, b"".join(told[:1]), 0, told=told)

@@ -13,6 +13,7 @@ import answers
 from imports import reference
 from nodes import Host, LongChain
 from program import Case, run_program
+from schema import read_json
 
 CLIENT = "hub-on-zone"
 FLAGS = {1: "BLOCK_ID_FLAG_ABSENT", 2: "BLOCK_ID_FLAG_COMMIT", 3: "BLOCK_ID_FLAG_NIL"}
@@ -205,7 +206,7 @@ def run_messages(program, top, setup, folder, what, needed):
     done = subprocess.run([*program, "import", str(setup), str(folder)], stdout=subprocess.PIPE, stderr=subprocess.DEVNULL)
     script.write_text(with_needed(done.stdout.decode()) if needed else done.stdout.decode())
     table, relayer = tomllib.loads(script.read_text()), relayer_of(script.read_text())
-    report = json.loads(subprocess.run([*program, "plan", "--json", str(script)], stdout=subprocess.PIPE, check=True).stdout)
+    report = read_json(subprocess.run([*program, "plan", "--json", str(script)], stdout=subprocess.PIPE, check=True).stdout)
     told = subprocess.run([*program, "messages", str(script), str(folder), str(made)], stdout=subprocess.PIPE, stderr=subprocess.PIPE)
     lines, calls, files, wrong = [], [], [], [] if told.returncode == 0 else [told.stderr]
     clients, chains, letters, few = {c["id"]: c for c in table["client"]}, [c["id"] for c in table["chain"]], {}, 0
@@ -313,7 +314,7 @@ def refusal_cases(top, script, folder):
         ("no-parts", edited(bare), b"refused MissingField at result.signed_header.commit.block_id.parts\n"),
         ("other-header", edited(other), b"refused OtherHeader at hub-4 80\n"),
         ("misfit", edited(misfit), b"refused OtherHeader at hub-4 80\n"),
-        ("no-sets", without("validators-*.json"), b"refused MissingSet at hub-4 1\n"),
+        ("no-sets", without("validators-*.json"), b"refused MissingHeader at hub-4 80\n"),
     ):
         made = top / f"none-{name}"
         yield Case(f"messages, {name}", ["messages", str(script), spoiled(name, change), str(made)], b"", b"", error, 1), made
@@ -324,7 +325,7 @@ def refusal_cases(top, script, folder):
 
 def lacking_cases(program, top, folder):
     """Commits that were fetched anew and lack votes, each with the folder of its messages and whether this is made: not where an update needs one of these
-    votes, which is told by its validator."""
+    votes, which is told by its validator, and not where two thirds of the set signed the header or fewer, which is then left out."""
     def spoiled(name, change):
         copy = top / f"spoiled-{name}"
         shutil.copytree(folder, copy)
@@ -337,23 +338,25 @@ def lacking_cases(program, top, folder):
 
     absent = {"block_id_flag": 1, "validator_address": "", "timestamp": "0001-01-01T00:00:00Z", "signature": None}
     needing, sending = top / "seed-1-needed.toml", top / "seed-1-all.toml"
-    report = json.loads(subprocess.run([*program, "plan", "--json", str(needing)], stdout=subprocess.PIPE, check=True).stdout)
+    report = read_json(subprocess.run([*program, "plan", "--json", str(needing)], stdout=subprocess.PIPE, check=True).stdout)
     trusted = next(t for _, _, height, t in sent_in(tomllib.loads(needing.read_text()), report) if height == 80)
     senders = {a.hex().upper() for a in senders_in(relayer_of(needing.read_text()), CLIENT, 80, trusted)}
     output = subprocess.run([*program, "messages", str(needing), str(folder), str(top / "whole")], stdout=subprocess.PIPE, check=True).stdout
-    error = b"refused MissingVotes at hub-4 80\n"
+    error, unsigned = b"refused MissingVotes at hub-4 80\n", b"refused MissingHeader at hub-4 80\n"
     for number, sender in enumerate(sorted(senders)):
         for what, lacking in (("absent", absent), ("nil", None)):
             copy, file = spoiled(f"{what}-{number}", lambda s: s if s["validator_address"] != sender else lacking or s | {"block_id_flag": 3})
-            named, made = (file, f"the validator {sender}, ".encode()), top / f"none-{what}-{number}"
-            yield Case(f"messages, a needed vote {what}", ["messages", str(needing), str(copy), str(made)], b"", b"", error, 1, named=named), made, False
-            yield Case(f"messages, all votes, one {what}", ["messages", str(sending), str(copy), f"{made}-all"], b"", output, b"", 0), top / f"{made.name}-all", True
+            named, made, is_signed = (file, f"the validator {sender}, ".encode()), top / f"none-{what}-{number}", 80 in answers.Told(copy / "hub-4").headers
+            refusal = (b"", error, 1) if is_signed else (b"", unsigned, 1)
+            yield Case(f"messages, a needed vote {what}", ["messages", str(needing), str(copy), str(made)], b"", *refusal, named=named if is_signed else ()), made, False
+            sent = (output, b"", 0) if is_signed else refusal
+            yield Case(f"messages, all votes, one {what}", ["messages", str(sending), str(copy), f"{made}-all"], b"", *sent), top / f"{made.name}-all", is_signed
     copy, _ = spoiled("others", lambda s: s if s["validator_address"] in senders else absent)
     made = top / "made-others"
     yield Case("messages, the needed votes alone", ["messages", str(needing), str(copy), str(made)], b"", output, b"", 0), made, True
-    copy, file = spoiled("none", lambda s: absent)
+    copy, _ = spoiled("none", lambda s: absent)
     made = top / "none-none"
-    yield Case("messages, no votes", ["messages", str(needing), str(copy), str(made)], b"", b"", error, 1, named=(file,)), made, False
+    yield Case("messages, no votes", ["messages", str(needing), str(copy), str(made)], b"", b"", unsigned, 1), made, False
 
 
 def message_runs(program, top):

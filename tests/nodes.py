@@ -21,8 +21,9 @@ def number_of(*words):
 
 
 class LongChain:
-    """A chain of so many blocks and validators, of one of three kinds: `quiet`, whose powers move a little; `switch`, all of whose validators change at
-    once at a height; `churn`, one of whose validators is replaced each so many blocks."""
+    """A chain of so many blocks and validators, of one of four kinds: `quiet`, whose powers move a little; `switch`, all of whose validators change at
+    once at a height; `sway`, all of whose validators change at once each so many blocks, to and fro; `churn`, one of whose validators is replaced each so
+    many blocks."""
 
     def __init__(self, name, kind, blocks, size, change=0, lowest=1):
         self.name, self.kind, self.blocks, self.size, self.change, self.lowest = name, kind, blocks, size, change, lowest
@@ -35,6 +36,8 @@ class LongChain:
     def first_member(self, height):
         if self.kind == "switch":
             return self.size if height >= self.change else 0
+        if self.kind == "sway":
+            return self.size * (height // self.change % 2)
         return height // self.change if self.kind == "churn" else 0
 
     def members(self, height):
@@ -175,12 +178,19 @@ class Host:
             return 404, {"code": 5, "message": "light client not found: key not found", "details": []}
         if kind == "client_states":
             return 200, answers.client_state(self.chain, max(stored))
-        stored = sorted(stored, key=self.store_key)
-        first = base64.b64decode(asked.get("pagination.key", [""])[0]).decode()
-        place = next((number for number, height in enumerate(stored) if self.store_key(height) == first), 0)
-        end = place + min(self.page, int(asked.get("pagination.limit", ["100"])[0]))
-        key = base64.b64encode(self.store_key(stored[end]).encode()).decode() if end < len(stored) else None
-        return 200, {"consensus_states": [self.chain.record(height) for height in stored[place:end]], "pagination": {"next_key": key, "total": "0"}}
+        return 200, self.states_page(sorted(stored, key=self.store_key), min(self.page, int(asked.get("pagination.limit", ["100"])[0])), asked.get("pagination.key"))
+
+    def states_page(self, stored, limit, key):
+        """A page of a client's consensus states. As ibc-go has them, a page without a key has one state more, with which the next page begins; and a later page
+        ends behind its last state, so that an empty one may follow."""
+        if key is None:
+            states, following = stored[:limit + 1], self.store_key(stored[limit]) if stored[limit:] else ""
+        else:
+            first = base64.b64decode(key[0]).decode()
+            rest = [height for height in stored if self.store_key(height) >= first]
+            states, following = rest[:limit], f"{self.store_key(rest[limit - 1])}/processedHeight" if rest[limit - 1:] else ""
+        key = base64.b64encode(following.encode()).decode() if following else None
+        return {"consensus_states": [self.chain.record(height) for height in states], "pagination": {"next_key": key, "total": "0"}}
 
 
 @contextlib.contextmanager

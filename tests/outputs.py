@@ -9,6 +9,7 @@ import tomllib
 sys.dont_write_bytecode = True
 from healths import clients_of
 from program import TOP, Case
+from schema import read_json
 
 sys.path.insert(0, str(TOP / "tests" / "reference"))
 import reference
@@ -185,7 +186,7 @@ def strict_cases():
         is_json, status = "--json" in words, 6 if "\nrefused " in report else 0
         output = json_of(script, report) if is_json else report.encode()
         what = f"{' '.join(words)} of {' '.join(report.split()[:9])}"
-        yield Case(what, words, script.encode(), output, b"", status, reader=json.loads if is_json else None)
+        yield Case(what, words, script.encode(), output, b"", status, reader=read_json if is_json else None)
     yield Case("a fault of plan --strict", ["plan", "--strict", "-"], b"version =", b"", b"fault 1001 NotToml at -\n", 1)
 
 
@@ -217,7 +218,7 @@ def output_cases():
     for script, report in stored:
         table, given, what = tomllib.loads(script), script.encode(), " ".join(report.split()[:9])
         value = value_of(table, report)
-        yield Case(f"JSON of {what}", ["plan", "--json", "-"], given, json_of(script, report), b"", 0, reader=json.loads)
+        yield Case(f"JSON of {what}", ["plan", "--json", "-"], given, json_of(script, report), b"", 0, reader=read_json)
         yield Case(f"commands of {what}", ["commands", "-"], given, commands_of(table, value).encode(), b"", 0)
     for words in ["plan", "--json", "-"], ["commands", "-"]:
         yield Case(f"a fault of {words[0]}", words, b"version =", b"", b"fault 1001 NotToml at -\n", 1)

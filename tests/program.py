@@ -43,6 +43,19 @@ class Case:
         return got == wanted
 
 
+@dataclasses.dataclass
+class ToldCase(Case):
+    """A run that writes just these lines to standard error."""
+
+    told: tuple = ()
+
+    def is_met_by(self, output, error, status):
+        if error.splitlines(keepends=True) != [*self.told]:
+            print(f"== {self.what}\n-- told: {error!r}"[:4000], f"-- and not {b''.join(self.told)!r}"[:4000], sep="\n")
+            return False
+        return super().is_met_by(output, error, status)
+
+
 # characters that set a terminal's title, its colours, clear it and turn the direction of a text; and all that do something like it
 STEERING = "\x1b]0;title\x07\x1b[31m\x9b2J\u202e"
 CONTROL = re.compile("[\x00-\x09\x0b-\x1f\x7f-\x9f\u061c\u200e\u200f\u2028-\u202e\u2066-\u2069]")

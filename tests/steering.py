@@ -4,7 +4,8 @@ import re
 import shutil
 
 import answers
-from imports import BOTH_NAMED, CHAIN_QUERIES, CLEARED_FILE, COMMIT_FILE, PAGE_FILE, RECEIVED_FILE, SENT_FILE, STATE_FILE, STORED_FILE, VERDICTS, in_result, judged, setups
+from answer_edits import CLEARED_FILE, COMMIT_FILE, PAGE_FILE, RECEIVED_FILE, SENT_FILE, STATE_FILE, STORED_FILE, VERDICTS, judged
+from imports import BOTH_NAMED, CHAIN_QUERIES, in_result, setups
 from program import STEERING, TOP, SafeCase
 
 EXAMPLES, ROWS = TOP / "examples", TOP / "tests" / "rows"

@@ -106,7 +106,7 @@ def want_cases(top):
     folder = top / "want-next-refused"
     filled(folder, chain, second + first)
     (folder / "hub-4" / "validators-53-1.json").rename(folder / "hub-4" / "validators-53-1.refused")
-    yield Case("want, the next set refused", ["want", str(setup), str(folder)], b"", b"", f"end {CLIENT}: nothing goes on from 52: 99 not given by the node\n".encode(), 0)
+    yield Case("want, the next set refused", ["want", str(setup), str(folder)], b"", b"", f"end {CLIENT}: nothing goes on from 52: 99 not judged: the node doesn't give its header, its validators or those of 53\n".encode(), 0)
     folder = top / "want-frozen"
     filled(folder, chain, whole)
     state = folder / CLIENT / "client_state.json"
@@ -195,7 +195,7 @@ def want_path_cases(top):
         (PACKETS, 1000, str, known + sent + received + done("written", 7), "", b""),
         (PACKETS, 1000, lambda text: text.replace("gas = [5, 5, 5]", "gas = [5, 5, 5]\nfirst = 7"), known, done("sent", 8) + done("sent", 7) + done("received", 7), b""),
         ({}, 1000, str, commitments(), "", b""),
-        (many, 1000, str, commitments(), both + "".join(done("sent", sequence) for sequence in range(1, 27)), b""),
+        (many, 1000, str, commitments(), both + "".join(done("sent", sequence) for sequence in range(1, 31)), b""),
         (many, 1000, str, commitments() + both + "".join(done("sent", sequence) for sequence in range(1, 101)), done("sent", 101), b""),
         (PACKETS, 1000, lambda text: text.replace('counterparty_port = "transfer"\ncounterparty_channel = "channel-7"\n', ""), "", "", b""),
     )):

@@ -1,7 +1,6 @@
 """The way from nodes that README shows, for tests/run: `setup --hermes`, `examples/collect`, `import`, `plan`, `messages` and `commands` in a row, each of which
 reads what the one before wrote, over made-up nodes. What each writes is made a second time; and at the end the messages and the commands send the plan's updates."""
 import contextlib
-import json
 import os
 import pathlib
 import re
@@ -16,6 +15,7 @@ from messages import run_messages, sent_in
 from nodes import Host, LongChain, serve
 from outputs import commands_of
 from program import TOP
+from schema import read_json
 from wants import BACK, CLIENT, PACKETS, PATH, reference
 
 HUB, ZONE = f"zone-1.{CLIENT}", f"hub-4.{BACK}"  # the clients of the hub and of the zone, as `setup` names them
@@ -83,7 +83,7 @@ def way_flaws(program, folder, hub, stored, before, behind, updates, packets):
     flaws += [] if answers.with_numbers(tomllib.loads(script)) == wanted else ["import writes another script"]
     plan, failed = written_by(program, "plan", folder / "script.toml")
     flaws += failed + ([] if plan == reference.report(reference.read_script(script.encode())) else [f"another plan: {plan}"])
-    report = json.loads(written_by(program, "plan", "--json", folder / "script.toml")[0])
+    report = read_json(written_by(program, "plan", "--json", folder / "script.toml")[0])
     sent = [*sent_in(table, report)]
     counts = {client: sum(name == client for name, *_ in sent) for client in updates}
     flaws += [] if counts == updates else [f"updates: {counts}, and not {updates}"]
