@@ -1,15 +1,26 @@
 -- A count of marks, byte by byte.
-use Rattle.std.proofs.Common.{◌≡◌, ◌<◌, ◌≤◌, ◌+◌, ℕ, List, length, drop, slice_index_or, true, false, Bool, arith, if◌then◌else◌}
+use Rattle.std.proofs.Common.{◌≡◌, ◌<◌, ◌≤◌, ◌+◌, ◌==◌, ℕ, List, length, drop, slice_index_or, true, false, Bool, arith, if◌then◌else◌}
 use Rattle.std.proofs.lemmas.List.{at_drop_more, at_drop_all}
 use Rattle.rb_script_toml.specs.declared.marks.Place.{Place}
-use Rattle.rb_script_toml.specs.Marks.{after, counted, is_mark, marks_from}
+use Rattle.rb_script_toml.specs.Marks.{after, counted, may_open, marks_from}
+use Rattle.rb_script_toml.specs.declared.marks.Place.TheVariants.{Outside, Comment, Opened, Doubled, Line, LineEscape, Lines, LinesEscape, Closed}
+use Rattle.toml_parser.specs.Lexical.{equals}
 
-one_at_most : (b : Bool) → (if b then 1 else 0) ≤ 1
-one_at_most true = omega arith
-one_at_most false = omega arith
+eight_at_most : (opens equal : Bool) → (if opens then 8 else if equal then 1 else 0) ≤ 8
+eight_at_most true equal = omega arith
+eight_at_most false true = omega arith
+eight_at_most false false = omega arith
 
-pub counted_at_most : (p : Place) (b : ℕ) → counted p b ≤ 1
-counted_at_most p b = one_at_most (is_mark p b)
+pub counted_at_most : (p : Place) (b : ℕ) → counted p b ≤ 8
+counted_at_most Outside b = eight_at_most (may_open b) (b == equals)
+counted_at_most Comment b = omega arith
+counted_at_most (Opened q) b = omega arith
+counted_at_most (Doubled q) b = omega arith
+counted_at_most (Line q) b = omega arith
+counted_at_most LineEscape b = omega arith
+counted_at_most (Lines q n) b = omega arith
+counted_at_most LinesEscape b = omega arith
+counted_at_most (Closed q) b = omega arith
 
 -- the next byte of what is still to come
 pub next_mark : (p : Place) (n : ℕ) (text : List ℕ) → n < length text

@@ -12,9 +12,9 @@ use Rattle.rb_script_toml.specs.declared.fault.FaultName.TheVariants.{NotToml, I
 abbrev pub max_bytes : ℕ
 max_bytes = 16777216
 
--- A table takes some thousand bytes of memory, so this bounds what a text takes (own choice).
+-- A table takes some thousand bytes of memory, and eight keys as much: so this bounds what a text takes (own choice).
 abbrev pub max_marks : ℕ
-max_marks = 800000
+max_marks = 7200000
 
 abbrev pub whole : Members → Section
 whole members = record { path = []; members = members }
@@ -23,7 +23,7 @@ abbrev pub of_document : Option Members → Result Section Fault
 of_document None = fault NotToml (codes "-")
 of_document (Some members) = Ok (whole members)
 
--- a text of TOML (version 1.1) in UTF-8, of at most so many bytes, and so many that may open a table or an array
+-- a text of TOML (version 1.1) in UTF-8, of at most so many bytes, and so many marks
 unfoldable pub document : List ℕ → Result Section Fault
 document bytes =
     if nat_lt max_bytes (length bytes) then fault InputTooBig (codes "-")

@@ -1,6 +1,6 @@
--- The bytes of a text that may open a table or an array. Where strings and comments begin and end is TOML's (1.1: Comment, String).
+-- The bytes of a text that take memory when it is parsed: those that may open a table or an array, and those of keys. Where strings and comments begin and end is TOML's (1.1: Comment, String).
 use Rattle.std.specs.Prelude.{ℕ, ◌+◌, Bool, false, ◌&&◌, ◌||◌, ◌==◌, nat_lt, if◌then◌else◌, List, [], ◌∷◌}
-use Rattle.toml_parser.specs.Lexical.{line_feed, quote, hash, apostrophe, dot, left_bracket, backslash, left_brace}
+use Rattle.toml_parser.specs.Lexical.{line_feed, quote, hash, apostrophe, dot, equals, left_bracket, backslash, left_brace}
 use Rattle.rb_script_toml.specs.declared.marks.Place.{Place}
 use Rattle.rb_script_toml.specs.declared.marks.Place.TheVariants.{Outside, Comment, Opened, Doubled, Line, LineEscape, Lines, LinesEscape, Closed}
 
@@ -31,17 +31,18 @@ after LinesEscape b = Lines quote 0
 after (Closed q) b = if b == q then Closed q else after_outside b
 
 -- outside, each `{` and `[` opens a table or an array, and a point may be one of a key
-abbrev pub is_mark : Place → ℕ → Bool
-is_mark Outside b = b == left_brace || b == left_bracket || b == dot
-is_mark p b = false
+abbrev pub may_open : ℕ → Bool
+may_open b = b == left_brace || b == left_bracket || b == dot
 
+-- eight keys take as much memory as a table
 abbrev pub counted : Place → ℕ → ℕ
-counted p b = if is_mark p b then 1 else 0
+counted Outside b = if may_open b then 8 else if b == equals then 1 else 0
+counted p b = 0
 
 unfoldable pub marks_from : Place → List ℕ → ℕ
 marks_from p [] = 0
 marks_from p (b ∷ text) = counted (after p b) b + marks_from (after p b) text
 
--- how many stand outside strings and comments
+-- the marks of a text: eight for each byte outside strings and comments that may open a table or an array, one for each equals sign
 abbrev pub marks : List ℕ → ℕ
 marks text = marks_from Outside text

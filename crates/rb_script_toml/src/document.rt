@@ -29,9 +29,9 @@ fn not_toml(alloc: Global, error: &Error) -> RunError
     })
 }
 
-/// Reads the table of a text: TOML (version 1.1) in UTF-8, of at most 16,777,216 bytes, and at most 800,000 `{`, `[`
-/// and `.` outside strings and comments. `Fault` is `InputTooBig` where it has more bytes, else `TooManyTables` where
-/// it has more of those, else `NotToml`, and each is at `-`, the whole text; `NoMemory` is answered where a growth is
+/// Reads the table of a text: TOML (version 1.1) in UTF-8, of at most 16,777,216 bytes, and at most 7,200,000 marks
+/// ([`count_marks`]). `Fault` is `InputTooBig` where it has more bytes, else `TooManyTables` where it has more marks,
+/// else `NotToml`, and each is at `-`, the whole text; `NoMemory` is answered where a growth is
 /// refused.
 #[tactic(auto, using(crate::proofs::Steps::steps), unfolding(crate::specs::Documents::document))]
 pub fn read_table(alloc: Global, bytes: &[u8]) -> Result<Table, RunError>

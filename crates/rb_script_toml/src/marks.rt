@@ -1,9 +1,9 @@
-//! The bytes of a text that may open a table or an array.
+//! The bytes of a text that take memory when it is parsed.
 ghost use Rattle.std.specs.Prelude.{◌≡◌};
-ghost use Rattle.rb_script_toml.specs.Marks.{after, after_outside, after_line, after_lines, is_mark, counted, marks};
+ghost use Rattle.rb_script_toml.specs.Marks.{after, after_outside, after_line, after_lines, may_open, counted, marks};
 
-/// The most such bytes of a text.
-pub const MAX_MARKS: usize = 800_000;
+/// The most marks of a text.
+pub const MAX_MARKS: u128 = 7_200_000;
 
 /// Where a byte of a text stands. A quote is that of a basic string or of a literal one.
 #[derive(Clone, Copy)]
@@ -85,21 +85,26 @@ fn after(place: Place, byte: u8) -> Place
     }
 }
 
-/// Whether a byte that stands at `place` is one to be counted.
-fn is_mark(place: Place, byte: u8) -> bool
-    ensures { result ≡ is_mark place byte }
+fn may_open(byte: u8) -> bool
+    ensures { result ≡ may_open byte }
 {
-    matches!((place, byte), (Place::Outside, b'{' | b'[' | b'.'))
+    byte == b'{' || byte == b'[' || byte == b'.'
 }
 
-fn counted(place: Place, byte: u8) -> usize
+/// The marks of a byte that stands at `place`.
+fn counted(place: Place, byte: u8) -> u128
     ensures { result ≡ counted place byte }
 {
-    if is_mark(place, byte) { 1 } else { 0 }
+    match place {
+        Place::Outside if may_open(byte) => 8,
+        Place::Outside if byte == b'=' => 1,
+        _ => 0,
+    }
 }
 
-/// How many bytes of a text are `{`, `[` or `.` outside strings and comments.
-pub fn count_marks(bytes: &[u8]) -> usize
+/// The marks of a text, by which the memory that it takes is bounded: outside strings and comments `{`, `[` and `.` are
+/// eight each, since each may open a table or an array, and `=` is one, since eight keys take as much as a table.
+pub fn count_marks(bytes: &[u8]) -> u128
     ensures { result ≡ marks bytes.now }
 {
     let mut place = Place::Outside;
