@@ -1,0 +1,3 @@
+mod Alive
+mod Memoryless
+mod Seldom

@@ -1,0 +1,3 @@
+pub mod Refresh
+pub mod Turns
+pub mod Laws
