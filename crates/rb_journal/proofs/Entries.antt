@@ -1,5 +1,5 @@
 -- Texts of tables as parts of a journal.
-use Rattle.std.proofs.Common.{◌≡◌, ℕ, Bool, true, false, ◌&&◌, List, [], ◌∷◌, ◌++◌, length, Option, Some, None, Result, Ok, Err, IfOk, IfErr, String, Global, nat_cmp, is_eq, ◌==◌, string_bytes, refl, sym, ap, subst, ◌∙◌, inl, inr, arith}
+use Rattle.std.proofs.Common.{◌≡◌, ℕ, Bool, true, false, ◌&&◌, List, [], ◌∷◌, ◌++◌, length, get_or, Option, Some, None, Result, Ok, Err, IfOk, IfErr, String, Global, nat_cmp, is_eq, ◌==◌, string_bytes, refl, sym, ap, subst, ◌∙◌, inl, inr, arith}
 use Rattle.std.proofs.lemmas.Bool.{cases_Bool, ne_eqb}
 use Rattle.std.specs.Cmp.Lexicographic.{slice_cmp}
 use Rattle.std.specs.Map.{remove_entry}
@@ -9,11 +9,15 @@ use Rattle.toml.specs.View.{view, items_view, members_view}
 use Rattle.toml.specs.declared.value.Value.{Value}
 use Rattle.rb_script_toml.specs.Fields.{Section}
 use Rattle.rb_script_toml.specs.Faults.{Fault, Fails}
+use Rattle.rb_script_toml.specs.declared.fault.Fault.{Fault as CodeFault}
 use Rattle.rb_script_toml.specs.declared.fault.RunError.{RunError}
 use Rattle.rb_script_toml.specs.declared.fault.RunError.TheVariants.{NoMemory, Device, Fault as FaultOf}
 use Rattle.rb_script_toml.specs.Documents.{document, whole}
-use Rattle.rb_journal.specs.Parts.{heading, gap, closing}
-use Rattle.rb_journal.specs.Entries.{turn_key, script_of, only_table, count_of, turn_in, without, IsWritable, IsTooMuch, IsPart, IsOpening, IsEntry, Restores, Unrestored}
+use Rattle.rb_journal.specs.Parts.{heading, gap, closing, IsWhole}
+use Rattle.rb_journal.specs.Refusals.{IsRefusal, MakesNoPart, HasNoScript}
+use Rattle.rb_journal.specs.Verbatim.{bar, barred, verbatim}
+use Rattle.rb_journal.proofs.Verbatims.{verbatim_whole}
+use Rattle.rb_journal.specs.Entries.{turn_key, script_of, only_table, count_of, turn_in, without, IsWritable, IsTooMuch, IsPart, IsOpening, IsScriptPart, IsVerbatimPart, IsEntry, RestoresScript, Restores, UnrestoredScript, Unrestored}
 
 -- ---- the turn of a script
 
@@ -77,11 +81,11 @@ is_opening (Err e) digests setup ms ns read same h = tt
 
 -- ---- a turn
 
-pub is_entry : {E : Type 0} (r : Result (String Global) E) (digests : Bool) (bytes : List ℕ) (turn script : Members) → document bytes ≡ Ok (whole turn) → script ≡ script_of turn
-    → IfOk r (λ part. IsPart digests gap script (string_bytes part)) → IfOk r (λ part. IsEntry digests bytes (string_bytes part))
-is_entry (Ok part) digests bytes turn script read same h =
+pub is_script : {E : Type 0} (r : Result (String Global) E) (digests : Bool) (bytes : List ℕ) (turn script : Members) → document bytes ≡ Ok (whole turn) → script ≡ script_of turn
+    → IfOk r (λ part. IsPart digests gap script (string_bytes part)) → IfOk r (λ part. IsScriptPart digests bytes (string_bytes part))
+is_script (Ok part) digests bytes turn script read same h =
     record { turn = turn; held = read; part_of = subst (λ (xs : Members). IsPart digests gap xs (string_bytes part)) same h }
-is_entry (Err e) digests bytes turn script read same h = tt
+is_script (Err e) digests bytes turn script read same h = tt
 
 ok_same : (x y : Section) (r : Result Section Fault) → r ≡ Ok x → r ≡ Ok y → x ≡ y
 ok_same x y r a b = cc
@@ -93,13 +97,13 @@ whole-same ms ns r s e a b =
 
 -- what stands in the part of a document is the script of its turn
 script-same : (digests : Bool) (part inner bytes : List ℕ) (script : Members) → ((t : List ℕ) → part ≡ gap ++ (t ++ closing digests (gap ++ t)) → inner ≡ t) → document inner ≡ Ok (whole script)
-    → (e : IsEntry digests bytes part) → script ≡ script_of e.turn
+    → (e : IsScriptPart digests bytes part) → script ≡ script_of e.turn
 script-same digests part inner bytes script is_inner read e =
     let inside : inner ≡ e.part_of.text = is_inner e.part_of.text e.part_of.is_part in
     whole-same script (script_of e.turn) (document inner) (document e.part_of.text) (ap document inside) read e.part_of.read
 
 turn-same : (digests : Bool) (part inner bytes : List ℕ) (script turn : Members) → ((t : List ℕ) → part ≡ gap ++ (t ++ closing digests (gap ++ t)) → inner ≡ t) → document inner ≡ Ok (whole script)
-    → turn_in script ≡ Some turn → (e : IsEntry digests bytes part) → turn ≡ e.turn
+    → turn_in script ≡ Some turn → (e : IsScriptPart digests bytes part) → turn ≡ e.turn
 turn-same digests part inner bytes script turn is_inner read is_turn e =
     let turns : Some turn ≡ Some e.turn = sym is_turn ∙ ap turn_in (script-same digests part inner bytes script is_inner read e) ∙ turn_in-script_of e.turn in
     cc
@@ -107,7 +111,7 @@ turn-same digests part inner bytes script turn is_inner read is_turn e =
 -- its text reads as the document
 pub restored : {E : Type 0} (digests : Bool) (r : Result (String Global) E) (part inner : List ℕ) (script turn : Members) → ((t : List ℕ) → part ≡ gap ++ (t ++ closing digests (gap ++ t)) → inner ≡ t)
     → document inner ≡ Ok (whole script) → turn_in script ≡ Some turn → IfOk r (λ text. document (string_bytes text) ≡ Ok (whole turn))
-    → IfOk r (λ text. Restores digests part (string_bytes text))
+    → IfOk r (λ text. RestoresScript digests part (string_bytes text))
 restored digests (Ok text) part inner script turn is_inner read is_turn written = λ bytes e.
     let same : turn ≡ e.turn = turn-same digests part inner bytes script turn is_inner read is_turn e in
     written ∙ ap (λ (xs : Members). Ok (whole xs)) same ∙ sym e.held
@@ -121,21 +125,66 @@ some-none a b = cc
 ok-err : {A E : Type 0} {x : A} {e : E} {r : Result A E} → r ≡ Ok x → r ≡ Err e → ⊥
 ok-err a b = cc
 
-pub unrestored-read : (digests : Bool) (part inner : List ℕ) (error : RunError) → ((t : List ℕ) → part ≡ gap ++ (t ++ closing digests (gap ++ t)) → inner ≡ t) → Fails error (document inner) → Unrestored digests part error
+pub unrestored-read : (digests : Bool) (part inner : List ℕ) (error : RunError) → ((t : List ℕ) → part ≡ gap ++ (t ++ closing digests (gap ++ t)) → inner ≡ t) → Fails error (document inner) → UnrestoredScript digests part error
 unrestored-read digests part inner NoMemory is_inner h = λ bytes e. inl tt
 unrestored-read digests part inner Device is_inner h = absurd h
 unrestored-read digests part inner (FaultOf f) is_inner h = λ bytes e.
     absurd (ok-err (ap document (is_inner e.part_of.text e.part_of.is_part) ∙ e.part_of.read) h)
 
 pub unrestored-turn : (digests : Bool) (part inner : List ℕ) (script : Members) (error : RunError) → ((t : List ℕ) → part ≡ gap ++ (t ++ closing digests (gap ++ t)) → inner ≡ t)
-    → document inner ≡ Ok (whole script) → turn_in script ≡ None → Unrestored digests part error
+    → document inner ≡ Ok (whole script) → turn_in script ≡ None → UnrestoredScript digests part error
 unrestored-turn digests part inner script error is_inner read none = λ bytes e.
     absurd (some-none (ap turn_in (script-same digests part inner bytes script is_inner read e) ∙ turn_in-script_of e.turn) none)
 
 pub unrestored-text : {T : Type 0} (digests : Bool) (r : Result T RunError) (part inner : List ℕ) (script turn : Members) → ((t : List ℕ) → part ≡ gap ++ (t ++ closing digests (gap ++ t)) → inner ≡ t)
     → document inner ≡ Ok (whole script) → turn_in script ≡ Some turn
-    → IfErr r (λ error. IsWritable turn → IsTooMuch error) → IfErr r (λ error. Unrestored digests part error)
+    → IfErr r (λ error. IsWritable turn → IsTooMuch error) → IfErr r (λ error. UnrestoredScript digests part error)
 unrestored-text digests (Ok text) part inner script turn is_inner read is_turn refused = tt
 unrestored-text digests (Err error) part inner script turn is_inner read is_turn refused = λ bytes e.
     let same : turn ≡ e.turn = turn-same digests part inner bytes script turn is_inner read is_turn e in
     refused (subst IsWritable (sym same) (turn-writable e.turn e.part_of.writable))
+
+-- ---- documents as they came
+
+-- a script doesn't begin with a bar
+no_bar : (lines rest : List ℕ) → bar ∷ lines ≡ gap ++ rest → ⊥
+no_bar lines rest e = let heads : 124 ≡ 10 = ap (λ (xs : List ℕ). get_or xs 0 0) e in absurd (omega (arith, heads))
+
+-- the part is the script
+pub script_entry : (digests : Bool) (bytes part : List ℕ) → IsScriptPart digests bytes part
+    → IsEntry digests bytes part × (IsVerbatimPart digests bytes part → HasNoScript digests bytes)
+script_entry digests bytes part s =
+    let text = s.part_of.text in
+    (inl s, λ v. absurd (no_bar ((barred bytes ++ 10 ∷ []) ++ closing digests (verbatim bytes)) (text ++ closing digests (gap ++ text)) (sym v.is_part ∙ s.part_of.is_part)))
+
+-- the part is the document
+pub verbatim_entry : (digests : Bool) (bytes part : List ℕ) (turn script : Members) (f : CodeFault) → document bytes ≡ Ok (whole turn) → script ≡ script_of turn
+    → IsRefusal (MakesNoPart digests gap script) (FaultOf f) → part ≡ verbatim bytes ++ closing digests (verbatim bytes)
+    → IsEntry digests bytes part × (IsVerbatimPart digests bytes part → HasNoScript digests bytes)
+verbatim_entry digests bytes part turn script f read same none is = (
+  inr (record { turn = turn; held = read; is_part = is; ends = subst IsWhole (sym is) (verbatim_whole digests bytes) }),
+  λ v. (turn, f.name, read, subst (λ (ms : Members). MakesNoPart digests gap ms f.name) same none.0),
+)
+
+-- such a part is the script of no document
+pub restored_verbatim : (digests : Bool) (part lines text : List ℕ) → part ≡ bar ∷ lines
+    → ((bytes : List ℕ) → bar ∷ lines ≡ verbatim bytes ++ closing digests (verbatim bytes) → text ≡ bytes) → Restores digests part text
+restored_verbatim digests part lines text is same = λ bytes e. elim e [
+  | inl s ↦ absurd (no_bar lines (s.part_of.text ++ closing digests (gap ++ s.part_of.text)) (sym is ∙ s.part_of.is_part))
+  | inr v ↦ ap document (same bytes (sym is ∙ v.is_part))
+]
+
+pub restored_script : (digests : Bool) (part text : List ℕ) → ((rest : List ℕ) → part ≡ bar ∷ rest → ⊥) → RestoresScript digests part text → Restores digests part text
+restored_script digests part text none restores = λ bytes e. elim e [
+  | inl s ↦ restores bytes s
+  | inr v ↦ absurd (none ((barred bytes ++ 10 ∷ []) ++ closing digests (verbatim bytes)) v.is_part)
+]
+
+pub unrestored_script : (digests : Bool) (part : List ℕ) (error : RunError) → ((rest : List ℕ) → part ≡ bar ∷ rest → ⊥) → UnrestoredScript digests part error → Unrestored digests part error
+unrestored_script digests part error none unrestored = λ bytes e. elim e [
+  | inl s ↦ unrestored bytes s
+  | inr v ↦ absurd (none ((barred bytes ++ 10 ∷ []) ++ closing digests (verbatim bytes)) v.is_part)
+]
+
+pub unrestored_memory : (digests : Bool) (part : List ℕ) → Unrestored digests part NoMemory
+unrestored_memory digests part = λ bytes e. inl tt

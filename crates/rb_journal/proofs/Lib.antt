@@ -4,4 +4,5 @@ pub mod Entries
 pub mod Stores
 pub mod Damages
 mod Closings
+mod Verbatims
 pub mod Refusals

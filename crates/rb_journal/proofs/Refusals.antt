@@ -8,9 +8,9 @@ use Rattle.rb_script_toml.specs.declared.fault.RunError.{RunError}
 use Rattle.rb_script_toml.specs.declared.fault.RunError.TheVariants.{NoMemory, Device, Fault as FaultOf}
 use Rattle.rb_script_toml.specs.Faults.{Fault, IsFault}
 use Rattle.rb_script_toml.specs.Documents.{document, whole}
-use Rattle.rb_journal.specs.Parts.{heading, gap, closing, part_end, IsWhole}
-use Rattle.rb_journal.specs.Entries.{script_of, turn_key, without}
-use Rattle.rb_journal.specs.Refusals.{IsRefusal, HasNoText, IsNoPart, MakesNoPart, MakesNoOpening, MakesNoEntry}
+use Rattle.rb_journal.specs.Parts.{heading, closing, part_end, IsWhole}
+use Rattle.rb_journal.specs.Entries.{turn_key, without}
+use Rattle.rb_journal.specs.Refusals.{IsRefusal, HasNoText, IsNoPart, MakesNoPart, MakesNoOpening}
 
 pub refusal-of : (why : FaultName → Type 0) (e : RunError) (name : FaultName) → IsFault e name (codes "-") → why name → IsRefusal why e
 refusal-of why NoMemory name h w = tt
@@ -52,9 +52,3 @@ pub no_opening : {T : Type 0} (r : Result T RunError) (digests : Bool) (setup : 
 no_opening (Ok part) digests setup ms ns read same h = tt
 no_opening (Err e) digests setup ms ns read same h =
     inr (ms, read, subst (λ (xs : Members). IsRefusal (MakesNoPart digests (heading digests) xs) e) same h)
-
-pub no_entry : {T : Type 0} (r : Result T RunError) (digests : Bool) (bytes : List ℕ) (turn script : Members) → document bytes ≡ Ok (whole turn) → script ≡ script_of turn
-    → IfErr r (λ e. IsRefusal (MakesNoPart digests gap script) e) → IfErr r (λ e. MakesNoEntry digests bytes e)
-no_entry (Ok part) digests bytes turn script read same h = tt
-no_entry (Err e) digests bytes turn script read same h =
-    inr (turn, read, subst (λ (xs : Members). IsRefusal (MakesNoPart digests gap xs) e) same h)

@@ -1,5 +1,5 @@
 -- Going over the parts of a journal.
-use Rattle.std.proofs.Common.{◌≡◌, ℕ, Bool, inl, List, [], ◌∷◌, ◌++◌, length, map, All, None, String, Global, string_bytes, sym, ap, ◌∙◌, refl, append_assoc}
+use Rattle.std.proofs.Common.{◌≡◌, ℕ, Bool, inl, List, [], ◌∷◌, ◌++◌, length, map, All, None, Vec, Global, sym, ap, ◌∙◌, refl, append_assoc}
 use Rattle.std.proofs.lemmas.List.{append-nil}
 use Rattle.std.proofs.lemmas.List.Elements.{All-nil, All-cons, All-append, AllZip-push}
 use Rattle.std.specs.List.{concat, AllZip}
@@ -34,9 +34,9 @@ through-then digests turns texts rest part more text t split whole restores = re
   restore = AllZip-push (Restores digests) t.parts texts part text t.restore restores;
 }
 
-pub texts-push : (documents : List (String Global)) (d : String Global) → map (λ x. string_bytes x) (documents ++ d ∷ []) ≡ map (λ x. string_bytes x) documents ++ string_bytes d ∷ []
+pub texts-push : (documents : List (Vec ℕ Global)) (d : Vec ℕ Global) → map (λ x. x.items) (documents ++ d ∷ []) ≡ map (λ x. x.items) documents ++ d.items ∷ []
 texts-push [] d = refl
-texts-push (x ∷ xs) d = ap (λ (ys : List (List ℕ)). string_bytes x ∷ ys) (texts-push xs d)
+texts-push (x ∷ xs) d = ap (λ (ys : List (List ℕ)). x.items ∷ ys) (texts-push xs d)
 
 pub through-end : (digests : Bool) (turns : List ℕ) (texts : List (List ℕ)) (rest : List ℕ) → Through digests turns texts rest → part_end rest ≡ None → Holds digests turns texts (length rest)
 through-end digests turns texts rest t none = record {

@@ -7,6 +7,7 @@ use Rattle.rb_script_toml.specs.declared.fault.RunError.{RunError}
 use Rattle.rb_script_toml.specs.Faults.{IsFault}
 use Rattle.rb_script_toml.specs.Documents.{max_bytes, document, whole}
 use Rattle.rb_journal.specs.Parts.{heading, gap, closing, IsWhole}
+use Rattle.rb_journal.specs.Verbatim.{verbatim}
 
 -- the key of a script's turns
 abbrev pub turn_key : List ℕ
@@ -59,10 +60,25 @@ IsOpening digests setup part =
     (ms : Members) × (document setup ≡ Ok (whole ms)) × IsPart digests (heading digests) (without turn_key ms) part
 
 -- the part for a document: a script of the turn that it holds
-pub record IsEntry (digests : Bool) (bytes part : List ℕ) : Type 0 where
+pub record IsScriptPart (digests : Bool) (bytes part : List ℕ) : Type 0 where
   pub turn : Members
   pub held : document bytes ≡ Ok (whole turn)
   pub part_of : IsPart digests gap (script_of turn) part
+
+-- the part for a document: its lines as they came
+pub record IsVerbatimPart (digests : Bool) (bytes part : List ℕ) : Type 0 where
+  pub turn : Members
+  pub held : document bytes ≡ Ok (whole turn)
+  pub is_part : part ≡ verbatim bytes ++ closing digests (verbatim bytes)
+  pub ends : IsWhole part
+
+-- the part for a document
+abbrev pub IsEntry : Bool → List ℕ → List ℕ → Type 0
+IsEntry digests bytes part = IsScriptPart digests bytes part ⊎ IsVerbatimPart digests bytes part
+
+-- each document for which this part is the script reads as this text does
+abbrev pub RestoresScript : Bool → List ℕ → List ℕ → Type 0
+RestoresScript digests part text = (bytes : List ℕ) → IsScriptPart digests bytes part → document text ≡ document bytes
 
 -- each document for which this is the part reads as this text does
 abbrev pub Restores : Bool → List ℕ → List ℕ → Type 0
@@ -75,3 +91,7 @@ IsTooMuch error = IsFault error InputTooBig (codes "-") ⊎ IsFault error TooMan
 -- no document is restored: none has this part, or its text is too much
 abbrev pub Unrestored : Bool → List ℕ → RunError → Type 0
 Unrestored digests part error = (bytes : List ℕ) → IsEntry digests bytes part → IsTooMuch error
+
+-- the same where parts are scripts
+abbrev pub UnrestoredScript : Bool → List ℕ → RunError → Type 0
+UnrestoredScript digests part error = (bytes : List ℕ) → IsScriptPart digests bytes part → IsTooMuch error

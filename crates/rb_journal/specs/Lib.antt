@@ -1,4 +1,5 @@
 pub mod Parts
+pub mod Verbatim
 pub mod Damage
 pub mod Entries
 pub mod Refusals

@@ -42,8 +42,7 @@ MakesNoOpening digests setup error =
     Fails error (document setup)
     ⊎ ((ms : Members) × (document setup ≡ Ok (whole ms)) × IsRefusal (MakesNoPart digests (heading digests) (without turn_key ms)) error)
 
--- a document that is read makes no part
-abbrev pub MakesNoEntry : Bool → List ℕ → RunError → Type 0
-MakesNoEntry digests bytes error =
-    Fails error (document bytes)
-    ⊎ ((turn : Members) × (document bytes ≡ Ok (whole turn)) × IsRefusal (MakesNoPart digests gap (script_of turn)) error)
+-- the script of a document's turn makes no part
+abbrev pub HasNoScript : Bool → List ℕ → Type 0
+HasNoScript digests bytes =
+    (turn : Members) × (name : FaultName) × (document bytes ≡ Ok (whole turn)) × MakesNoPart digests gap (script_of turn) name

@@ -4,12 +4,14 @@ ghost use Rattle.toml.specs.Data.{get_member};
 ghost use Rattle.toml.specs.Text.{IsDocumentText};
 ghost use Rattle.toml.specs.View.{view, table_view, items_view};
 ghost use Rattle.rb_script_toml.specs.Documents.{max_bytes, document, whole};
+ghost use Rattle.rb_script_toml.specs.Faults.{Fails};
 ghost use Rattle.rb_journal.specs.Parts.{gap, closing};
-ghost use Rattle.rb_journal.specs.Refusals.{IsRefusal, HasNoText, MakesNoPart, MakesNoOpening, MakesNoEntry};
-ghost use Rattle.rb_journal.specs.Entries.{script_of, only_table, turn_in, IsWritable, IsTooMuch, IsPart, IsOpening, IsEntry, Restores, Unrestored};
+ghost use Rattle.rb_journal.specs.Refusals.{IsRefusal, HasNoText, MakesNoPart, MakesNoOpening, HasNoScript};
+ghost use Rattle.rb_journal.specs.Entries.{script_of, only_table, turn_in, IsWritable, IsTooMuch, IsPart, IsOpening, IsVerbatimPart, IsEntry, RestoresScript, UnrestoredScript, Restores, Unrestored};
 
 use crate::depth::table_fits;
 use crate::parts::{closing, closing_length, heading, part_end};
+use crate::verbatim::{behind_bar, verbatim_document, verbatim_part};
 use rb_script_toml::{
     FaultName, MAX_BYTES, MAX_MARKS, RunError, count_marks, fault_at, read_table,
 };
@@ -123,15 +125,20 @@ pub fn opening_text(alloc: Global, digests: bool, setup: &[u8]) -> Result<String
     part_of(alloc, digests, heading(digests), &table)
 }
 
-/// The part of a journal for a document with the keys of a turn at its top: the turn of a script. It fails as
-/// `opening_text` does.
-pub fn entry_text(alloc: Global, digests: bool, document: &[u8]) -> Result<String, RunError>
-    ensures written { IfOk result (λ part. IsEntry digests document.now (string_bytes part)) }
-    ensures refused { IfErr result (λ e. MakesNoEntry digests document.now e) }
+/// The part of a journal for a document with the keys of a turn at its top: the turn of a script, or, where that is
+/// more than a script may be, the document as it came. `Fault` is the document's.
+pub fn entry_text(alloc: Global, digests: bool, bytes: &[u8]) -> Result<Vec<u8>, RunError>
+    ensures written { IfOk result (λ part. IsEntry digests bytes.now part.items) }
+    ensures printed { IfOk result (λ part. IsVerbatimPart digests bytes.now part.items → HasNoScript digests bytes.now) }
+    ensures refused { IfErr result (λ e. Fails e (document bytes.now)) }
 {
-    let turn = read_table(alloc, document)?;
+    let turn = read_table(alloc, bytes)?;
     let script = script_of(alloc, turn)?;
-    part_of(alloc, digests, GAP, &script)
+    match part_of(alloc, digests, GAP, &script) {
+        Ok(part) => Ok(part.into_bytes()),
+        Err(RunError::Fault(_)) => Ok(verbatim_part(alloc, digests, bytes)?),
+        Err(_) => Err(RunError::NoMemory),
+    }
 }
 
 fn behind_gap(part: &[u8]) -> &[u8]
@@ -148,15 +155,27 @@ fn inner(digests: bool, part: &[u8]) -> &[u8]
     &rest[..rest.len().saturating_sub(closing_length(digests))]
 }
 
-/// A document that reads as the one that a part of a journal was made of, in the order of its keys. `NotToml`
-/// where the part isn't a script of one turn and of nothing else.
-pub fn document_text(alloc: Global, digests: bool, part: &[u8]) -> Result<String, RunError>
-    ensures restored { IfOk result (λ text. Restores digests part.now (string_bytes text)) }
-    ensures unrestored { IfErr result (λ e. Unrestored digests part.now e) }
+/// The document of a part that is a script: the text of its turn. `NotToml` where the part isn't a script of one turn
+/// and of nothing else.
+fn script_document(alloc: Global, digests: bool, part: &[u8]) -> Result<String, RunError>
+    ensures restored { IfOk result (λ text. RestoresScript digests part.now (string_bytes text)) }
+    ensures unrestored { IfErr result (λ e. UnrestoredScript digests part.now e) }
 {
     let script = read_table(alloc, inner(digests, part))?;
     match turn_in(&script) {
         Some(turn) => text_of(alloc, turn),
         None => Err(fault_at(alloc, "-", FaultName::NotToml)),
+    }
+}
+
+/// A document that reads as the one that a part of a journal was made of: that one itself, or its turn in the order of
+/// its keys. `NotToml` where the part is neither.
+pub fn document_text(alloc: Global, digests: bool, part: &[u8]) -> Result<Vec<u8>, RunError>
+    ensures restored { IfOk result (λ text. Restores digests part.now text.items) }
+    ensures unrestored { IfErr result (λ e. Unrestored digests part.now e) }
+{
+    match behind_bar(part) {
+        Some(lines) => Ok(verbatim_document(alloc, digests, lines)?),
+        None => Ok(script_document(alloc, digests, part)?.into_bytes()),
     }
 }

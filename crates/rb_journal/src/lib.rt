@@ -8,6 +8,7 @@ mod entry;
 pub mod laws;
 mod parts;
 mod stored;
+mod verbatim;
 
 pub use damage::damage_in;
 pub use entry::{document_text, entry_text, opening_text};

@@ -1,5 +1,5 @@
 //! What a journal has stored.
-ghost use Rattle.std.specs.Prelude.{◌≡◌, ℕ, ◌++◌, List, codes, map, string_bytes, flat_map, IfOk, IfErr};
+ghost use Rattle.std.specs.Prelude.{◌≡◌, ℕ, ◌++◌, List, codes, map, flat_map, IfOk, IfErr};
 ghost use Rattle.rb_journal.specs.Stored.{Holds, IsUnread};
 
 use crate::entry::document_text;
@@ -13,13 +13,13 @@ const END: &str = "---\n";
 /// The documents that parts of a journal hold, and how many bytes stand behind the last part that is whole.
 #[derive(Drop)]
 pub struct Stored {
-    pub documents: Vec<String>,
+    pub documents: Vec<Vec<u8>>,
     pub cut: usize,
 }
 
 /// What a journal holds behind its first part. `Fault` comes where a part isn't a turn.
 pub fn stored_in(alloc: Global, digests: bool, turns: &[u8]) -> Result<Stored, RunError>
-    ensures stored { IfOk result (λ stored. Holds digests turns.now (map string_bytes stored.documents.items) stored.cut) }
+    ensures stored { IfOk result (λ stored. Holds digests turns.now (map (λ d. d.items) stored.documents.items) stored.cut) }
     ensures unread { IfErr result (λ e. IsUnread digests turns.now e) }
 {
     let mut documents = Vec::new(alloc);
@@ -35,12 +35,12 @@ pub fn stored_in(alloc: Global, digests: bool, turns: &[u8]) -> Result<Stored, R
 }
 
 /// Documents as they come in an input, each ended by a line `---`.
-pub fn input_of(alloc: Global, documents: &[String]) -> Result<Vec<u8>, AllocError>
-    ensures { IfOk result (λ input. input.items ≡ flat_map (λ d. string_bytes d ++ codes "---\n") documents.now) }
+pub fn input_of(alloc: Global, documents: &[Vec<u8>]) -> Result<Vec<u8>, AllocError>
+    ensures { IfOk result (λ input. input.items ≡ flat_map (λ d. d.items ++ codes "---\n") documents.now) }
 {
     let mut input = Vec::new(alloc);
     for document in documents {
-        input.extend_from_slice(document.as_bytes())?;
+        input.extend_from_slice(document.as_slice())?;
         input.extend_from_slice(END.as_bytes())?;
     }
     Ok(input)
