@@ -28,7 +28,7 @@ pub struct Composed<'a> {
     pub notices: Notices<'a>,
 }
 
-/// The text of the script of version 3 that a setup and the answers of its chains, clients and paths make,
+/// The text of the script of version 4 that a setup and the answers of its chains, clients and paths make,
 /// which begins with a line that says who verified signatures, or that nobody did; and what isn't among the
 /// answers, though the script stands without it, or isn't written, since no book has room for it. A script that
 /// would be too big has the validator sets alone that its plans need. The first problem is answered: of the chains,
@@ -98,7 +98,7 @@ fn with_opening(opening: String, tables: &str) -> Result<String, AllocError>
     ensures { IfOk result (λ text. string_bytes text ≡ string_bytes opening ++ heading ++ tables.now) }
 {
     let mut text = opening;
-    text.push_str("# Written by ibcplan import.\nversion = 3\n")?;
+    text.push_str("# Written by ibcplan import.\nversion = 4\n")?;
     text.push_str(tables)?;
     Ok(text)
 }

@@ -17,3 +17,4 @@ pub mod Searches
 pub mod Zips
 pub mod Staying
 pub mod Verifying
+pub mod Finds

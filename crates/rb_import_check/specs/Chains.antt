@@ -1,5 +1,5 @@
 -- What was seen of a chain (CometBFT's `/commit` and `/validators`).
-use Rattle.std.specs.Prelude.{◌≡◌, ◌≢◌, ◌⊎◌, ◌<◌, ◌≤◌, ◌==◌, ◌++◌, ℕ, List, [], ◌∷◌, All, Contains, IfSome, count_by, length, map, filter, option_map, string_bytes}
+use Rattle.std.specs.Prelude.{◌≡◌, ◌≢◌, ◌⊎◌, ◌<◌, ◌≤◌, ◌==◌, ◌++◌, ℕ, List, [], ◌∷◌, All, Contains, IfSome, count_by, length, map, filter, find, Option, option_map, string_bytes}
 use Rattle.std.specs.List.{AllZip, flat_map}
 use Rattle.std.specs.List.Sorted.{IsPermutation, IsStrictlyIncreasing}
 use Rattle.rb_valset.specs.Validator.{Member, address_of}
@@ -67,6 +67,10 @@ IsOfChain id c = c.header.now.chain ≡ id
 -- the commit is one of these, of this height
 abbrev pub IsAmong : List Commit → ℕ → Commit → Type 0
 IsAmong commits height c = Contains commits c × (c.header.now.height ≡ height)
+
+-- the time of the block at a height, by the header of that height among these
+abbrev pub block_time : List Commit → ℕ → Option ℕ
+block_time commits height = option_map (λ (c : Commit). c.header.now.time) (find (λ (c : Commit). c.header.now.height == height) commits)
 
 -- the commit is for the block whose hash the header has
 abbrev pub IsOfItsBlock : Commit → Type 0

@@ -1,5 +1,5 @@
 //! The sets and headers of a chain: each height once, rising, and each header with its set.
-ghost use Rattle.std.specs.Prelude.{◌≡◌, ◌≢◌, ◌↔◌, ◌⊎◌, ◌<◌, ◌≤◌, ◌==◌, ◌++◌, ⊤, ℕ, List, [], length, map, filter, All, Any, IsSome, IsTrue, IfOk, IfErr, IsSomeAnd, OnOk, Some, None, IfSome, IfNone, option_map, option_to_list, string_bytes};
+ghost use Rattle.std.specs.Prelude.{◌≡◌, ◌≢◌, ◌↔◌, ◌⊎◌, ◌<◌, ◌≤◌, ◌==◌, ◌++◌, ⊤, ℕ, List, [], length, map, filter, find, All, Any, IsSome, IsTrue, IfOk, IfErr, IsSomeAnd, OnOk, Some, None, IfSome, IfNone, option_map, option_to_list, string_bytes};
 ghost use Rattle.std.specs.List.{AllZip};
 ghost use Rattle.std.specs.List.Sorted.{IsNonDecreasingBy, IsStrictlyIncreasing};
 ghost use Rattle.rb_valset.specs.Refusal.{set_refusal};
@@ -20,7 +20,7 @@ use crate::saved::Saved;
 use crate::sets::{SeenSet, SeenSets};
 use crate::signed::Signatures;
 use crate::verdicts::{VerdictIndex, verdict_on, verdicts_in};
-use rb_base::Height;
+use rb_base::{Height, Moment};
 use rb_import_answers::{NodeAnswer, Signature, SignedHeader, ValidatorsPage, Verdict};
 use rb_valset::{Validator, ValidatorSet};
 use std::alloc::{AllocError, Global};
@@ -51,6 +51,18 @@ pub struct SeenChain<'a> {
     pub unsigned: Vec<Commit<'a>>,
     pub sets: SeenSets<'a>,
     ghost rising: { IsStrictlyIncreasing (map (λ c. c.header.now.height) commits.items) },
+}
+
+impl SeenChain<'_> {
+    ghost use Rattle.rb_import_check.specs.Chains.{block_time};
+
+    /// The time of the block at a height, where a header of it was seen.
+    pub fn block_time(&self, height: Height) -> Option<Moment>
+        ensures { result ≡ block_time self.now.commits.items height }
+    {
+        let commit = commit_of(self.commits.as_slice(), height)?;
+        Some(commit.header.time)
+    }
 }
 
 /// What the answers of a chain tell, by its identifier: each header once, with the verdict on the signatures of its
@@ -319,6 +331,7 @@ fn commit_of<'a>(commits: &[Commit<'a>], height: Height) -> Option<Commit<'a>>
     requires { IsStrictlyIncreasing (map (λ c. c.header.now.height) commits.now) }
     ensures found { IfSome result (IsAmong commits.now height) }
     ensures only { All (λ c. c.header.now.height ≡ height → result ≡ Some c) commits.now }
+    ensures first { result ≡ find (λ c. c.header.now.height == height) commits.now }
 {
     let place = commits
         .binary_search_by_key(&height, |commit: &Commit| commit.header.height)

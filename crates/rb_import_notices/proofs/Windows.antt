@@ -11,12 +11,13 @@ use Rattle.rb_import_setup.specs.declared.setup.TurnSetup.{TurnSetup}
 use Rattle.rb_import_check.specs.declared.chain.Commit.{Commit}
 use Rattle.rb_import_check.specs.declared.chain.SeenChain.{SeenChain}
 use Rattle.rb_import_check.specs.declared.client.SeenClient.{SeenClient}
+use Rattle.rb_import_check.specs.declared.client.SeenClient.{SeenClient}
 use Rattle.rb_import_check.specs.declared.client.Stored.{Stored}
 use Rattle.rb_import_merge.specs.declared.seen.Seen.{Seen}
 use Rattle.rb_import_notices.specs.declared.unusable.FutureHeaders.{FutureHeaders}
 use Rattle.rb_import_notices.specs.declared.unusable.UnseenGoal.{UnseenGoal}
 use Rattle.rb_import_notices.specs.declared.stale.NothingFresh.{NothingFresh}
-use Rattle.rb_import_notices.specs.Stale.{AreStale, LacksFresh, SaysFresh}
+use Rattle.rb_import_notices.specs.Stale.{terms_of, AreStale, LacksFresh, SaysFresh}
 use Rattle.rb_import_notices.specs.Unusable.{AreAhead, HasFuture, HoldsOfHeaders, IsFromFuture, IsGoal, IsUnseen, MissesGoal, SaysFuture, SaysGoal, TellGoals, TellThese, goals_in, last_turn}
 
 pub here : {A : Type 0} (o : Option A) (x : A) (P : A → Type 0) → o ≡ Some x → P x → IsSomeAnd o P
@@ -77,15 +78,18 @@ pub no_last : (setup : Setup) (seen : Seen) (found : List UnseenGoal) → last_t
 no_last setup seen found none empty =
     subst (λ f. TellGoals setup seen f) (sym empty) (subst (λ g. TellThese setup seen g []) (sym (ap goals_in none)) (no_goals setup seen))
 
-pub fresh_here : (setup : Setup) (seen : Seen) (place : ℕ) (c : ClientSetup) (turn : TurnSetup) (chain : SeenChain) (records : Vec Stored Global) (id : List ℕ) (notice : NothingFresh)
-    → last_turn setup ≡ Some turn → slice_get seen.chains.items c.tracks ≡ Some chain → slice_get seen.records.items place ≡ Some records → slice_get setup.chains.items c.tracks ≡ Some id
-    → AreStale c.terms.refresh turn.window chain.commits.items records.items → notice.client.now ≡ c.id → notice.chain.now ≡ id → LacksFresh setup seen place c × SaysFresh setup c notice
-fresh_here setup seen place c turn chain records id notice last tracked stored named stale told its = (
-  (
-    slice_get_within setup.chains.items c.tracks id named,
-    here (last_turn setup) turn (λ (t : TurnSetup). IsSomeAnd (slice_get seen.chains.items c.tracks) (λ (k : SeenChain). IsSomeAnd (slice_get seen.records.items place) (λ (r : Vec Stored Global). AreStale c.terms.refresh t.window k.commits.items r.items))) last
-        (here (slice_get seen.chains.items c.tracks) chain (λ (k : SeenChain). IsSomeAnd (slice_get seen.records.items place) (λ (r : Vec Stored Global). AreStale c.terms.refresh turn.window k.commits.items r.items)) tracked
-        (here (slice_get seen.records.items place) records (λ (r : Vec Stored Global). AreStale c.terms.refresh turn.window chain.commits.items r.items) stored stale)),
-  ),
-  (told, subst (λ x. slice_get setup.chains.items c.tracks ≡ Some x) (sym its) named),
-)
+pub fresh_here : (setup : Setup) (seen : Seen) (place : ℕ) (c : ClientSetup) (turn : TurnSetup) (chain : SeenChain) (client : SeenClient) (records : Vec Stored Global) (id : List ℕ) (notice : NothingFresh)
+    → last_turn setup ≡ Some turn → slice_get seen.chains.items c.tracks ≡ Some chain → slice_get seen.clients.items place ≡ Some client
+    → slice_get seen.records.items place ≡ Some records → slice_get setup.chains.items c.tracks ≡ Some id
+    → AreStale (terms_of c client) turn.window chain.commits.items records.items → notice.client.now ≡ c.id → notice.chain.now ≡ id → LacksFresh setup seen place c × SaysFresh setup c notice
+fresh_here setup seen place c turn chain client records id notice last tracked own stored named stale told its =
+    let Stale : TurnSetup → SeenChain → SeenClient → Vec Stored Global → Type 0 = λ t k o r. AreStale (terms_of c o) t.window k.commits.items r.items in (
+      (
+        slice_get_within setup.chains.items c.tracks id named,
+        here (last_turn setup) turn (λ t. IsSomeAnd (slice_get seen.chains.items c.tracks) (λ k. IsSomeAnd (slice_get seen.clients.items place) (λ o. IsSomeAnd (slice_get seen.records.items place) (Stale t k o)))) last
+            (here (slice_get seen.chains.items c.tracks) chain (λ k. IsSomeAnd (slice_get seen.clients.items place) (λ o. IsSomeAnd (slice_get seen.records.items place) (Stale turn k o))) tracked
+            (here (slice_get seen.clients.items place) client (λ o. IsSomeAnd (slice_get seen.records.items place) (Stale turn chain o)) own
+            (here (slice_get seen.records.items place) records (Stale turn chain client) stored stale))),
+      ),
+      (told, subst (λ x. slice_get setup.chains.items c.tracks ≡ Some x) (sym its) named),
+    )

@@ -1,16 +1,17 @@
-//! Notices of clients for whose refresh there is nothing young enough.
-ghost use Rattle.std.specs.Prelude.{◌↔◌, ◌+◌, ◌≤◌, All, IsTrue, IfOk, MatchOption};
-ghost use Rattle.rb_import_notices.specs.Stale.{AreStale, IsStaleHeader, IsStaleRecord, LacksFresh, SaysFresh, TellFresh};
+//! Notices of clients that are due for a refresh, and for which no header serves.
+ghost use Rattle.std.specs.Prelude.{◌≡◌, ◌↔◌, ◌+◌, ◌≤◌, IsTrue, IfOk, MatchOption};
+ghost use Rattle.rb_import_notices.specs.Stale.{AreStale, LacksFresh, NoneServes, SaysFresh, TellFresh, terms_of};
 
 use rb_base::{Moment, Window};
-use rb_import_check::{Commit, Stored};
+use rb_import_check::{Commit, SeenClient, Stored};
 use rb_import_merge::Seen;
 use rb_import_setup::{ClientSetup, Setup};
+use rb_plan_refresh::{Terms, needed_time};
 use std::alloc::{AllocError, Global};
 use std::fmt;
 
-/// A client that is to be refreshed, and the chain that it tracks: at the window's end each header of that and each
-/// stored record is so old that it doesn't serve.
+/// A client that is due for a refresh by the window's end, and the chain that it tracks: each header of that is too old
+/// to serve.
 #[derive(Clone, Copy)]
 pub struct NothingFresh<'a> {
     pub client: &'a str,
@@ -33,7 +34,7 @@ impl fmt::Display for NothingFresh<'_> {
     }
 }
 
-/// The clients that are due for a refresh by the end of the last turn's window, for which nothing is young enough.
+/// The clients that are due for a refresh by the end of the last turn's window, for which no header serves.
 pub fn nothing_fresh<'a>(
     alloc: Global,
     setup: &'a Setup,
@@ -50,7 +51,7 @@ pub fn nothing_fresh<'a>(
     Ok(found)
 }
 
-/// The client at a place, where nothing is young enough for its refresh.
+/// The client at a place, where no header serves for its refresh.
 fn stale_at<'a>(
     setup: &'a Setup,
     seen: &Seen<'_>,
@@ -62,9 +63,10 @@ fn stale_at<'a>(
     let turn = setup.turns.last()?;
     let id = setup.chains.get(client.tracks)?;
     let chain = seen.chains.get(client.tracks)?;
+    let own = seen.clients.get(place)?;
     let records = seen.records.get(place)?;
     if !are_stale(
-        client.terms.refresh,
+        terms_of(client, own),
         &turn.window,
         chain.commits.as_slice(),
         records.as_slice(),
@@ -77,35 +79,45 @@ fn stale_at<'a>(
     })
 }
 
-/// Whether a client that is refreshed has records, and neither these nor a header is young enough at a window's end.
-fn are_stale(refresh: u64, window: &Window, commits: &[Commit<'_>], records: &[Stored<'_>]) -> bool
-    ensures { IsTrue result ↔ AreStale refresh window.now commits.now records.now }
+fn terms_of(client: &ClientSetup, seen: &SeenClient<'_>) -> Terms
+    ensures { result ≡ terms_of client.now seen.now }
 {
-    refresh > 0
-        && !records.is_empty()
-        && are_stale_headers(refresh, window, commits)
-        && are_stale_records(refresh, window, records)
+    let period = seen.period.nanoseconds();
+    Terms {
+        period,
+        refresh: client.terms.refresh.unwrap_or(period / 3),
+    }
 }
 
-fn are_stale_headers(refresh: u64, window: &Window, commits: &[Commit<'_>]) -> bool
-    ensures { IsTrue result ↔ All (IsStaleHeader refresh window.now) commits.now }
+/// Whether a client that is refreshed is due for it at a window's end, and no header serves.
+fn are_stale(terms: Terms, window: &Window, commits: &[Commit<'_>], records: &[Stored<'_>]) -> bool
+    ensures { IsTrue result ↔ AreStale terms window.now commits.now records.now }
 {
-    commits
-        .iter()
-        .all(|commit| is_stale(refresh, window, commit.header.time))
+    match records.last() {
+        Some(newest) => {
+            let stored = newest.state.time;
+            terms.refresh > 0
+                && is_due(terms, window, stored)
+                && none_serves(terms, window, stored, commits)
+        }
+        None => false,
+    }
 }
 
-fn are_stale_records(refresh: u64, window: &Window, records: &[Stored<'_>]) -> bool
-    ensures { IsTrue result ↔ All (IsStaleRecord refresh window.now) records.now }
+/// Whether a consensus state of this time is due for a refresh by a window's end.
+fn is_due(terms: Terms, window: &Window, stored: Moment) -> bool
+    ensures { IsTrue result ↔ (stored + terms.refresh ≤ window.now.until) }
 {
-    records
-        .iter()
-        .all(|record| is_stale(refresh, window, record.state.time))
+    stored.nanoseconds() + u128::from(terms.refresh) <= window.until().nanoseconds()
 }
 
-/// Whether what is of this time is due for a refresh by a window's end.
-fn is_stale(refresh: u64, window: &Window, time: Moment) -> bool
-    ensures { IsTrue result ↔ (time + refresh ≤ window.now.until) }
+fn none_serves(terms: Terms, window: &Window, stored: Moment, commits: &[Commit<'_>]) -> bool
+    ensures { IsTrue result ↔ NoneServes terms window.now stored commits.now }
 {
-    time.nanoseconds() + u128::from(refresh) <= window.until().nanoseconds()
+    commits.iter().all(|commit| needed_time(
+        terms,
+        stored,
+        commit.header.time,
+        window.until(),
+    ).is_none())
 }

@@ -1,5 +1,5 @@
 -- The events of a script: what was seen of chains, clients and paths.
-use Rattle.std.specs.Prelude.{ℕ, ◌/◌, ◌%◌, ◌==◌, Bool, true, false, if◌then◌else◌, List, [], ◌∷◌, ◌++◌, codes, take}
+use Rattle.std.specs.Prelude.{ℕ, ◌/◌, ◌%◌, ◌==◌, Bool, true, false, if◌then◌else◌, List, [], ◌∷◌, ◌++◌, codes, take, Option, Some, None}
 use Rattle.std.specs.Fmt.{decimal, digit_glyph}
 use Rattle.std.specs.List.{flat_map}
 use Rattle.rb_valset.specs.Validator.{Member, key_bytes}
@@ -100,6 +100,18 @@ packet_start kind path sequence = codes "  { kind = \"" ++ kind ++ codes "\", pa
 abbrev pub block_part : ℕ → List ℕ
 block_part block = codes ", height = " ++ decimal block
 
+-- the time of that block
+abbrev pub made : ℕ → List ℕ
+made time = codes ", time = \"" ++ moment_text time ++ codes "\""
+
+abbrev pub made_part : Option ℕ → List ℕ
+made_part None = []
+made_part (Some time) = made time
+
+-- the block that sent a packet or wrote its acknowledgement, and its time
+unfoldable pub written_part : ℕ → Option ℕ → List ℕ
+written_part block time = block_part block ++ made_part time
+
 -- the height from which on a packet isn't received; 0 for none (ICS 4)
 abbrev pub expiry_part : ℕ → List ℕ
 expiry_part expiry = if expiry == 0 then [] else codes ", timeout_height = " ++ decimal expiry
@@ -111,19 +123,19 @@ timeout_time time = codes ", timeout_time = \"" ++ moment_text time ++ codes "\"
 abbrev pub time_part : ℕ → List ℕ
 time_part time = if time == 0 then [] else timeout_time time
 
-unfoldable pub sent_rest : SeenPacket → List ℕ
-sent_rest p = block_part p.event.now.block ++ expiry_part p.expiry ++ time_part p.event.now.timeout_time
+unfoldable pub sent_rest : SeenPacket → Option ℕ → List ℕ
+sent_rest p time = written_part p.event.now.block time ++ expiry_part p.expiry ++ time_part p.event.now.timeout_time
 
-abbrev pub rest_by : PacketKind → SeenPacket → List ℕ
-rest_by kinds.Sent p = sent_rest p
-rest_by kinds.Received p = block_part p.event.now.block
-rest_by kinds.AckWritten p = block_part p.event.now.block
-rest_by kinds.Cleared p = []
-rest_by kinds.TimedOut p = []
+abbrev pub rest_by : PacketKind → SeenPacket → Option ℕ → List ℕ
+rest_by kinds.Sent p time = sent_rest p time
+rest_by kinds.Received p time = block_part p.event.now.block
+rest_by kinds.AckWritten p time = written_part p.event.now.block time
+rest_by kinds.Cleared p time = []
+rest_by kinds.TimedOut p time = []
 
-abbrev pub packet_rest : SeenPacket → List ℕ
-packet_rest p = rest_by p.event.now.kind p
+abbrev pub packet_rest : SeenPacket → Option ℕ → List ℕ
+packet_rest p time = rest_by p.event.now.kind p time
 
--- the event of a packet of a path
-unfoldable pub packet_event : List ℕ → SeenPacket → List ℕ
-packet_event path p = packet_start (kind_word p.event.now.kind) path p.event.now.sequence ++ packet_rest p ++ codes " },\n"
+-- the event of a packet of a path, and the time of its block, where that was seen
+unfoldable pub packet_event : List ℕ → SeenPacket → Option ℕ → List ℕ
+packet_event path p time = packet_start (kind_word p.event.now.kind) path p.event.now.sequence ++ packet_rest p time ++ codes " },\n"

@@ -2,6 +2,12 @@
 use Rattle.std.specs.Prelude.{ℕ, Bool, if◌then◌else◌, List, [], ◌++◌, Vec, Option, Some, None, codes, reverse, slice_get}
 use Rattle.std.specs.Global.{Global}
 use Rattle.std.specs.List.{enumerate_from, flat_map}
+use Rattle.std.specs.Option.{option_and_then}
+use Rattle.rb_script_types.specs.declared.config.PathConfig.{PathConfig}
+use Rattle.rb_import_answers.specs.declared.packets.PacketEvent.{PacketEvent}
+use Rattle.rb_import_answers.specs.declared.packets.PacketKind.{PacketKind}
+use Rattle.rb_import_answers.specs.declared.packets.PacketKind.TheVariants as kinds
+use Rattle.rb_import_check.specs.Chains.{block_time}
 use Rattle.rb_import_setup.specs.declared.setup.ClientSetup.{ClientSetup}
 use Rattle.rb_import_setup.specs.declared.setup.PathSetup.{PathSetup}
 use Rattle.rb_import_setup.specs.declared.setup.Setup.{Setup}
@@ -86,18 +92,38 @@ clients_events setup seen = flat_map (client_at seen) (enumerate_from 0 setup.cl
 
 -- ---- paths
 
-unfoldable pub packets_text : List ℕ → List SeenPacket → List ℕ
-packets_text id packets = flat_map (packet_event id) packets
+-- the chain whose block an event of a path's packet stands in, where messages wait from that block's time on: the source of one that was sent, and
+-- the destination of one that was acknowledged
+abbrev pub writer_of : PathConfig → PacketKind → Option ℕ
+writer_of path kinds.Sent = Some path.source
+writer_of path kinds.AckWritten = Some path.destination
+writer_of path kinds.Received = None
+writer_of path kinds.Cleared = None
+writer_of path kinds.TimedOut = None
 
-unfoldable pub path_events : PathSetup → SeenPath → List ℕ
-path_events path seen = packets_text path.config.id seen.packets.items ++ closing path seen.timed_out
+-- the time of a block of the chain at a place, where a header of it was seen
+abbrev pub time_at : Seen → ℕ → ℕ → Option ℕ
+time_at seen place height = option_and_then (λ (c : SeenChain). block_time c.commits.items height) (slice_get seen.chains.items place)
 
-abbrev pub packets_of : PathSetup → Option SeenPath → List ℕ
-packets_of path (Some seen) = path_events path seen
-packets_of path None = []
+-- the time of the block that an event stands in
+unfoldable pub made_at : Seen → PathConfig → PacketEvent → Option ℕ
+made_at seen path e = option_and_then (λ place. time_at seen place e.block) (writer_of path e.kind)
+
+abbrev pub packet_text : Seen → PathConfig → SeenPacket → List ℕ
+packet_text seen path p = packet_event path.id p (made_at seen path p.event.now)
+
+unfoldable pub packets_text : Seen → PathConfig → List SeenPacket → List ℕ
+packets_text seen path packets = flat_map (packet_text seen path) packets
+
+unfoldable pub path_events : Seen → PathSetup → SeenPath → List ℕ
+path_events seen path it = packets_text seen path.config it.packets.items ++ closing path it.timed_out
+
+abbrev pub packets_of : Seen → PathSetup → Option SeenPath → List ℕ
+packets_of seen path (Some it) = path_events seen path it
+packets_of seen path None = []
 
 abbrev pub path_at : Seen → ℕ × PathSetup → List ℕ
-path_at seen p = packets_of p.1 (slice_get seen.paths.items p.0)
+path_at seen p = packets_of seen p.1 (slice_get seen.paths.items p.0)
 
 unfoldable pub paths_events : Setup → Seen → List ℕ
 paths_events setup seen = flat_map (path_at seen) (enumerate_from 0 setup.paths.items)

@@ -70,9 +70,14 @@ client_start id = codes "\n[[client]]\n" ++ name_line (codes "id") id
 unfoldable pub client_head : Setup → ClientSetup → List ℕ
 client_head setup c = client_start c.id ++ name_line (codes "host") (chain_name setup c.host) ++ name_line (codes "of") (chain_name setup c.tracks)
 
--- its trusting period, its clock drift, and after how long it is refreshed
-unfoldable pub client_times : SeenClient → ℕ → List ℕ
-client_times seen refresh = number_line (codes "period_ns") seen.period ++ number_line (codes "drift_ns") seen.drift ++ number_line (codes "refresh_ns") refresh
+-- after how long it is refreshed, where the setup says so
+abbrev pub refresh_line : Option ℕ → List ℕ
+refresh_line None = []
+refresh_line (Some refresh) = number_line (codes "refresh_ns") refresh
+
+-- its trusting period, its clock drift, and its refresh age
+unfoldable pub client_times : SeenClient → Option ℕ → List ℕ
+client_times seen refresh = number_line (codes "period_ns") seen.period ++ number_line (codes "drift_ns") seen.drift ++ refresh_line refresh
 
 -- the most gas and messages of a transaction, and its gas besides that of its messages
 abbrev pub limits_line : ClientTerms → List ℕ

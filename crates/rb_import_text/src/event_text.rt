@@ -2,7 +2,7 @@
 ghost use Rattle.std.specs.Prelude.{◌≡◌, ◌++◌, ◌∷◌, [], OnOk, option_map, string_bytes};
 ghost use Rattle.rb_valset.specs.Validator.{key_bytes};
 ghost use Rattle.rb_import_check.specs.Verdicts.{vote_letter};
-ghost use Rattle.rb_import_text.specs.EventTexts.{block_part, expiry_part, header_event, header_head, header_sets, header_start, hex, hex_digits, kind_word, member_text, members_text, next_part, packet_event, packet_rest, packet_start, root_part, sent_rest, set_event, set_head, set_name, set_reference, stored_event, stored_head, stored_start, time_part, timeout_time, votes_part};
+ghost use Rattle.rb_import_text.specs.EventTexts.{block_part, expiry_part, header_event, header_head, header_sets, header_start, hex, hex_digits, kind_word, made, member_text, members_text, next_part, packet_event, packet_rest, packet_start, root_part, sent_rest, set_event, set_head, set_name, set_reference, stored_event, stored_head, stored_start, time_part, timeout_time, votes_part, written_part};
 ghost use Rattle.rb_import_text.specs.Texts.{bad_in, closed, closing, is_closed, letters_from, letters_of};
 
 use rb_base::{Height, Moment};
@@ -254,14 +254,19 @@ fn push_stored_start(text: &mut String, client: &str, height: Height) -> Result<
     )
 }
 
-/// Adds the event of a packet.
+/// Adds the event of a packet, and the time of its block, where that was seen.
 #[tactic(auto, using(crate::proofs::Added::added), unfolding(crate::specs::EventTexts::packet_event))]
-pub fn push_packet(text: &mut String, path: &str, seen: &SeenPacket<'_>) -> Result<(), AllocError>
-    ensures { OnOk result (string_bytes text.new ≡ string_bytes text.old ++ packet_event path.now seen.now) }
+pub fn push_packet(
+    text: &mut String,
+    path: &str,
+    seen: &SeenPacket<'_>,
+    time: Option<Moment>,
+) -> Result<(), AllocError>
+    ensures { OnOk result (string_bytes text.new ≡ string_bytes text.old ++ packet_event path.now seen.now time) }
 {
     let event = seen.event;
     push_packet_start(text, kind_word(event.kind), path, event.sequence)?;
-    push_packet_rest(text, seen)?;
+    push_packet_rest(text, seen, time)?;
     text.push_str(" },\n")
 }
 
@@ -291,24 +296,55 @@ fn push_packet_start(
     )
 }
 
-/// Adds what stands behind a packet's sequence: the height of its block, and of one that was sent its timeouts.
-fn push_packet_rest(text: &mut String, seen: &SeenPacket<'_>) -> Result<(), AllocError>
-    ensures { OnOk result (string_bytes text.new ≡ string_bytes text.old ++ packet_rest seen.now) }
+/// Adds what stands behind a packet's sequence: the height of its block, the time of that, and of one that was sent its
+/// timeouts.
+fn push_packet_rest(
+    text: &mut String,
+    seen: &SeenPacket<'_>,
+    time: Option<Moment>,
+) -> Result<(), AllocError>
+    ensures { OnOk result (string_bytes text.new ≡ string_bytes text.old ++ packet_rest seen.now time) }
 {
     match seen.event.kind {
-        PacketKind::Sent => push_sent_rest(text, seen),
-        PacketKind::Received | PacketKind::AckWritten => push_block(text, seen.event.block),
+        PacketKind::Sent => push_sent_rest(text, seen, time),
+        PacketKind::Received => push_block(text, seen.event.block),
+        PacketKind::AckWritten => push_written(text, seen.event.block, time),
         PacketKind::Cleared | PacketKind::TimedOut => Ok(()),
     }
 }
 
 #[tactic(auto, using(crate::proofs::Added::added), unfolding(crate::specs::EventTexts::sent_rest))]
-fn push_sent_rest(text: &mut String, seen: &SeenPacket<'_>) -> Result<(), AllocError>
-    ensures { OnOk result (string_bytes text.new ≡ string_bytes text.old ++ sent_rest seen.now) }
+fn push_sent_rest(
+    text: &mut String,
+    seen: &SeenPacket<'_>,
+    time: Option<Moment>,
+) -> Result<(), AllocError>
+    ensures { OnOk result (string_bytes text.new ≡ string_bytes text.old ++ sent_rest seen.now time) }
 {
-    push_block(text, seen.event.block)?;
+    push_written(text, seen.event.block, time)?;
     push_expiry(text, seen.expiry)?;
     push_timeout(text, seen.event.timeout_time)
+}
+
+/// Adds the block that sent a packet or wrote its acknowledgement, and its time, where that was seen.
+#[tactic(auto, using(crate::proofs::Added::added), unfolding(crate::specs::EventTexts::written_part))]
+fn push_written(text: &mut String, block: Height, time: Option<Moment>) -> Result<(), AllocError>
+    ensures { OnOk result (string_bytes text.new ≡ string_bytes text.old ++ written_part block time) }
+{
+    push_block(text, block)?;
+    match time {
+        Some(time) => push_made(text, time),
+        None => Ok(()),
+    }
+}
+
+#[tactic(auto, using(crate::proofs::Added::added))]
+fn push_made(text: &mut String, time: Moment) -> Result<(), AllocError>
+    ensures { OnOk result (string_bytes text.new ≡ string_bytes text.old ++ made time) }
+{
+    text.push_str(", time = \"")?;
+    push_moment(text, time)?;
+    text.push_str("\"")
 }
 
 fn push_block(text: &mut String, block: Height) -> Result<(), AllocError>

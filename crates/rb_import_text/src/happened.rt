@@ -1,12 +1,15 @@
 //! The events of a script: what was seen of each chain, each client and each path.
 ghost use Rattle.std.specs.Prelude.{◌≡◌, ◌++◌, OnOk, flat_map, reverse, string_bytes};
 ghost use Rattle.std.specs.List.{enumerate_from};
-ghost use Rattle.rb_import_text.specs.HappenedTexts.{chain_at, chain_events, chains_events, chains_part, client_at, clients_events, events_text, header_at, headers_text, is_written, packets_text, path_at, path_events, paths_events, paths_part, record_text, records_text, set_at, sets_at, sets_text};
+ghost use Rattle.rb_import_text.specs.HappenedTexts.{chain_at, chain_events, chains_events, chains_part, client_at, clients_events, events_text, header_at, headers_text, is_written, made_at, packet_text, packets_text, path_at, path_events, paths_events, paths_part, record_text, records_text, set_at, sets_at, sets_text};
 
 use crate::event_text::{push_closing, push_header, push_packet, push_set, push_stored};
+use rb_base::Moment;
+use rb_import_answers::{PacketEvent, PacketKind};
 use rb_import_check::{Commit, SeenChain, Stored};
 use rb_import_merge::{Seen, SeenPacket, SeenPath};
 use rb_import_setup::{ClientSetup, PathSetup, Setup};
+use rb_script_types::PathConfig;
 use std::alloc::AllocError;
 
 /// Adds what was seen: of each chain its sets and its headers, of each client the records that
@@ -236,25 +239,66 @@ fn push_path_at(
     ensures { OnOk result (string_bytes text.new ≡ string_bytes text.old ++ path_at seen.now (place, path.now)) }
 {
     match seen.paths.get(place) {
-        Some(seen) => push_path(text, path, seen),
+        Some(it) => push_path(text, seen, path, it),
         None => Ok(()),
     }
 }
 
 #[tactic(auto, using(crate::proofs::Added::added), unfolding(crate::specs::HappenedTexts::path_events))]
-fn push_path(text: &mut String, path: &PathSetup, seen: &SeenPath<'_>) -> Result<(), AllocError>
-    ensures { OnOk result (string_bytes text.new ≡ string_bytes text.old ++ path_events path.now seen.now) }
+fn push_path(
+    text: &mut String,
+    seen: &Seen<'_>,
+    path: &PathSetup,
+    it: &SeenPath<'_>,
+) -> Result<(), AllocError>
+    ensures { OnOk result (string_bytes text.new ≡ string_bytes text.old ++ path_events seen.now path.now it.now) }
 {
-    push_packets(text, path.config.id.as_str(), seen.packets.as_slice())?;
-    push_closing(text, path, seen.timed_out)
+    push_packets(text, seen, &path.config, it.packets.as_slice())?;
+    push_closing(text, path, it.timed_out)
 }
 
 #[tactic(auto, using(crate::proofs::Added::added), unfolding(crate::specs::HappenedTexts::packets_text))]
-fn push_packets(text: &mut String, id: &str, packets: &[SeenPacket<'_>]) -> Result<(), AllocError>
-    ensures { OnOk result (string_bytes text.new ≡ string_bytes text.old ++ packets_text id.now packets.now) }
+fn push_packets(
+    text: &mut String,
+    seen: &Seen<'_>,
+    path: &PathConfig,
+    packets: &[SeenPacket<'_>],
+) -> Result<(), AllocError>
+    ensures { OnOk result (string_bytes text.new ≡ string_bytes text.old ++ packets_text seen.now path.now packets.now) }
 {
     for packet in packets {
-        push_packet(text, id, packet)?;
+        push_packet_of(text, seen, path, packet)?;
     }
     Ok(())
+}
+
+/// Adds the event of a path's packet, with the time of its block.
+fn push_packet_of(
+    text: &mut String,
+    seen: &Seen<'_>,
+    path: &PathConfig,
+    packet: &SeenPacket<'_>,
+) -> Result<(), AllocError>
+    ensures { OnOk result (string_bytes text.new ≡ string_bytes text.old ++ packet_text seen.now path.now packet.now) }
+{
+    push_packet(
+        text,
+        path.id.as_str(),
+        packet,
+        made_at(seen, path, packet.event),
+    )
+}
+
+/// The time of the block that an event of a path's packet stands in: of a sent packet in the source, of an
+/// acknowledgement in the destination.
+#[tactic(auto, unfolding(crate::specs::HappenedTexts::made_at))]
+fn made_at(seen: &Seen<'_>, path: &PathConfig, event: &PacketEvent) -> Option<Moment>
+    ensures { result ≡ made_at seen.now path.now event.now }
+{
+    let writer = match event.kind {
+        PacketKind::Sent => path.source,
+        PacketKind::AckWritten => path.destination,
+        PacketKind::Received | PacketKind::Cleared | PacketKind::TimedOut => return None,
+    };
+    seen.chains.get(writer)?.block_time(event.block)
 }

@@ -3,7 +3,7 @@ ghost use Rattle.std.specs.Prelude.{◌≡◌, ◌<◌, ◌++◌, [], All, lengt
 ghost use Rattle.std.specs.List.{enumerate_from};
 ghost use Rattle.rb_import_setup.specs.Places.{IsClientOf, IsPathOf, IsTurnOf};
 ghost use Rattle.rb_import_text.specs.Texts.{channel_lines, counterparty_lines, end_lines, ends_lines, waits_line};
-ghost use Rattle.rb_import_text.specs.TableTexts.{chain_line, chain_name, chains_text, client_at, client_head, client_key, client_name, client_start, client_table, client_terms, client_times, clients_text, costs_text, fees_line, from_line, gas_line, goal_line, goals_text, last_events, limits_line, name_line, number_line, objects_text, order_lines, order_word, path_at, path_end, path_head, path_start, path_table, path_terms, paths_text, settled_text, settlement_line, settlements_text, tables_text, three_line, trust_line, turn_head, turn_text, turns_text, until_line, wanted_part};
+ghost use Rattle.rb_import_text.specs.TableTexts.{chain_line, chain_name, chains_text, client_at, client_head, client_key, client_name, client_start, client_table, client_terms, client_times, clients_text, costs_text, fees_line, from_line, gas_line, goal_line, goals_text, last_events, limits_line, name_line, number_line, objects_text, order_lines, order_word, path_at, path_end, path_head, path_start, path_table, path_terms, paths_text, refresh_line, settled_text, settlement_line, settlements_text, tables_text, three_line, trust_line, turn_head, turn_text, turns_text, until_line, wanted_part};
 
 use crate::happened::push_events;
 use rb_base::{ChainId, FeeTable};
@@ -227,13 +227,22 @@ fn push_client_start(text: &mut String, id: &str) -> Result<(), AllocError>
 fn push_client_times(
     text: &mut String,
     seen: &SeenClient<'_>,
-    refresh: u64,
+    refresh: Option<u64>,
 ) -> Result<(), AllocError>
     ensures { OnOk result (string_bytes text.new ≡ string_bytes text.old ++ client_times seen.now refresh) }
 {
     push_number(text, "period_ns", seen.period.nanoseconds())?;
     push_number(text, "drift_ns", seen.drift)?;
-    push_number(text, "refresh_ns", refresh)
+    push_refresh(text, refresh)
+}
+
+fn push_refresh(text: &mut String, refresh: Option<u64>) -> Result<(), AllocError>
+    ensures { OnOk result (string_bytes text.new ≡ string_bytes text.old ++ refresh_line refresh) }
+{
+    match refresh {
+        Some(refresh) => push_number(text, "refresh_ns", refresh),
+        None => Ok(()),
+    }
 }
 
 #[tactic(auto, using(crate::proofs::Added::added), unfolding(crate::specs::TableTexts::client_terms))]

@@ -1,7 +1,8 @@
 -- What the folder of a path tells of its pending packets (ICS 4: packet commitments, receipts and acknowledgements).
-use Rattle.std.specs.Prelude.{ℕ, ◌≡◌, ◌==◌, ◌&&◌, ◌+◌, ◌/◌, nat_le, Bool, true, false, not, List, [], count_by, length, string_bytes}
+use Rattle.std.specs.Prelude.{ℕ, ◌≡◌, ◌==◌, ◌&&◌, ◌+◌, ◌/◌, nat_le, Bool, true, false, not, List, [], Option, Some, None, count_by, find, length, string_bytes}
 use Rattle.std.specs.List.{flat_map, list_any}
 use Rattle.std.specs.List.Sorted.{IsNonDecreasing}
+use Rattle.std.specs.Option.{option_and_then, option_map}
 use Rattle.std.specs.Str.{bytes_eq}
 use Rattle.rb_import_answers.specs.declared.packets.PacketEvent.{PacketEvent}
 use Rattle.rb_import_answers.specs.declared.packets.PacketKind.{PacketKind}
@@ -73,3 +74,39 @@ abbrev pub lacks_ack : Folder → List ℕ → ℕ → Bool
 lacks_ack folder source n =
     is_acknowledged folder.contents.items n && is_named folder.searched.items (queries.Received n)
     && not (list_any (tells_ack_written source n) folder.contents.items)
+
+-- ---- blocks
+
+abbrev pub is_sending : PacketKind → Bool
+is_sending did.Sent = true
+is_sending _ = false
+
+-- the packet has no timeout height: the times of blocks to come are not known, so a packet with one waits for no other
+abbrev pub may_wait : PacketEvent → Bool
+may_wait event = (event.timeout_height.revision == 0) && (event.timeout_height.height == 0)
+
+-- a transaction sent the packet with this sequence, of the source `port/channel`, and its receive may wait
+abbrev pub is_sent_to_wait : List ℕ → ℕ → PacketEvent → Bool
+is_sent_to_wait source n event = is_sending event.kind && (event.sequence == n) && bytes_eq (string_bytes event.source) source && may_wait event
+
+-- an answer has such a transaction
+abbrev pub tells_sent_to_wait : List ℕ → ℕ → Content → Bool
+tells_sent_to_wait source n (contents.Search page) = list_any (is_sent_to_wait source n) page.events.items
+tells_sent_to_wait source n _ = false
+
+-- the block of the first such transaction
+abbrev pub sent_in : List ℕ → ℕ → Content → Option ℕ
+sent_in source n (contents.Search page) = option_map (λ (e : PacketEvent). e.block) (find (is_sent_to_wait source n) page.events.items)
+sent_in source n _ = None
+
+-- in which block a packet was sent whose receive may wait, as the first answer has it that tells it
+abbrev pub sent_block : List ℕ → ℕ → List Content → Option ℕ
+sent_block source n there = option_and_then (sent_in source n) (find (tells_sent_to_wait source n) there)
+
+-- in which block its acknowledgement was written
+abbrev pub written_in : List ℕ → ℕ → Content → Option ℕ
+written_in source n (contents.Search page) = option_map (λ (e : PacketEvent). e.block) (find (is_ack_written source n) page.events.items)
+written_in source n _ = None
+
+abbrev pub written_block : List ℕ → ℕ → List Content → Option ℕ
+written_block source n there = option_and_then (written_in source n) (find (tells_ack_written source n) there)

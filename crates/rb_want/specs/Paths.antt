@@ -1,11 +1,12 @@
 -- Which requests a path needs that names both ends of its channel: what tells which of its packets are pending, and where each was sent, received and
 -- acknowledged (ICS 4).
-use Rattle.std.specs.Prelude.{◌≡◌, ℕ, nat_le, if◌then◌else◌, List, [], ◌∷◌, ◌++◌, Option, Some, None, count_by, slice_get}
+use Rattle.std.specs.Prelude.{◌≡◌, ℕ, ◌==◌, nat_le, if◌then◌else◌, List, [], ◌∷◌, ◌++◌, Option, Some, None, count_by, slice_get}
 use Rattle.std.specs.List.{flat_map, list_any, range_with_len}
 use Rattle.rb_import_setup.specs.declared.setup.PathSetup.{PathSetup}
 use Rattle.rb_script_types.specs.Channels.{end_text}
 use Rattle.rb_script_types.specs.declared.channel.Channel.{Channel}
 use Rattle.rb_script_types.specs.declared.channel.ChannelEnd.{ChannelEnd}
+use Rattle.rb_script_types.specs.declared.waits.Waits.{Waits}
 use Rattle.rb_want_requests.specs.Answered.{is_part_of}
 use Rattle.rb_want_requests.specs.PacketPaths.{pending_in}
 use Rattle.rb_want_requests.specs.declared.answered.PartKind.TheVariants as kinds
@@ -17,15 +18,16 @@ use Rattle.rb_want_requests.specs.declared.request.Query.{Query}
 use Rattle.rb_want_requests.specs.declared.request.Query.TheVariants as queries
 use Rattle.rb_want_requests.specs.declared.request.Request.{Request}
 use Rattle.rb_want.specs.Clients.{after}
-use Rattle.rb_want.specs.Packets.{is_last_page, is_received, lacks_ack, parts_in}
+use Rattle.rb_want.specs.Packets.{is_last_page, is_received, lacks_ack, parts_in, sent_block, written_block}
 use Rattle.rb_want.specs.declared.path.PathCase.{PathCase}
 use Rattle.rb_want.specs.declared.path.Side.{Side}
 
--- a path by its place in the setup, the first sequence that it has to do with, and both ends of its channel
+-- a path by its place in the setup, the first sequence that it has to do with, how long its messages may wait, and both ends of its channel
 pub record NamedPath : Type 0 where
   pub place : ℕ
   pub id : List ℕ
   pub first : ℕ
+  pub waits : Waits
   pub source : Side
   pub destination : Side
 
@@ -50,12 +52,35 @@ received_needs p folder n =
 unfoldable pub packet_needs : NamedPath → Folder → ℕ → List Request
 packet_needs p folder n = if nat_le p.first n then side_request p p.source (queries.Sent n) ∷ received_needs p folder n else []
 
--- all pages of the commitments; once they are there, what became of each part of the pending packets, and then of each packet
+-- the header of this block of an end's chain
+abbrev pub block_needs : Side → Option ℕ → List Request
+block_needs side None = []
+block_needs side (Some height) = record { chain = side.chain; owner = owners.Chain side.place; query = queries.Commit height } ∷ []
+
+-- of a packet whose receive may wait, the block that sent it
+abbrev pub sent_time_needs : NamedPath → Folder → ℕ → List Request
+sent_time_needs p folder n = if p.waits.receive == 0 then [] else block_needs p.source (sent_block (end_text p.source.end) n folder.contents.items)
+
+-- of a packet whose acknowledgement may wait, the block that wrote that
+abbrev pub written_time_needs : NamedPath → Folder → ℕ → List Request
+written_time_needs p folder n =
+    if p.waits.acknowledge == 0 then [] else block_needs p.destination (written_block (end_text p.source.end) n folder.contents.items)
+
+-- of a pending packet that the path has to do with, what tells since when its next message waits: the header of the block that sent it or, where it
+-- was received, of the block that wrote the acknowledgement
+unfoldable pub time_needs : NamedPath → Folder → ℕ → List Request
+time_needs p folder n =
+    if nat_le p.first n
+    then (if is_received folder.contents.items n then written_time_needs p folder n else sent_time_needs p folder n)
+    else []
+
+-- all pages of the commitments; once they are there, what became of each part of the pending packets, and then of each packet; behind all
+-- that since when each waits
 unfoldable pub path_needs : NamedPath → Folder → List Request
 path_needs p folder =
     if list_any is_last_page folder.contents.items
     then flat_map (part_needs p) (range_with_len 1 (parts_in folder.contents.items))
-    ++ flat_map (packet_needs p folder) (pending_in folder.contents.items)
+    ++ flat_map (packet_needs p folder) (pending_in folder.contents.items) ++ flat_map (time_needs p folder) (pending_in folder.contents.items)
     else side_request p p.source (queries.Commitments (after (count_by (is_part_of kinds.Commitments) folder.contents.items))) ∷ []
 
 -- ---- what isn't given
@@ -77,14 +102,14 @@ path_ends p folder =
 
 -- ---- the paths of a setup
 
--- an end of a path's channel on a chain
-abbrev pub side_of : Option (List ℕ) → Option ChannelEnd → Option Side
-side_of (Some chain) (Some end) = Some (record { chain = chain; end = end })
-side_of _ _ = None
+-- an end of a path's channel on the chain at a place
+abbrev pub side_of : ℕ → Option (List ℕ) → Option ChannelEnd → Option Side
+side_of place (Some chain) (Some end) = Some (record { place = place; chain = chain; end = end })
+side_of place _ _ = None
 
 abbrev pub between : ℕ → PathSetup → Option Side → Option Side → Option NamedPath
 between place p (Some source) (Some destination) =
-    Some (record { place = place; id = p.config.id; first = p.config.first; source = source; destination = destination })
+    Some (record { place = place; id = p.config.id; first = p.config.first; waits = p.config.waits; source = source; destination = destination })
 between place p _ _ = None
 
 abbrev pub source_end : Option Channel → Option ChannelEnd
@@ -98,8 +123,8 @@ destination_end None = None
 -- the path at a place, over the setup's chains, if it names both ends of its channel
 unfoldable pub named_path : List (List ℕ) → ℕ → PathSetup → Option NamedPath
 named_path chains place p =
-    between place p (side_of (slice_get chains p.config.source) (source_end p.config.channel))
-    (side_of (slice_get chains p.config.destination) (destination_end p.config.channel))
+    between place p (side_of p.config.source (slice_get chains p.config.source) (source_end p.config.channel))
+    (side_of p.config.destination (slice_get chains p.config.destination) (destination_end p.config.channel))
 
 abbrev pub needs_in : Option NamedPath → Option Folder → List Request
 needs_in (Some p) (Some folder) = path_needs p folder
@@ -118,7 +143,7 @@ abbrev pub ends_at : List (List ℕ) → List Folder → ℕ × PathSetup → Li
 ends_at chains folders p = ends_in (named_path chains p.0 p.1) (slice_get folders p.0)
 
 abbrev pub path_view : PathCase → NamedPath
-path_view p = record { place = p.place; id = p.id; first = p.first; source = p.source; destination = p.destination }
+path_view p = record { place = p.place; id = p.id; first = p.first; waits = p.waits; source = p.source; destination = p.destination }
 
 -- the case is that of the path at a place, with the folder of it; there is none where the path doesn't name both ends
 abbrev pub IsCaseAt : List (List ℕ) → List Folder → ℕ × PathSetup → Option PathCase → Type 0

@@ -1,5 +1,6 @@
 //! Pending packets, by the answers in the folder of a path.
-ghost use Rattle.std.specs.Prelude.{◌≡◌, IfOk, ◌&&◌, nat_le, count_by, length};
+ghost use Rattle.std.specs.Prelude.{◌≡◌, IfOk, ◌&&◌, nat_le, count_by, find, length};
+ghost use Rattle.std.specs.Option.{option_copied};
 ghost use Rattle.std.specs.List.{flat_map, list_any};
 ghost use Rattle.std.specs.List.Sorted.{IsNonDecreasing};
 ghost use Rattle.std.specs.Str.{bytes_eq};
@@ -7,8 +8,9 @@ ghost use Rattle.rb_want_requests.specs.Answered.{is_part_of};
 ghost use Rattle.rb_want_requests.specs.PacketPaths.{pending_in};
 ghost use Rattle.rb_want_requests.specs.Pending.{committed_in};
 ghost use Rattle.rb_want_requests.specs.declared.answered.PartKind.{PartKind};
-ghost use Rattle.rb_want.specs.Packets.{AreOf, acknowledged_of, are_complete, has, is_ack_written, is_acknowledged, is_last_page, is_received, parts_in, tells_ack_written, unreceived_of};
+ghost use Rattle.rb_want.specs.Packets.{AreOf, acknowledged_of, are_complete, has, is_ack_written, is_acknowledged, is_last_page, is_received, is_sent_to_wait, may_wait, parts_in, sent_block, sent_in, tells_ack_written, tells_sent_to_wait, unreceived_of, written_block, written_in};
 
+use rb_base::Height;
 use rb_import_answers::{PacketEvent, PacketKind};
 use rb_want_requests::{Content, Folder, PartKind, SEQUENCES_A_PART, count_parts};
 use std::alloc::{AllocError, Global};
@@ -209,4 +211,114 @@ fn is_ack_written(event: &PacketEvent, source: &str, sequence: u64) -> bool
     matches!(event.kind, PacketKind::AckWritten)
         && event.sequence == sequence
         && event.source.as_str() == source
+}
+
+/// Whether a packet has no timeout height. One that has waits for no other packet, since the times of blocks to come are not
+/// known.
+fn may_wait(event: &PacketEvent) -> bool
+    ensures { result ≡ may_wait event.now }
+{
+    event.timeout_height.revision == 0 && event.timeout_height.height == 0
+}
+
+fn is_sent_to_wait(event: &PacketEvent, source: &str, sequence: u64) -> bool
+    ensures { result ≡ is_sent_to_wait source.now sequence event.now }
+{
+    matches!(event.kind, PacketKind::Sent)
+        && event.sequence == sequence
+        && event.source.as_str() == source
+        && may_wait(event)
+}
+
+fn is_any_sent_to_wait(events: &[PacketEvent], source: &str, sequence: u64) -> bool
+    ensures { result ≡ list_any (is_sent_to_wait source.now sequence) events.now }
+{
+    events
+        .iter()
+        .any(|event| is_sent_to_wait(event, source, sequence))
+}
+
+fn tells_sent_to_wait(content: &Content, source: &str, sequence: u64) -> bool
+    ensures { result ≡ tells_sent_to_wait source.now sequence content.now }
+{
+    match content {
+        Content::Search(page) => is_any_sent_to_wait(page.events.as_slice(), source, sequence),
+        _ => false,
+    }
+}
+
+/// The first answer that tells the sending of a packet whose receive may wait.
+fn first_sending<'a>(contents: &'a [Content], source: &str, sequence: u64) -> Option<&'a Content>
+    ensures { option_copied result ≡ find (tells_sent_to_wait source.now sequence) contents.entry.now }
+{
+    contents
+        .iter()
+        .find(|content| tells_sent_to_wait(content, source, sequence))
+}
+
+/// The first event by which a packet was sent whose receive may wait.
+fn sent_among<'a>(events: &'a [PacketEvent], source: &str, sequence: u64) -> Option<&'a PacketEvent>
+    ensures { option_copied result ≡ find (is_sent_to_wait source.now sequence) events.entry.now }
+{
+    events
+        .iter()
+        .find(|event| is_sent_to_wait(event, source, sequence))
+}
+
+fn sent_in(content: &Content, source: &str, sequence: u64) -> Option<Height>
+    ensures { result ≡ sent_in source.now sequence content.now }
+{
+    match content {
+        Content::Search(page) => {
+            Some(sent_among(page.events.as_slice(), source, sequence)?.block)
+        }
+        _ => None,
+    }
+}
+
+/// In which block a packet was sent whose receive may wait, by its sequence and its source as `port/channel`.
+pub fn sent_block(contents: &[Content], source: &str, sequence: u64) -> Option<Height>
+    ensures { result ≡ sent_block source.now sequence contents.now }
+{
+    sent_in(first_sending(contents, source, sequence)?, source, sequence)
+}
+
+/// The first answer that tells the writing of a packet's acknowledgement.
+fn first_writing<'a>(contents: &'a [Content], source: &str, sequence: u64) -> Option<&'a Content>
+    ensures { option_copied result ≡ find (tells_ack_written source.now sequence) contents.entry.now }
+{
+    contents
+        .iter()
+        .find(|content| tells_ack_written(content, source, sequence))
+}
+
+/// The first event by which the acknowledgement of a packet was written.
+fn written_among<'a>(
+    events: &'a [PacketEvent],
+    source: &str,
+    sequence: u64,
+) -> Option<&'a PacketEvent>
+    ensures { option_copied result ≡ find (is_ack_written source.now sequence) events.entry.now }
+{
+    events
+        .iter()
+        .find(|event| is_ack_written(event, source, sequence))
+}
+
+fn written_in(content: &Content, source: &str, sequence: u64) -> Option<Height>
+    ensures { result ≡ written_in source.now sequence content.now }
+{
+    match content {
+        Content::Search(page) => {
+            Some(written_among(page.events.as_slice(), source, sequence)?.block)
+        }
+        _ => None,
+    }
+}
+
+/// In which block the acknowledgement of a packet was written, by its sequence and its source as `port/channel`.
+pub fn written_block(contents: &[Content], source: &str, sequence: u64) -> Option<Height>
+    ensures { result ≡ written_block source.now sequence contents.now }
+{
+    written_in(first_writing(contents, source, sequence)?, source, sequence)
 }

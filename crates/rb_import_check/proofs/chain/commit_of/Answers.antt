@@ -1,8 +1,9 @@
-use Rattle.std.proofs.Common.{◌≡◌, ◌∙◌, ℕ, Some, None, rules}
+use Rattle.std.proofs.Common.{◌≡◌, ◌∙◌, ℕ, Some, None, rules, sym}
 use Rattle.std.specs.Prelude.{slice_get}
 use Rattle.std.specs.Result.{result_ok}
 use Rattle.std.proofs.lemmas.List.Sorted.{answers_always}
 use Rattle.rb_import_check.specs.declared.chain.Commit.{Commit}
+use Rattle.rb_import_check.proofs.Finds.{find_only}
 use Rattle.rb_import_check.proofs.Searches.{among, at_none, at_some, copied_at, only}
 use Rattle.rb_import_check.proofs.chain.commit_of.Goals as goal
 
@@ -31,3 +32,10 @@ returns-clause-only c =
     only height_of c.args.height c.args.commits.now c.binary_search_by_key.result c.copied.result c.requires c.binary_search_by_key.ensures.bound
     (c.binary_search_by_key.ensures.position height_of (answers_always _ _ _ (λ f a r q h. search rules)))
     (at_some c.args.commits.now c.binary_search_by_key.result c.copied.result c.in_ok-place.place some is)
+
+pub returns-in_err-place-clause-first : goal.returns-in_err-place-clause-first
+returns-in_err-place-clause-first c =
+    sym (find_only height_of c.args.height c.args.commits.now c.from_residual.result (search rules) (returns-in_err-place-clause-only c))
+
+pub returns-clause-first : goal.returns-clause-first
+returns-clause-first c = sym (find_only height_of c.args.height c.args.commits.now c.copied.result (returns-clause-found c) (returns-clause-only c))
