@@ -11,11 +11,11 @@ pub any-map : {X Y : Type 0} (p : Y → Bool) (f : X → Y) (xs : List X) → li
 any-map p f [] = refl
 any-map p f (x ∷ xs) = ap (λ b. p (f x) || b) (any-map p f xs)
 
--- a turn whose window and events are taken refuses what its settlements do
-pub turn-by-settlements : {A : Type 0} (t : CodeTurnReport A) → t.window_back ≡ false → length t.refused.items ≡ 0 →
+-- a turn whose windows and events are taken refuses what its settlements do
+pub turn-by-settlements : {A : Type 0} (t : CodeTurnReport A) → t.window_back ≡ false → length t.hosts_back.items ≡ 0 → length t.refused.items ≡ 0 →
     list_any (λ x. is_some (settlement_view x).refusal) t.settlements.items ≡ has_refusal (turn_report_view t)
-turn-by-settlements t window events =
-    rw (window, length-map t.refused.items refused_view, events) (sym (any-map (λ x. is_some x.refusal) settlement_view t.settlements.items))
+turn-by-settlements t window hosts events =
+    rw (window, hosts, length-map t.refused.items refused_view, events) (sym (any-map (λ x. is_some x.refusal) settlement_view t.settlements.items))
 
 -- how many events turns refused, as they lie in memory
 abbrev pub events_refused : {A : Type 0} → List (CodeTurnReport A) → ℕ

@@ -5,9 +5,9 @@ use Rattle.rb_super_turn.specs.Report.{TurnReport, Report}
 use Rattle.rb_text.specs.Headline.{WritesReport}
 use Rattle.rb_text.specs.Verdicts.{WritesVerdict, IsCertified}
 
--- whether a turn's report tells of something refused: its window, an event or a settlement
+-- whether a turn's report tells of something refused: its window, that of a host, an event or a settlement
 abbrev pub has_refusal : TurnReport → Bool
-has_refusal t = t.window_back || nat_lt 0 (length t.refused) || list_any (λ x. is_some x.refusal) t.settlements
+has_refusal t = t.window_back || nat_lt 0 (length t.hosts_back) || nat_lt 0 (length t.refused) || list_any (λ x. is_some x.refusal) t.settlements
 
 -- the status of a plan whose report was written: 6 where it is a strict one and the report tells of something refused, else 0
 abbrev pub plan_status : Bool → Report → ℕ

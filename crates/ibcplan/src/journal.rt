@@ -30,18 +30,17 @@ pub struct FileJournal {
     file: File,
     /// Whether its parts end with their digests: those of journals that were begun by older releases don't.
     digests: bool,
-    past: IntoIter<String>,
+    past: IntoIter<Vec<u8>>,
 }
 
 impl FileJournal {
-    /// Adds a turn, and waits until the disk has it.
+    /// Adds a turn, and waits until the disk has it. Each document that reads as TOML has a part.
     fn append(&mut self, document: &[u8]) -> io::Result<()> {
         match entry_text(self.alloc, self.digests, document) {
             Ok(entry) => {
-                self.file.write_all(entry.as_bytes())?;
+                self.file.write_all(entry.as_slice())?;
                 self.file.sync_data()
             }
-            Err(RunError::Fault(_)) => Err(io::Error::from(io::ErrorKind::FileTooLarge)),
             Err(_) => Err(io::Error::from(io::ErrorKind::OutOfMemory)),
         }
     }
@@ -54,7 +53,7 @@ impl Journal for FileJournal {
 
     fn store(&mut self, document: &[u8]) -> io::Result<()> {
         match self.past.next() {
-            Some(past) if past.as_bytes() == document => Ok(()),
+            Some(past) if past.as_slice() == document => Ok(()),
             Some(_) => Err(io::Error::new(io::ErrorKind::InvalidData, UNEXPECTED)),
             None => self.append(document),
         }
@@ -264,7 +263,7 @@ fn settled<'a, R: Host>(
     file: File,
     digests: bool,
     opening: &[u8],
-    documents: Vec<String>,
+    documents: Vec<Vec<u8>>,
 ) -> Result<OpenedJournal<'a>, ProgramError<'a>> {
     let alloc = rt.alloc();
     if let Err(error) = settle(rt, path, &file) {

@@ -16,12 +16,13 @@ fn settlements_have_refusal(settlements: &[SettlementReport]) -> bool
         .any(|settlement| settlement.refusal.is_some())
 }
 
-/// Whether the report of a turn tells of something refused: its window, an event or a settlement.
+/// Whether the report of a turn tells of something refused: its window, that of a host, an event or a settlement.
 #[tactic(auto, using(crate::proofs::Refusals::refusals))]
 fn turn_has_refusal(turn: &TurnReport) -> bool
     ensures { result ≡ has_refusal (turn_report_view turn.now) }
 {
     turn.window_back
+        || !turn.hosts_back.is_empty()
         || !turn.refused.is_empty()
         || settlements_have_refusal(turn.settlements.as_slice())
 }

@@ -69,7 +69,7 @@ pub fn advice_for(name: FaultName, path: &str) -> &'static str {
             "follow has forgotten what no client trusts or needs any more, and packets that were cleared; leave this event out"
         }
         FaultName::TooManyTables => {
-            "a file has at most 800,000 of the characters { [ and . outside strings and comments, since each may open a table or an array"
+            "outside strings and comments each { [ and . of a file counts eight, since it may open a table or an array, and each = one; they may be 7,200,000 together"
         }
     }
 }

@@ -1,6 +1,6 @@
 -- The least cut of messages into transactions (own choice). A message is its gas alone, and messages are
 -- numbered from 0.
-use Rattle.std.specs.Prelude.{◌≡◌, ℕ, ◌+◌, ◌<◌, ◌≤◌, ◌⊎◌, List, [], ◌∷◌, length, take, drop, sum, All, slice_index}
+use Rattle.std.specs.Prelude.{◌≡◌, ℕ, ◌+◌, ◌<◌, ◌≤◌, ◌⊎◌, List, [], ◌∷◌, ◌++◌, length, map, take, drop, sum, All, slice_index}
 use Rattle.rb_batch.specs.declared.transaction.Transaction.{Transaction}
 use Rattle.rb_batch.specs.Limits.{TransactionLimits, IsTooBig}
 
@@ -49,3 +49,15 @@ pub record IsFirstTooBig (limits : TransactionLimits) (messages : List ℕ) (ind
   pub place : index < length messages
   pub too_big : IsTooBig limits (slice_index messages index)
   pub first : (k : ℕ) → k < index → ¬ IsTooBig limits (slice_index messages k)
+
+-- a transaction that stands so many messages further on
+abbrev pub shifted : ℕ → Transaction → Transaction
+shifted count t = record t { first = count + t.first }
+
+-- the least cut of some messages, then that of others: no transaction carries messages of both
+pub record IsCutApart (limits : TransactionLimits) (us ms : List ℕ) (cut : List Transaction) : Type 0 where
+  pub front : List Transaction
+  pub back : List Transaction
+  pub least_front : IsLeastCut limits us front
+  pub least_back : IsLeastCut limits ms back
+  pub joined : cut ≡ front ++ map (shifted (length us)) back

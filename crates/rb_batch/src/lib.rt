@@ -2,6 +2,7 @@
 //! of gas and count, each as full as it can be from the first one on.
 #![tactic(auto)]
 
+mod apart;
 mod cutting;
 mod error;
 pub mod laws;
@@ -9,6 +10,7 @@ mod limits;
 mod message;
 mod transaction;
 
+pub use apart::cut_apart;
 pub use cutting::cut;
 pub use error::BatchError;
 pub use limits::Limits;

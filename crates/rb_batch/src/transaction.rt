@@ -1,5 +1,6 @@
 //! Transactions as a cut makes them.
 ghost use Rattle.std.specs.Prelude.{◌≡◌, ◌+◌, ◌^◌, ◌<◌, ◌≤◌, ◌↔◌, IsTrue};
+ghost use Rattle.rb_batch.specs.Cut.{shifted};
 
 use crate::limits::Limits;
 use crate::message::Msg;
@@ -16,6 +17,18 @@ pub struct Transaction {
 }
 
 impl Transaction {
+    /// The transaction, which stands so many messages further on.
+    pub(crate) fn shifted(&self, count: usize) -> Transaction
+        requires { count + self.now.first < 2 ^ 64 }
+        ensures { result ≡ shifted count self.now }
+    {
+        Transaction {
+            first: count + self.first,
+            count: self.count,
+            gas: self.gas,
+        }
+    }
+
     /// A transaction that carries nothing yet, and will carry messages from `first` on.
     pub(crate) fn empty(first: usize, transaction_gas: u64) -> Transaction
         ensures { result ≡ record { first = first; count = 0; gas = transaction_gas } }

@@ -12,7 +12,7 @@ use Rattle.rb_scan.specs.Same.{same_path, same_path-Decides}
 use Rattle.rb_core.specs.Core.{IsFold}
 use Rattle.rb_plan_client.specs.Draft.{Draft}
 use Rattle.rb_core_model.specs.Entry.{Logged, logged_of, event_of, events_of, log_from}
-use Rattle.rb_core_model.specs.Event.{Event, IsEvent, Window, Asked, SetSeen, HeaderSeen, StoredSeen, Sent, Received, AckWritten, Cleared, Closed, Scanned, Planned, Settled}
+use Rattle.rb_core_model.specs.Event.{Event, IsEvent, Window, HostWindow, Asked, SetSeen, HeaderSeen, StoredSeen, Sent, Received, AckWritten, Cleared, Closed, Scanned, Planned, Settled}
 use Rattle.rb_core_model.specs.Log.{accepted_from}
 use Rattle.rb_core_model.specs.Machine.{State, begun, plan_number, is_held, all_scanned, is_view, is_job, client_view, is_known, refusal_beside, refusal_of, accepted, after, state_of}
 use Rattle.rb_core_model.specs.Limits.{max_events}
@@ -57,6 +57,7 @@ draft_seen s d none =
 -- an accepted event comes back
 pub event_back : (s : State) (e : Event) → refusal_beside s e ≡ None → event_of s (logged_of e) ≡ Some e
 event_back s (Window window) e = refl
+event_back s (HostWindow host window) e = refl
 event_back s (Asked client goal) e = refl
 event_back s (SetSeen chain set) e = refl
 event_back s (HeaderSeen chain header) e = refl

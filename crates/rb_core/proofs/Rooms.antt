@@ -10,7 +10,7 @@ use Rattle.rb_script_types.specs.declared.config.ClientConfig.{ClientConfig}
 use Rattle.rb_core.specs.Core.{Core, Room, room_of, state_in, HasOwnRoom, IsReady, IsFold}
 use Rattle.rb_core_model.specs.Begun.{max_begun}
 use Rattle.rb_core_model.specs.Entry.{Logged, log_from}
-use Rattle.rb_core_model.specs.Event.{Event, IsEvent, Window, Asked, SetSeen, HeaderSeen, StoredSeen, Sent, Received, AckWritten, Cleared, Closed, Scanned, Planned, Settled}
+use Rattle.rb_core_model.specs.Event.{Event, IsEvent, Window, HostWindow, Asked, SetSeen, HeaderSeen, StoredSeen, Sent, Received, AckWritten, Cleared, Closed, Scanned, Planned, Settled}
 use Rattle.rb_core_state.specs.Room.{ClientWithRoom, PathWithRoom, clients_of, HasSettleRoom}
 use Rattle.rb_core_model.specs.Judged.{Ready}
 use Rattle.rb_core.specs.State.{state_view, HasRoom}
@@ -73,6 +73,7 @@ if_ok_of {T} {E} {P} (Err x) p = tt
 module _ {A : Type 0} where
   room_seen : (n : ℕ) (k : CoreState A) (e : Event) → HasRoom k e → HasOwnRoom (room_of n k) (state_view k) e
   room_seen n k (Window window) h = tt
+  room_seen n k (HostWindow host window) h = tt
   room_seen n k (Asked client goal) h = tt
   room_seen n k (SetSeen chain set) h = to_seen is_apart (λ b. b ≡ true) k.books.items chain h
   room_seen n k (HeaderSeen chain header) h = to_seen is_apart (λ b. b ≡ true) k.books.items chain h
@@ -89,6 +90,7 @@ module _ {A : Type 0} where
 
   room_had : (n : ℕ) (k : CoreState A) (e : Event) → HasOwnRoom (room_of n k) (state_view k) e → HasRoom k e
   room_had n k (Window window) h = tt
+  room_had n k (HostWindow host window) h = tt
   room_had n k (Asked client goal) h = tt
   room_had n k (SetSeen chain set) h = from_seen is_apart (λ b. b ≡ true) k.books.items chain h
   room_had n k (HeaderSeen chain header) h = from_seen is_apart (λ b. b ≡ true) k.books.items chain h

@@ -10,7 +10,7 @@ use Rattle.rb_core.specs.Follower.{Follower, IsOfLog, Told, after_entry, entry_r
 use Rattle.rb_core_model.specs.Entry as entries
 use Rattle.rb_core_model.specs.Entry.{Logged, event_of, logged_of}
 use Rattle.rb_core_model.specs.Scan.{Scan}
-use Rattle.rb_core_model.specs.Event.{Event, Window, Asked, SetSeen, HeaderSeen, StoredSeen, Sent, Received, AckWritten, Cleared, Closed, Scanned, Planned, Settled}
+use Rattle.rb_core_model.specs.Event.{Event, Window, HostWindow, Asked, SetSeen, HeaderSeen, StoredSeen, Sent, Received, AckWritten, Cleared, Closed, Scanned, Planned, Settled}
 use Rattle.rb_core_model.specs.Invariant.{HasInvariant}
 use Rattle.rb_core_model.specs.Machine.{State, is_known, knows_client, knows_path, refusal_of, refusal_beside, accepted}
 use Rattle.rb_core_model.specs.Limits.{max_events}
@@ -62,6 +62,7 @@ entry_back s e none = ap (λ (o : Option Event). option_map_or (accepted s) o s)
 pub told_back : (s : State) (e : Event) → refusal_of s e ≡ None → followed s (told_of e) ≡ accepted s e
 told_back s (Scanned path scan) none = refl
 told_back s (Window window) none = entry_back s (Window window) none
+told_back s (HostWindow host window) none = entry_back s (HostWindow host window) none
 told_back s (Asked client goal) none = entry_back s (Asked client goal) none
 told_back s (SetSeen chain x) none = entry_back s (SetSeen chain x) none
 told_back s (HeaderSeen chain header) none = entry_back s (HeaderSeen chain header) none
@@ -96,6 +97,7 @@ beside_free s e none = (free s e none).beside
 
 pub told_free : (s : State) (e : Event) → refusal_of s e ≡ None → entry_refusal s (logged_of e) ≡ None
 told_free s (Window window) none = again_free s (Window window) (beside_free s (Window window) none) none
+told_free s (HostWindow host window) none = again_free s (HostWindow host window) (beside_free s (HostWindow host window) none) none
 told_free s (Asked client goal) none = again_free s (Asked client goal) refl none
 told_free s (SetSeen chain x) none = again_free s (SetSeen chain x) (beside_free s (SetSeen chain x) none) none
 told_free s (HeaderSeen chain header) none = again_free s (HeaderSeen chain header) (beside_free s (HeaderSeen chain header) none) none

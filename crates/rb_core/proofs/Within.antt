@@ -3,7 +3,7 @@ use Rattle.std.proofs.Common.{◌≡◌, ℕ, ◌<◌, true, nat_lt, List, lengt
 use Rattle.std.proofs.lemmas.Bool.{ltb-true}
 use Rattle.std.proofs.lemmas.List.{length-map}
 use Rattle.rb_book.specs.Shared.{Shared}
-use Rattle.rb_core_model.specs.Event.{Event, Window, Asked, SetSeen, HeaderSeen, StoredSeen, Sent, Received, AckWritten, Cleared, Closed, Scanned, Planned, Settled}
+use Rattle.rb_core_model.specs.Event.{Event, Window, HostWindow, Asked, SetSeen, HeaderSeen, StoredSeen, Sent, Received, AckWritten, Cleared, Closed, Scanned, Planned, Settled}
 use Rattle.rb_core_state.specs.Room.{ClientWithRoom, PathWithRoom, books_of, clients_of, paths_of, IsApart, HasStoredRoom, HasSettleRoom, HasPacketRoom}
 use Rattle.rb_core.specs.State.{HasRoom, standing_view}
 use Rattle.rb_core_model.specs.Standing.{AreTracked, ClientState, tracked}
@@ -29,6 +29,7 @@ pub room_kept : {A : Type 0} (old new : CoreState A) → clients_of new.clients.
     → ((i : ℕ) → HasPacketRoom old.paths.items i → HasPacketRoom new.paths.items i)
     → (event : Event) → HasRoom old event → HasRoom new event
 room_kept old new same books stored settle paths (Window window) h = tt
+room_kept old new same books stored settle paths (HostWindow host window) h = tt
 room_kept old new same books stored settle paths (Asked client g) h = tt
 room_kept old new same books stored settle paths (SetSeen chain set) h = books chain h
 room_kept old new same books stored settle paths (HeaderSeen chain header) h = books chain h

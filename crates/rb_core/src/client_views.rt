@@ -12,7 +12,7 @@ ghost use Rattle.rb_core_model.specs.Machine.{job_of, client_view, client_view_r
 ghost use Rattle.rb_core_model.specs.Refused.{IsRefusal};
 ghost use Rattle.rb_plan_client.specs.Same.{same_config, same_job, same_path_task, same_span, same_task};
 ghost use Rattle.rb_plan_client.specs.Task.{view_of};
-ghost use Rattle.rb_core_model.specs.Standing.{book_at, empty_book, path_task, path_tasks};
+ghost use Rattle.rb_core_model.specs.Standing.{book_at, empty_book, path_task, path_tasks, window_for};
 
 use crate::path_views::{part_for, seen_owed};
 use crate::state::CoreState;
@@ -120,7 +120,7 @@ pub(crate) fn plan_number<A: Allocator>(state: &CoreState<A>, client: usize) -> 
     state.plans.get(client).copied().unwrap_or(0)
 }
 
-/// The job of a client in a window.
+/// The job of a client, this being the common window.
 fn job_of<A: Allocator + Copy>(
     alloc: A,
     state: &CoreState<A>,
@@ -144,7 +144,7 @@ fn job_of<A: Allocator + Copy>(
         config,
         client_state.stored(),
         client_state.asked(),
-        window,
+        client_state.window(window),
         book,
         paths,
     )?;
@@ -202,18 +202,18 @@ fn is_book_of<A: Allocator + Copy>(
     is_book(state.books.as_slice(), client_state.config().tracks, book)
 }
 
-/// Whether a job is for a client as it is configured and has stored heights, and for a window.
+/// Whether a job is for a client as it is configured and has stored heights, and for its window.
 fn is_client_in<A: Allocator + Copy>(
     window: Window,
     client_state: &ClientState<A>,
     job: &JobView<A>,
 ) -> bool
     ensures { let c = client_state.now.client in let t = job.now.task
-        in result ≡ (same_config t.config c.config && pointwise nat_eq t.stored c.stored && same_span t.window window) }
+        in result ≡ (same_config t.config c.config && pointwise nat_eq t.stored c.stored && same_span t.window (window_for window c)) }
 {
     same_config(job.config(), client_state.config())
         && same_heights(job.stored(), client_state.stored())
-        && job.window() == window
+        && job.window() == client_state.window(window)
 }
 
 /// Whether this is what is seen of a path, whose part is for the client.

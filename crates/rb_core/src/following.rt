@@ -126,6 +126,7 @@ fn follow_entry<A: Allocator + Copy>(
 {
     match entry {
         Entry::Window(window) => follow_event(state, Event::Window(*window)),
+        Entry::HostWindow(window) => follow_event(state, Event::HostWindow(*window)),
         Entry::Asked(asked) => follow_event(state, Event::Asked(*asked)),
         Entry::Observed(observation) => follow_observed(state, observation),
         Entry::Scan { path, .. } => {

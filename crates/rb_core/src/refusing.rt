@@ -27,6 +27,7 @@ fn is_known<A: Allocator + Copy>(state: &CoreState<A>, event: &Event<A>) -> bool
 {
     match event {
         Event::Window(_) => true,
+        Event::HostWindow(window) => window.host < state.books.len(),
         Event::Asked(asked) => asked.client < state.clients.len(),
         Event::Observed(observation) => state.knows_observed(observation),
         Event::Scanned { path, .. } => *path < state.paths.len(),
@@ -94,6 +95,7 @@ fn refuse_standing<A: Allocator + Copy>(state: &CoreState<A>, event: &Event<A>) 
 {
     match event {
         Event::Window(window) => state.refuse_window(*window),
+        Event::HostWindow(window) => state.refuse_host_window(*window),
         Event::Observed(observation) => state.refuse_observed(observation),
         Event::Settled(settlement) => state.refuse_settled(*settlement),
         Event::Asked(_) | Event::Scanned { .. } | Event::Planned(_) => None,

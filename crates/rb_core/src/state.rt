@@ -12,7 +12,7 @@ ghost use Rattle.rb_core_model.specs.Limits.{max_events};
 ghost use Rattle.rb_core_model.specs.Replied.{reply_view};
 ghost use Rattle.rb_core_model.specs.Seen.{observed};
 ghost use Rattle.rb_core_model.specs.Standing as standings;
-ghost use Rattle.rb_core_model.specs.Standing.{AreTracked, goes_back, judged, changed, with_client, with_mark, with_path, after_answer, batch_opened};
+ghost use Rattle.rb_core_model.specs.Standing.{AreTracked, judged, changed, with_client, with_mark, with_path, after_answer, batch_opened};
 
 use rb_base::Window;
 use rb_book::SharedBook;
@@ -22,16 +22,17 @@ use rb_core_state::books::{
     set_apart_for,
 };
 use rb_core_state::clients::{
-    ask, make_settle_room, make_stored_room, open, refuse_settled, settle, store, tracked,
+    ask, enter, goes_back_on, make_settle_room, make_stored_room, open, refuse_settled, settle,
+    store, tracked,
 };
 use rb_core_state::paths::{
     close, make_packet_room, put_mark, put_sent, refuse_cleared, refuse_closed, refuse_received,
     refuse_sent, refuse_written, settle_messages,
 };
-use rb_core_state::{ClientState, Mark, PathState, settled_messages};
+use rb_core_state::{ClientState, Mark, PathState, goes_back, settled_messages};
 use rb_plan_client::Planned;
 use rb_scan::{Packet, Sequence};
-use rb_script_types::{Asked, Observation, Refusal, Settlement};
+use rb_script_types::{Asked, HostWindow, Observation, Refusal, Settlement};
 use std::alloc::{AllocError, Allocator, Global};
 
 /// The window, a book for each chain, the clients, the paths, the number of each client's next plan,
@@ -45,16 +46,6 @@ pub(crate) struct CoreState<A: Allocator = Global> {
     pub(crate) plans: Vec<usize, A>,
     pub(crate) scans: Vec<Scans<A>, A>,
     pub(crate) front: usize,
-}
-
-/// Whether a window begins or ends before the present one.
-pub(crate) fn goes_back(present: Option<Window>, window: Window) -> bool
-    ensures { result ≡ goes_back present window }
-{
-    match present {
-        Some(present) => window.from() < present.from() || window.until() < present.until(),
-        None => false,
-    }
 }
 
 impl<A: Allocator + Copy> CoreState<A> {
@@ -102,7 +93,7 @@ impl<A: Allocator + Copy> CoreState<A> {
                 path,
                 sequence,
                 block,
-            } => refuse_written(paths, *path, *sequence, block.height()),
+            } => refuse_written(paths, *path, *sequence, block.height.height()),
             Observation::Cleared { path, sequence } => refuse_cleared(paths, *path, *sequence),
             Observation::Closed { path } => refuse_closed(paths, *path),
         }
@@ -167,7 +158,13 @@ impl<A: Allocator + Copy> CoreState<A> {
                 timeout_height,
                 timeout_time,
             } => {
-                let packet = Packet::new(sequence, block.height(), timeout_height, timeout_time);
+                let packet = Packet::new(
+                    sequence,
+                    block.height.height(),
+                    block.time,
+                    timeout_height,
+                    timeout_time,
+                );
                 put_sent(&mut self.paths, path, packet);
             }
             Observation::Received {
@@ -210,6 +207,23 @@ impl<A: Allocator + Copy> CoreState<A> {
         ensures { state_view self.new ≡ record (state_view self.old) { standing = changed (standing_view self.old) (events.Window window) } }
     {
         self.window = Some(window);
+    }
+
+    /// Why a window of a host would be refused.
+    pub(crate) fn refuse_host_window(&self, host: HostWindow) -> Option<Refusal>
+        ensures { result ≡ judged (standing_view self.now) (events.HostWindow host.host host.window) }
+    {
+        if goes_back_on(self.clients.as_slice(), self.window, host.host, host.window) {
+            return Some(Refusal::WindowBack);
+        }
+        None
+    }
+
+    /// Takes in a window of a host.
+    pub(crate) fn put_host_window(&mut self, host: HostWindow)
+        ensures { state_view self.new ≡ record (state_view self.old) { standing = changed (standing_view self.old) (events.HostWindow host.host host.window) } }
+    {
+        enter(&mut self.clients, host.host, host.window);
     }
 
     /// Takes in what a client was asked for.

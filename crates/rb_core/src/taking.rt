@@ -28,7 +28,11 @@ pub(crate) fn make_room<A: Allocator + Copy>(
     match event {
         Event::Observed(observation) => state.make_room_for(observation),
         Event::Settled(settlement) => state.make_settle_room(settlement.client),
-        Event::Window(_) | Event::Asked(_) | Event::Scanned { .. } | Event::Planned(_) => Ok(()),
+        Event::Window(_)
+        | Event::HostWindow(_)
+        | Event::Asked(_)
+        | Event::Scanned { .. }
+        | Event::Planned(_) => Ok(()),
     }
 }
 
@@ -45,6 +49,10 @@ fn take<A: Allocator + Copy>(state: &mut CoreState<A>, event: Event<A>) -> Reply
     match event {
         Event::Window(window) => {
             state.put_window(window);
+            Reply::Noted
+        }
+        Event::HostWindow(window) => {
+            state.put_host_window(window);
             Reply::Noted
         }
         Event::Asked(asked) => {

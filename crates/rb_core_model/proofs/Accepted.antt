@@ -12,7 +12,7 @@ use Rattle.rb_base.specs.declared.gate.Part.{Part}
 use Rattle.rb_base.specs.declared.gate.Part.TheVariants.{Packets, Channel}
 use Rattle.rb_core_model.specs.Config.{part_for}
 use Rattle.rb_plan_client.specs.Draft.{Job, Draft}
-use Rattle.rb_core_model.specs.Event.{Event, Window, Asked, SetSeen, HeaderSeen, StoredSeen, Sent, Received, AckWritten, Cleared, Closed, Scanned, Planned, Settled}
+use Rattle.rb_core_model.specs.Event.{Event, Window, HostWindow, Asked, SetSeen, HeaderSeen, StoredSeen, Sent, Received, AckWritten, Cleared, Closed, Scanned, Planned, Settled}
 use Rattle.rb_core_model.specs.Scan.{Scan}
 use Rattle.rb_core_model.specs.Machine.{Scans, State, no_scans, scan_of, with_scan, is_view, is_scanned, is_missed, all_scanned, plan_number, job_of, client_view, is_known, is_held, is_job, refusal_beside, refusal_of, accepted, after}
 use Rattle.rb_core_model.specs.Limits.{max_events}
@@ -151,6 +151,7 @@ plan_scanned s d p part = refl
 
 window_changed : (s : Standing) (e : Event) → is_some s.window ≡ true → is_some (changed s e).window ≡ true
 window_changed s (Window window) is = refl
+window_changed s (HostWindow host window) is = is
 window_changed s (Asked client goal) is = is
 window_changed s (SetSeen chain x) is = is
 window_changed s (HeaderSeen chain header) is = is

@@ -1,10 +1,12 @@
 -- No message stands twice among those that are ready.
-use Rattle.std.proofs.Common.{◌≡◌, ℕ, zero, suc, ◌+◌, ◌<◌, ◌≤◌, Bool, true, false, cond, List, [], ◌∷◌, ◌++◌, length, map, Option, Some, None, is_some, refl, sym, ap, ◌∙◌, subst, arith, if◌then◌else◌, add-zero}
+use Rattle.std.proofs.Common.{◌≡◌, ℕ, zero, suc, ◌+◌, ◌<◌, ◌≤◌, Bool, true, false, cond, List, [], ◌∷◌, ◌++◌, length, map, Option, Some, None, refl, sym, ap, ◌∙◌, subst, arith, add-zero}
 use Rattle.std.specs.List.{filter, filter_map, flat_map, cons_option, enumerate_from, range_with_len, slice_get, AllByRecursion}
 use Rattle.std.specs.Option.{option_map, option_map_or, option_and_then, option_to_list, some_prefix}
 use Rattle.std.proofs.lemmas.Option.{none-some}
-use Rattle.rb_script_types.specs.declared.goal.Goal.{Goal}
-use Rattle.rb_scan.specs.Owed.{expires_for, floor_of, message_of, packet_at, message_at, next_sequence, open_messages, messages, owed_part, is_ready, ready}
+use Rattle.rb_script_types.specs.declared.config.RefreshTo.{RefreshTo}
+use Rattle.rb_script_types.specs.declared.config.RefreshTo.TheVariants.{Lowest, Highest, Newer}
+use Rattle.rb_scan.specs.Going.{can_go, is_going}
+use Rattle.rb_scan.specs.Owed.{expires_for, since_for, timeout_for, floor_of, message_of, packet_at, message_at, next_sequence, open_messages, messages, owed_part, is_ready, ready}
 use Rattle.rb_scan.specs.Packet.{Packet}
 use Rattle.rb_scan.specs.Path.{Path}
 use Rattle.rb_scan.specs.declared.message.Kind.{Kind}
@@ -17,7 +19,7 @@ use Rattle.rb_base.specs.declared.gate.Part.TheVariants.{Packets, Channel}
 use Rattle.rb_core_model.specs.Batches.{AreApart}
 use Rattle.rb_core_model.specs.Config.{part_for}
 use Rattle.rb_core_model.specs.Standing.{PathState, Standing, view_of_path, owed_at, path_task, path_tasks}
-use Rattle.rb_plan_client.specs.Task.{PathTask, Message, message_on, ready_on}
+use Rattle.rb_plan_client.specs.Task.{Task, PathTask, Message, message_on, bars_of, going_by, going_on, ready_on}
 use Rattle.rb_book.proofs.Rising.{Up}
 use Rattle.rb_core_model.proofs.Options.{mapped}
 use Rattle.rb_core_model.proofs.Owed.{append_all, found_sequence, kept_all}
@@ -49,7 +51,7 @@ Is kind least m = (m.kind ≡ kind) × (least ≤ m.sequence)
 
 made : (records : List (ℕ × ℕ)) (kind : Kind) (q : Packet) (m : PacketMsg) → message_of records kind q ≡ Some m → (m.kind ≡ kind) × (m.sequence ≡ q.sequence)
 made records kind q m e =
-    let is = mapped (λ (floor : ℕ). record { kind = kind; sequence = q.sequence; floor = floor; expires = expires_for kind q }) (floor_of records kind q) m e in
+    let is = mapped (λ (floor : ℕ). record { kind = kind; sequence = q.sequence; floor = floor; expires = expires_for kind q; since = since_for kind q; timeout = timeout_for kind q }) (floor_of records kind q) m e in
     (sym (ap (λ (x : PacketMsg). x.kind) is.2), sym (ap (λ (x : PacketMsg). x.sequence) is.2))
 
 apart_above : (kind : Kind) (m : PacketMsg) (ms : List PacketMsg) → AllByRecursion (Is kind (suc m.sequence)) ms → AllByRecursion (Differ m) ms
@@ -173,6 +175,11 @@ up_ready : (ms : List PacketMsg) (order : Order) (reach : Option ℕ) → Up Dif
 up_ready ms order None up = tt
 up_ready ms order (Some reach) up = up_kept Differ (λ (p : ℕ × PacketMsg). is_ready order reach ms p.0 p.1) 0 ms up
 
+up_going : (u : Task) (t : PathTask) (to : RefreshTo) → Up Differ t.owed → Up Differ (going_by u t to)
+up_going u t Lowest up = up
+up_going u t Highest up = up
+up_going u t Newer up = up_kept Differ (λ (x : ℕ × PacketMsg). is_going t.order (can_go (bars_of u t)) t.owed x.0 x.1) 0 t.owed up
+
 apart_paths : (n : ℕ) (xs ys : List Message) → AllByRecursion (λ (m : Message). m.path ≡ n) xs → AllByRecursion (λ (m : Message). n < m.path) ys → AllByRecursion (λ x. AllByRecursion (AreApart x) ys) xs
 apart_paths n [] ys a b = tt
 apart_paths n (x ∷ xs) ys a b = (each ys b, apart_paths n xs ys a.1 b)
@@ -181,9 +188,9 @@ apart_paths n (x ∷ xs) ys a b = (each ys b, apart_paths n xs ys a.1 b)
     each [] c = tt
     each (y ∷ ys) c = (λ same. (let here = a.0 in let there = c.0 in let e = same.0 in omega arith), each ys c.1)
 
-module _ (s : Standing) (sound : (n : ℕ) (p : PathState) → slice_get s.paths n ≡ Some p → Up (λ (p q : Packet). p.sequence < q.sequence) p.packets) (client : ℕ) (reach : Option ℕ) where
+module _ (s : Standing) (sound : (n : ℕ) (p : PathState) → slice_get s.paths n ≡ Some p → Up (λ (p q : Packet). p.sequence < q.sequence) p.packets) (client : ℕ) (u : Task) (reach : Option ℕ) where
   abbrev ready_from : ℕ → List PathState → List Message
-  ready_from n rest = flat_map (ready_on reach) (filter_map (path_task (owed_at s) client) (enumerate_from n rest))
+  ready_from n rest = flat_map (ready_on u reach) (filter_map (path_task (owed_at s) client) (enumerate_from n rest))
 
   record FineFrom (n : ℕ) (ms : List Message) : Type 0 where
     above : AllByRecursion (λ (m : Message). n ≤ m.path) ms
@@ -210,18 +217,17 @@ module _ (s : Standing) (sound : (n : ℕ) (p : PathState) → slice_get s.paths
       at = ap (slice_get s.paths) (sym (add-zero n)) ∙ places 0 p refl
 
       go : (o : Option Part) → FineFrom (n + 1) (ready_from (n + 1) rest)
-          → FineFrom n (flat_map (ready_on reach) (cons_option (option_map (λ part. record { path = n; order = p.config.order; gas = p.config.gas; waits = p.config.waits; owed = owed_at s n part }) o) (filter_map (path_task (owed_at s) client) (enumerate_from (n + 1) rest))))
+          → FineFrom n (flat_map (ready_on u reach) (cons_option (option_map (λ part. record { path = n; order = p.config.order; gas = p.config.gas; waits = p.config.waits; owed = owed_at s n part }) o) (filter_map (path_task (owed_at s) client) (enumerate_from (n + 1) rest))))
       go None f = record { above = least n (ready_from (n + 1) rest) f.above; apart = f.apart }
       go (Some part) f =
           let t : PathTask = record { path = n; order = p.config.order; gas = p.config.gas; waits = p.config.waits; owed = owed_at s n part } in
           let own : Up Differ (owed_at s n part) = subst (λ o. Up Differ (option_map_or (λ v. owed_part v part) (option_map (view_of_path s.books) o) [])) (sym at) (apart_part (view_of_path s.books p) part (sound n p at)) in
-          let kept = ready (owed_at s n part) p.config.order reach in
+          let kept = ready (going_on u t) p.config.order reach in
           record {
-            above = append_all (λ (m : Message). n ≤ m.path) (ready_on reach t) (ready_from (n + 1) rest) (equal n (ready_on reach t) (on_path t kept)) (least n (ready_from (n + 1) rest) f.above);
-            apart = up_append AreApart (ready_on reach t) (ready_from (n + 1) rest) (apart_on t kept (up_ready (owed_at s n part) p.config.order reach own)) f.apart
-                (apart_paths n (ready_on reach t) (ready_from (n + 1) rest) (on_path t kept) (higher n (ready_from (n + 1) rest) f.above));
+            above = append_all (λ (m : Message). n ≤ m.path) (ready_on u reach t) (ready_from (n + 1) rest) (equal n (ready_on u reach t) (on_path t kept)) (least n (ready_from (n + 1) rest) f.above);
+            apart = up_append AreApart (ready_on u reach t) (ready_from (n + 1) rest) (apart_on t kept (up_ready (going_on u t) p.config.order reach (up_going u t u.config.refresh_to own))) f.apart
+                (apart_paths n (ready_on u reach t) (ready_from (n + 1) rest) (on_path t kept) (higher n (ready_from (n + 1) rest) f.above));
           }
 
-  pub messages_apart : (asked : Option Goal) → Up AreApart (if is_some asked then [] else flat_map (ready_on reach) (path_tasks (owed_at s) s.paths client))
-  messages_apart (Some g) = tt
-  messages_apart None = (from_place 0 s.paths (λ k p e. let same : 0 + k ≡ k = omega arith in ap (slice_get s.paths) same ∙ e)).apart
+  pub messages_apart : Up AreApart (flat_map (ready_on u reach) (path_tasks (owed_at s) s.paths client))
+  messages_apart = (from_place 0 s.paths (λ k p e. let same : 0 + k ≡ k = omega arith in ap (slice_get s.paths) same ∙ e)).apart

@@ -7,11 +7,12 @@ use Rattle.rb_book.specs.Book.{Book}
 use Rattle.rb_script_types.specs.Config.{Config}
 use Rattle.rb_script_types.specs.declared.config.ClientConfig.{ClientConfig}
 use Rattle.rb_script_types.specs.declared.config.PathConfig.{PathConfig}
-use Rattle.rb_core_model.specs.Event.{Event, Window, Asked, SetSeen, HeaderSeen, StoredSeen, Sent, Received, AckWritten, Cleared, Closed, Scanned, Planned, Settled}
+use Rattle.rb_core_model.proofs.HostWindows.{config_in_host, same_mapped}
+use Rattle.rb_core_model.specs.Event.{Event, Window, HostWindow, Asked, SetSeen, HeaderSeen, StoredSeen, Sent, Received, AckWritten, Cleared, Closed, Scanned, Planned, Settled}
 use Rattle.rb_core_model.specs.Forgetting.{rest_at_floors}
 use Rattle.rb_core_model.specs.Machine.{State, begun, refusal_of, accepted, after}
 use Rattle.rb_core_model.specs.Snapshot.{ClientSnapshot, PathSnapshot, Snapshot, snapshot_of_client, snapshot_of_path, snapshot_of, books_from, clients_from, paths_from, standing_from}
-use Rattle.rb_core_model.specs.Standing.{OpenBatch, ClientState, PathState, Standing, empty_book, new_client, new_path, changed_at, changed, with_batch, batch_opened, after_settled, after_batch, after_message, after_messages, open_batch, settled_messages}
+use Rattle.rb_core_model.specs.Standing.{OpenBatch, ClientState, PathState, Standing, empty_book, new_client, new_path, changed_at, changed, with_batch, batch_opened, after_settled, after_batch, after_message, after_messages, open_batch, settled_messages, in_host_window}
 use Rattle.rb_plan_client.specs.Task.{Message}
 use Rattle.rb_core_model.proofs.Left.{left_books, left_clients, left_paths, path_configs_same}
 use Rattle.rb_core_model.proofs.Lengths.{lengths_changed}
@@ -35,6 +36,7 @@ clients_by_settled s client done (Some b) = kept_at config_of (after_batch b don
 
 clients_by_event : (s : Standing) (e : Event) → map config_of (changed s e).clients ≡ map config_of s.clients
 clients_by_event s (Window window) = refl
+clients_by_event s (HostWindow host window) = same_mapped config_of (in_host_window host window) (config_in_host host window) s.clients
 clients_by_event s (Asked client goal) = kept_at config_of _ (λ c. refl) s.clients client
 clients_by_event s (SetSeen chain x) = refl
 clients_by_event s (HeaderSeen chain header) = refl
@@ -59,6 +61,7 @@ paths_by_settled s client done (Some b) = paths_by_messages (settled_messages b 
 
 paths_by_event : (s : Standing) (e : Event) → map path_config_of (changed s e).paths ≡ map path_config_of s.paths
 paths_by_event s (Window window) = refl
+paths_by_event s (HostWindow host window) = refl
 paths_by_event s (Asked client goal) = refl
 paths_by_event s (SetSeen chain x) = refl
 paths_by_event s (HeaderSeen chain header) = refl

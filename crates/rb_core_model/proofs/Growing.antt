@@ -18,8 +18,9 @@ use Rattle.rb_scan.specs.declared.message.Kind.TheVariants.{Receive, Acknowledge
 use Rattle.rb_scan.specs.declared.message.PacketMsg.{PacketMsg}
 use Rattle.rb_valset.specs.Validator.{Member}
 use Rattle.rb_valset.specs.ValidatorSet.{set_hash}
-use Rattle.rb_core_model.specs.Event.{Event, Window, Asked, SetSeen, HeaderSeen, StoredSeen, Sent, Received, AckWritten, Cleared, Closed, Scanned, Planned, Settled}
+use Rattle.rb_core_model.specs.Event.{Event, Window, HostWindow, Asked, SetSeen, HeaderSeen, StoredSeen, Sent, Received, AckWritten, Cleared, Closed, Scanned, Planned, Settled}
 use Rattle.rb_core_model.specs.Machine.{State, begun, refusal_of, accepted, after}
+use Rattle.rb_script_types.specs.declared.block.Block.{Block}
 use Rattle.rb_script_types.specs.declared.refusal.Refusal.{Refusal}
 use Rattle.rb_script_types.specs.declared.refusal.Refusal.TheVariants.{OutOfOrder, Repeat}
 use Rattle.rb_core_model.specs.Refusal.{refused_if}
@@ -294,7 +295,7 @@ more_received block q = go (is_some q.received)
     go true = omega arith
     go false = omega arith
 
-more_written : (block : ℕ) (q : Packet) → marks q ≤ marks (record q { written = Some block })
+more_written : (block : Block) (q : Packet) → marks q ≤ marks (record q { written = Some block.height; written_time = block.time })
 unfolding marks one_if
 more_written block q = go (is_some q.written)
   where
@@ -324,19 +325,19 @@ received_grown sequence block p v same ok = go (packet_at v sequence) refl ok
         marked_grown (λ q. record q { received = Some block }) sequence p
         (more_marks (λ q. record q { received = Some block }) (more_received block) sequence p.packets q (ap (find (λ (x : Packet). eqb x.sequence sequence)) (sym same) ∙ at) (none_yet q unseen.0))
 
-written_grown : (sequence block : ℕ) (p : PathState) (v : Path) → v.packets ≡ p.packets → written_refusal block (packet_at v sequence) ≡ None → StepOf (with_mark (λ q. record q { written = Some block }) sequence) p
+written_grown : (sequence : ℕ) (block : Block) (p : PathState) (v : Path) → v.packets ≡ p.packets → written_refusal block.height (packet_at v sequence) ≡ None → StepOf (with_mark (λ q. record q { written = Some block.height; written_time = block.time }) sequence) p
 unfolding marks one_if
 written_grown sequence block p v same ok = go (packet_at v sequence) refl ok
   where
-    none_yet : (q : Packet) → is_some q.written ≡ false → marks q < marks (record q { written = Some block })
+    none_yet : (q : Packet) → is_some q.written ≡ false → marks q < marks (record q { written = Some block.height; written_time = block.time })
     none_yet q e = (let zero_now : one_if (is_some q.written) ≡ 0 = ap one_if e in omega arith)
 
-    go : (o : Option Packet) → packet_at v sequence ≡ o → written_refusal block o ≡ None → StepOf (with_mark (λ q. record q { written = Some block }) sequence) p
+    go : (o : Option Packet) → packet_at v sequence ≡ o → written_refusal block.height o ≡ None → StepOf (with_mark (λ q. record q { written = Some block.height; written_time = block.time }) sequence) p
     go None at e = absurd (none-some OutOfOrder (sym e))
     go (Some q) at e =
         let unseen = passes (is_some q.written) Repeat None (passes _ OutOfOrder _ e).1 in
-        marked_grown (λ q. record q { written = Some block }) sequence p
-        (more_marks (λ q. record q { written = Some block }) (more_written block) sequence p.packets q (ap (find (λ (x : Packet). eqb x.sequence sequence)) (sym same) ∙ at) (none_yet q unseen.0))
+        marked_grown (λ q. record q { written = Some block.height; written_time = block.time }) sequence p
+        (more_marks (λ q. record q { written = Some block.height; written_time = block.time }) (more_written block) sequence p.packets q (ap (find (λ (x : Packet). eqb x.sequence sequence)) (sym same) ∙ at) (none_yet q unseen.0))
 
 cleared_grown : (sequence : ℕ) (p : PathState) (v : Path) → v.packets ≡ p.packets → cleared_refusal (packet_at v sequence) ≡ None → StepOf (with_mark (λ q. record q { cleared = true }) sequence) p
 unfolding marks one_if
@@ -360,6 +361,7 @@ settled_grown s client done (Some b) = messages_grown (settled_messages b done) 
 -- an event that isn't refused
 changed_grown : (s : State) (e : Event) → refusal_of s e ≡ None → GrownAt s.standing (changed s.standing e)
 changed_grown s (Window window) ok = grown_self s.standing
+changed_grown s (HostWindow host window) ok = grown_self s.standing
 changed_grown s (Asked client goal) ok = grown_self s.standing
 changed_grown s (SetSeen chain x) ok = book_grown s.standing chain (after_set (book_at s.standing.books chain) x) (set_grown (book_at s.standing.books chain) x)
 changed_grown s (HeaderSeen chain header) ok = book_grown s.standing chain (after_header (book_at s.standing.books chain) header) (header_grown (book_at s.standing.books chain) header)
@@ -372,8 +374,8 @@ changed_grown s (Received path sequence block) ok =
     path_grown s.standing path (with_mark (λ q. record q { received = Some block }) sequence) (λ p at. received_grown sequence block p (view_of_path s.standing.books p) refl
     (ap (λ o. option_and_then (λ v. received_refusal v sequence (packet_at v sequence)) (option_map (view_of_path s.standing.books) o)) (sym at) ∙ judged_none s (Received path sequence block) ok))
 changed_grown s (AckWritten path sequence block) ok =
-    path_grown s.standing path (with_mark (λ q. record q { written = Some block }) sequence) (λ p at. written_grown sequence block p (view_of_path s.standing.books p) refl
-    (ap (λ o. option_and_then (λ v. written_refusal block (packet_at v sequence)) (option_map (view_of_path s.standing.books) o)) (sym at) ∙ judged_none s (AckWritten path sequence block) ok))
+    path_grown s.standing path (with_mark (λ q. record q { written = Some block.height; written_time = block.time }) sequence) (λ p at. written_grown sequence block p (view_of_path s.standing.books p) refl
+    (ap (λ o. option_and_then (λ v. written_refusal block.height (packet_at v sequence)) (option_map (view_of_path s.standing.books) o)) (sym at) ∙ judged_none s (AckWritten path sequence block) ok))
 changed_grown s (Cleared path sequence) ok =
     path_grown s.standing path (with_mark (λ q. record q { cleared = true }) sequence) (λ p at. cleared_grown sequence p (view_of_path s.standing.books p) refl
     (ap (λ o. option_and_then (λ v. cleared_refusal (packet_at v sequence)) (option_map (view_of_path s.standing.books) o)) (sym at) ∙ judged_none s (Cleared path sequence) ok))

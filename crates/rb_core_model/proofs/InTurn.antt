@@ -1,12 +1,13 @@
 -- The receives of an ORDERED path come in turn.
-use Rattle.std.proofs.Common.{◌≡◌, ℕ, zero, suc, ◌+◌, ◌<◌, Bool, true, false, cond, eqb, ◌&&◌, List, [], ◌∷◌, ◌++◌, map, Option, Some, None, refl, sym, ap, ◌∙◌, subst, arith}
+use Rattle.std.proofs.Common.{◌≡◌, ℕ, zero, suc, ◌+◌, ◌<◌, Bool, true, false, cond, eqb, ◌&&◌, List, [], ◌∷◌, ◌++◌, map, length, Option, Some, None, refl, sym, ap, ◌∙◌, subst, arith}
 use Rattle.std.specs.List.{slice_get, filter, filter_map, flat_map, cons_option, enumerate_from, range_with_len, AllByRecursion}
 use Rattle.std.specs.Option.{option_map, option_map_or}
 use Rattle.std.proofs.lemmas.Bool.{ne_eqb, eq-eqb}
 use Rattle.std.proofs.lemmas.Option.{none-some, same_Some}
 use Rattle.std.proofs.lemmas.List.{map-append, length-map}
 use Rattle.std.proofs.lemmas.List.Elements.{filter-append}
-use Rattle.rb_scan.specs.Laws.{ReadyReceivesAreConsecutive}
+use Rattle.rb_scan.specs.Going.{can_go}
+use Rattle.rb_scan.specs.Laws.{ReadyReceivesAreConsecutive, GoingReceivesAreConsecutive}
 use Rattle.rb_scan.specs.Owed.{messages, owed_part, ready, same_kind, next_sequence}
 use Rattle.rb_scan.specs.Path.{Path}
 use Rattle.rb_scan.specs.declared.message.Kind.{Kind}
@@ -19,8 +20,12 @@ use Rattle.rb_base.specs.declared.gate.Part.TheVariants.{Packets, Channel}
 use Rattle.rb_core_model.specs.Batches.{is_receive_on, receives_on, AreInTurn}
 use Rattle.rb_core_model.specs.Config.{part_for}
 use Rattle.rb_core_model.specs.Standing.{PathState, Standing, view_of_path, path_view, owed_at, path_task, path_tasks}
-use Rattle.rb_plan_client.specs.Task.{PathTask, Message, message_on, ready_on}
-use Rattle.rb_core_model.proofs.Owed.{append_all, kinds_owed, ready_all}
+use Rattle.rb_script_types.specs.Gas.{PathGas}
+use Rattle.rb_script_types.specs.declared.config.RefreshTo.{RefreshTo}
+use Rattle.rb_script_types.specs.declared.config.RefreshTo.TheVariants.{Lowest, Highest, Newer}
+use Rattle.rb_script_types.specs.declared.waits.Waits.{Waits}
+use Rattle.rb_plan_client.specs.Task.{Task, PathTask, Message, message_on, bars_of, going_by, going_on, ready_on}
+use Rattle.rb_core_model.proofs.Owed.{append_all, kinds_owed, ready_all, going_by_all, going_all}
 use Rattle.rb_core_model.proofs.Options.{mapped}
 
 -- ---- the receives among the messages of one path
@@ -56,35 +61,37 @@ no_receives t path (m ∷ ms) all =
 
 -- ---- among the messages of all paths
 
-given : Option ℕ → Option PathTask → List Message
-given reach None = []
-given reach (Some t) = ready_on reach t
+given : Task → Option ℕ → Option PathTask → List Message
+given u reach None = []
+given u reach (Some t) = ready_on u reach t
 
-given-cons : (reach : Option ℕ) (o : Option PathTask) (ts : List PathTask) → flat_map (ready_on reach) (cons_option o ts) ≡ given reach o ++ flat_map (ready_on reach) ts
+given-cons : (u : Task) (reach : Option ℕ) (o : Option PathTask) (ts : List PathTask) → flat_map (ready_on u reach) (cons_option o ts) ≡ given u reach o ++ flat_map (ready_on u reach) ts
 unfolding given
-given-cons reach None ts = refl
-given-cons reach (Some t) ts = refl
+given-cons u reach None ts = refl
+given-cons u reach (Some t) ts = refl
 
-module _ (owed : ℕ → Part → List PacketMsg) (client : ℕ) (reach : Option ℕ) where
+module _ (owed : ℕ → Part → List PacketMsg) (client : ℕ) (u : Task) (reach : Option ℕ) where
   all_from : ℕ → List PathState → List Message
-  all_from n paths = flat_map (ready_on reach) (filter_map (path_task owed client) (enumerate_from n paths))
+  all_from n paths = flat_map (ready_on u reach) (filter_map (path_task owed client) (enumerate_from n paths))
 
   one_at : ℕ → PathState → List Message
-  one_at n p = given reach (path_task owed client (n, p))
+  one_at n p = given u reach (path_task owed client (n, p))
 
   first_of : (n path : ℕ) (p : PathState) (paths : List PathState) → receives_on path (all_from n (p ∷ paths)) ≡ receives_on path (one_at n p) ++ receives_on path (all_from (n + 1) paths)
   unfolding all_from one_at
   first_of n path p paths =
-      ap (receives_on path) (given-cons reach (path_task owed client (n, p)) (filter_map (path_task owed client) (enumerate_from (n + 1) paths)))
-      ∙ receives-append path (given reach (path_task owed client (n, p))) (flat_map (ready_on reach) (filter_map (path_task owed client) (enumerate_from (n + 1) paths)))
+      ap (receives_on path) (given-cons u reach (path_task owed client (n, p)) (filter_map (path_task owed client) (enumerate_from (n + 1) paths)))
+      ∙ receives-append path (given u reach (path_task owed client (n, p))) (flat_map (ready_on u reach) (filter_map (path_task owed client) (enumerate_from (n + 1) paths)))
 
   not_there : (n path : ℕ) (p : PathState) → (n ≡ path → ⊥) → receives_on path (one_at n p) ≡ []
   unfolding one_at given
   not_there n path p other = go (part_for p.config client)
     where
-      go : (o : Option Part) → receives_on path (given reach (option_map (λ part. record { path = n; order = p.config.order; gas = p.config.gas; waits = p.config.waits; owed = owed n part }) o)) ≡ []
+      go : (o : Option Part) → receives_on path (given u reach (option_map (λ part. record { path = n; order = p.config.order; gas = p.config.gas; waits = p.config.waits; owed = owed n part }) o)) ≡ []
       go None = refl
-      go (Some part) = elsewhere (record { path = n; order = p.config.order; gas = p.config.gas; waits = p.config.waits; owed = owed n part }) path other (ready (owed n part) p.config.order reach)
+      go (Some part) =
+          let t : PathTask = record { path = n; order = p.config.order; gas = p.config.gas; waits = p.config.waits; owed = owed n part } in
+          elsewhere t path other (ready (going_on u t) p.config.order reach)
 
   later : (n path : ℕ) (paths : List PathState) → path < n → receives_on path (all_from n paths) ≡ []
   unfolding all_from
@@ -120,36 +127,49 @@ timeouts : (ms : List PacketMsg) → AllByRecursion (λ (m : PacketMsg). m.kind 
 timeouts [] all = tt
 timeouts (m ∷ ms) all = (ap (λ k. same_kind k Receive) all.0, timeouts ms all.1)
 
-module _ (law : ReadyReceivesAreConsecutive) (v : Path) (ordered : v.order ≡ Ordered) (t : PathTask) where
-  receives_in_turn : (reach : Option ℕ) → AreInTurn v (receives_on t.path (map (message_on t) (ready (messages v Receive) Ordered reach)))
-  receives_in_turn None = refl
-  receives_in_turn (Some reach) =
-      let kept = ready (messages v Receive) Ordered (Some reach) in
-      let same : receives_on t.path (map (message_on t) kept) ≡ map (λ (m : PacketMsg). m.sequence) kept =
-      all_receives t kept (ready_all (λ m. m.kind ≡ Receive) (messages v Receive) Ordered (Some reach) (kinds_owed v Receive ordered)) in
-      subst (AreInTurn v) (sym same) (law v reach ordered ∙ ap (range_with_len (next_sequence v Receive)) (sym (length-map kept (λ (m : PacketMsg). m.sequence))))
+module _ (v : Path) (ordered : v.order ≡ Ordered) (u : Task) (path : ℕ) (gas : PathGas) (waits : Waits) where
+  abbrev receiving : PathTask
+  receiving = record { path = path; order = Ordered; gas = gas; waits = waits; owed = messages v Receive }
 
-  channel_in_turn : (path : ℕ) (reach : Option ℕ) (order : Order) → AreInTurn v (receives_on path (map (message_on t) (ready (owed_part v Channel) order reach)))
-  channel_in_turn path reach order = in_turn_from v _ (no_receives t path (ready (owed_part v Channel) order reach)
-      (ready_all (λ m. same_kind m.kind Receive ≡ false) (owed_part v Channel) order reach
+  consecutive_in_turn : (ms : List PacketMsg) → AllByRecursion (λ (m : PacketMsg). m.kind ≡ Receive) ms → map (λ (m : PacketMsg). m.sequence) ms ≡ range_with_len (next_sequence v Receive) (length ms)
+      → AreInTurn v (receives_on path (map (message_on receiving) ms))
+  consecutive_in_turn ms kinds e =
+      subst (AreInTurn v) (sym (all_receives receiving ms kinds)) (e ∙ ap (range_with_len (next_sequence v Receive)) (sym (length-map ms (λ (m : PacketMsg). m.sequence))))
+
+  all_receive : (to : RefreshTo) (reach : ℕ) → AllByRecursion (λ (m : PacketMsg). m.kind ≡ Receive) (ready (going_by u receiving to) Ordered (Some reach))
+  all_receive to reach = ready_all (λ m. m.kind ≡ Receive) (going_by u receiving to) Ordered (Some reach) (going_by_all (λ m. m.kind ≡ Receive) u receiving to (kinds_owed v Receive ordered))
+
+  receives_in_turn : ReadyReceivesAreConsecutive → GoingReceivesAreConsecutive → (to : RefreshTo) (reach : Option ℕ)
+      → AreInTurn v (receives_on path (map (message_on receiving) (ready (going_by u receiving to) Ordered reach)))
+  receives_in_turn law going_too to None = refl
+  receives_in_turn law going_too Lowest (Some reach) = consecutive_in_turn _ (all_receive Lowest reach) (law v reach ordered)
+  receives_in_turn law going_too Highest (Some reach) = consecutive_in_turn _ (all_receive Highest reach) (law v reach ordered)
+  receives_in_turn law going_too Newer (Some reach) = consecutive_in_turn _ (all_receive Newer reach) (going_too v (can_go (bars_of u receiving)) reach ordered)
+
+  abbrev answering : Order → PathTask
+  answering order = record { path = path; order = order; gas = gas; waits = waits; owed = owed_part v Channel }
+
+  channel_in_turn : (order : Order) (reach : Option ℕ) → AreInTurn v (receives_on path (ready_on u reach (answering order)))
+  channel_in_turn order reach = in_turn_from v _ (no_receives (answering order) path (ready (going_on u (answering order)) order reach)
+      (ready_all (λ m. same_kind m.kind Receive ≡ false) (going_on u (answering order)) order reach (going_all (λ m. same_kind m.kind Receive ≡ false) u (answering order)
       (append_all (λ m. same_kind m.kind Receive ≡ false) (messages v Acknowledge) (messages v Timeout)
-      (acknowledges (messages v Acknowledge) (kinds_owed v Acknowledge ordered)) (timeouts (messages v Timeout) (kinds_owed v Timeout ordered)))))
+      (acknowledges (messages v Acknowledge) (kinds_owed v Acknowledge ordered)) (timeouts (messages v Timeout) (kinds_owed v Timeout ordered))))))
 
-pub in_turn : ReadyReceivesAreConsecutive → (s : Standing) (client path : ℕ) (reach : Option ℕ) (v : Path) → path_view s path ≡ Some v → v.order ≡ Ordered
-    → AreInTurn v (receives_on path (flat_map (ready_on reach) (path_tasks (owed_at s) s.paths client)))
+pub in_turn : ReadyReceivesAreConsecutive → GoingReceivesAreConsecutive → (s : Standing) (client path : ℕ) (u : Task) (reach : Option ℕ) (v : Path) → path_view s path ≡ Some v → v.order ≡ Ordered
+    → AreInTurn v (receives_on path (flat_map (ready_on u reach) (path_tasks (owed_at s) s.paths client)))
 unfolding all_from one_at given
-in_turn law s client path reach v is ordered =
+in_turn law going_too s client path u reach v is ordered =
     let found = mapped (view_of_path s.books) (slice_get s.paths path) v is in
     let p : PathState = found.0 in
     let order : p.config.order ≡ Ordered = ap (λ (x : Path). x.order) found.2 ∙ ordered in
-    subst (AreInTurn v) (sym (at_place (owed_at s) client reach 0 path path s.paths p (omega arith) found.1)) (go p order (part_for p.config client))
+    subst (AreInTurn v) (sym (at_place (owed_at s) client u reach 0 path path s.paths p (omega arith) found.1)) (go p order (part_for p.config client))
   where
     go : (p : PathState) → p.config.order ≡ Ordered → (o : Option Part)
-        → AreInTurn v (receives_on path (given reach (option_map (λ part. record { path = path; order = p.config.order; gas = p.config.gas; waits = p.config.waits; owed = owed_at s path part }) o)))
+        → AreInTurn v (receives_on path (given u reach (option_map (λ part. record { path = path; order = p.config.order; gas = p.config.gas; waits = p.config.waits; owed = owed_at s path part }) o)))
     go p order None = refl
     go p order (Some Packets) =
-        subst (λ (x : Order × Option Path). AreInTurn v (receives_on path (map (message_on (record { path = path; order = x.0; gas = p.config.gas; waits = p.config.waits; owed = option_map_or (λ w. owed_part w Packets) x.1 [] })) (ready (option_map_or (λ w. owed_part w Packets) x.1 []) x.0 reach))))
-        (λ i. (sym order i, sym is i)) (receives_in_turn law v ordered (record { path = path; order = Ordered; gas = p.config.gas; waits = p.config.waits; owed = owed_part v Packets }) reach)
+        subst (λ (x : Order × Option Path). AreInTurn v (receives_on path (ready_on u reach (record { path = path; order = x.0; gas = p.config.gas; waits = p.config.waits; owed = option_map_or (λ w. owed_part w Packets) x.1 [] }))))
+        (λ i. (sym order i, sym is i)) (receives_in_turn v ordered u path p.config.gas p.config.waits law going_too u.config.refresh_to reach)
     go p order (Some Channel) =
-        subst (λ (x : Option Path). AreInTurn v (receives_on path (map (message_on (record { path = path; order = p.config.order; gas = p.config.gas; waits = p.config.waits; owed = option_map_or (λ w. owed_part w Channel) x [] })) (ready (option_map_or (λ w. owed_part w Channel) x []) p.config.order reach))))
-        (sym is) (channel_in_turn law v ordered (record { path = path; order = p.config.order; gas = p.config.gas; waits = p.config.waits; owed = owed_part v Channel }) path reach p.config.order)
+        subst (λ (x : Option Path). AreInTurn v (receives_on path (ready_on u reach (record { path = path; order = p.config.order; gas = p.config.gas; waits = p.config.waits; owed = option_map_or (λ w. owed_part w Channel) x [] }))))
+        (sym is) (channel_in_turn v ordered u path p.config.gas p.config.waits p.config.order reach)

@@ -9,14 +9,16 @@ use Rattle.std.proofs.lemmas.Option.{none-some, same_Some}
 use Rattle.rb_script_types.specs.Config.{Config, IsClient, IsConfig}
 use Rattle.rb_script_types.specs.declared.config.ClientConfig.{ClientConfig}
 use Rattle.rb_script_types.specs.declared.config.PathConfig.{PathConfig}
+use Rattle.rb_base.specs.Window.{Span}
+use Rattle.rb_core_model.proofs.HostWindows.{in_host_by, get_mapped}
 use Rattle.rb_core_model.specs.Begun.{IsBegun, max_begun}
 use Rattle.rb_core_model.specs.Config.{IsSetUp}
 use Rattle.rb_plan_client.specs.Draft.{Planned as Answer}
-use Rattle.rb_core_model.specs.Event.{Event, Window, Asked, SetSeen, HeaderSeen, StoredSeen, Sent, Received, AckWritten, Cleared, Closed, Scanned, Planned, Settled}
+use Rattle.rb_core_model.specs.Event.{Event, Window, HostWindow, Asked, SetSeen, HeaderSeen, StoredSeen, Sent, Received, AckWritten, Cleared, Closed, Scanned, Planned, Settled}
 use Rattle.rb_core_model.specs.Invariant.{HasInvariant}
 use Rattle.rb_core_model.specs.Machine.{State, begun, no_scans, plan_number, plans_after, scans_after, refusal_of, accepted, after, state_of}
 use Rattle.rb_core_model.specs.Snapshot.{ClientSnapshot, Snapshot, Log, client_from, clients_from}
-use Rattle.rb_core_model.specs.Standing.{OpenBatch, ClientState, Standing, new_client, tracked, changed_at, changed, batch_opened, with_batch, after_answer, after_batch, open_batch, after_settled}
+use Rattle.rb_core_model.specs.Standing.{OpenBatch, ClientState, Standing, new_client, tracked, changed_at, changed, batch_opened, with_batch, after_answer, after_batch, open_batch, after_settled, in_host_window}
 use Rattle.rb_core_model.proofs.Configs.{IsConfigured, config_of, path_config_of, configured_begun}
 use Rattle.rb_core_model.proofs.Lengths.{lengths_changed}
 use Rattle.rb_core_model.proofs.Marks.{all_at}
@@ -68,12 +70,22 @@ one_grows f grows cs client place d at =
       ];
     }
 
+in_host : (host : ℕ) (window : Span) (c : ClientState) → Grows c (in_host_window host window c)
+in_host host window c = in_host_by (Grows c) host window c (record { tracks = refl; batches = omega arith }) (stays c)
+
+all_in_host : (host : ℕ) (window : Span) (cs : List ClientState) → Keeps cs (map (in_host_window host window) cs)
+unfolding Keeps
+all_in_host host window cs place d at =
+    let was = get_mapped (in_host_window host window) cs place d at in
+    record { client = was.0; found = was.1; grows = subst (Grows was.0) was.2 (in_host host window was.0) }
+
 settled_keeps : (s : Standing) (client done : ℕ) (o : Option OpenBatch) → Keeps s.clients (after_settled s client done o).clients
 settled_keeps s client done None = all_stay s.clients
 settled_keeps s client done (Some b) = one_grows (after_batch b done) (λ c. record { tracks = refl; batches = omega arith }) s.clients client
 
 keeps : (s : Standing) (e : Event) → Keeps s.clients (changed s e).clients
 keeps s (Window window) = all_stay s.clients
+keeps s (HostWindow host window) = all_in_host host window s.clients
 keeps s (Asked client goal) = one_grows _ (λ c. record { tracks = refl; batches = omega arith }) s.clients client
 keeps s (SetSeen chain x) = all_stay s.clients
 keeps s (HeaderSeen chain header) = all_stay s.clients
@@ -91,6 +103,7 @@ keeps s (Settled client number done) = settled_keeps s client done (option_and_t
 
 plans_long : (s : State) (e : Event) → length (plans_after s e) ≡ length s.plans
 plans_long s (Window window) = refl
+plans_long s (HostWindow host window) = refl
 plans_long s (Asked client goal) = refl
 plans_long s (SetSeen chain x) = refl
 plans_long s (HeaderSeen chain header) = refl
@@ -106,6 +119,7 @@ plans_long s (Settled client number done) = refl
 
 pub scans_long : (s : State) (e : Event) → length (scans_after s e) ≡ length s.scans
 scans_long s (Window window) = refl
+scans_long s (HostWindow host window) = refl
 scans_long s (Asked client goal) = refl
 scans_long s (SetSeen chain x) = refl
 scans_long s (HeaderSeen chain header) = refl
@@ -137,6 +151,7 @@ suc_within n most le = omega (arith, le)
 
 numbers_within : (s : State) (e : Event) → ((client : ℕ) → plan_number s client ≤ s.front) → (client : ℕ) → get_or (plans_after s e) client 0 ≤ suc s.front
 numbers_within s (Window window) all client = one_more (plan_number s client) s.front (all client)
+numbers_within s (HostWindow host window) all client = one_more (plan_number s client) s.front (all client)
 numbers_within s (Asked place goal) all client = one_more (plan_number s client) s.front (all client)
 numbers_within s (SetSeen chain x) all client = one_more (plan_number s client) s.front (all client)
 numbers_within s (HeaderSeen chain header) all client = one_more (plan_number s client) s.front (all client)

@@ -14,7 +14,7 @@ use Rattle.rb_book.proofs.Resting.{record_stays, rest_is_book}
 use Rattle.rb_step.specs.LightClient.{Update}
 use Rattle.rb_core_model.specs.Forgetting.{is_live_in, needs_of_client, needs_of_path, needs_on, needs, lowest_of, floor, rest_of_books, rest_of_client, rest, rest_at_floors}
 use Rattle.rb_core_model.specs.Over.{rest_of_path}
-use Rattle.rb_core_model.specs.Standing.{OpenBatch, ClientState, PathState, Standing, book_at, batch_open}
+use Rattle.rb_core_model.specs.Standing.{OpenBatch, ClientState, PathState, Standing, window_for, book_at, batch_open}
 use Rattle.rb_core_model.proofs.Paths.{IsSoundPath, rest_of_sound}
 use Rattle.rb_core_model.proofs.Sound.{IsRecorded, IsSoundClient, IsSound, book_sound}
 
@@ -59,7 +59,7 @@ of_heights m (u ∷ us) all = (all.0, of_heights m us all.1)
 of_batch : (w : Span) (m : ℕ) (b : Book) (c : ClientState) → AllByRecursion (λ h. m ≤ h) (needs_of_client w b c) → NeedNoLower m c
 of_batch w m b c all x e =
     let newest : List ℕ = option_to_list (slice_get c.stored (length c.stored - 1)) in
-    let live : List ℕ = filter (is_live_in w c.config.options.period b) c.stored in
+    let live : List ℕ = filter (is_live_in (window_for w c) c.config.options.period b) c.stored in
     let sent : List ℕ = option_map_or (λ (y : OpenBatch). map (λ (u : Update). u.height) y.updates) c.batch [] in
     of_heights m x.updates
     (subst (λ (o : Option OpenBatch). AllByRecursion (λ h. m ≤ h) (option_map_or (λ (y : OpenBatch). map (λ (u : Update). u.height) y.updates) o [])) e
@@ -131,6 +131,7 @@ module _ (m : ℕ → ℕ) (s : Standing) (sound : IsSound s) where
   client_left : (c : ClientState) → NeedNoLower (m c.config.tracks) c → IsSoundClient s.books c → IsSoundClient (rest_of_books m 0 s.books) (rest_of_client m c)
   client_left c needs is = record {
     tracks = subst (λ n. c.config.tracks < n) (sym (length-rest m 0 s.books)) is.tracks;
+    window = is.window;
     fees = is.fees;
     rising = IsStrictlyIncreasing-filter (λ h. nat_le (m c.config.tracks) h) c.stored is.rising;
     recorded =

@@ -2,9 +2,9 @@
 use Rattle.std.proofs.Common.{◌≡◌, ℕ, Bool, true, false, cond, List, [], ◌∷◌, Option, Some, None, is_some, length, set, refl, ◌∙◌}
 use Rattle.std.specs.List.{slice_get, fold}
 use Rattle.std.specs.Option.{option_map_or, option_and_then}
-use Rattle.std.proofs.lemmas.List.{length-set}
-use Rattle.rb_core_model.specs.Event.{Event, Window, Asked, SetSeen, HeaderSeen, StoredSeen, Sent, Received, AckWritten, Cleared, Closed, Scanned, Planned, Settled}
-use Rattle.rb_core_model.specs.Standing.{OpenBatch, ClientState, PathState, Standing, changed_at, with_client, with_path, judged, changed, standing_after, after_message, after_messages, after_batch, open_batch, after_settled, settled_messages}
+use Rattle.std.proofs.lemmas.List.{length-map, length-set}
+use Rattle.rb_core_model.specs.Event.{Event, Window, HostWindow, Asked, SetSeen, HeaderSeen, StoredSeen, Sent, Received, AckWritten, Cleared, Closed, Scanned, Planned, Settled}
+use Rattle.rb_core_model.specs.Standing.{OpenBatch, ClientState, PathState, Standing, changed_at, with_client, with_path, judged, changed, standing_after, after_message, after_messages, after_batch, open_batch, after_settled, settled_messages, in_host_window}
 use Rattle.rb_plan_client.specs.Task.{Message}
 
 pub record HasLengthsOf (s t : Standing) : Type 0 where
@@ -42,6 +42,7 @@ lengths_settled s client done (Some b) =
 
 pub lengths_changed : (s : Standing) (e : Event) → HasLengthsOf s (changed s e)
 lengths_changed s (Window window) = record { books = refl; clients = refl; paths = refl }
+lengths_changed s (HostWindow host window) = record { books = refl; clients = length-map s.clients (in_host_window host window); paths = refl }
 lengths_changed s (Asked client goal) = lengths_client s client _
 lengths_changed s (SetSeen chain x) = record { books = length-set s.books chain _; clients = refl; paths = refl }
 lengths_changed s (HeaderSeen chain header) = record { books = length-set s.books chain _; clients = refl; paths = refl }

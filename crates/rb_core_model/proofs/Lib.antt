@@ -1,5 +1,6 @@
 pub mod Options
 pub mod Owed
+pub mod AtHeight
 pub mod Drafted
 pub mod Floors
 pub mod InTurn
@@ -22,3 +23,4 @@ pub mod Left
 pub mod Configs
 pub mod Begun
 pub mod EveryLog
+pub mod HostWindows

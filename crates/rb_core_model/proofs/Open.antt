@@ -4,10 +4,9 @@ use Rattle.std.specs.List.{find, fold, slice_get, filter_map, flat_map, cons_opt
 use Rattle.std.specs.Option.{option_map, option_map_or, option_and_then, MatchOption, IsSomeAnd}
 use Rattle.std.proofs.lemmas.Bool.{cases_Bool, eqb-true, ltb-true, not-false}
 use Rattle.std.proofs.lemmas.Option.{none-some, same_Some, slice_get-map}
-use Rattle.rb_script_types.specs.declared.goal.Goal.{Goal}
 use Rattle.rb_plan_types.specs.Least.{IsUnreachable}
 use Rattle.rb_scan.specs.Laws.{SettledIsNotOwed}
-use Rattle.rb_scan.specs.Owed.{expires_for, floor_of, message_of, messages, owed_part, ready}
+use Rattle.rb_scan.specs.Owed.{expires_for, since_for, timeout_for, floor_of, message_of, messages, owed_part, ready}
 use Rattle.rb_scan.specs.Packet.{Packet}
 use Rattle.rb_scan.specs.Path.{Path}
 use Rattle.rb_scan.specs.declared.message.Kind.{Kind}
@@ -20,20 +19,22 @@ use Rattle.rb_step.specs.View.{client_of}
 use Rattle.rb_script_types.specs.Config.{Config}
 use Rattle.rb_script_types.specs.declared.config.ClientConfig.{ClientConfig}
 use Rattle.rb_script_types.specs.declared.config.PathConfig.{PathConfig}
+use Rattle.rb_core_model.proofs.HostWindows.{batch_in_host, get_mapped}
 use Rattle.rb_core_model.specs.Config.{part_for}
 use Rattle.rb_plan_client.specs.Draft.{IsPlan, IsPlanned, IsAnswer, Draft, IsDraft}
-use Rattle.rb_core_model.specs.Event.{Event, IsEvent, Window, Asked, SetSeen, HeaderSeen, StoredSeen, Sent, Received, AckWritten, Cleared, Closed, Scanned, Planned, Settled}
+use Rattle.rb_core_model.specs.Event.{Event, IsEvent, Window, HostWindow, Asked, SetSeen, HeaderSeen, StoredSeen, Sent, Received, AckWritten, Cleared, Closed, Scanned, Planned, Settled}
 use Rattle.rb_core_model.specs.Machine.{State, opening, knows_client, is_known, refusal_beside, refusal_of, accepted, after}
 use Rattle.rb_script_types.specs.declared.refusal.Refusal.{Refusal}
 use Rattle.rb_script_types.specs.declared.refusal.Refusal.TheVariants.{UnknownObject, LogFull, Repeat, OutOfOrder}
-use Rattle.rb_core_model.specs.Standing.{OpenBatch, ClientState, PathState, Standing, opening_standing, new_path, new_client, view_of_path, owed_at, path_task, path_tasks, task_in, judged, changed, changed_at, with_packet, with_mark, new_packet, batch_opened, with_batch, after_answer, open_batch, settled_refusal, settled_refusal_of, settled_messages, after_batch, after_messages, after_settled, sent_refusal, with_height, batch_open}
-use Rattle.rb_plan_client.specs.Task.{PathTask, Message, view_of, message_on, ready_on, sending_reach, messages_of}
+use Rattle.rb_core_model.specs.Standing.{OpenBatch, ClientState, PathState, Standing, opening_standing, new_path, new_client, view_of_path, owed_at, path_task, path_tasks, task_in, judged, changed, changed_at, with_packet, with_mark, new_packet, batch_opened, with_batch, after_answer, open_batch, settled_refusal, settled_refusal_of, settled_messages, after_batch, after_messages, after_settled, sent_refusal, with_height, batch_open, in_host_window}
+use Rattle.rb_plan_client.specs.Task.{Task, PathTask, Message, view_of, message_on, going_on, ready_on}
 use Rattle.rb_core_model.proofs.Drafted.{IsDrafted, drafted}
 use Rattle.rb_core_model.proofs.Marks.{all_at, all_take, all_weaker, has, part_of, is_settled, mark_in, mark_at, keeps_marked, keeps_packet, KeepsPaths, keeps_all, keeps_changed, IsAbout, all_grow, all_others, configs_messages}
 use Rattle.rb_core_model.proofs.Options.{passes, mapped, chained, none_from, get_changed}
-use Rattle.rb_core_model.proofs.Owed.{IsFound, append_all, found_sequence, owed_all, ready_all}
+use Rattle.rb_core_model.proofs.Owed.{IsFound, append_all, found_sequence, owed_all, ready_all, going_all}
 use Rattle.rb_core_model.proofs.Over.{rising_found}
 use Rattle.rb_core_model.proofs.Paths.{IsSoundPath, first_of, firsts_messages, firsts_changed, messages_sound, paths_sound, new_sound}
+use Rattle.rb_core_model.proofs.AtHeight.{ready_at}
 use Rattle.rb_core_model.proofs.Right.{opens}
 
 -- ---- the clients of a path
@@ -132,6 +133,12 @@ by_paths config s t kept all same = record {
     still m (inl unsettled) = inl (all.keeps.marks m.path (part_of m.packet.kind) m.packet.sequence false unsettled)
     still m (inr below) = inr (still_below s.paths t.paths m.path m.packet.sequence all.firsts below)
 
+batches_mapped : (s t : Standing) (f : ClientState → ClientState) → ((c : ClientState) → (f c).batch ≡ c.batch) → t.clients ≡ map f s.clients → SameBatches s t
+batches_mapped s t f same e client b stands =
+    let found = chained (λ (c : ClientState). c.batch) (slice_get (map f s.clients) client) b (ap (λ cs. option_and_then (λ (c : ClientState). c.batch) (slice_get cs client)) (sym e) ∙ stands) in
+    let before = get_mapped f s.clients client found.0 found.1 in
+    ap (option_and_then (λ (c : ClientState). c.batch)) before.1 ∙ sym (same before.0) ∙ ap (λ (c : ClientState). c.batch) before.2 ∙ found.2
+
 batches_changed : (s t : Standing) (place : ℕ) (f : ClientState → ClientState) → ((c : ClientState) → (f c).batch ≡ c.batch) → t.clients ≡ changed_at f s.clients place → SameBatches s t
 batches_changed s t place f same e client b stands =
     let found = chained (λ (c : ClientState). c.batch) (slice_get (changed_at f s.clients place) client) b (ap (λ cs. option_and_then (λ (c : ClientState). c.batch) (slice_get cs client)) (sym e) ∙ stands) in
@@ -178,7 +185,7 @@ is_open_settled law records Timeout q m e = elim (cases_Bool q.outcome_settled) 
 
 sequence_of : (records : List (ℕ × ℕ)) (kind : Kind) (q : Packet) (m : PacketMsg) → message_of records kind q ≡ Some m → (m.kind ≡ kind) × (m.sequence ≡ q.sequence)
 sequence_of records kind q m e =
-    let is = mapped (λ (floor : ℕ). record { kind = kind; sequence = q.sequence; floor = floor; expires = expires_for kind q }) (floor_of records kind q) m e in
+    let is = mapped (λ (floor : ℕ). record { kind = kind; sequence = q.sequence; floor = floor; expires = expires_for kind q; since = since_for kind q; timeout = timeout_for kind q }) (floor_of records kind q) m e in
     (sym (ap (λ (x : PacketMsg). x.kind) is.2), sym (ap (λ (x : PacketMsg). x.sequence) is.2))
 
 -- a message that a part owes is of that part, and its packet is there and not settled
@@ -201,7 +208,7 @@ module _ (law : SettledIsNotOwed) (v : Path) (all : AllByRecursion (IsFound v.pa
   open_part Packets = open_kind Receive
   open_part Channel = append_all (IsOpen v.packets Channel) (messages v Acknowledge) (messages v Timeout) (open_kind Acknowledge) (open_kind Timeout)
 
-module _ (law : SettledIsNotOwed) (config : Config) (s : Standing) (kept : HasInvariant config s) (client : ℕ) (reach : Option ℕ) where
+module _ (law : SettledIsNotOwed) (config : Config) (s : Standing) (kept : HasInvariant config s) (client : ℕ) (u : Task) (reach : Option ℕ) where
   -- the messages of one path
   sent_on : (n : ℕ) (p : PathState) (order : Order) (part : Part) (t : PathTask) → slice_get s.paths n ≡ Some p → part_for p.config client ≡ Some part → t.path ≡ n → t.owed ≡ owed_at s n part
       → (ms : List PacketMsg) → AllByRecursion (IsOpen p.packets part) ms → AllByRecursion (IsNew config s.paths client) (map (message_on t) ms)
@@ -223,28 +230,24 @@ module _ (law : SettledIsNotOwed) (config : Config) (s : Standing) (kept : HasIn
       (open_part law (view_of_path s.books p) (rising_found p.packets (all_at IsSoundPath s.paths n p kept.sound at).rising) part)
 
   one_task_sent : (n : ℕ) (p : PathState) → slice_get s.paths n ≡ Some p → (o : Option Part) → part_for p.config client ≡ o → (rest : List PathTask)
-      → AllByRecursion (IsNew config s.paths client) (flat_map (ready_on reach) rest)
-      → AllByRecursion (IsNew config s.paths client) (flat_map (ready_on reach) (cons_option (option_map (λ part. record { path = n; order = p.config.order; gas = p.config.gas; waits = p.config.waits; owed = owed_at s n part }) o) rest))
+      → AllByRecursion (IsNew config s.paths client) (flat_map (ready_on u reach) rest)
+      → AllByRecursion (IsNew config s.paths client) (flat_map (ready_on u reach) (cons_option (option_map (λ part. record { path = n; order = p.config.order; gas = p.config.gas; waits = p.config.waits; owed = owed_at s n part }) o) rest))
   one_task_sent n p at None e rest all = all
   one_task_sent n p at (Some part) e rest all =
       let t : PathTask = record { path = n; order = p.config.order; gas = p.config.gas; waits = p.config.waits; owed = owed_at s n part } in
-      append_all (IsNew config s.paths client) (ready_on reach t) (flat_map (ready_on reach) rest)
-      (sent_on n p p.config.order part t at e refl refl (ready (owed_at s n part) p.config.order reach)
-      (ready_all (IsOpen p.packets part) (owed_at s n part) p.config.order reach (owed_open n p part at))) all
+      append_all (IsNew config s.paths client) (ready_on u reach t) (flat_map (ready_on u reach) rest)
+      (sent_on n p p.config.order part t at e refl refl (ready (going_on u t) p.config.order reach)
+      (ready_all (IsOpen p.packets part) (going_on u t) p.config.order reach (going_all (IsOpen p.packets part) u t (owed_open n p part at)))) all
 
   all_sent : (n : ℕ) (rest : List PathState) → ((k : ℕ) (p : PathState) → slice_get rest k ≡ Some p → slice_get s.paths (n + k) ≡ Some p)
-      → AllByRecursion (IsNew config s.paths client) (flat_map (ready_on reach) (filter_map (path_task (owed_at s) client) (enumerate_from n rest)))
+      → AllByRecursion (IsNew config s.paths client) (flat_map (ready_on u reach) (filter_map (path_task (owed_at s) client) (enumerate_from n rest)))
   all_sent n [] places = tt
   all_sent n (p ∷ rest) places =
       one_task_sent n p (ap (slice_get s.paths) (sym (add-zero n)) ∙ places 0 p refl) (part_for p.config client) refl (filter_map (path_task (owed_at s) client) (enumerate_from (n + 1) rest))
       (all_sent (n + 1) rest (λ k q e. let next : (n + 1) + k ≡ n + suc k = omega arith in ap (slice_get s.paths) next ∙ places (suc k) q e))
 
-  ready_sent : AllByRecursion (IsNew config s.paths client) (flat_map (ready_on reach) (path_tasks (owed_at s) s.paths client))
+  ready_sent : AllByRecursion (IsNew config s.paths client) (flat_map (ready_on u reach) (path_tasks (owed_at s) s.paths client))
   ready_sent = all_sent 0 s.paths (λ k p e. let same : 0 + k ≡ k = omega arith in ap (slice_get s.paths) same ∙ e)
-
-  messages_sent : (asked : Option Goal) → AllByRecursion (IsNew config s.paths client) (if is_some asked then [] else flat_map (ready_on reach) (path_tasks (owed_at s) s.paths client))
-  messages_sent (Some g) = tt
-  messages_sent None = ready_sent
 
 plan_sent : SettledIsNotOwed → (config : Config) (s : State) (d : Draft) (x : IsDrafted s d) (b : OpenBatch) → HasInvariant config s.standing → IsDraft d → batch_opened x.known d.answer ≡ Some b
     → AllByRecursion (IsNew config s.standing.paths d.job.client) b.messages
@@ -252,9 +255,10 @@ plan_sent law config s d x b kept is e =
     let t = task_in s.standing x.window d.job.client x.known in
     let o = opens (x.known.batches + 1) d.answer b e in
     let planned : IsPlanned t o.planned = subst (IsAnswer t) o.is_planned (subst (λ u. IsAnswer u d.answer) x.task is.answer) in
-    let plan : IsPlan t o.planned.goal (messages_of t planned.reach) o.plan = subst (λ p. MatchOption p (IsUnreachable (client_of (view_of t)) o.planned.goal) (IsPlan t o.planned.goal (messages_of t planned.reach))) o.is_plan planned.plan in
-    subst (AllByRecursion (IsNew config s.standing.paths d.job.client)) (sym plan.messages ∙ sym (ap (λ (y : OpenBatch). y.messages) o.is))
-    (messages_sent law config s.standing kept d.job.client (sending_reach t planned.reach) x.known.asked)
+    let plan : IsPlan t planned.reach o.planned.goal o.plan = subst (λ p. MatchOption p (IsUnreachable (client_of (view_of t)) o.planned.goal) (IsPlan t planned.reach o.planned.goal)) o.is_plan planned.plan in
+    let at = ready_at t planned.reach plan.proof in
+    subst (AllByRecursion (IsNew config s.standing.paths d.job.client)) (sym at.are ∙ sym plan.messages ∙ sym (ap (λ (y : OpenBatch). y.messages) o.is))
+    (ready_sent law config s.standing kept d.job.client t at.height)
 
 opened_batch : (c : ClientState) (o : Option OpenBatch) → (with_batch c o).batch ≡ o
 opened_batch c None = refl
@@ -413,6 +417,8 @@ same_settled f same Channel q = (same q).1
 
 pub steps : SettledIsNotOwed → (config : Config) (s : State) (e : Event) → HasInvariant config s.standing → IsEvent e → refusal_of s e ≡ None → Steps config s.standing (changed s.standing e)
 steps law config s (Window window) kept is ok = by_event config s.standing (Window window) kept (judged_none s (Window window) ok) (keeps_all s.standing.paths) (λ client b e. e)
+steps law config s (HostWindow host window) kept is ok = by_event config s.standing (HostWindow host window) kept (judged_none s (HostWindow host window) ok) (keeps_all s.standing.paths)
+    (batches_mapped s.standing (changed s.standing (HostWindow host window)) (in_host_window host window) (batch_in_host host window) refl)
 steps law config s (Asked client goal) kept is ok = by_event config s.standing (Asked client goal) kept refl (keeps_all s.standing.paths)
     (batches_changed s.standing (changed s.standing (Asked client goal)) client (λ c. record c { asked = Some goal }) (λ c. refl) refl)
 steps law config s (SetSeen chain set) kept is ok = by_event config s.standing (SetSeen chain set) kept (judged_none s (SetSeen chain set) ok) (keeps_all s.standing.paths) (λ client b e. e)
@@ -429,7 +435,7 @@ steps law config s (Received path sequence block) kept is ok =
     (keeps_changed (with_mark (λ q. record q { received = Some block }) sequence) s.standing.paths path (λ p. refl) (λ p at. keeps_marked (λ q. record q { received = Some block }) sequence (λ q. refl) (same_settled _ (λ q. (refl, refl))) p)) (λ client b e. e)
 steps law config s (AckWritten path sequence block) kept is ok =
     by_event config s.standing (AckWritten path sequence block) kept (judged_none s (AckWritten path sequence block) ok)
-    (keeps_changed (with_mark (λ q. record q { written = Some block }) sequence) s.standing.paths path (λ p. refl) (λ p at. keeps_marked (λ q. record q { written = Some block }) sequence (λ q. refl) (same_settled _ (λ q. (refl, refl))) p)) (λ client b e. e)
+    (keeps_changed (with_mark (λ q. record q { written = Some block.height; written_time = block.time }) sequence) s.standing.paths path (λ p. refl) (λ p at. keeps_marked (λ q. record q { written = Some block.height; written_time = block.time }) sequence (λ q. refl) (same_settled _ (λ q. (refl, refl))) p)) (λ client b e. e)
 steps law config s (Cleared path sequence) kept is ok =
     by_event config s.standing (Cleared path sequence) kept (judged_none s (Cleared path sequence) ok)
     (keeps_changed (with_mark (λ q. record q { cleared = true }) sequence) s.standing.paths path (λ p. refl) (λ p at. keeps_marked (λ q. record q { cleared = true }) sequence (λ q. refl) (same_settled _ (λ q. (refl, refl))) p)) (λ client b e. e)

@@ -13,7 +13,7 @@ use Rattle.rb_scan.specs.Packet.{Packet}
 use Rattle.rb_scan.specs.Path.{sequences_of}
 use Rattle.rb_script_types.specs.declared.config.PathConfig.{PathConfig}
 use Rattle.rb_script_types.specs.declared.refusal.Refusal.TheVariants.{OutOfOrder, Repeat}
-use Rattle.rb_core_model.specs.Event.{Event, Window, Asked, SetSeen, HeaderSeen, StoredSeen, Sent, Received, AckWritten, Cleared, Closed, Scanned, Planned, Settled}
+use Rattle.rb_core_model.specs.Event.{Event, Window, HostWindow, Asked, SetSeen, HeaderSeen, StoredSeen, Sent, Received, AckWritten, Cleared, Closed, Scanned, Planned, Settled}
 use Rattle.rb_core_model.specs.Over.{gone_in, rest_of_path}
 use Rattle.rb_core_model.specs.Standing.{OpenBatch, PathState, Standing, new_path, view_of_path, judged, changed, changed_at, with_packet, new_packet, marked, with_mark, mark_of, after_settled, after_message, after_messages, open_batch, settled_messages, sent_refusal}
 use Rattle.rb_plan_client.specs.Task.{Message}
@@ -63,6 +63,7 @@ firsts_settled s client done (Some b) = firsts_messages (settled_messages b done
 
 pub firsts_changed : (s : Standing) (e : Event) → map first_of (changed s e).paths ≡ map first_of s.paths
 firsts_changed s (Window window) = refl
+firsts_changed s (HostWindow host window) = refl
 firsts_changed s (Asked client goal) = refl
 firsts_changed s (SetSeen chain x) = refl
 firsts_changed s (HeaderSeen chain header) = refl
@@ -143,6 +144,7 @@ settled_sound s client done (Some b) all = messages_sound (settled_messages b do
 
 pub paths_sound : (s : Standing) (e : Event) → judged s e ≡ None → AllByRecursion IsSoundPath s.paths → AllByRecursion IsSoundPath (changed s e).paths
 paths_sound s (Window window) ok all = all
+paths_sound s (HostWindow host window) ok all = all
 paths_sound s (Asked client goal) ok all = all
 paths_sound s (SetSeen chain x) ok all = all
 paths_sound s (HeaderSeen chain header) ok all = all
@@ -152,7 +154,7 @@ paths_sound s (Sent path sequence block timeout_height timeout_time) ok all =
     packet_sound s.books p (new_packet sequence block timeout_height timeout_time)
     (ap (λ o. option_and_then (λ v. sent_refusal v sequence) (option_map (view_of_path s.books) o)) (sym at) ∙ ok) is) all
 paths_sound s (Received path sequence block) ok all = all_changed IsSoundPath _ s.paths path (λ p at is. mark_sound (λ q. record q { received = Some block }) (λ q. refl) sequence p is) all
-paths_sound s (AckWritten path sequence block) ok all = all_changed IsSoundPath _ s.paths path (λ p at is. mark_sound (λ q. record q { written = Some block }) (λ q. refl) sequence p is) all
+paths_sound s (AckWritten path sequence block) ok all = all_changed IsSoundPath _ s.paths path (λ p at is. mark_sound (λ q. record q { written = Some block.height; written_time = block.time }) (λ q. refl) sequence p is) all
 paths_sound s (Cleared path sequence) ok all = all_changed IsSoundPath _ s.paths path (λ p at is. mark_sound (λ q. record q { cleared = true }) (λ q. refl) sequence p is) all
 paths_sound s (Closed path) ok all = all_changed IsSoundPath _ s.paths path (λ p at is. record { rising = is.rising; from_first = is.from_first }) all
 paths_sound s (Scanned path scan) ok all = all

@@ -1,24 +1,21 @@
 -- Each batch that is opened is the right one.
-use Rattle.std.proofs.Common.{◌≡◌, ◌≤◌, All, ℕ, ◌+◌, [], Option, Some, None, MatchOption, is_some, refl, sym, ap, ◌∙◌, subst, if◌then◌else◌}
-use Rattle.std.specs.List.{flat_map}
+use Rattle.std.proofs.Common.{◌≡◌, ◌≤◌, All, ℕ, ◌+◌, Option, Some, None, MatchOption, is_some, refl, sym, ap, ◌∙◌, subst, if◌then◌else◌}
 use Rattle.std.specs.Option.{option_and_then}
 use Rattle.std.proofs.lemmas.Option.{none-some, same_Some}
-use Rattle.rb_script_types.specs.declared.goal.Goal.{Goal}
 use Rattle.rb_plan_types.specs.Least.{IsUnreachable}
-use Rattle.rb_scan.specs.Laws.{ReadyReceivesAreConsecutive}
-use Rattle.rb_scan.specs.Path.{Path}
-use Rattle.rb_scan.specs.declared.path.Order.TheVariants.{Ordered}
+use Rattle.rb_scan.specs.Laws.{ReadyReceivesAreConsecutive, GoingReceivesAreConsecutive, ReadyIsWithinReach}
 use Rattle.rb_step.specs.View.{client_of}
 use Rattle.rb_core_model.specs.Batches.{IsRightBatch, BatchesAreRight, AreInTurn, receives_on}
 use Rattle.rb_plan_client.specs.Draft.{Batch, Sending, nothing, too_big, batched, Plan, Planned as Answer, IsBatch, IsSending, IsPlan, IsPlanned, IsAnswer, Draft}
 use Rattle.rb_core_model.specs.Event.{Planned}
 use Rattle.rb_core_model.specs.Machine.{State, Opened, reply_for, batch_for, refusal_of, accepted, after, state_of}
-use Rattle.rb_core_model.specs.Standing.{OpenBatch, ClientState, Standing, path_view, owed_at, path_tasks, task_in, batch_of_sending, batch_of, batch_opened, with_batch, after_answer, batch_open}
-use Rattle.rb_plan_client.specs.Task.{Message, view_of, ready_on, sending_reach, messages_of}
+use Rattle.rb_core_model.specs.Standing.{OpenBatch, ClientState, task_in, batch_of_sending, batch_of, batch_opened, with_batch, after_answer, batch_open}
+use Rattle.rb_plan_client.specs.Task.{Message, view_of, messages_of}
 use Rattle.rb_core_model.proofs.Drafted.{IsDrafted, drafted}
 use Rattle.rb_core_model.proofs.Floors.{floors_fit}
 use Rattle.rb_core_model.proofs.InTurn.{in_turn}
 use Rattle.rb_core_model.proofs.Options.{chained, get_changed_same}
+use Rattle.rb_core_model.proofs.AtHeight.{ready_at, same_proof}
 
 -- ---- the plan that opens a batch
 
@@ -59,21 +56,19 @@ replied (Some b) number e = (b, refl, number_of e)
 pub after_accepted : (s : State) (d : Draft) → refusal_of s (Planned d) ≡ None → after s (Planned d) ≡ accepted s (Planned d)
 after_accepted s d e = ap (λ o. if is_some o then s else accepted s (Planned d)) e
 
--- ---- the messages come in turn
+-- ---- the batch is right
 
-turn_by : ReadyReceivesAreConsecutive → (s : Standing) (client path : ℕ) (reach : Option ℕ) (v : Path) (asked : Option Goal) → path_view s path ≡ Some v → v.order ≡ Ordered
-    → AreInTurn v (receives_on path (if is_some asked then [] else flat_map (ready_on reach) (path_tasks (owed_at s) s.paths client)))
-turn_by law s client path reach v (Some g) is ordered = refl
-turn_by law s client path reach v None is ordered = in_turn law s client path reach v is ordered
-
-module _ (law : ReadyReceivesAreConsecutive) (s : State) (d : Draft) where
+module _ (law : ReadyReceivesAreConsecutive) (going_too : GoingReceivesAreConsecutive) (within : ReadyIsWithinReach) (s : State) (d : Draft) where
   right_batch : (x : IsDrafted s d) (b : OpenBatch) → Opens (x.known.batches + 1) d.answer b → IsAnswer (task_in s.standing x.window d.job.client x.known) d.answer
       → IsRightBatch s.standing d.job.client b
   right_batch x b o right =
       let t = task_in s.standing x.window d.job.client x.known in
       let planned : IsPlanned t o.planned = subst (IsAnswer t) o.is_planned right in
-      let plan : IsPlan t o.planned.goal (messages_of t planned.reach) o.plan = subst (λ p. MatchOption p (IsUnreachable (client_of (view_of t)) o.planned.goal) (IsPlan t o.planned.goal (messages_of t planned.reach))) o.is_plan planned.plan in
-      let batch : IsBatch t o.plan o.batch = subst (IsSending t o.plan) o.is_batched plan.sending in
+      let plan : IsPlan t planned.reach o.planned.goal o.plan = subst (λ p. MatchOption p (IsUnreachable (client_of (view_of t)) o.planned.goal) (IsPlan t planned.reach o.planned.goal)) o.is_plan planned.plan in
+      let batch : IsBatch t planned.reach o.plan o.batch = subst (IsSending t planned.reach o.plan) o.is_batched plan.sending in
+      let proof : plan.proof ≡ Some o.batch.proof = same_proof (client_of (view_of t)) o.plan.updates plan.proof o.batch.proof plan.is_proof batch.proof in
+      let messages : o.plan.messages ≡ messages_of t planned.reach (Some o.batch.proof) = plan.messages ∙ ap (messages_of t planned.reach) proof in
+      let at = ready_at t planned.reach (Some o.batch.proof) in
       subst (IsRightBatch s.standing d.job.client) (sym o.is) (record {
         window = x.window;
         known = x.known;
@@ -85,16 +80,17 @@ module _ (law : ReadyReceivesAreConsecutive) (s : State) (d : Draft) where
         is_reach = planned.is_reach;
         is_goal = planned.goal;
         least = plan.least;
-        messages = plan.messages;
+        messages = messages;
         cut = batch.transactions;
         proof = batch.proof;
-        floors = subst (λ ms. All (λ (m : Message). m.packet.floor ≤ o.batch.proof) ms) (sym plan.messages)
-            (floors_fit t planned.reach o.planned.goal o.plan.updates o.batch.proof planned.goal plan.least.meets batch.proof);
-        in_turn = λ path v is ordered. subst (λ ms. AreInTurn v (receives_on path ms)) (sym plan.messages) (turn_by law s.standing d.job.client path (sending_reach t planned.reach) v x.known.asked is ordered);
+        floors = subst (λ ms. All (λ (m : Message). m.packet.floor ≤ o.batch.proof) ms) (sym messages)
+            (floors_fit within t planned.reach o.planned.goal o.plan.updates o.batch.proof planned.goal plan.least.meets batch.proof);
+        in_turn = λ path v is ordered.
+            subst (λ ms. AreInTurn v (receives_on path ms)) (sym (messages ∙ at.are)) (in_turn law going_too s.standing d.job.client path t at.height v is ordered);
       })
 
-pub batches_right : ReadyReceivesAreConsecutive → BatchesAreRight
-batches_right law config log d number is accepted_by reply =
+pub batches_right : ReadyReceivesAreConsecutive → GoingReceivesAreConsecutive → ReadyIsWithinReach → BatchesAreRight
+batches_right law going_too within config log d number is accepted_by reply =
     let s : State = state_of config log in
     let x = drafted s d accepted_by in
     let b = replied (batch_for s d) number reply in
@@ -106,5 +102,5 @@ batches_right law config log d number is accepted_by reply =
       ap (λ (u : State). batch_open u.standing d.job.client) (after_accepted s d accepted_by)
           ∙ ap (option_and_then (λ (c : ClientState). c.batch)) (get_changed_same (after_answer d.answer) s.standing.clients d.job.client x.known x.is_known)
           ∙ ap (λ o. (with_batch x.known o).batch) opened,
-      right_batch law s d x b.0 o (subst (λ t. IsAnswer t d.answer) x.task is.answer),
+      right_batch law going_too within s d x b.0 o (subst (λ t. IsAnswer t d.answer) x.task is.answer),
     )

@@ -21,15 +21,17 @@ use Rattle.rb_step.specs.LightClient.{Update, Runs, IsOrderly}
 use Rattle.rb_step.specs.View.{View, IsView, client_of}
 use Rattle.rb_valset.specs.Validator.{Member}
 use Rattle.rb_valset.specs.ValidatorSet.{set_hash}
+use Rattle.rb_script_types.specs.declared.block.Block.{Block}
 use Rattle.rb_script_types.specs.Config.{Config, IsClient}
 use Rattle.rb_script_types.specs.declared.config.ClientConfig.{ClientConfig}
+use Rattle.rb_core_model.proofs.HostWindows.{in_host_by, all_mapped, window_ends}
 use Rattle.rb_core_model.specs.Config.{IsSetUp}
 use Rattle.rb_plan_client.specs.Draft.{Planned as Answer, IsPlan, IsPlanned, IsAnswer, Draft, IsDraft}
-use Rattle.rb_core_model.specs.Event.{Event, IsEvent, Window, Asked, SetSeen, HeaderSeen, StoredSeen, Sent, Received, AckWritten, Cleared, Closed, Scanned, Planned, Settled}
+use Rattle.rb_core_model.specs.Event.{Event, IsEvent, Window, HostWindow, Asked, SetSeen, HeaderSeen, StoredSeen, Sent, Received, AckWritten, Cleared, Closed, Scanned, Planned, Settled}
 use Rattle.rb_core_model.specs.Machine.{State, opening, refusal_of, accepted, after}
 use Rattle.rb_script_types.specs.declared.refusal.Refusal.{Refusal}
-use Rattle.rb_core_model.specs.Standing.{OpenBatch, ClientState, PathState, Standing, empty_book, new_client, opening_standing, book_at, tracked, view_of_path, task_of, task_in, changed, with_book, with_client, with_path, with_height, with_packet, new_packet, with_mark, batch_opened, with_batch, after_answer, after_batch, settled_updates, settled_messages, sent_refusal}
-use Rattle.rb_plan_client.specs.Task.{view_of, sending_reach, messages_of}
+use Rattle.rb_core_model.specs.Standing.{OpenBatch, ClientState, PathState, Standing, empty_book, new_client, opening_standing, book_at, tracked, view_of_path, task_of, task_in, changed, with_book, with_client, with_path, with_height, with_packet, new_packet, with_mark, batch_opened, with_batch, after_answer, after_batch, settled_updates, settled_messages, sent_refusal, in_host_window}
+use Rattle.rb_plan_client.specs.Task.{view_of}
 use Rattle.rb_core_model.specs.Batches.{AreApart}
 use Rattle.rb_core_model.proofs.Apart.{messages_apart}
 use Rattle.rb_book.proofs.Rising.{Up, Up-from_increasing}
@@ -38,6 +40,7 @@ use Rattle.rb_core_model.proofs.Intake.{set_accepted, header_accepted, record_ac
 use Rattle.rb_core_model.proofs.Marks.{all_at, all_take, all_weaker}
 use Rattle.rb_core_model.proofs.Open.{judged_none, settling}
 use Rattle.rb_core_model.proofs.Paths.{IsSoundPath, all_set, all_changed, mark_sound, messages_sound, packet_sound, new_sound}
+use Rattle.rb_core_model.proofs.AtHeight.{ready_at}
 use Rattle.rb_core_model.proofs.Right.{opens}
 use Rattle.rb_core_model.proofs.Rising.{height_rises, all_height}
 
@@ -49,6 +52,7 @@ IsRecorded book height = IsSome (record_at book height)
 -- what is known of a client fits the books
 pub record IsSoundClient (books : List Book) (c : ClientState) : Type 0 where
   pub tracks : c.config.tracks < length books
+  pub window : (w : Span) → c.window ≡ Some w → w.from ≤ w.until
   pub fees : IsFeeTable c.config.fees
   pub rising : IsStrictlyIncreasing c.stored
   pub recorded : AllByRecursion (IsRecorded (book_at books c.config.tracks)) c.stored
@@ -106,6 +110,7 @@ client_kept : (books other : List Book) (c : ClientState) → length other ≡ l
 unfolding Keeps
 client_kept books other c long keeps is = record {
   tracks = subst (λ n. c.config.tracks < n) (sym long) is.tracks;
+  window = is.window;
   fees = is.fees;
   rising = is.rising;
   recorded = all_weaker (IsRecorded (book_at books c.config.tracks)) (IsRecorded (book_at other c.config.tracks)) (keeps c.config.tracks) c.stored is.recorded;
@@ -159,6 +164,7 @@ module _ (finds : FindsWhatWasAdded) where
 one_stored : (books : List Book) (c : ClientState) (height : ℕ) → IsSoundClient books c → IsRecorded (book_at books c.config.tracks) height → IsSoundClient books (record c { stored = with_height height c.stored })
 one_stored books c height is recorded = record {
   tracks = is.tracks;
+  window = is.window;
   fees = is.fees;
   rising = height_rises height c.stored is.rising;
   recorded = all_height (IsRecorded (book_at books c.config.tracks)) height c.stored recorded is.recorded;
@@ -175,14 +181,14 @@ all_stored books c [] is all = is
 all_stored books c (u ∷ us) is all = all_stored books (record c { stored = with_height u.height c.stored }) us (one_stored books c u.height is all.0) all.1
 
 closed_sound : (books : List Book) (c : ClientState) → IsSoundClient books c → IsSoundClient books (record c { batch = None })
-closed_sound books c is = record { tracks = is.tracks; fees = is.fees; rising = is.rising; recorded = is.recorded; updates = λ b e. absurd (none-some b e); apart = λ b e. absurd (none-some b e) }
+closed_sound books c is = record { tracks = is.tracks; window = is.window; fees = is.fees; rising = is.rising; recorded = is.recorded; updates = λ b e. absurd (none-some b e); apart = λ b e. absurd (none-some b e) }
 
 -- ---- views
 
 pub client_view_sound : (s : Standing) (window : Span) (c : ClientState) → IsSound s → s.window ≡ Some window → IsSoundClient s.books c → IsView (view_of (task_of window s.books [] c))
 client_view_sound s window c sound is_window is = record {
   stored = record { rising = is.rising; recorded = All-from_recursion (IsRecorded (book_at s.books c.config.tracks)) c.stored is.recorded };
-  window = sound.window window is_window;
+  window = window_ends window c (sound.window window is_window) is.window;
   fees = is.fees;
   book = book_sound s.books c.config.tracks sound.books;
 }
@@ -206,9 +212,10 @@ module _ (finds : FindsWhatWasAdded) (stays : StaysABook) (orderly : ViewsAreOrd
   answer_sound s window client c answer sound is_window sound_c right = go (batch_opened c answer) refl
     where
       go : (o : Option OpenBatch) → batch_opened c answer ≡ o → IsSoundClient s.books (with_batch c o)
-      go None e = record { tracks = sound_c.tracks; fees = sound_c.fees; rising = sound_c.rising; recorded = sound_c.recorded; updates = λ b f. absurd (none-some b f); apart = λ b f. absurd (none-some b f) }
+      go None e = record { tracks = sound_c.tracks; window = sound_c.window; fees = sound_c.fees; rising = sound_c.rising; recorded = sound_c.recorded; updates = λ b f. absurd (none-some b f); apart = λ b f. absurd (none-some b f) }
       go (Some b) e = record {
         tracks = sound_c.tracks;
+        window = sound_c.window;
         fees = sound_c.fees;
         rising = sound_c.rising;
         recorded = sound_c.recorded;
@@ -219,7 +226,7 @@ module _ (finds : FindsWhatWasAdded) (stays : StaysABook) (orderly : ViewsAreOrd
             let view : IsView v = client_view_sound s window c sound is_window sound_c in
             let o = opens (c.batches + 1) answer b e in
             let planned : IsPlanned t o.planned = subst (IsAnswer t) o.is_planned right in
-            let plan : IsPlan t o.planned.goal (messages_of t planned.reach) o.plan = subst (λ p. MatchOption p (IsUnreachable (client_of v) o.planned.goal) (IsPlan t o.planned.goal (messages_of t planned.reach))) o.is_plan planned.plan in
+            let plan : IsPlan t planned.reach o.planned.goal o.plan = subst (λ p. MatchOption p (IsUnreachable (client_of v) o.planned.goal) (IsPlan t planned.reach o.planned.goal)) o.is_plan planned.plan in
             let recorded = runs_recorded v (orderly v view) o.plan.updates (client_of v).stored plan.least.acceptable in
             subst (AllByRecursion (λ (u : Update). IsRecorded (book_at s.books c.config.tracks) u.height)) (sym (ap (λ (y : OpenBatch). y.updates) (sym same ∙ o.is))) recorded;
         apart = λ b' f.
@@ -227,9 +234,10 @@ module _ (finds : FindsWhatWasAdded) (stays : StaysABook) (orderly : ViewsAreOrd
             let o = opens (c.batches + 1) answer b e in
             let t = task_in s window client c in
             let planned : IsPlanned t o.planned = subst (IsAnswer t) o.is_planned right in
-            let plan : IsPlan t o.planned.goal (messages_of t planned.reach) o.plan = subst (λ p. MatchOption p (IsUnreachable (client_of (view_of t)) o.planned.goal) (IsPlan t o.planned.goal (messages_of t planned.reach))) o.is_plan planned.plan in
-            subst (Up AreApart) (sym plan.messages ∙ sym (ap (λ (y : OpenBatch). y.messages) (sym same ∙ o.is)))
-            (messages_apart s (λ n p at_n. Up-from_increasing (λ (q : Packet). q.sequence) p.packets (all_at IsSoundPath s.paths n p sound.paths at_n).rising) client (sending_reach t planned.reach) c.asked);
+            let plan : IsPlan t planned.reach o.planned.goal o.plan = subst (λ p. MatchOption p (IsUnreachable (client_of (view_of t)) o.planned.goal) (IsPlan t planned.reach o.planned.goal)) o.is_plan planned.plan in
+            let ready = ready_at t planned.reach plan.proof in
+            subst (Up AreApart) (sym ready.are ∙ sym plan.messages ∙ sym (ap (λ (y : OpenBatch). y.messages) (sym same ∙ o.is)))
+            (messages_apart s (λ n p at_n. Up-from_increasing (λ (q : Packet). q.sequence) p.packets (all_at IsSoundPath s.paths n p sound.paths at_n).rising) client t ready.height);
       }
 
   plan_sound : (s : State) (d : Draft) → IsSound s.standing → IsDraft d → refusal_of s (Planned d) ≡ None → IsSound (changed s.standing (Planned d))
@@ -267,7 +275,7 @@ module _ (finds : FindsWhatWasAdded) (stays : StaysABook) (orderly : ViewsAreOrd
       one_stored (set s.books chain b) c height is
       (subst (λ (x : Book). IsRecorded x height) (sym (ap (book_at (set s.books chain b)) (sym its) ∙ get_or-set_same s.books chain b (empty_book 1) within)) (now_recorded finds (book_at s.books chain) height r book ok)))
 
-  sent_sound : (s : State) (path sequence block : ℕ) (timeout_height timeout_time : Option ℕ) → IsSound s.standing → refusal_of s (Sent path sequence block timeout_height timeout_time) ≡ None
+  sent_sound : (s : State) (path sequence : ℕ) (block : Block) (timeout_height timeout_time : Option ℕ) → IsSound s.standing → refusal_of s (Sent path sequence block timeout_height timeout_time) ≡ None
       → IsSound (changed s.standing (Sent path sequence block timeout_height timeout_time))
   sent_sound s path sequence block timeout_height timeout_time sound ok =
       let judged_is = judged_none s (Sent path sequence block timeout_height timeout_time) ok in
@@ -282,7 +290,16 @@ module _ (finds : FindsWhatWasAdded) (stays : StaysABook) (orderly : ViewsAreOrd
   pub step_sound : (s : State) (e : Event) → IsSound s.standing → IsEvent e → refusal_of s e ≡ None → IsSound (changed s.standing e)
   step_sound s (Window window) sound is ok =
       record { window = λ w e. subst (λ (x : Span). x.from ≤ x.until) (same_Some window w e) is; books = sound.books; clients = sound.clients; paths = sound.paths }
-  step_sound s (Asked client goal) sound is ok = with_client_sound s.standing client _ sound (λ c at x. record { tracks = x.tracks; fees = x.fees; rising = x.rising; recorded = x.recorded; updates = x.updates; apart = x.apart })
+  step_sound s (HostWindow host window) sound is ok = record {
+    window = sound.window;
+    books = sound.books;
+    clients = all_mapped (IsSoundClient s.standing.books) (in_host_window host window)
+        (λ c x. in_host_by (IsSoundClient s.standing.books) host window c
+        (record { tracks = x.tracks; window = λ w e. subst (λ (y : Span). y.from ≤ y.until) (same_Some window w e) is; fees = x.fees; rising = x.rising; recorded = x.recorded; updates = x.updates; apart = x.apart }) x)
+        s.standing.clients sound.clients;
+    paths = sound.paths;
+  }
+  step_sound s (Asked client goal) sound is ok = with_client_sound s.standing client _ sound (λ c at x. record { tracks = x.tracks; window = x.window; fees = x.fees; rising = x.rising; recorded = x.recorded; updates = x.updates; apart = x.apart })
   step_sound s (SetSeen chain x) sound is ok =
       let b = book_at s.standing.books chain in
       let fits = set_accepted b x (judged_none s (SetSeen chain x) ok) in
@@ -319,7 +336,7 @@ module _ (finds : FindsWhatWasAdded) (stays : StaysABook) (orderly : ViewsAreOrd
   new_clients : (config : Config) (books : List Book) (cs : List ClientConfig) → length books ≡ length config.chains → AllByRecursion (IsClient (length config.chains)) cs → AllByRecursion (λ (c : ClientConfig). IsFeeTable c.fees) cs → AllByRecursion (IsSoundClient books) (map new_client cs)
   new_clients config books [] long all fees = tt
   new_clients config books (c ∷ cs) long all fees = (
-    record { tracks = subst (λ n. c.tracks < n) (sym long) all.0.tracks; fees = fees.0; rising = λ k lt. absurd (omega arith); recorded = tt; updates = λ b e. absurd (none-some b e); apart = λ b e. absurd (none-some b e) },
+    record { tracks = subst (λ n. c.tracks < n) (sym long) all.0.tracks; window = λ w e. absurd (none-some w e); fees = fees.0; rising = λ k lt. absurd (omega arith); recorded = tt; updates = λ b e. absurd (none-some b e); apart = λ b e. absurd (none-some b e) },
     new_clients config books cs long all.1 fees.1,
   )
 

@@ -5,7 +5,7 @@ use Rattle.std.specs.Option.{option_map}
 use Rattle.std.proofs.lemmas.Bool.{lt-ltb}
 use Rattle.std.proofs.lemmas.Option.{same_Some, slice_get_within}
 use Rattle.rb_script_types.specs.Config.{Config}
-use Rattle.rb_core_model.specs.Event.{Event, Window, Asked, SetSeen, HeaderSeen, StoredSeen, Sent, Received, AckWritten, Cleared, Closed, Scanned, Planned, Settled}
+use Rattle.rb_core_model.specs.Event.{Event, Window, HostWindow, Asked, SetSeen, HeaderSeen, StoredSeen, Sent, Received, AckWritten, Cleared, Closed, Scanned, Planned, Settled}
 use Rattle.rb_core_model.specs.Machine.{State, Reply, is_scanned, job_of, refusal_beside, refusal_of, reply_of, accepted, after, state_of}
 use Rattle.rb_core_model.specs.Snapshot.{Log}
 use Rattle.rb_core_model.specs.Standing.{judged}
@@ -16,6 +16,7 @@ use Rattle.rb_core_model.proofs.Options.{mapped, chained}
 
 beside : (s : State) (e : Event) → IsFromOutside e → refusal_beside s e ≡ judged s.standing e
 beside s (Window window) is = refl
+beside s (HostWindow host window) is = refl
 beside s (Asked client goal) is = refl
 beside s (SetSeen chain x) is = refl
 beside s (HeaderSeen chain header) is = refl

@@ -2,7 +2,6 @@
 use Rattle.std.specs.Prelude.{◌≡◌, ℕ, ◌≤◌, Bool, ◌&&◌, ◌==◌, List, ◌∷◌, length, map, filter, All, AllPairs, Contains, Option, Some, None, slice_get}
 use Rattle.std.specs.List.{range_with_len}
 use Rattle.rb_base.specs.Window.{Span}
-use Rattle.rb_batch.specs.Cut.{IsLeastCut}
 use Rattle.rb_script_types.specs.declared.goal.Goal.{Goal}
 use Rattle.rb_plan_types.specs.Least.{IsLeast}
 use Rattle.rb_plan_types.specs.ProofHeight.{IsProofHeight}
@@ -15,13 +14,13 @@ use Rattle.rb_step.specs.View.{client_of}
 use Rattle.rb_script_types.specs.Config.{Config}
 use Rattle.rb_core_model.specs.Begun.{IsBegun}
 use Rattle.rb_core_model.specs.Config.{IsSetUp}
-use Rattle.rb_plan_client.specs.Draft.{Draft, IsDraft}
+use Rattle.rb_plan_client.specs.Draft.{Draft, IsDraft, IsCut}
 use Rattle.rb_core_model.specs.Event.{Event, IsEvent, Planned, Settled}
 use Rattle.rb_core_model.specs.Machine.{Opened, refusal_of, reply_of, after, state_of}
 use Rattle.rb_core_model.specs.Snapshot.{Log, followed_by}
 use Rattle.rb_plan_client.specs.Reach.{IsReach}
 use Rattle.rb_core_model.specs.Standing.{OpenBatch, ClientState, Standing, path_view, task_in, settled_messages, batch_open}
-use Rattle.rb_plan_client.specs.Task.{Message, view_of, goal_of, messages_of, gases}
+use Rattle.rb_plan_client.specs.Task.{Message, view_of, goal_of, messages_of, is_apart, gas_of}
 
 -- ---- a batch when it is opened
 
@@ -37,7 +36,7 @@ abbrev pub AreInTurn : Path → List ℕ → Type 0
 AreInTurn v sequences = sequences ≡ range_with_len (next_sequence v Receive) (length sequences)
 
 -- A batch is what a client is to be sent as things stand: the least list of updates that meets its goal, the messages that
--- are due, and none where the goal was asked for, and the least cut of them all. Each message can be proved at the
+-- go with it, and the least cut of them all, or of the updates apart. Each message can be proved at the
 -- batch's height, and the receives of an ORDERED path come in turn.
 pub record IsRightBatch (s : Standing) (client : ℕ) (b : OpenBatch) : Type 0 where
   pub window : Span
@@ -50,8 +49,8 @@ pub record IsRightBatch (s : Standing) (client : ℕ) (b : OpenBatch) : Type 0 w
   pub is_reach : IsReach (client_of (view_of (task_in s window client known))) reach
   pub is_goal : goal_of (task_in s window client known) reach ≡ Some goal
   pub least : IsLeast (client_of (view_of (task_in s window client known))) goal b.updates
-  pub messages : b.messages ≡ messages_of (task_in s window client known) reach
-  pub cut : IsLeastCut known.config.limits (gases (task_in s window client known) b.updates b.messages) b.transactions
+  pub messages : b.messages ≡ messages_of (task_in s window client known) reach (Some b.proof)
+  pub cut : IsCut (is_apart (task_in s window client known) reach) known.config.limits (map (gas_of (task_in s window client known)) b.updates) (map (λ (m : Message). m.gas) b.messages) b.transactions
   pub proof : IsProofHeight (client_of (view_of (task_in s window client known))) b.updates (Some b.proof)
   pub floors : All (λ (m : Message). m.packet.floor ≤ b.proof) b.messages
   pub in_turn : (path : ℕ) (v : Path) → path_view s path ≡ Some v → v.order ≡ Ordered → AreInTurn v (receives_on path b.messages)

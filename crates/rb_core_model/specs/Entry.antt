@@ -4,7 +4,7 @@ use Rattle.std.specs.Option.{option_map, option_map_or}
 use Rattle.rb_script_types.specs.Config.{Config}
 use Rattle.rb_base.specs.declared.gate.Part.{Part}
 use Rattle.rb_plan_client.specs.Draft.{Planned as Answer}
-use Rattle.rb_core_model.specs.Event.{Event, Window, Asked, SetSeen, HeaderSeen, StoredSeen, Sent, Received, AckWritten, Cleared, Closed, Scanned, Planned, Settled}
+use Rattle.rb_core_model.specs.Event.{Event, Window, HostWindow, Asked, SetSeen, HeaderSeen, StoredSeen, Sent, Received, AckWritten, Cleared, Closed, Scanned, Planned, Settled}
 use Rattle.rb_core_model.specs.Machine.{State, begun, client_view, after}
 use Rattle.rb_core_model.specs.Seen.{observed}
 use Rattle.rb_core_model.specs.Snapshot.{Snapshot, Log}
@@ -20,6 +20,7 @@ pub data Logged : Type 0 where
 
 abbrev pub entry_view : {A : Type 0} → Entry A → Logged
 entry_view (entry.Window window) = whole (Window window)
+entry_view (entry.HostWindow w) = whole (HostWindow w.host w.window)
 entry_view (entry.Asked asked) = whole (Asked asked.client asked.goal)
 entry_view (entry.Observed observation) = whole (observed observation)
 entry_view (entry.Scan path part) = scan path part
@@ -28,6 +29,7 @@ entry_view (entry.Settled settlement) = whole (Settled settlement.client settlem
 
 abbrev pub logged_of : Event → Logged
 logged_of (Window window) = whole (Window window)
+logged_of (HostWindow host window) = whole (HostWindow host window)
 logged_of (Asked client goal) = whole (Asked client goal)
 logged_of (SetSeen chain set) = whole (SetSeen chain set)
 logged_of (HeaderSeen chain header) = whole (HeaderSeen chain header)

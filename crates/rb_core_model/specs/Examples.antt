@@ -18,6 +18,7 @@ use Rattle.rb_script_types.specs.declared.config.ClientConfig.{ClientConfig}
 use Rattle.rb_script_types.specs.declared.config.RefreshTo.TheVariants.{Lowest}
 use Rattle.rb_script_types.specs.declared.version.Version.TheVariants.{One}
 use Rattle.rb_plan_client.specs.Draft.{batched, Planned as Answer, Job, Draft}
+use Rattle.rb_script_types.specs.declared.block.Block.{Block}
 use Rattle.rb_core_model.specs.Event.{Event, Window, Asked, StoredSeen, Sent, Received, AckWritten, Cleared, Closed, Scanned, Planned, Settled}
 use Rattle.rb_core_model.specs.Machine.{State, Opened, client_view, client_view_refusal, path_view_refusal, refusal_of, reply_of, state_of}
 use Rattle.rb_core_model.specs.Limits.{max_events}
@@ -70,9 +71,13 @@ a_window = Window (record { from = 100; until = 200 })
 abbrev pub a_record : ℕ → Record
 a_record time = record { time = time; root = []; next = [] }
 
+-- a block whose time isn't told
+abbrev pub in_block : ℕ → Block
+in_block height = record { height = height; time = None }
+
 -- what was seen first: a record that each client has stored, and a packet
 abbrev pub beginning : List Event
-beginning = a_window ∷ StoredSeen 0 9 (a_record 90) ∷ StoredSeen 1 5 (a_record 50) ∷ Sent 0 4 8 None None ∷ []
+beginning = a_window ∷ StoredSeen 0 9 (a_record 90) ∷ StoredSeen 1 5 (a_record 50) ∷ Sent 0 4 (in_block 8) None None ∷ []
 
 abbrev pub at : Order → List Event → State
 at order events = state_of (a_config order) (from_nothing events)
@@ -97,7 +102,7 @@ refused s d = option_and_then (λ x. refusal_of s (Planned x)) d
 
 -- a plan that sends the packet's receive alone
 abbrev pub one_receive : Message
-one_receive = record { path = 0; packet = record { kind = Receive; sequence = 4; floor = 9; expires = None }; gas = 5 }
+one_receive = record { path = 0; packet = record { kind = Receive; sequence = 4; floor = 9; expires = None; since = None; timeout = None }; gas = 5 }
 
 abbrev pub an_answer : Answer
 an_answer = record {
@@ -157,28 +162,28 @@ pub record Examples : Type 0 where
   pub conflict : refusal_of (at Unordered beginning) (StoredSeen 0 9 (a_record 91)) ≡ Some (Conflict 9)
   pub window_back : refusal_of (at Unordered beginning) (Window (record { from = 99; until = 300 })) ≡ Some WindowBack
   -- packets: below the first sequence, known already, not sent
-  pub below : refusal_of (at Unordered beginning) (Sent 0 3 8 None None) ≡ Some OutOfOrder
-  pub sent_again : refusal_of (at Unordered beginning) (Sent 0 4 8 None None) ≡ Some Repeat
+  pub below : refusal_of (at Unordered beginning) (Sent 0 3 (in_block 8) None None) ≡ Some OutOfOrder
+  pub sent_again : refusal_of (at Unordered beginning) (Sent 0 4 (in_block 8) None None) ≡ Some Repeat
   pub not_sent : refusal_of (at Unordered beginning) (Received 0 5 8) ≡ Some OutOfOrder
   -- an ORDERED path receives in turn, an UNORDERED one doesn't
-  pub in_turn : refusal_of (at Ordered (beginning ++ Sent 0 5 8 None None ∷ [])) (Received 0 5 9) ≡ Some OutOfOrder
-  pub any_turn : refusal_of (at Unordered (beginning ++ Sent 0 5 8 None None ∷ [])) (Received 0 5 9) ≡ None
+  pub in_turn : refusal_of (at Ordered (beginning ++ Sent 0 5 (in_block 8) None None ∷ [])) (Received 0 5 9) ≡ Some OutOfOrder
+  pub any_turn : refusal_of (at Unordered (beginning ++ Sent 0 5 (in_block 8) None None ∷ [])) (Received 0 5 9) ≡ None
   pub received_again : refusal_of (at Ordered (beginning ++ Received 0 4 9 ∷ [])) (Received 0 4 9) ≡ Some Repeat
   -- an acknowledgement before its packet was received, in a lower block, and twice
-  pub not_received : refusal_of (at Ordered beginning) (AckWritten 0 4 9) ≡ Some OutOfOrder
-  pub written_below : refusal_of (at Ordered (beginning ++ Received 0 4 9 ∷ [])) (AckWritten 0 4 8) ≡ Some OutOfOrder
-  pub written_again : refusal_of (at Ordered (beginning ++ Received 0 4 9 ∷ AckWritten 0 4 9 ∷ [])) (AckWritten 0 4 9) ≡ Some Repeat
+  pub not_received : refusal_of (at Ordered beginning) (AckWritten 0 4 (in_block 9)) ≡ Some OutOfOrder
+  pub written_below : refusal_of (at Ordered (beginning ++ Received 0 4 9 ∷ [])) (AckWritten 0 4 (in_block 8)) ≡ Some OutOfOrder
+  pub written_again : refusal_of (at Ordered (beginning ++ Received 0 4 9 ∷ AckWritten 0 4 (in_block 9) ∷ [])) (AckWritten 0 4 (in_block 9)) ≡ Some Repeat
   pub cleared_again : refusal_of (at Ordered (beginning ++ Cleared 0 4 ∷ [])) (Cleared 0 4) ≡ Some Repeat
   pub closed_again : refusal_of (at Ordered (beginning ++ Closed 0 ∷ [])) (Closed 0) ≡ Some Repeat
   -- a scan of the path as it was before a packet was sent, and the same scan twice
-  pub older_scan : refusal_of (at Ordered (beginning ++ Sent 0 5 8 None None ∷ [])) (Scanned 0 (record { view = path_after Ordered beginning; part = Packets })) ≡ Some (Stale 5)
+  pub older_scan : refusal_of (at Ordered (beginning ++ Sent 0 5 (in_block 8) None None ∷ [])) (Scanned 0 (record { view = path_after Ordered beginning; part = Packets })) ≡ Some (Stale 5)
   pub scan_again : refusal_of (at Ordered (scanned Ordered beginning)) (Scanned 0 (record { view = path_after Ordered beginning; part = Packets })) ≡ Some Repeat
   -- a part that isn't scanned owes a client nothing, one that is scanned gives each client what is for it, and a scan is
   -- valid until the path changes
   pub not_scanned : option_map receives (owed_to Ordered beginning 0) ≡ Some ([] ∷ [])
   pub forward : option_map receives (owed_to Ordered (scanned Ordered beginning) 0) ≡ Some ((4 ∷ []) ∷ [])
   pub back : option_map receives (owed_to Ordered (scanned Ordered beginning) 1) ≡ Some ([] ∷ [])
-  pub no_longer : option_map receives (owed_to Ordered (scanned Ordered beginning ++ Sent 0 5 8 None None ∷ []) 0) ≡ Some ([] ∷ [])
+  pub no_longer : option_map receives (owed_to Ordered (scanned Ordered beginning ++ Sent 0 5 (in_block 8) None None ∷ []) 0) ≡ Some ([] ∷ [])
   -- a plan before all parts are scanned, one of another number, one for an older view, and the same plan twice
   pub unscanned : refused (at Ordered beginning) (draft_of Ordered beginning 0 None) ≡ Some NotOwed
   pub number_above : refused (at Ordered (scanned Ordered beginning)) (draft_of Ordered (scanned Ordered beginning ++ plan_with (draft_of Ordered (scanned Ordered beginning) 0 None)) 0 None) ≡ Some OutOfOrder
@@ -199,6 +204,6 @@ pub record Examples : Type 0 where
   pub both_done : option_map receives (owed_to Ordered (scanned Ordered (opened_two ++ Settled 0 1 2 ∷ [])) 0) ≡ Some ([] ∷ [])
   pub no_update : stored_by (opened_two ++ Settled 0 1 0 ∷ []) 0 ≡ Some (9 ∷ [])
   -- a settled timeout closes an ORDERED path
-  pub timeout_closes : option_map (λ (v : Path). v.closed) (option_map (λ p. view_of_path [] (after_message (record { kind = Timeout; sequence = 4; floor = 9; expires = None }) p)) (slice_get (at Ordered beginning).standing.paths 0)) ≡ Some true
-  pub timeout_leaves : option_map (λ (v : Path). v.closed) (option_map (λ p. view_of_path [] (after_message (record { kind = Timeout; sequence = 4; floor = 9; expires = None }) p)) (slice_get (at Unordered beginning).standing.paths 0)) ≡ Some false
+  pub timeout_closes : option_map (λ (v : Path). v.closed) (option_map (λ p. view_of_path [] (after_message (record { kind = Timeout; sequence = 4; floor = 9; expires = None; since = None; timeout = None }) p)) (slice_get (at Ordered beginning).standing.paths 0)) ≡ Some true
+  pub timeout_leaves : option_map (λ (v : Path). v.closed) (option_map (λ p. view_of_path [] (after_message (record { kind = Timeout; sequence = 4; floor = 9; expires = None; since = None; timeout = None }) p)) (slice_get (at Unordered beginning).standing.paths 0)) ≡ Some false
   pub none_settled : option_map receives (owed_to Ordered (scanned Ordered (opened Ordered ++ Settled 0 1 0 ∷ [])) 0) ≡ Some ((4 ∷ []) ∷ [])

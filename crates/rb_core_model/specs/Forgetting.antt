@@ -12,17 +12,17 @@ use Rattle.rb_scan.specs.declared.path.Order.{Order}
 use Rattle.rb_scan.specs.declared.path.Order.TheVariants.{Ordered, Unordered}
 use Rattle.rb_step.specs.LightClient.{Update}
 use Rattle.rb_core_model.specs.Over.{gone_in, rest_of_path}
-use Rattle.rb_core_model.specs.Standing.{OpenBatch, ClientState, PathState, Standing, book_at}
+use Rattle.rb_core_model.specs.Standing.{OpenBatch, ClientState, PathState, Standing, book_at, window_for}
 
 -- ---- what a client needs
 
 abbrev pub is_live_in : Span → ℕ → Book → ℕ → Bool
 is_live_in w period b h = option_map_or (λ (r : Record). nat_lt w.until (r.time + period)) (record_at b h) false
 
--- live stored heights, the greatest stored one, and the heights of the updates in the open batch
+-- live stored heights, the greatest stored one, and the heights of the updates in the open batch, this being the common window
 abbrev pub needs_of_client : Span → Book → ClientState → List ℕ
 needs_of_client w b c =
-    filter (is_live_in w c.config.options.period b) c.stored
+    filter (is_live_in (window_for w c) c.config.options.period b) c.stored
     ++ (option_to_list (slice_get c.stored (length c.stored - 1))
     ++ option_map_or (λ (x : OpenBatch). map (λ (u : Update). u.height) x.updates) c.batch [])
 

@@ -11,7 +11,7 @@ use Rattle.rb_base.specs.declared.gate.Part.TheVariants.{Packets, Channel}
 use Rattle.rb_script_types.specs.Config.{Config}
 use Rattle.rb_core_model.specs.Config.{part_for}
 use Rattle.rb_plan_client.specs.Draft.{Job, Draft}
-use Rattle.rb_core_model.specs.Event.{Event, Window, Asked, SetSeen, HeaderSeen, StoredSeen, Sent, Received, AckWritten, Cleared, Closed, Scanned, Planned, Settled}
+use Rattle.rb_core_model.specs.Event.{Event, Window, HostWindow, Asked, SetSeen, HeaderSeen, StoredSeen, Sent, Received, AckWritten, Cleared, Closed, Scanned, Planned, Settled}
 use Rattle.rb_core_model.specs.Scan.{Scan}
 use Rattle.rb_script_types.specs.declared.refusal.Refusal.{Refusal}
 use Rattle.rb_script_types.specs.declared.refusal.Refusal.TheVariants.{UnknownObject, Stale, Busy, Repeat, OutOfOrder, NotOwed, LogFull}
@@ -90,7 +90,7 @@ job_of s client window c = record {
   held = is_some c.batch;
 }
 
--- none before the first window
+-- none before the first common window
 abbrev pub client_view : State → ℕ → Option Job
 client_view s client =
     option_and_then (λ window. option_map (job_of s client window) (slice_get s.standing.clients client)) s.standing.window
@@ -119,6 +119,7 @@ path_view_refusal s path = refused_if (not (knows_path s path)) UnknownObject No
 -- the chain, client or path of an event is there
 abbrev pub is_known : State → Event → Bool
 is_known s (Window window) = true
+is_known s (HostWindow host window) = knows_chain s host
 is_known s (Asked client goal) = knows_client s client
 is_known s (SetSeen chain set) = knows_chain s chain
 is_known s (HeaderSeen chain header) = knows_chain s chain

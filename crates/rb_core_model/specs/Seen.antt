@@ -1,7 +1,7 @@
 -- Events as they lie in memory and without that.
 use Rattle.rb_script_types.specs.declared.observation.Observation.{Observation}
 use Rattle.rb_script_types.specs.declared.observation.Observation.TheVariants as seen
-use Rattle.rb_core_model.specs.Event.{Event, Window, Asked, SetSeen, HeaderSeen, StoredSeen, Sent, Received, AckWritten, Cleared, Closed, Scanned, Planned, Settled}
+use Rattle.rb_core_model.specs.Event.{Event, Window, HostWindow, Asked, SetSeen, HeaderSeen, StoredSeen, Sent, Received, AckWritten, Cleared, Closed, Scanned, Planned, Settled}
 use Rattle.rb_core_model.specs.declared.event.Event.{Event as CodeEvent}
 use Rattle.rb_core_model.specs.declared.event.Event.TheVariants as code
 
@@ -17,6 +17,7 @@ observed (seen.Closed path) = Closed path
 
 abbrev pub event_view : {A : Type 0} → CodeEvent A → Event
 event_view (code.Window window) = Window window
+event_view (code.HostWindow w) = HostWindow w.host w.window
 event_view (code.Asked asked) = Asked asked.client asked.goal
 event_view (code.Observed observation) = observed observation
 event_view (code.Scanned path scan) = Scanned path scan

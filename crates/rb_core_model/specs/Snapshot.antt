@@ -13,6 +13,7 @@ use Rattle.rb_core_model.specs.Standing.{OpenBatch, ClientState, PathState, Stan
 
 -- of a client, and of a path
 pub record ClientSnapshot : Type 0 where
+  pub window : Option Span
   pub stored : List ℕ
   pub asked : Option Goal
   pub batches : ℕ
@@ -36,7 +37,7 @@ nothing = record { window = None; books = []; clients = []; paths = [] }
 -- ---- what is known of how things stand
 
 abbrev pub snapshot_of_client : ClientState → ClientSnapshot
-snapshot_of_client c = record { stored = c.stored; asked = c.asked; batches = c.batches; batch = c.batch }
+snapshot_of_client c = record { window = c.window; stored = c.stored; asked = c.asked; batches = c.batches; batch = c.batch }
 
 abbrev pub snapshot_of_path : PathState → PathSnapshot
 snapshot_of_path p = record { first = p.first; packets = p.packets; closed = p.closed }
@@ -53,7 +54,7 @@ books_from (b ∷ bs) limit zero = []
 books_from (b ∷ bs) limit (suc chains) = b ∷ books_from bs limit chains
 
 abbrev pub client_from : ClientConfig → ClientSnapshot → ClientState
-client_from config x = record { config = config; stored = x.stored; asked = x.asked; batches = x.batches; batch = x.batch }
+client_from config x = record { config = config; window = x.window; stored = x.stored; asked = x.asked; batches = x.batches; batch = x.batch }
 
 abbrev pub clients_from : List ClientSnapshot → List ClientConfig → List ClientState
 clients_from [] cs = map new_client cs

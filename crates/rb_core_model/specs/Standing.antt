@@ -1,8 +1,8 @@
 -- How things stand: what was seen and settled so far. What an event makes of it, and why one is refused (own choice, over
 -- books, ICS 4 and the client's machine).
-use Rattle.std.specs.Prelude.{ℕ, ◌+◌, ◌-◌, ◌<◌, ◌==◌, Bool, true, false, ◌&&◌, ◌||◌, nat_lt, nat_le, List, [], length, replicate, map, fold, sum_by, take, filter_map, Option, Some, None, is_some, slice_get, slice_index_or, slice_set, if◌then◌else◌}
+use Rattle.std.specs.Prelude.{ℕ, ◌+◌, ◌-◌, ◌<◌, ◌==◌, Bool, true, false, ◌&&◌, ◌||◌, nat_lt, nat_le, List, [], length, replicate, map, fold, sum_by, take, filter_map, Option, Some, None, is_some, unwrap_or, slice_get, slice_index_or, slice_set, if◌then◌else◌}
 use Rattle.std.specs.List.{list_any, enumerate_from}
-use Rattle.std.specs.Option.{option_map, option_map_or, option_and_then}
+use Rattle.std.specs.Option.{option_map, option_map_or, option_and_then, option_or}
 use Rattle.rb_base.specs.Window.{Span}
 use Rattle.rb_batch.specs.declared.transaction.Transaction.{Transaction}
 use Rattle.rb_book.specs.Book.{Book, heights_and_times_of}
@@ -19,11 +19,12 @@ use Rattle.rb_scan.specs.declared.path.Order.TheVariants.{Ordered}
 use Rattle.rb_base.specs.declared.gate.Part.{Part}
 use Rattle.rb_step.specs.LightClient.{Update}
 use Rattle.rb_script_types.specs.Config.{Config}
+use Rattle.rb_script_types.specs.declared.block.Block.{Block}
 use Rattle.rb_script_types.specs.declared.config.ClientConfig.{ClientConfig}
 use Rattle.rb_script_types.specs.declared.config.PathConfig.{PathConfig}
 use Rattle.rb_core_model.specs.Config.{part_for}
 use Rattle.rb_plan_client.specs.Draft.{Sending, nothing, too_big, batched, Plan, Planned as Answer}
-use Rattle.rb_core_model.specs.Event.{Event, Window, Asked, SetSeen, HeaderSeen, StoredSeen, Sent, Received, AckWritten, Cleared, Closed, Scanned, Planned, Settled}
+use Rattle.rb_core_model.specs.Event.{Event, Window, HostWindow, Asked, SetSeen, HeaderSeen, StoredSeen, Sent, Received, AckWritten, Cleared, Closed, Scanned, Planned, Settled}
 use Rattle.rb_script_types.specs.Refusal.{of_book}
 use Rattle.rb_script_types.specs.declared.refusal.Refusal.{Refusal}
 use Rattle.rb_script_types.specs.declared.refusal.Refusal.TheVariants.{Full, Repeat, OutOfOrder, WindowBack}
@@ -39,10 +40,11 @@ pub record OpenBatch : Type 0 where
   pub messages : List Message
   pub transactions : List Transaction
 
--- a client: its configuration, the heights that it has stored, rising, the goal that it was asked for, how many batches it
--- has opened, and the one that is open
+-- a client: its configuration, the window of its host where that has one of its own, the heights that it has stored, rising, the goal that it was
+-- asked for, how many batches it has opened, and the one that is open
 pub record ClientState : Type 0 where
   pub config : ClientConfig
+  pub window : Option Span
   pub stored : List ℕ
   pub asked : Option Goal
   pub batches : ℕ
@@ -69,7 +71,7 @@ abbrev pub empty_book : ℕ → Book
 empty_book limit = record { limit = limit; sets = []; records = []; headers = [] }
 
 abbrev pub new_client : ClientConfig → ClientState
-new_client config = record { config = config; stored = []; asked = None; batches = 0; batch = None }
+new_client config = record { config = config; window = None; stored = []; asked = None; batches = 0; batch = None }
 
 abbrev pub new_path : PathConfig → PathState
 new_path config = record { config = config; first = config.first; packets = []; closed = false }
@@ -116,18 +118,22 @@ path_task owed client (place, p) =
 abbrev pub path_tasks : (ℕ → Part → List PacketMsg) → List PathState → ℕ → List PathTask
 path_tasks owed paths client = filter_map (path_task owed client) (enumerate_from 0 paths)
 
--- a client in a window, over the book of the chain that it tracks, with paths
+-- the window of a client, this being the common one: that of its host, or else the common one
+abbrev pub window_for : Span → ClientState → Span
+window_for window c = unwrap_or c.window window
+
+-- a client, this being the common window, over the book of the chain that it tracks, with paths
 abbrev pub task_of : Span → List Book → List PathTask → ClientState → Task
 task_of window books paths c = record {
   config = c.config;
   stored = c.stored;
-  window = window;
+  window = window_for window c;
   book = book_at books c.config.tracks;
   paths = paths;
   asked = c.asked;
 }
 
--- what a client is to be brought to as things stand, in a window: all that its paths owe it counts
+-- what a client is to be brought to as things stand, this being the common window: all that its paths owe it counts
 abbrev pub task_in : Standing → Span → ℕ → ClientState → Task
 task_in s window client c = task_of window s.books (path_tasks (owed_at s) s.paths client) c
 
@@ -137,6 +143,10 @@ task_in s window client c = task_of window s.books (path_tasks (owed_at s) s.pat
 abbrev pub goes_back : Option Span → Span → Bool
 goes_back None window = false
 goes_back (Some present) window = nat_lt window.from present.from || nat_lt window.until present.until
+
+-- the window of a host does where that of a client there does
+abbrev pub goes_back_on : Option Span → ℕ → Span → ClientState → Bool
+goes_back_on common host window c = (c.config.host == host) && goes_back (option_or c.window common) window
 
 -- the most packets of a path (own choice)
 abbrev pub max_packets : ℕ
@@ -184,13 +194,14 @@ settled_refusal c number done = settled_refusal_of c number done (open_batch c n
 -- why an event is refused by how things stand: the first reason that applies. Scans and plans are judged by the relayer.
 abbrev pub judged : Standing → Event → Option Refusal
 judged s (Window window) = refused_if (goes_back s.window window) WindowBack None
+judged s (HostWindow host window) = refused_if (list_any (goes_back_on s.window host window) s.clients) WindowBack None
 judged s (Asked client goal) = None
 judged s (SetSeen chain set) = option_and_then of_book (set_refusal (book_at s.books chain) set)
 judged s (HeaderSeen chain header) = option_and_then of_book (header_refusal (book_at s.books chain) header)
 judged s (StoredSeen client height r) = option_and_then of_book (record_refusal (book_at s.books (tracked s.clients client)) height r)
 judged s (Sent path sequence block timeout_height timeout_time) = option_and_then (λ v. sent_refusal v sequence) (path_view s path)
 judged s (Received path sequence block) = option_and_then (λ v. received_refusal v sequence (packet_at v sequence)) (path_view s path)
-judged s (AckWritten path sequence block) = option_and_then (λ v. written_refusal block (packet_at v sequence)) (path_view s path)
+judged s (AckWritten path sequence block) = option_and_then (λ v. written_refusal block.height (packet_at v sequence)) (path_view s path)
 judged s (Cleared path sequence) = option_and_then (λ v. cleared_refusal (packet_at v sequence)) (path_view s path)
 judged s (Closed path) = option_and_then (λ (v : Path). refused_if v.closed Repeat None) (path_view s path)
 judged s (Scanned path scan) = None
@@ -212,6 +223,10 @@ with_client s client f = record s { clients = changed_at f s.clients client }
 abbrev pub with_path : Standing → ℕ → (PathState → PathState) → Standing
 with_path s path f = record s { paths = changed_at f s.paths path }
 
+-- a client after its host, if it is this one, was given a window
+abbrev pub in_host_window : ℕ → Span → ClientState → ClientState
+in_host_window host window c = if c.config.host == host then record c { window = Some window } else c
+
 -- rising heights with one more, which may be there already
 abbrev pub with_height : ℕ → List ℕ → List ℕ
 with_height height heights =
@@ -221,14 +236,16 @@ with_height height heights =
 abbrev pub with_packet : Packet → PathState → PathState
 with_packet q p = record p { packets = placed (λ (other : Packet). nat_lt other.sequence q.sequence) q p.packets }
 
-abbrev pub new_packet : ℕ → ℕ → Option ℕ → Option ℕ → Packet
+abbrev pub new_packet : ℕ → Block → Option ℕ → Option ℕ → Packet
 new_packet sequence block timeout_height timeout_time = record {
   sequence = sequence;
-  sent = block;
+  sent = block.height;
+  sent_time = block.time;
   timeout_height = timeout_height;
   timeout_time = timeout_time;
   received = None;
   written = None;
+  written_time = None;
   cleared = false;
   receive_settled = false;
   outcome_settled = false;
@@ -315,6 +332,7 @@ AreTracked s = (client : ℕ) → client < length s.clients → tracked s.client
 -- how things stand after an event that is not refused
 abbrev pub changed : Standing → Event → Standing
 changed s (Window window) = record s { window = Some window }
+changed s (HostWindow host window) = record s { clients = map (in_host_window host window) s.clients }
 changed s (Asked client goal) = with_client s client (λ c. record c { asked = Some goal })
 changed s (SetSeen chain set) = with_book s chain (after_set (book_at s.books chain) set)
 changed s (HeaderSeen chain header) = with_book s chain (after_header (book_at s.books chain) header)
@@ -324,7 +342,8 @@ changed s (StoredSeen client height r) =
 changed s (Sent path sequence block timeout_height timeout_time) =
     with_path s path (with_packet (new_packet sequence block timeout_height timeout_time))
 changed s (Received path sequence block) = with_path s path (with_mark (λ q. record q { received = Some block }) sequence)
-changed s (AckWritten path sequence block) = with_path s path (with_mark (λ q. record q { written = Some block }) sequence)
+changed s (AckWritten path sequence block) =
+    with_path s path (with_mark (λ q. record q { written = Some block.height; written_time = block.time }) sequence)
 changed s (Cleared path sequence) = with_path s path (with_mark (λ q. record q { cleared = true }) sequence)
 changed s (Closed path) = with_path s path (λ p. record p { closed = true })
 changed s (Scanned path scan) = s

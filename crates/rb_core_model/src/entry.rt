@@ -6,7 +6,7 @@ ghost use Rattle.rb_core_model.specs.Seen.{event_view};
 use crate::event::Event;
 use rb_base::{Moment, Part, Window};
 use rb_plan_client::{Planned, copy_answer};
-use rb_script_types::{Asked, Observation, Settlement};
+use rb_script_types::{Asked, HostWindow, Observation, Settlement};
 use std::alloc::{AllocError, Allocator, Global};
 
 /// A log entry: an event, but of a scan only its path and part, and of a plan only its client and what was planned,
@@ -15,6 +15,8 @@ use std::alloc::{AllocError, Allocator, Global};
 pub enum Entry<A: Allocator = Global> {
     /// The window in which updates may be submitted.
     Window(Window),
+    /// A window of the clients on a host.
+    HostWindow(HostWindow),
     /// What a client is to be brought to.
     Asked(Asked),
     /// An observation of a chain, a client or a path.
@@ -41,6 +43,7 @@ impl<A: Allocator + Copy> Entry<A> {
     {
         Ok(match event {
             Event::Window(window) => Entry::Window(*window),
+            Event::HostWindow(window) => Entry::HostWindow(*window),
             Event::Asked(asked) => Entry::Asked(*asked),
             Event::Observed(observation) => Entry::Observed(observation.copy()?),
             Event::Scanned { path, scan } => Entry::Scan {

@@ -7,7 +7,7 @@ use crate::path_scan::Scan;
 use crate::rules::observation_is_event;
 use rb_base::Window;
 use rb_plan_client::Draft;
-use rb_script_types::{Asked, Observation, Settlement};
+use rb_script_types::{Asked, HostWindow, Observation, Settlement};
 use std::alloc::{AllocError, Allocator, Global};
 
 /// What happens to a relayer, and what it makes out itself. Chains, clients and paths are named by
@@ -16,6 +16,8 @@ use std::alloc::{AllocError, Allocator, Global};
 pub enum Event<A: Allocator = Global> {
     /// The window in which updates may be submitted.
     Window(Window),
+    /// A window of the clients on a host.
+    HostWindow(HostWindow),
     /// What a client is to be brought to.
     Asked(Asked),
     /// An observation of a chain, a client or a path.
@@ -35,6 +37,7 @@ impl<A: Allocator + Copy> Event<A> {
     {
         Ok(match self {
             Event::Window(window) => Event::Window(*window),
+            Event::HostWindow(window) => Event::HostWindow(*window),
             Event::Asked(asked) => Event::Asked(*asked),
             Event::Observed(observation) => Event::Observed(observation.copy()?),
             Event::Scanned { path, scan } => Event::Scanned {
@@ -53,6 +56,9 @@ impl<A: Allocator + Copy> Event<A> {
         match self {
             Event::Window(window) => {
                 window.until();
+            }
+            Event::HostWindow(host) => {
+                host.window.until();
             }
             Event::Observed(observation) => observation_is_event(observation),
             Event::Planned(draft) => {

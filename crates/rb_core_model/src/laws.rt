@@ -6,7 +6,10 @@ ghost use Rattle.rb_core_model.specs.Steps.{JudgedByStanding, PresentScansAreAcc
 ghost use Rattle.rb_core_model.specs.Views.{ClientViewsAreViews, PathViewsArePaths, ViewsNeverComeBack};
 
 use rb_book::laws::{finds_what_was_added, stays_a_book};
-use rb_scan::laws::{ready_receives_are_consecutive, settled_is_not_owed};
+use rb_scan::laws::{
+    going_receives_are_consecutive, ready_is_within_reach, ready_receives_are_consecutive,
+    settled_is_not_owed,
+};
 use rb_step::laws::views_are_orderly;
 
 /// Each batch that is opened has the least list of updates, the ready messages and the least cut as
@@ -15,6 +18,8 @@ pub fn batches_are_right()
     ensures { BatchesAreRight }
 {
     ready_receives_are_consecutive();
+    going_receives_are_consecutive();
+    ready_is_within_reach();
 }
 
 /// A packet message is in the open batch of at most one client.

@@ -1,6 +1,6 @@
 -- Lists whose elements are changed one after another, each by its place; what is left from no height on is all.
 use Rattle.std.proofs.Common.{◌≡◌, ℕ, zero, suc, ◌+◌, ◌<◌, Bool, true, false, cond, not, ◌||◌, nat_le, List, [], ◌∷◌, length, map, get_or, set, refl, sym, ap, ◌∙◌, arith}
-use Rattle.std.specs.List.{enumerate_from, filter}
+use Rattle.std.specs.List.{enumerate_from, filter, list_any}
 use Rattle.std.proofs.lemmas.Bool.{le-leb}
 use Rattle.std.proofs.lemmas.List.{length-map, get_or-map, map-set}
 use Rattle.rb_valset.specs.Validator.{Member}
@@ -50,6 +50,11 @@ seen-step v f i initial now new h k lt before at is made =
     let long : length now ≡ length initial = sym (length-map now v) ∙ ap (λ xs. length xs) before ∙ upto-length f 0 i initial in
     let within : i < length now = omega (arith, lt, long) in
     upto-step f i initial (map v now) (map v new) (v h) (v k) lt before (ap v at ∙ sym (get_or-map v now i h (v h) within)) is (ap (map v) made ∙ map-set v now i k)
+
+-- whether one of those that are seen passes
+pub any_map : {X Y : Type 0} (p : Y → Bool) (f : X → Y) (xs : List X) → list_any p (map f xs) ≡ list_any (λ x. p (f x)) xs
+any_map p f [] = refl
+any_map p f (x ∷ xs) = ap (λ b. p (f x) || b) (any_map p f xs)
 
 pub upto-all : {X : Type 0} (f : ℕ → X → X) (n : ℕ) (xs : List X) → upto f n (length xs) xs ≡ map (λ (p : ℕ × X). f p.0 p.1) (enumerate_from n xs)
 upto-all f n [] = refl

@@ -7,22 +7,33 @@ ghost use Rattle.rb_core_model.specs.Limits.{max_events};
 ghost use Rattle.rb_book.specs.Search.{IsPlace};
 ghost use Rattle.rb_step.specs.LightClient.{Update};
 ghost use Rattle.rb_core_model.specs.Standing as standings;
-ghost use Rattle.rb_core_model.specs.Standing.{new_client, open_batch, settled_refusal, with_height, batch_opened, after_answer};
+ghost use Rattle.rb_core_model.specs.Standing.{new_client, in_host_window, goes_back, goes_back_on, window_for, open_batch, settled_refusal, with_height, batch_opened, after_answer};
 
 use crate::opened::{OpenBatch, batch_of};
-use rb_base::Height;
+use rb_base::{Height, Window};
 use rb_plan_client::Planned;
 use rb_plan_types::Update;
 use rb_script_types::{ClientConfig, Goal, Refusal};
 use std::alloc::{AllocError, Allocator, Global};
 use std::marker::Model;
 
-/// The state of one client: its configuration, the heights that it has stored, rising, the goal that it
-/// was asked for, how many batches were opened for it, and the one that is open. A contract also sees
+/// Whether a window begins or ends before the present one.
+pub fn goes_back(present: Option<Window>, window: Window) -> bool
+    ensures { result ≡ goes_back present window }
+{
+    match present {
+        Some(present) => window.from() < present.from() || window.until() < present.until(),
+        None => false,
+    }
+}
+
+/// The state of one client: its configuration, the window of its host where that has one of its own, the heights
+/// that it has stored, rising, the goal that it was asked for, how many batches were opened for it, and the one that is open. A contract also sees
 /// for how many more stored heights there is room.
 #[derive(Drop)]
 pub struct ClientState<A: Allocator = Global> {
     config: ClientConfig,
+    window: Option<Window>,
     stored: Vec<Height, A>,
     asked: Option<Goal>,
     batches: u64,
@@ -37,7 +48,7 @@ impl<A: Allocator> Model for ClientState<A> {
     ghost Value = { room.ClientWithRoom };
 
     ghost view = { λ c. record {
-      client = record { config = c.config; stored = c.stored.items; asked = c.asked; batches = c.batches; batch = c.batch };
+      client = record { config = c.config; window = c.window; stored = c.stored.items; asked = c.asked; batches = c.batches; batch = c.batch };
       room = vec_capacity c.stored - vec_len c.stored;
     } };
 
@@ -51,6 +62,7 @@ impl<A: Allocator> ClientState<A> {
     {
         ClientState {
             config,
+            window: None,
             stored: Vec::new(alloc),
             asked: None,
             batches: 0,
@@ -63,6 +75,30 @@ impl<A: Allocator> ClientState<A> {
         ensures { result.now ≡ self.now.client.config }
     {
         &self.config
+    }
+
+    /// The window of the client, this being the common one: that of its host, or else the common one.
+    pub fn window(&self, common: Window) -> Window
+        ensures { result ≡ window_for common self.now.client }
+    {
+        self.window.unwrap_or(common)
+    }
+
+    /// Whether a window of a host goes back for the client, this being the common window.
+    pub(crate) fn goes_back(&self, common: Option<Window>, host: usize, window: Window) -> bool
+        ensures { result ≡ goes_back_on common host window self.now.client }
+    {
+        self.config.host == host && goes_back(self.window.or(common), window)
+    }
+
+    /// Takes in a window of a host, if it is the client's.
+    pub(crate) fn enter(&mut self, host: usize, window: Window)
+        ensures client { self.new.client ≡ in_host_window host window self.old.client }
+        ensures room { self.new.room ≡ self.old.room }
+    {
+        if self.config.host == host {
+            self.window = Some(window);
+        }
     }
 
     /// The heights that the client has stored, rising.
@@ -261,6 +297,7 @@ impl<A: Allocator + Copy> ClientState<A> {
     {
         Ok(ClientState {
             config: self.config,
+            window: self.window,
             stored: Vec::from_slice(*self.stored.allocator(), self.stored.as_slice())?,
             asked: self.asked,
             batches: self.batches,

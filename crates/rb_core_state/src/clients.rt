@@ -1,5 +1,6 @@
 //! The states of the clients, by their places.
 ghost use Rattle.std.specs.Prelude.{◌≡◌, ◌<◌, ◌+◌, ℕ, length, map, slice_get, Some, IfOk, IfSome, IsSome, IsSomeAnd, OnOk};
+ghost use Rattle.std.specs.List.{list_any};
 ghost use Rattle.std.specs.Option.{option_copied, option_map, option_and_then};
 ghost use Rattle.rb_core_model.specs.Begun.{max_begun};
 ghost use Rattle.rb_core_model.specs.Forgetting.{rest_of_client};
@@ -7,13 +8,13 @@ ghost use Rattle.rb_core_model.specs.Limits.{max_events};
 ghost use Rattle.rb_core_state.specs.Floors.{floor_in};
 ghost use Rattle.rb_core_state.specs.Room.{clients_of, HasStoredRoom, HasSettleRoom};
 ghost use Rattle.rb_core_model.specs.Standing as standings;
-ghost use Rattle.rb_core_model.specs.Standing.{changed_at, tracked, new_client, with_height, batch_opened, after_answer, settled_refusal, after_batch};
+ghost use Rattle.rb_core_model.specs.Standing.{changed_at, tracked, new_client, with_height, batch_opened, after_answer, settled_refusal, after_batch, goes_back_on, in_host_window};
 
 use crate::client::ClientState;
 use crate::floors::floor_at;
 use crate::opened::OpenBatch;
 use crate::settling::settled_updates;
-use rb_base::Height;
+use rb_base::{Height, Window};
 use rb_plan_client::Planned;
 use rb_script_types::{ClientConfig, Goal, Refusal};
 use std::alloc::{AllocError, Allocator};
@@ -57,6 +58,29 @@ pub fn refuse_settled<A: Allocator>(
     ensures { result ≡ option_and_then (λ c. settled_refusal c number done) (slice_get (clients_of clients.now) client) }
 {
     client_in(clients, client).refuse_settled(number, done)
+}
+
+/// Whether a window of a host goes back for a client there, this being the common window.
+pub fn goes_back_on<A: Allocator>(
+    clients: &[ClientState<A>],
+    common: Option<Window>,
+    host: usize,
+    window: Window,
+) -> bool
+    ensures { result ≡ list_any (goes_back_on common host window) (clients_of clients.now) }
+{
+    clients
+        .iter()
+        .any(|client| client.goes_back(common, host, window))
+}
+
+/// Takes in a window of a host for each client there.
+pub fn enter<A: Allocator>(clients: &mut Vec<ClientState<A>, A>, host: usize, window: Window)
+    ensures { clients_of clients.new.items ≡ map (in_host_window host window) (clients_of clients.old.items) }
+{
+    for client in 0..clients.len() {
+        clients[client].enter(host, window);
+    }
 }
 
 /// Asks a client for a goal, in place of what it was asked for before.

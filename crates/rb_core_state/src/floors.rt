@@ -104,7 +104,8 @@ fn lower_by_client<A: Allocator>(
     ensures { result ≡ lowered lowest (forgetting.needs_of_client window.now book.now client.now.client) }
 {
     let period = client.config().options.period();
-    let live = lower_by_live(lowest, window, period, book, client.stored());
+    let window = client.window(*window);
+    let live = lower_by_live(lowest, &window, period, book, client.stored());
     let lowest = lesser(live, client.stored().last().copied());
     match client.batch() {
         Some(batch) => lower_by_updates(lowest, batch.updates()),

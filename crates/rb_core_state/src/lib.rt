@@ -21,7 +21,7 @@ pub mod paths;
 mod settling;
 pub mod views;
 
-pub use client::ClientState;
+pub use client::{ClientState, goes_back};
 pub use mark::Mark;
 pub use opened::OpenBatch;
 pub use path::PathState;

@@ -5,15 +5,15 @@ ghost use Rattle.rb_core_model.specs.Standing.{mark_of};
 
 use rb_base::Height;
 use rb_scan::{Kind, Packet};
-use rb_script_types::BlockHeight;
+use rb_script_types::Block;
 
 /// A step in the life cycle of a packet that was sent (ICS 4).
 #[derive(Clone, Copy)]
 pub enum Mark {
     /// The destination received it in a block of this height.
     Received(Height),
-    /// The destination wrote its acknowledgement in a block of this height.
-    Written(BlockHeight),
+    /// The destination wrote its acknowledgement in this block.
+    Written(Block),
     /// The source cleared its commitment, by an acknowledgement or a timeout.
     Cleared,
     /// A batch with a message of this kind for it was settled.
@@ -27,7 +27,7 @@ impl Mark {
     {
         match self {
             Mark::Received(block) => packet.with_received(*block),
-            Mark::Written(block) => packet.with_written(block.height()),
+            Mark::Written(block) => packet.with_written(block.height.height(), block.time),
             Mark::Cleared => packet.with_cleared(),
             Mark::Settled(kind) => settled(*kind, packet),
         }

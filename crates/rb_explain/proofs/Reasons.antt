@@ -8,7 +8,7 @@ use Rattle.rb_plan_types.specs.Least.{IsLeast, IsUnreachable}
 use Rattle.rb_plan_types.specs.declared.labelling.Label.{Label}
 use Rattle.rb_plan_client.specs.Draft.{Plan, IsPlan}
 use Rattle.rb_plan_client.specs.Reach.{IsReach}
-use Rattle.rb_plan_client.specs.Task.{Task, view_of, messages_of}
+use Rattle.rb_plan_client.specs.Task.{Task, view_of}
 use Rattle.rb_plan_drafting.proofs.RightAnswers.{reach_from_top}
 use Rattle.rb_step.specs.View.{client_of}
 use Rattle.rb_script_types.specs.declared.goal.Goal.{Goal}
@@ -45,7 +45,7 @@ plan_in t number goal (Some x) q least is =
     let same : map (priced t) x.updates ≡ q.updates = ap (λ (y : PlanReport). y.updates) (same_Some (reported_plan t number x) q is) in
     subst (λ (us : List Update). IsLeast (client_of (view_of t)) goal us) (sym (updates_back t x.updates) ∙ ap (map update_of) same) least
 
-least_of : (t : Task) (goal : Goal) (reach : Option ℕ) (o : Option Plan) → MatchOption o (IsUnreachable (client_of (view_of t)) goal) (IsPlan t goal (messages_of t reach))
+least_of : (t : Task) (goal : Goal) (reach : Option ℕ) (o : Option Plan) → MatchOption o (IsUnreachable (client_of (view_of t)) goal) (IsPlan t reach goal)
     → MatchOption o (IsUnreachable (client_of (view_of t)) goal) (λ (x : Plan). IsLeast (client_of (view_of t)) goal x.updates)
 least_of t goal reach None is = is
 least_of t goal reach (Some x) is = is.least

@@ -14,6 +14,7 @@ use Rattle.rb_explain.specs.Heights.{known_heights}
 use Rattle.rb_explain.specs.Idle.{IsIdleReason, OwesAny}
 use Rattle.rb_explain_plan.specs.Plan.{IsPlanExplained}
 use Rattle.rb_explain_plan.specs.Unreachable.{IsUnreachableExplained}
+use Rattle.rb_explain.specs.Refresh.{refresh_in}
 use Rattle.rb_explain.specs.Waiting.{IsWaiting}
 use Rattle.rb_explain.specs.declared.client.ClientExplanation.{ClientExplanation}
 use Rattle.rb_explain.specs.declared.client.StoredHeight.{StoredHeight}
@@ -62,4 +63,5 @@ pub record IsClientExplained {A : Type 0} (j : Job) (outcome : Outcome) (detail 
   pub reach : IsReachFor j.task outcome x.reach
   pub heights : x.heights.items ≡ known_heights j.task.book detail.has_heights
   pub waiting : IsWaiting j.task outcome x.reach x.waiting.items
+  pub refresh : x.refresh ≡ refresh_in j.task outcome x.reach
   pub why : IsWhy j.task outcome detail x.why

@@ -5,6 +5,8 @@ pub mod Wanted
 pub mod Heights
 pub mod Idle
 pub mod Ends
+pub mod Refresh
+pub mod Stays
 pub mod Waiting
 pub mod Client
 pub mod Subjects

@@ -8,6 +8,7 @@ ghost use Rattle.rb_explain.specs.Client.{AreStored, IsClientExplained, IsExpiry
 use crate::heights::{KnownHeight, known_heights};
 use crate::idle::{IdleReason, idle_reason, owes};
 use crate::reach::reach_of;
+use crate::refresh::{Refresh, refresh_of};
 use crate::waiting::{WaitingMessage, waiting};
 use crate::wanted::Detail;
 use rb_base::{Height, Window};
@@ -166,7 +167,7 @@ fn explain_outcome<A: Allocator + Copy>(
 
 /// What came of a client in a turn, and why: what it goes by, the heights that it had stored, the greatest height that it can be
 /// brought to, where it has a goal or waits for one with packet messages, the known heights of the chain that it tracks, where these are
-/// wanted, the packet messages that are owed to it and not sent, and why its outcome is as it is.
+/// wanted, the packet messages that are owed to it and not sent, its refresh by gain, and why its outcome is as it is.
 #[derive(Drop)]
 pub struct ClientExplanation<A: Allocator = Global> {
     pub client: usize,
@@ -177,6 +178,7 @@ pub struct ClientExplanation<A: Allocator = Global> {
     pub reach: Option<Height>,
     pub heights: Vec<KnownHeight, A>,
     pub waiting: Vec<WaitingMessage, A>,
+    pub refresh: Option<Refresh>,
     pub why: Why<A>,
 }
 
@@ -198,6 +200,7 @@ pub fn explain_client<A: Allocator + Copy>(
     let stored = stored_heights(alloc, &view)?;
     let heights = known_heights(alloc, job.book(), detail.has_heights)?;
     let waiting = waiting(alloc, job, &reach, outcome)?;
+    let refresh = refresh_of(job, outcome, &reach);
     let why = explain_outcome(alloc, job, graph, &reach, outcome, detail)?;
     Ok(ClientExplanation {
         client: job.client(),
@@ -208,6 +211,7 @@ pub fn explain_client<A: Allocator + Copy>(
         reach,
         heights,
         waiting,
+        refresh,
         why,
     })
 }

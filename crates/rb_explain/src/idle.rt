@@ -1,16 +1,16 @@
 //! Clients without a goal.
-ghost use Rattle.std.specs.Prelude.{◌≡◌, ◌↔◌, IsTrue, Any, IfOk};
-ghost use Rattle.std.specs.Option.{option_copied};
+ghost use Rattle.std.specs.Prelude.{◌↔◌, ◌<◌, IsTrue, Any, IfOk, length};
 ghost use Rattle.rb_plan_client.specs.Reach.{IsReach};
-ghost use Rattle.rb_plan_client.specs.Task.{is_due, newest_stored, view_of};
+ghost use Rattle.rb_plan_client.specs.Task.{ready_messages, view_of};
 ghost use Rattle.rb_step.specs.View.{client_of};
-ghost use Rattle.rb_explain.specs.Idle.{IsIdleReason, IsReadyOn, Owes, OwesAny};
+ghost use Rattle.rb_explain.specs.Idle.{Goes, IsIdleReason, Owes, OwesAny};
 
+use crate::refresh::is_aged;
 use rb_base::Height;
-use rb_book::Record;
-use rb_plan_client::{JobView, PathTask};
+use rb_plan_client::{JobView, PathTask, bars_of, ready_messages};
 use rb_plan_types::proof_height;
-use rb_scan::ready;
+use rb_scan::going;
+use rb_script_types::RefreshTo;
 use std::alloc::{AllocError, Allocator};
 
 /// Why a client has no goal; the first that applies.
@@ -20,9 +20,11 @@ pub enum IdleReason {
     NothingLive,
     /// Packet messages that a height proves to which the client can be brought wait for others to go with them.
     MessagesWait,
-    /// Packet messages are owed, and no height that the client can be brought to proves one of them.
+    /// Packet messages can go, and no height that the client can be brought to proves one of them.
     NothingProved,
-    /// A refresh is due, and the book has no record that is young enough.
+    /// Packet messages are owed, and none of them can go.
+    NothingGoes,
+    /// A refresh is due, and the book has no record that is young enough; by gain, none in reach that is newer by enough.
     NothingYoung,
     /// No packet message is owed, and no refresh is due.
     NothingDue,
@@ -35,52 +37,50 @@ pub(crate) fn owes<A: Allocator>(paths: &[PathTask<A>]) -> bool
     paths.iter().any(|path| !path.owed().is_empty())
 }
 
-/// Whether a message of a path is ready at the greatest height that the client can be brought to.
-fn is_ready_on<A: Allocator + Copy>(
+/// Whether a message of one of them is ready at the greatest height that the client can be brought to.
+fn has_ready<A: Allocator + Copy>(
     alloc: A,
-    path: &PathTask<A>,
+    job: &JobView<A>,
     reach: &Option<Height>,
 ) -> Result<bool, AllocError>
-    ensures { IfOk result (λ is. IsTrue is ↔ IsReadyOn reach.now path.now) }
+    ensures { IfOk result (λ has. IsTrue has ↔ (0 < length (ready_messages job.now.task reach.now))) }
 {
-    let messages = ready(alloc, path.owed(), path.order(), *reach)?;
+    let messages = ready_messages(alloc, job, reach)?;
     Ok(!messages.is_empty())
 }
 
-/// Whether a message of one of them is.
-#[tactic(auto, using(crate::proofs::Readiness::one_ready))]
-fn is_ready<A: Allocator + Copy>(
+/// Whether a message of a path can go.
+fn goes<A: Allocator + Copy>(
     alloc: A,
-    paths: &[PathTask<A>],
-    reach: &Option<Height>,
+    job: &JobView<A>,
+    path: &PathTask<A>,
 ) -> Result<bool, AllocError>
-    ensures { IfOk result (λ is. IsTrue is ↔ Any (IsReadyOn reach.now) paths.now) }
+    ensures { IfOk result (λ goes. IsTrue goes ↔ Goes job.now.task path.now) }
+{
+    match job.config().refresh_to {
+        RefreshTo::Lowest | RefreshTo::Highest => Ok(!path.owed().is_empty()),
+        RefreshTo::Newer => {
+            let messages = going(alloc, path.owed(), path.order(), &bars_of(job, path))?;
+            Ok(!messages.is_empty())
+        }
+    }
+}
+
+/// Whether a message of one of these paths can go.
+#[tactic(auto, using(crate::proofs::Readiness::one_goes))]
+fn any_goes<A: Allocator + Copy>(
+    alloc: A,
+    job: &JobView<A>,
+    paths: &[PathTask<A>],
+) -> Result<bool, AllocError>
+    ensures { IfOk result (λ goes. IsTrue goes ↔ Any (Goes job.now.task) paths.now) }
 {
     for path in paths {
-        if is_ready_on(alloc, path, reach)? {
+        if goes(alloc, job, path)? {
             return Ok(true);
         }
     }
     Ok(false)
-}
-
-/// The record of the client's greatest stored height.
-fn newest_stored<A: Allocator + Copy>(job: &JobView<A>) -> Option<&Record>
-    ensures { option_copied result ≡ newest_stored job.now.task }
-{
-    job.book().record(*job.stored().last()?)
-}
-
-/// Whether that record is due for a refresh by the end of the window.
-fn is_due<A: Allocator + Copy>(job: &JobView<A>) -> bool
-    ensures { result ≡ is_due job.now.task }
-{
-    let refresh = job.config().refresh;
-    let until = job.window().until().nanoseconds();
-    match newest_stored(job) {
-        Some(newest) => refresh != 0 && newest.time().nanoseconds() + u128::from(refresh) <= until,
-        None => false,
-    }
 }
 
 /// Why a client has no goal. `reach` is the greatest height that it can be brought to; it plays no part where no packet message is
@@ -98,15 +98,18 @@ pub fn idle_reason<A: Allocator + Copy>(
         return Ok(IdleReason::NothingLive);
     }
     if !owes(job.paths()) {
-        return if is_due(job) {
+        return if is_aged(job) {
             Ok(IdleReason::NothingYoung)
         } else {
             Ok(IdleReason::NothingDue)
         };
     }
-    if is_ready(alloc, job.paths(), reach)? {
-        Ok(IdleReason::MessagesWait)
-    } else {
+    if has_ready(alloc, job, reach)? {
+        return Ok(IdleReason::MessagesWait);
+    }
+    if any_goes(alloc, job, job.paths())? {
         Ok(IdleReason::NothingProved)
+    } else {
+        Ok(IdleReason::NothingGoes)
     }
 }

@@ -7,9 +7,11 @@ mod heights;
 mod idle;
 mod reach;
 mod ready;
+mod refresh;
 mod refused;
 mod run;
 mod seeing;
+mod stays;
 mod turn;
 mod waiting;
 mod wanted;
@@ -20,8 +22,10 @@ pub use idle::{IdleReason, idle_reason};
 pub use rb_explain_plan::{
     Charges, PlanExplanation, Power, PricedList, StepExplanation, UnreachableExplanation,
 };
+pub use refresh::Refresh;
 pub use refused::Subject;
 pub use run::{Listener, explain_script};
+pub use stays::Stay;
 pub use turn::TurnExplanation;
 pub use waiting::WaitingMessage;
 pub use wanted::{Detail, Wanted};

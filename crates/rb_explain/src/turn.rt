@@ -4,8 +4,9 @@ ghost use denote.Param.Send.{Frees};
 ghost use Rattle.rb_script_types.specs.Script.{IsReadObservation};
 ghost use Rattle.rb_core_model.specs.Standing.{goes_back};
 ghost use Rattle.rb_super_scripts.specs.AsEvents.{code_turn_as_events, IsTurnFor, most_events};
+ghost use Rattle.rb_script_types.specs.declared.script.HostWindow.{HostWindow as WindowOf};
 ghost use Rattle.rb_super_turn.specs.Phases.{standing_in, HasLogRoom, IsLater, IsPlannable, turn_heard};
-ghost use Rattle.rb_super_turn.specs.Turns.{after_turn, before_plans, refusals_in};
+ghost use Rattle.rb_super_turn.specs.Turns.{hosts_back, after_turn, before_plans, refusals_in};
 ghost use Rattle.rb_super_turn.specs.Views.{client_report_view, refused_view, settlement_view, turn_report_view};
 ghost use Rattle.rb_explain.specs.Turn.{IsTurnExplained};
 
@@ -14,10 +15,10 @@ use crate::refused::{Subject, subjects_of};
 use crate::seeing::{explain_all, see_all};
 use crate::wanted::Wanted;
 use rb_base::{Gate, Window};
-use rb_script_types::{Asked, Observation, Turn};
+use rb_script_types::{Asked, HostWindow, Observation, Turn};
 use rb_super_turn::{
-    ClientReport, Crew, Nothing, RefusedEvent, Relayer, SettlementReport, TurnReport, hear_all,
-    plan_all, scan_all, settle_turn,
+    ClientReport, Crew, Heard, Nothing, Relayer, SettlementReport, TurnReport, hear_all, plan_all,
+    scan_all, settle_turn,
 };
 use std::alloc::{AllocError, Allocator, Global};
 use std::thread::Threads;
@@ -60,22 +61,23 @@ impl<A: Allocator> TurnExplanation<A> {
 
 /// The report of a turn.
 fn report_of<A: Allocator>(
-    window_back: bool,
-    refused: Vec<RefusedEvent, A>,
+    heard: Heard<A>,
     clients: Vec<ClientReport<A>, A>,
     settlements: Vec<SettlementReport, A>,
 ) -> TurnReport<A>
     ensures view { turn_report_view result ≡ record {
-      window_back = window_back;
-      refused = map refused_view refused.items;
+      window_back = heard.window_back;
+      hosts_back = heard.hosts_back.items;
+      refused = map refused_view heard.refused.items;
       clients = map client_report_view clients.items;
       settlements = map settlement_view settlements.items;
     } }
     ensures clients { result.clients.items ≡ clients.items }
 {
     TurnReport {
-        window_back,
-        refused,
+        window_back: heard.window_back,
+        hosts_back: heard.hosts_back,
+        refused: heard.refused,
         clients,
         settlements,
     }
@@ -88,21 +90,24 @@ fn prepare<R: Threads + Sync, G: Gate + Sync, A: Allocator + Copy>(
     alloc: A,
     relayer: &mut Relayer<A>,
     window: Window,
+    windows: &[HostWindow],
     goals: &[Asked],
     events: Vec<Observation<A>, A>,
-) -> Result<(bool, Vec<RefusedEvent, A>), AllocError>
+) -> Result<Heard<A>, AllocError>
+    requires hosts { All (λ (w : WindowOf). w.host < length relayer.old.config.chains) windows.now }
     requires goals { All (λ (g : Asked). g.client < length relayer.old.config.clients) goals.now }
     requires events { All (IsReadObservation (length relayer.old.config.chains) (length relayer.old.config.clients) (length relayer.old.config.paths)) events.items }
-    requires room { HasLogRoom relayer.old (1 + length goals.now + length events.items + 2 * length relayer.old.config.paths) }
-    ensures back { IfOk result (λ r. r.0 ≡ goes_back (standing_in relayer.old).window window) }
-    ensures refused { IfOk result (λ r. map refused_view r.1.items ≡ refusals_in (standing_in relayer.old) (turn_heard window goals.now events.items)) }
-    ensures standing { OnOk result (standing_in relayer.new ≡ before_plans (standing_in relayer.old) (turn_heard window goals.now events.items)) }
+    requires room { HasLogRoom relayer.old (1 + length windows.now + length goals.now + length events.items + 2 * length relayer.old.config.paths) }
+    ensures back { IfOk result (λ h. h.window_back ≡ goes_back (standing_in relayer.old).window window) }
+    ensures hosts { IfOk result (λ h. h.hosts_back.items ≡ hosts_back (standing_in relayer.old) windows.now) }
+    ensures refused { IfOk result (λ h. map refused_view h.refused.items ≡ refusals_in (standing_in relayer.old) (turn_heard window windows.now goals.now events.items)) }
+    ensures standing { OnOk result (standing_in relayer.new ≡ before_plans (standing_in relayer.old) (turn_heard window windows.now goals.now events.items)) }
     ensures ready { OnOk result (IsPlannable relayer.new) }
-    ensures later { OnOk result (IsLater (1 + length goals.now + length events.items + 2 * length relayer.old.config.paths) relayer.old relayer.new) }
+    ensures later { OnOk result (IsLater (1 + length windows.now + length goals.now + length events.items + 2 * length relayer.old.config.paths) relayer.old relayer.new) }
 {
-    let (window_back, refused) = hear_all(alloc, relayer, window, goals, events)?;
+    let heard = hear_all(alloc, relayer, window, windows, goals, events)?;
     scan_all(crew, relayer, &mut Nothing)?;
-    Ok((window_back, refused))
+    Ok(heard)
 }
 
 /// Leads a relayer through a turn, and explains it: those of its clients that are wanted, as they were where the clients were planned.
@@ -124,18 +129,27 @@ pub(crate) fn explain_turn<R: Threads + Sync, G: Gate + Sync, A: Allocator + Cop
 {
     let Turn {
         window,
+        windows,
         goals,
         events,
         settlements,
         taken,
     } = turn;
     let subjects = subjects_of(alloc, events.as_slice(), wanted.has_turn(number))?;
-    let (window_back, refused) = prepare(crew, alloc, relayer, window, goals.as_slice(), events)?;
+    let heard = prepare(
+        crew,
+        alloc,
+        relayer,
+        window,
+        windows.as_slice(),
+        goals.as_slice(),
+        events,
+    )?;
     let seen = see_all(crew, alloc, relayer, number, wanted)?;
     let clients = plan_all(crew, alloc, relayer, &mut Nothing)?;
     let settled = settle_turn(alloc, relayer, settlements.as_slice(), taken)?;
     let explained = explain_all(alloc, seen.as_slice(), clients.as_slice(), wanted.detail)?;
-    let report = report_of(window_back, refused, clients, settled);
+    let report = report_of(heard, clients, settled);
     let explanation = TurnExplanation::new(number, window, report, subjects, explained);
     Ok(explanation)
 }

@@ -1,25 +1,29 @@
 //! Packet messages that are owed to a client and not sent.
-ghost use Rattle.std.specs.Prelude.{◌≡◌, ◌++◌, IfOk, OnOk};
+ghost use Rattle.std.specs.Prelude.{◌≡◌, ◌++◌, ◌&&◌, is_none, IfOk, OnOk};
 ghost use Rattle.std.specs.Option.{option_copied, option_map};
 ghost use Rattle.rb_super_turn.specs.Views.{outcome_view};
 ghost use Rattle.rb_explain.specs.Client.{IsRight};
 ghost use Rattle.rb_explain.specs.Ends.{ends_of};
+ghost use Rattle.rb_explain.specs.Stays.{stays_by};
 ghost use Rattle.rb_explain.specs.Waiting.{AreAmong, IsLeft, IsSentFirst, IsWaiting, owed_message, owed_messages, owed_on, sent_in};
 
 use crate::ready::{Ends, ends_at, is_ready};
+use crate::stays::{Stay, Stays, stay_of, stays_on};
 use rb_base::Height;
 use rb_plan_client::{JobView, Message, PathTask, press_moment};
 use rb_scan::PacketMsg;
 use rb_super_turn::Outcome;
 use std::alloc::{AllocError, Allocator};
 
-/// A packet message that isn't sent, and its path by its place; where a height that the client can be brought to proves it, and all
-/// that has to go before it, also the moment, in nanoseconds since 1970, from which on it waits for no other.
+/// A packet message that isn't sent, and its path by its place; why it can't go, if it can't; where it can, and a height that the
+/// client can be brought to proves it and all that goes before it, also the moment, in nanoseconds since 1970, from which on it waits for
+/// no other.
 #[derive(Clone, Copy, PartialEq, Eq)]
 pub struct WaitingMessage {
     pub path: usize,
     pub packet: PacketMsg,
     pub presses: Option<u128>,
+    pub stays: Option<Stay>,
 }
 
 /// The messages that are sent.
@@ -35,20 +39,23 @@ fn sent<A: Allocator>(outcome: &Outcome<A>) -> &[Message]
     }
 }
 
-/// A message that a path owes, by its place; `ends` tell how far the path's messages are ready.
-#[tactic(auto, using(crate::proofs::Waits::ready_by))]
+/// A message that a path owes, by its place; `ends` tell how far a height proves the path's messages, and `stays` which can't go.
+#[tactic(auto, using(crate::proofs::Waits::proved_by, crate::proofs::Waits::stay_is))]
 fn owed_message<A: Allocator + Copy>(
     job: &JobView<A>,
     task: &PathTask<A>,
     reach: &Option<Height>,
     ends: &Option<Ends>,
+    stays: &Option<Stays>,
     place: usize,
     packet: &PacketMsg,
 ) -> WaitingMessage
-    requires { ends.now ≡ option_map (ends_of task.now.owed) reach.now }
+    requires ends { ends.now ≡ option_map (ends_of task.now.owed) reach.now }
+    requires stays { stays.now ≡ stays_by job.now.task task.now job.now.task.config.refresh_to }
     ensures { result ≡ owed_message job.now.task reach.now task.now place packet.now }
 {
-    let presses = if is_ready(ends, task.order(), place, packet) {
+    let stays = stay_of(stays, task.order(), place, packet);
+    let presses = if stays.is_none() && is_ready(ends, task.order(), place, packet) {
         press_moment(job, &task.waits(), packet)
     } else {
         None
@@ -57,6 +64,7 @@ fn owed_message<A: Allocator + Copy>(
         path: task.path(),
         packet: *packet,
         presses,
+        stays,
     }
 }
 
@@ -71,8 +79,9 @@ fn add_owed<A: Allocator + Copy>(
 {
     let owed = task.owed();
     let ends = ends_at(owed, reach);
+    let stays = stays_on(job, task);
     for (place, packet) in owed.iter().enumerate() {
-        messages.push(owed_message(job, task, reach, &ends, place, packet))?;
+        messages.push(owed_message(job, task, reach, &ends, &stays, place, packet))?;
     }
     Ok(())
 }

@@ -4,8 +4,8 @@ use crate::pieces::{put, put_long};
 use crate::text::next_of;
 use rb_base::{Height, Sink};
 use rb_explain::{
-    Charges, ClientExplanation, IdleReason, PlanExplanation, Power, PricedList, StepExplanation,
-    Subject, TurnExplanation, UnreachableExplanation, WaitingMessage, Why,
+    Charges, ClientExplanation, IdleReason, PlanExplanation, Power, PricedList, Refresh, Stay,
+    StepExplanation, Subject, TurnExplanation, UnreachableExplanation, WaitingMessage, Why,
 };
 use rb_moments::push_moment;
 use rb_plan_client::Message;
@@ -27,6 +27,7 @@ pub fn put_json_beginning<W: Sink>(
     let format = match version {
         Version::One | Version::Two => 1,
         Version::Three => 3,
+        Version::Four => 4,
     };
     let mut text = format!(in alloc; "{{\"ibcplan\": {format}, \"turns\": [")?;
     Ok(put(&mut text, writer))
@@ -84,13 +85,29 @@ fn push_refusals(
     let window_back = turn.report.window_back;
     write!(
         text,
-        "{{\"turn\": {number}, \"window_back\": {window_back}, \"refused\": ["
+        "{{\"turn\": {number}, \"window_back\": {window_back}, "
     )?;
+    push_hosts(text, config, turn.report.hosts_back.as_slice())?;
+    text.push_str("\"refused\": [")?;
     for (place, refused) in turn.report.refused.iter().enumerate() {
         push_comma(text, place)?;
         push_refused(text, config, turn.subjects.as_slice(), refused)?;
     }
     text.push_str("], \"clients\": [")
+}
+
+/// Adds the hosts whose windows are refused, in version 4.
+fn push_hosts(text: &mut String, config: &Config, hosts: &[usize]) -> Result<(), AllocError> {
+    if config.version != Version::Four {
+        return Ok(());
+    }
+    text.push_str("\"windows_back\": [")?;
+    for (place, host) in hosts.iter().enumerate() {
+        push_comma(text, place)?;
+        let host = chain_name(config, *host);
+        write!(text, "\"{host}\"")?;
+    }
+    text.push_str("], ")
 }
 
 /// Adds the settlements that are refused.
@@ -229,6 +246,7 @@ fn push_client(
     push_charges(text, client)?;
     push_reach(text, client)?;
     push_waits(text, config, client)?;
+    push_refresh(text, client.refresh)?;
     push_next(text, config.version, &report.outcome)?;
     push_outcome(text, config, &report.outcome)?;
     push_why(text, &client.why)
@@ -293,10 +311,23 @@ fn push_waits(
     text.push_str("], ")
 }
 
+/// Adds which refresh by gain is needed, or that one waits.
+fn push_refresh(text: &mut String, refresh: Option<Refresh>) -> Result<(), AllocError> {
+    let Some(refresh) = refresh else {
+        return Ok(());
+    };
+    let is_urgent = refresh.is_urgent;
+    write!(text, "\"refresh\": {{\"urgent\": {is_urgent}, \"height\": ")?;
+    match refresh.height {
+        Some(height) => write!(text, "{height}}}, "),
+        None => text.push_str("null}, "),
+    }
+}
+
 /// Adds when the client has a goal next, from version 3 on.
 fn push_next(text: &mut String, version: Version, outcome: &Outcome) -> Result<(), AllocError> {
     match (version, next_of(outcome)) {
-        (Version::Three, Some(moment)) => {
+        (Version::Three | Version::Four, Some(moment)) => {
             text.push_str("\"next\": \"")?;
             push_moment(text, moment)?;
             text.push_str("\", ")
@@ -328,8 +359,28 @@ fn push_message(
         "{{\"kind\": \"{kind}\", \"path\": \"{path}\", \"sequence\": {sequence}, \"proved_from\": {floor}, \"until_ns\": "
     )?;
     match message.presses {
-        Some(moment) => write!(text, "{moment}}}"),
-        None => text.push_str("null}"),
+        Some(moment) => write!(text, "{moment}")?,
+        None => text.push_str("null")?,
+    }
+    push_stay(text, message.stays)
+}
+
+fn stay_name(stay: Stay) -> &'static str {
+    match stay {
+        Stay::TooBig => "too_big",
+        Stay::Late => "late",
+        Stay::Behind => "behind",
+    }
+}
+
+/// Adds why a message can't go, if it can't.
+fn push_stay(text: &mut String, stays: Option<Stay>) -> Result<(), AllocError> {
+    match stays {
+        Some(stay) => {
+            let name = stay_name(stay);
+            write!(text, ", \"stays\": \"{name}\"}}")
+        }
+        None => text.push_str("}"),
     }
 }
 
@@ -353,14 +404,25 @@ fn push_planned(
     }
 }
 
-/// Adds whether the goal can be reached, and the goal.
+/// Adds whether the goal can be reached, the goal, and what was asked for out of reach.
 fn push_goal(text: &mut String, planned: &PlannedReport) -> Result<(), AllocError> {
     let outcome = match planned.plan {
         Some(_) => "plan",
         None => "unreachable",
     };
     write!(text, "\"outcome\": \"{outcome}\", \"goal\": ")?;
-    match planned.goal {
+    push_height(text, planned.goal)?;
+    match planned.beyond {
+        Some(beyond) => {
+            text.push_str(", \"beyond\": ")?;
+            push_height(text, beyond)
+        }
+        None => Ok(()),
+    }
+}
+
+fn push_height(text: &mut String, goal: Goal) -> Result<(), AllocError> {
+    match goal {
         Goal::AtLeast(height) => write!(text, "{{\"at_least\": {height}}}"),
         Goal::Exactly(height) => write!(text, "{{\"exactly\": {height}}}"),
     }
@@ -424,6 +486,7 @@ fn idle_name(reason: IdleReason) -> &'static str {
         IdleReason::NothingLive => "nothing_live",
         IdleReason::MessagesWait => "messages_wait",
         IdleReason::NothingProved => "nothing_proved",
+        IdleReason::NothingGoes => "nothing_goes",
         IdleReason::NothingYoung => "nothing_young",
         IdleReason::NothingDue => "nothing_due",
     }

@@ -2,10 +2,11 @@
 use crate::moments::push_time;
 use crate::names::path_name;
 use crate::steps::push_count;
-use rb_explain::{ClientExplanation, WaitingMessage};
+use rb_explain::{ClientExplanation, Stay, WaitingMessage};
 use rb_plan_client::Message;
 use rb_scan::Kind;
-use rb_script_types::Config;
+use rb_script_types::{Config, Goal, Version};
+use rb_super_turn::Outcome;
 use std::alloc::{AllocError, Global};
 
 /// So many sequences are told of neighbours of one kind and path.
@@ -30,6 +31,7 @@ pub(crate) fn packets_of(
             path: message.path(),
             packet: message.packet(),
             presses: None,
+            stays: None,
         })?;
     }
     Ok(packets)
@@ -114,15 +116,16 @@ pub fn message_lines(
     Ok(lines)
 }
 
-/// Those messages that are ready, or those that aren't.
+/// Those messages that stay for the same reason, or can go, and are ready, or aren't.
 fn chosen(
     alloc: Global,
     messages: &[WaitingMessage],
+    stays: Option<Stay>,
     is_ready: bool,
 ) -> Result<Vec<WaitingMessage>, AllocError> {
     let mut chosen = Vec::new(alloc);
     for message in messages {
-        if message.presses.is_some() == is_ready {
+        if message.stays == stays && message.presses.is_some() == is_ready {
             chosen.push(*message)?;
         }
     }
@@ -135,20 +138,38 @@ fn push_ready(
     text: &mut String,
     config: &Config,
     client: &ClientExplanation,
+    outcome: &Outcome,
 ) -> Result<(), AllocError> {
-    let ready = chosen(alloc, client.waiting.as_slice(), true)?;
+    let ready = chosen(alloc, client.waiting.as_slice(), None, true)?;
     let Some(moment) = ready.iter().filter_map(|message| message.presses).min() else {
         return Ok(());
     };
     text.push_str("  waits: ")?;
     push_messages(text, config, ready.as_slice())?;
-    push_end(text, client, moment)
+    push_end(text, config.version, client, outcome, moment)
 }
 
-/// Adds until when messages wait.
-fn push_end(text: &mut String, client: &ClientExplanation, moment: u128) -> Result<(), AllocError> {
-    if client.is_asked {
+/// Whether a height is asked for that must not be exceeded.
+fn is_exact(outcome: &Outcome) -> bool {
+    match outcome {
+        Outcome::Planned(planned) => matches!(&planned.goal, Goal::Exactly(_)),
+        _ => false,
+    }
+}
+
+/// Adds until when messages wait: where a height is asked for, for another turn; in version 4 only where it is asked for exactly.
+fn push_end(
+    text: &mut String,
+    version: Version,
+    client: &ClientExplanation,
+    outcome: &Outcome,
+    moment: u128,
+) -> Result<(), AllocError> {
+    if version != Version::Four && client.is_asked {
         return text.push_str(" for a turn in which no height is asked for\n");
+    }
+    if version == Version::Four && is_exact(outcome) {
+        return text.push_str(" for a turn in which no height is asked for exactly\n");
     }
     text.push_str(" until ")?;
     push_time(text, moment, client.window.until().nanoseconds())?;
@@ -162,7 +183,7 @@ fn push_unproved(
     config: &Config,
     client: &ClientExplanation,
 ) -> Result<(), AllocError> {
-    let unproved = chosen(alloc, client.waiting.as_slice(), false)?;
+    let unproved = chosen(alloc, client.waiting.as_slice(), None, false)?;
     let Some(floor) = unproved.iter().map(|message| message.packet.floor).min() else {
         return Ok(());
     };
@@ -171,14 +192,45 @@ fn push_unproved(
     writeln!(text, " for a height from {floor} on")
 }
 
+/// What keeps messages, in words.
+fn stay_words(stay: Stay) -> &'static str {
+    match stay {
+        Stay::TooBig => "over the gas limit alone",
+        Stay::Late => "timing out by the end of the window",
+        Stay::Behind => "behind one that can't go",
+    }
+}
+
+/// Adds those messages that can't go for a reason.
+fn push_staying(
+    alloc: Global,
+    text: &mut String,
+    config: &Config,
+    client: &ClientExplanation,
+    stay: Stay,
+) -> Result<(), AllocError> {
+    let staying = chosen(alloc, client.waiting.as_slice(), Some(stay), false)?;
+    if staying.is_empty() {
+        return Ok(());
+    }
+    text.push_str("  stays: ")?;
+    push_messages(text, config, staying.as_slice())?;
+    let words = stay_words(stay);
+    writeln!(text, ", {words}")
+}
+
 /// Adds the packet messages that are owed and not sent: first those that wait for others, or for a height that was asked for, then
-/// those that no height proves to which the client can be brought.
+/// those that no height proves to which the client can be brought, then those that can't go.
 pub(crate) fn push_waiting(
     alloc: Global,
     text: &mut String,
     config: &Config,
     client: &ClientExplanation,
+    outcome: &Outcome,
 ) -> Result<(), AllocError> {
-    push_ready(alloc, text, config, client)?;
-    push_unproved(alloc, text, config, client)
+    push_ready(alloc, text, config, client, outcome)?;
+    push_unproved(alloc, text, config, client)?;
+    push_staying(alloc, text, config, client, Stay::TooBig)?;
+    push_staying(alloc, text, config, client, Stay::Late)?;
+    push_staying(alloc, text, config, client, Stay::Behind)
 }

@@ -41,21 +41,43 @@ fn push_refused_settlement(
     )
 }
 
-/// Adds a turn's refused window and events, a line each.
+/// Adds that a window is refused: that of a host, or the turn's.
+fn push_window_back(text: &mut String, turn: usize, host: Option<&str>) -> Result<(), AllocError> {
+    let number = Refusal::WindowBack.number();
+    let name = Refusal::WindowBack.name();
+    match host {
+        Some(host) => write!(text, "turn {turn}: the window of {host}")?,
+        None => write!(text, "turn {turn}: its window")?,
+    }
+    writeln!(
+        text,
+        " is refused, {number} {name}: it begins or ends before the one in force, which stays"
+    )
+}
+
+/// Adds the refused windows of a turn, a line each: those of hosts, then its own.
+fn push_windows(
+    text: &mut String,
+    config: &Config,
+    turn: &TurnExplanation,
+) -> Result<(), AllocError> {
+    for host in &turn.report.hosts_back {
+        push_window_back(text, turn.turn, Some(chain_name(config, *host)))?;
+    }
+    if turn.report.window_back {
+        push_window_back(text, turn.turn, None)?;
+    }
+    Ok(())
+}
+
+/// Adds a turn's refused windows and events, a line each.
 pub(crate) fn push_refusals(
     text: &mut String,
     config: &Config,
     turn: &TurnExplanation,
 ) -> Result<(), AllocError> {
     let number = turn.turn;
-    if turn.report.window_back {
-        let refusal = Refusal::WindowBack.number();
-        let name = Refusal::WindowBack.name();
-        writeln!(
-            text,
-            "turn {number}: its window is refused, {refusal} {name}: it begins or ends before the one in force, which stays"
-        )?;
-    }
+    push_windows(text, config, turn)?;
     for refused in &turn.report.refused {
         let event = refused.event;
         write!(text, "turn {number}, event {event} (from 0): refused, ")?;

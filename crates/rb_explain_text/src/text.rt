@@ -5,10 +5,10 @@ use crate::packets::{packets_of, push_messages, push_waiting};
 use crate::pieces::{put, put_long};
 use crate::refusals::{push_refusals, push_settlements};
 use crate::steps::{push_answer, push_count, push_fee, push_powers, push_route};
-use rb_base::{Height, Moment, Sink};
+use rb_base::{Height, Moment, Sink, Window};
 use rb_explain::{
-    ClientExplanation, IdleReason, PlanExplanation, PricedList, StepExplanation, StoredHeight,
-    TurnExplanation, UnreachableExplanation, WaitingMessage, Why,
+    ClientExplanation, IdleReason, PlanExplanation, PricedList, Refresh, StepExplanation,
+    StoredHeight, TurnExplanation, UnreachableExplanation, WaitingMessage, Why,
 };
 use rb_moments::{push_instant, push_length};
 use rb_plan_types::Label;
@@ -57,7 +57,11 @@ pub fn push_heading(
     write!(text, "turn {turn}, client {id}: ")?;
     match (&report.outcome, &client.why) {
         (Outcome::Held(batch), _) => write!(text, "held by batch {batch}"),
-        (_, Why::Idle(reason)) => text.push_str(idle_words(client.stored.as_slice(), *reason)),
+        (_, Why::Idle(reason)) => text.push_str(idle_words(
+            config.version,
+            client.stored.as_slice(),
+            *reason,
+        )),
         (Outcome::Planned(planned), Why::Unreachable(_)) => {
             push_goal(text, planned.goal)?;
             text.push_str(": unreachable")
@@ -79,6 +83,7 @@ pub fn push_client(
 ) -> Result<(), AllocError> {
     push_heading(text, config, turn, report, client)?;
     text.push_str("\n")?;
+    push_needs(text, config.version, client, &report.outcome)?;
     match (&report.outcome, &client.why) {
         (Outcome::Planned(planned), Why::Planned(plan)) => {
             push_stored(text, client)?;
@@ -90,8 +95,75 @@ pub fn push_client(
         }
         _ => {}
     }
-    push_waiting(alloc, text, config, client)?;
+    push_waiting(alloc, text, config, client, &report.outcome)?;
     push_next(text, config.version, client, &report.outcome)
+}
+
+/// Adds what a client goes by in version 4, unless it is held: its host's window, what was asked for out of reach, and its
+/// refresh.
+fn push_needs(
+    text: &mut String,
+    version: Version,
+    client: &ClientExplanation,
+    outcome: &Outcome,
+) -> Result<(), AllocError> {
+    match (version, outcome) {
+        (Version::Four, Outcome::Idle(_)) => {
+            push_window(text, &client.window)?;
+            push_refresh(text, client.refresh)
+        }
+        (Version::Four, Outcome::Planned(planned)) => {
+            push_window(text, &client.window)?;
+            push_beyond(text, planned.beyond)?;
+            push_refresh(text, client.refresh)
+        }
+        _ => Ok(()),
+    }
+}
+
+fn push_window(text: &mut String, window: &Window) -> Result<(), AllocError> {
+    let from = window.from().nanoseconds();
+    text.push_str("  window: ")?;
+    push_instant(text, from)?;
+    text.push_str(" to ")?;
+    push_time(text, window.until().nanoseconds(), from)?;
+    text.push_str("\n")
+}
+
+/// Adds what was asked for and is out of reach.
+fn push_beyond(text: &mut String, beyond: Option<Goal>) -> Result<(), AllocError> {
+    match beyond {
+        Some(goal) => push_asked(text, goal),
+        None => Ok(()),
+    }
+}
+
+fn push_asked(text: &mut String, goal: Goal) -> Result<(), AllocError> {
+    match goal {
+        Goal::AtLeast(height) => writeln!(
+            text,
+            "  asked for: at least height {height}, which is out of reach"
+        ),
+        Goal::Exactly(height) => {
+            writeln!(text, "  asked for: height {height}, which is out of reach")
+        }
+    }
+}
+
+/// Adds which refresh is needed, or that one waits.
+fn push_refresh(text: &mut String, refresh: Option<Refresh>) -> Result<(), AllocError> {
+    let Some(refresh) = refresh else {
+        return Ok(());
+    };
+    text.push_str(if refresh.is_urgent {
+        "  refresh: urgent, "
+    } else {
+        "  refresh: due, "
+    })?;
+    match refresh.height {
+        Some(height) => writeln!(text, "at least height {height}"),
+        None => text.push_str("waits for a newer header\n"),
+    }
 }
 
 /// Adds when the client has a goal next, by what is known now, from version 3 on.
@@ -102,7 +174,7 @@ fn push_next(
     outcome: &Outcome,
 ) -> Result<(), AllocError> {
     match (version, next_of(outcome)) {
-        (Version::Three, Some(moment)) => {
+        (Version::Three | Version::Four, Some(moment)) => {
             text.push_str("  next: ")?;
             push_time(
                 text,
@@ -132,13 +204,17 @@ fn push_goal(text: &mut String, goal: Goal) -> Result<(), AllocError> {
 }
 
 /// Why a client is idle, in words.
-fn idle_words(stored: &[StoredHeight], reason: IdleReason) -> &'static str {
+fn idle_words(version: Version, stored: &[StoredHeight], reason: IdleReason) -> &'static str {
     match reason {
         IdleReason::NothingLive if stored.is_empty() => "idle: no consensus state is stored",
         IdleReason::NothingLive => "idle: all stored consensus states have expired",
         IdleReason::MessagesWait => "idle: packet messages wait for others to go with them",
         IdleReason::NothingProved => {
             "idle: packet messages are owed, and no height that proves one of them can be reached"
+        }
+        IdleReason::NothingGoes => "idle: packet messages are owed, and none of them can go",
+        IdleReason::NothingYoung if version == Version::Four => {
+            "idle: a refresh waits for a newer header"
         }
         IdleReason::NothingYoung => "idle: a refresh is due, and no header is young enough",
         IdleReason::NothingDue => "idle: nothing is due",

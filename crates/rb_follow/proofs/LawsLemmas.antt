@@ -3,7 +3,6 @@ use Rattle.std.proofs.Common.{◌≡◌, ℕ, zero, suc, ◌+◌, Bool, true, fa
 use Rattle.std.specs.Option.{option_map, option_map_or}
 use Rattle.std.specs.declared.alloc.Global.{Global}
 use Rattle.rb_base.specs.Window.{Span}
-use Rattle.rb_batch.specs.Laws.{LeastCutIsOne}
 use Rattle.rb_plan_types.specs.Laws.{AnswersAreOne}
 use Rattle.rb_core_model.specs.Forgetting.{floor, floors_of, rest, rest_at_floors, has_many_to_forget}
 use Rattle.rb_core_model.specs.Standing.{Standing, opening_standing}
@@ -11,10 +10,10 @@ use Rattle.rb_forgetting.specs.Laws.{forgotten, floors_if, ForgettingByFloorsIsU
 use Rattle.rb_script_types.specs.Config.{Config}
 use Rattle.rb_script_types.specs.Script.{Turn as SeenTurn}
 use Rattle.rb_script_types.specs.declared.version.Version.{Version}
-use Rattle.rb_script_types.specs.declared.version.Version.TheVariants.{One, Two, Three}
+use Rattle.rb_script_types.specs.declared.version.Version.TheVariants.{One, Two, Three, Four}
 use Rattle.rb_script_read.specs.Turns.{Reading}
 use Rattle.rb_super_scripts.specs.AsEvents.{turn_as_events}
-use Rattle.rb_super_scripts.proofs.OneReport.{one_turn}
+use Rattle.rb_super_scripts.proofs.OneReport.{CutsAreOne, one_turn}
 use Rattle.rb_super_turn.specs.Report.{TurnReport, Report}
 use Rattle.rb_super_turn.specs.Script.{Turn}
 use Rattle.rb_super_turn.specs.Turns.{IsTurnReport, AreTurnReports, after_turn}
@@ -23,7 +22,7 @@ use Rattle.rb_follow.specs.Tidying.{least_to_go, forgets, raised}
 use Rattle.rb_follow.specs.Reports.{AreReportsIn}
 use Rattle.rb_follow.specs.Answers.{reports_in}
 use Rattle.rb_follow.specs.Followers.{Following, planned, refused, most_events, tidied, after_report}
-use Rattle.rb_follow.specs.Laws.{BeginningsAreReported, AnswersAreReports, ForgettingChangesNoAnswer, AnswersAreLines}
+use Rattle.rb_follow.specs.Laws.{BeginningsAreReported, AnswersAreReports, IsForgetful, ForgettingChangesNoAnswer, AnswersAreLines}
 
 beginnings : (s : Standing) (ts : List Turn) (rs : Report) (count : ℕ) → AreTurnReports s ts rs → AreTurnReports s (take count ts) (take count rs)
 beginnings s ts rs zero h = tt
@@ -74,11 +73,13 @@ abbrev stands : (v : Version) → Standing → Standing
 stands One s = s
 stands Two s = s
 stands Three s = left_after s
+stands Four s = left_after s
 
 stands_by : (v : Version) (s : Standing) → (if forgets v s then rest_at_floors s else s) ≡ stands v s
 stands_by One s = refl
 stands_by Two s = refl
 stands_by Three s = left_by (has_many_to_forget least_to_go s) s
+stands_by Four s = left_by (has_many_to_forget least_to_go s) s
 
 left_standing : (f : Following) → (tidied f).standing ≡ stands f.config.version f.standing
 left_standing f = tidied_by (forgets f.config.version f.standing) f
@@ -89,12 +90,14 @@ none_in : (v : Version) (s : Standing) → AreReportsIn v s [] []
 none_in One s = tt
 none_in Two s = tt
 none_in Three s = tt
+none_in Four s = tt
 
 one_more : (v : Version) (s : Standing) (t : Turn) (ts : List Turn) (r : TurnReport) (rs : Report) → IsTurnReport s t r
     → AreReportsIn v (stands v (after_turn s t r)) ts rs → AreReportsIn v s (t ∷ ts) (r ∷ rs)
 one_more One s t ts r rs is more = (is, more)
 one_more Two s t ts r rs is more = (is, more)
 one_more Three s t ts r rs is more = (is, more)
+one_more Four s t ts r rs is more = (is, more)
 
 more_from : (f : Following) (ts : List Turn) (rs : Report) → AreReportsIn (tidied f).config.version (tidied f).standing ts rs
     → AreReportsIn f.config.version (stands f.config.version f.standing) ts rs
@@ -124,7 +127,7 @@ answers_reports f (d ∷ ds) (refused fault ∷ rest) ts g h = answers_reports f
 
 -- ---- what is forgotten changes no answer
 
-module _ (one : AnswersAreOne) (cuts : LeastCutIsOne) where
+module _ (one : AnswersAreOne) (cuts : CutsAreOne) where
   one_forgetful : (s : Standing) (ts : List Turn) (rs qs : Report) → AreReportsIn Three s ts rs → AreReportsIn Three s ts qs → rs ≡ qs
   one_forgetful s [] [] [] a b = refl
   one_forgetful s [] [] (q ∷ qs) a b = absurd b
@@ -137,21 +140,28 @@ module _ (one : AnswersAreOne) (cuts : LeastCutIsOne) where
       (subst (λ (x : TurnReport). AreReportsIn Three (left_after (after_turn s t x)) ts rs) here a.1) b.1 in
       λ i. here i ∷ more i
 
+  -- versions that forget report alike
+  one_by : (version : Version) → IsForgetful version → (s : Standing) (ts : List Turn) (rs qs : Report) → AreReportsIn version s ts rs → AreReportsIn Three s ts qs → rs ≡ qs
+  one_by One forgets s ts rs qs a b = absurd forgets
+  one_by Two forgets s ts rs qs a b = absurd forgets
+  one_by Three forgets s ts rs qs a b = one_forgetful s ts rs qs a b
+  one_by Four forgets s ts rs qs a b = one_forgetful s ts rs qs a b
+
   pub changes_no_answer : ForgettingByFloorsIsUnseen → ForgettingChangesNoAnswer
-  changes_no_answer unseen script reports free is are spared forgetful =
+  changes_no_answer unseen version script reports free does is are spared forgetful =
       let opening = opening_standing script.config in
-      one_forgetful opening script.turns reports free forgetful (unseen (has_many_to_forget least_to_go) script free is spared are)
+      one_by version does opening script.turns reports free forgetful (unseen (has_many_to_forget least_to_go) script free is spared are)
 
 -- ---- answers as lines
 
 pub answers_lines : AnswersAreLines
-answers_lines version paths f [] [] [] g h = refl
-answers_lines version paths f [] [] (t ∷ ts) g h = absurd h
-answers_lines version paths f [] (a ∷ rest) ts g h = absurd h
-answers_lines version paths f (d ∷ ds) [] ts g h = absurd h
-answers_lines version paths f (d ∷ ds) (planned number r ∷ rest) [] g h = absurd h
-answers_lines version paths f (d ∷ ds) (planned number r ∷ rest) (t ∷ ts) g h =
+answers_lines version chains paths f [] [] [] g h = refl
+answers_lines version chains paths f [] [] (t ∷ ts) g h = absurd h
+answers_lines version chains paths f [] (a ∷ rest) ts g h = absurd h
+answers_lines version chains paths f (d ∷ ds) [] ts g h = absurd h
+answers_lines version chains paths f (d ∷ ds) (planned number r ∷ rest) [] g h = absurd h
+answers_lines version chains paths f (d ∷ ds) (planned number r ∷ rest) (t ∷ ts) g h =
     rw h.2
-    (ap (λ text. turn_text version paths (f.turns + 1) r ++ text)
-    (answers_lines version paths (after_report f (t, h.0) r) ds rest ts g h.4 ∙ ap (λ n. numbered_lines (turn_text version paths) (n + 1) (reports_in rest)) (keeps_turns (untidied f (t, h.0) r))))
-answers_lines version paths f (d ∷ ds) (refused fault ∷ rest) ts g h = answers_lines version paths f ds rest ts g h.1
+    (ap (λ text. turn_text version chains paths (f.turns + 1) r ++ text)
+    (answers_lines version chains paths (after_report f (t, h.0) r) ds rest ts g h.4 ∙ ap (λ n. numbered_lines (turn_text version chains paths) (n + 1) (reports_in rest)) (keeps_turns (untidied f (t, h.0) r))))
+answers_lines version chains paths f (d ∷ ds) (refused fault ∷ rest) ts g h = answers_lines version chains paths f ds rest ts g h.1

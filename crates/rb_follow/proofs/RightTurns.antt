@@ -26,6 +26,7 @@ pub right_turn : (c : Config) (t : CodeTurn Global) (events : List (Observation 
     → All (λ (o : Observation Global). IsEvent (observed o)) events → IsTurn c (code_turn_as_events t)
 right_turn c t events same is right = record {
   window = is.window;
+  windows = is.windows;
   goals = is.goals;
   once = is.once;
   events = All-map (IsSeen c) observed t.events.items (λ k d lt. seen c (get_or t.events.items k d) (is.events k d lt));

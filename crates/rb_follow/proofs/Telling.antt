@@ -63,7 +63,7 @@ answers-then f (d ∷ ds) (refused fault ∷ rest) ts g es more us k h p = (h.0,
 
 pub answers_text-then : (form : Form) (c : Config) (answers more : List Answer) → answers_text form c (answers ++ more) ≡ answers_text form c answers ++ answers_text form c more
 answers_text-then form c [] more = refl
-answers_text-then form c (a ∷ rest) more = ap (λ text. answer_text form c.version (path_ids c.paths) a ++ text) (answers_text-then form c rest more) ∙ sym (append_assoc (answer_text form c.version (path_ids c.paths) a) (answers_text form c rest) (answers_text form c more))
+answers_text-then form c (a ∷ rest) more = ap (λ text. answer_text form c.version c.chains (path_ids c.paths) a ++ text) (answers_text-then form c rest more) ∙ sym (append_assoc (answer_text form c.version c.chains (path_ids c.paths) a) (answers_text form c rest) (answers_text form c more))
 
 pub as_events-then : (ts us : List (Turn Global)) → map turn_as_events (ts ++ us) ≡ map turn_as_events ts ++ map turn_as_events us
 as_events-then [] us = refl
@@ -114,7 +114,7 @@ accepted-then f (d ∷ ds) (refused fault ∷ rest) ts g es more h = accepted-th
 pub record IsOne (form : Form) (f : Following) (d : Document) (a : Answer) (g : Following) : Type 0 where
   pub all : Answered f (d ∷ []) g
   pub one : all.answers ≡ a ∷ []
-  pub text : answers_text form f.config all.answers ≡ answer_text form g.config.version (path_ids g.config.paths) a
+  pub text : answers_text form f.config all.answers ≡ answer_text form g.config.version g.config.chains (path_ids g.config.paths) a
 
 pub one_by : (form : Form) (f : Following) (d : Document) (r : Result (Turn Global × Reading) Fault) (a : Answer) (g : Following) → turn_in f d ≡ r → IsAnswerFor f r a g → IsRight f r
     → IsOne form f d a g
@@ -128,7 +128,7 @@ one_by form f d (Ok x) (planned number report) g e h right = record {
   one = refl;
   text =
       append-nil _
-      ∙ ap (λ (c : Config). answer_text form c.version (path_ids c.paths) (planned number report)) (sym (after-config f x report) ∙ ap (λ (y : Following). y.config) (sym h.2));
+      ∙ ap (λ (c : Config). answer_text form c.version c.chains (path_ids c.paths) (planned number report)) (sym (after-config f x report) ∙ ap (λ (y : Following). y.config) (sym h.2));
 }
 one_by form f d (Ok x) (refused fault) g e h right = absurd h
 one_by form f d (Err x) (planned number report) g e h right = absurd h
@@ -140,7 +140,7 @@ one_by form f d (Err x) (refused fault) g e h right = record {
     right = none_right f.config;
   };
   one = refl;
-  text = append-nil _ ∙ ap (λ (y : Following). answer_text form y.config.version (path_ids y.config.paths) (refused fault)) (sym h.1);
+  text = append-nil _ ∙ ap (λ (y : Following). answer_text form y.config.version y.config.chains (path_ids y.config.paths) (refused fault)) (sym h.1);
 }
 
 stored-one : (form : Form) (f : Following) (d : Document) (a : Answer) (g : Following) (one : IsOne form f d a g) (old new : Outs)
@@ -149,7 +149,7 @@ stored-one form f d a g one old new s = subst (λ (xs : List Answer). StoresAll 
 
 pub told-one : (form : Form) (f : Following) (d : Document) (a : Answer) (g : Following) (old new : Outs)
     → IsAnswerFor f (turn_in f d) a g → IsRight f (turn_in f d) → StoresAll old.stored new.stored (accepted (d ∷ []) (a ∷ []))
-    → Appends old.taken new.taken (answer_text form g.config.version (path_ids g.config.paths) a)
+    → Appends old.taken new.taken (answer_text form g.config.version g.config.chains (path_ids g.config.paths) a)
     → Told form f (d ∷ []) old new g
 told-one form f d a g old new h right s w =
     let one = one_by form f d (turn_in f d) a g refl h right in
@@ -157,7 +157,7 @@ told-one form f d a g old new h right s w =
 
 pub begins-one : (form : Form) (f : Following) (d : Document) (a : Answer) (g : Following) (old new : Outs)
     → IsAnswerFor f (turn_in f d) a g → IsRight f (turn_in f d) → StoresAll old.stored new.stored (accepted (d ∷ []) (a ∷ []))
-    → AppendsBeginning old.taken new.taken (answer_text form g.config.version (path_ids g.config.paths) a)
+    → AppendsBeginning old.taken new.taken (answer_text form g.config.version g.config.chains (path_ids g.config.paths) a)
     → BeginsTelling form f (d ∷ []) old new
 begins-one form f d a g old new h right s w =
     let one = one_by form f d (turn_in f d) a g refl h right in
@@ -238,13 +238,13 @@ on_err (Err e) p = p
 
 pub told-tell : {X E : Type 0} (see : X → Following) (form : Form) (f : Following) (d : Document) (a : Answer) (k : X) (old new : Outs) (r : Result X E)
     → IsAnswerFor f (turn_in f d) a (see k) → IsRight f (turn_in f d) → StoresAll old.stored new.stored (accepted (d ∷ []) (a ∷ [])) → IfOk r (λ g. g ≡ k)
-    → OnOk r (Appends old.taken new.taken (answer_text form (see k).config.version (path_ids (see k).config.paths) a)) → IfOk r (λ g. Told form f (d ∷ []) old new (see g))
+    → OnOk r (Appends old.taken new.taken (answer_text form (see k).config.version (see k).config.chains (path_ids (see k).config.paths) a)) → IfOk r (λ g. Told form f (d ∷ []) old new (see g))
 told-tell see form f d a k old new (Ok g) h right stored s w = subst (λ x. Told form f (d ∷ []) old new (see x)) (sym s) (told-one form f d a (see k) old new h right stored w)
 told-tell see form f d a k old new (Err e) h right stored s w = tt
 
 pub begins-tell : {X E : Type 0} (form : Form) (f : Following) (d : Document) (a : Answer) (k : Following) (old new : Outs) (r : Result X E)
     → IsAnswerFor f (turn_in f d) a k → IsRight f (turn_in f d) → StoresAll old.stored new.stored (accepted (d ∷ []) (a ∷ []))
-    → OnErr r (AppendsBeginning old.taken new.taken (answer_text form k.config.version (path_ids k.config.paths) a)) → OnErr r (BeginsTelling form f (d ∷ []) old new)
+    → OnErr r (AppendsBeginning old.taken new.taken (answer_text form k.config.version k.config.chains (path_ids k.config.paths) a)) → OnErr r (BeginsTelling form f (d ∷ []) old new)
 begins-tell form f d a k old new (Ok g) h right stored w = tt
 begins-tell form f d a k old new (Err e) h right stored w = begins-one form f d a k old new h right stored w
 

@@ -23,16 +23,16 @@ abbrev pub mark : List ℕ
 mark = codes "---\n"
 
 -- what an answer has of the report
-abbrev pub report_lines : Version → List (List ℕ) → Answer → List ℕ
-report_lines version paths (planned number r) = turn_text version paths number r
-report_lines version paths (refused fault) = []
+abbrev pub report_lines : Version → List (List ℕ) → List (List ℕ) → Answer → List ℕ
+report_lines version chains paths (planned number r) = turn_text version chains paths number r
+report_lines version chains paths (refused fault) = []
 
 -- an answer as text: the lines of a report, or of a fault, and the mark; as JSON: an object on a line
-abbrev pub answer_text : Form → Version → List (List ℕ) → Answer → List ℕ
-answer_text Text version paths (planned number r) = turn_text version paths number r ++ mark
-answer_text Text version paths (refused fault) = fault_line fault ++ codes "\n" ++ mark
-answer_text Json version paths (planned number r) = turn_line version paths r
-answer_text Json version paths (refused fault) = json_text (fault_json fault) ++ codes "\n"
+abbrev pub answer_text : Form → Version → List (List ℕ) → List (List ℕ) → Answer → List ℕ
+answer_text Text version chains paths (planned number r) = turn_text version chains paths number r ++ mark
+answer_text Text version chains paths (refused fault) = fault_line fault ++ codes "\n" ++ mark
+answer_text Json version chains paths (planned number r) = turn_line version chains paths r
+answer_text Json version chains paths (refused fault) = json_text (fault_json fault) ++ codes "\n"
 
 -- the reports among answers
 abbrev pub reports_in : List Answer → Report

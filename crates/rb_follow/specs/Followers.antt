@@ -9,7 +9,7 @@ use Rattle.rb_script_types.specs.Config.{Config}
 use Rattle.rb_script_types.specs.Limits.{max_turns as most_of_old}
 use Rattle.rb_script_types.specs.Script.{Turn, entry_count}
 use Rattle.rb_script_types.specs.declared.version.Version.{Version}
-use Rattle.rb_script_types.specs.declared.version.Version.TheVariants.{One, Two, Three}
+use Rattle.rb_script_types.specs.declared.version.Version.TheVariants.{One, Two, Three, Four}
 use Rattle.rb_script_toml.specs.Faults.{Fault, ◌>>=◌, fault, check}
 use Rattle.rb_script_toml.specs.declared.fault.FaultName.TheVariants.{NotToml, TooManyObjects, TooManyEvents}
 use Rattle.rb_script_read.specs.Turns.{Reading, opening}
@@ -49,6 +49,7 @@ abbrev pub max_turns : Version → ℕ
 max_turns One = most_of_old
 max_turns Two = most_of_old
 max_turns Three = 10000
+max_turns Four = 10000
 
 -- the most events that a turn gives: its window, its entries, the scans of both parts of each path, and a plan for each client and the taking
 -- of its batch

@@ -44,7 +44,7 @@ pub record Answered (f : Following) (documents : List Document) (g : Following) 
 
 -- the text of answers
 abbrev pub answers_text : Form → Config → List Answer → List ℕ
-answers_text form c answers = flat_map (answer_text form c.version (path_ids c.paths)) answers
+answers_text form c answers = flat_map (answer_text form c.version c.chains (path_ids c.paths)) answers
 
 -- documents were answered, the journal has stored those that were accepted, and the writer took the answers
 pub record Told (form : Form) (f : Following) (documents : List Document) (old new : Outs) (g : Following) : Type 0 where

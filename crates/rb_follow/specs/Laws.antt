@@ -8,7 +8,7 @@ use Rattle.rb_forgetting.specs.Free.{AreFreeReports}
 use Rattle.rb_forgetting.specs.Laws.{AreSparedTurns}
 use Rattle.rb_script_types.specs.Script.{Turn as SeenTurn}
 use Rattle.rb_script_types.specs.declared.version.Version.{Version}
-use Rattle.rb_script_types.specs.declared.version.Version.TheVariants.{Three}
+use Rattle.rb_script_types.specs.declared.version.Version.TheVariants.{One, Two, Three, Four}
 use Rattle.rb_super_scripts.specs.AsEvents.{turn_as_events}
 use Rattle.rb_super_turn.specs.Report.{Report}
 use Rattle.rb_super_turn.specs.Script.{Script, IsScript}
@@ -31,16 +31,23 @@ abbrev pub AnswersAreReports : Type 0
 AnswersAreReports = (f : Following) (documents : List Document) (answers : List Answer) (turns : List (SeenTurn Global)) (g : Following)
     → AreAnswers f documents answers turns g → AreReportsIn f.config.version f.standing (map turn_as_events turns) (reports_in answers)
 
+-- the versions in which what serves no more is forgotten
+abbrev pub IsForgetful : Version → Type 0
+IsForgetful One = ⊥
+IsForgetful Two = ⊥
+IsForgetful Three = Unit {0}
+IsForgetful Four = Unit {0}
+
 -- From version 3 on they are those that the same turns would have, were nothing forgotten and no light store or path ever full, as long as no event
 -- speaks of what was forgotten, and none is refused for want of room.
 abbrev pub ForgettingChangesNoAnswer : Type 0
-ForgettingChangesNoAnswer = (script : Script) (reports free : Report) → IsScript script
+ForgettingChangesNoAnswer = (version : Version) (script : Script) (reports free : Report) → IsForgetful version → IsScript script
     → AreFreeReports (opening_standing script.config) script.turns free
     → AreSparedTurns (has_many_to_forget least_to_go) (λ (chain : ℕ). 0) (opening_standing script.config) (opening_standing script.config) script.turns free
-    → AreReportsIn Three (opening_standing script.config) script.turns reports → reports ≡ free
+    → AreReportsIn version (opening_standing script.config) script.turns reports → reports ≡ free
 
 -- what answers have of the report is the report's lines from there on: those without the lines `---` and the faults
 abbrev pub AnswersAreLines : Type 0
-AnswersAreLines = (version : Version) (paths : List (List ℕ)) (f : Following) (documents : List Document) (answers : List Answer)
+AnswersAreLines = (version : Version) (chains paths : List (List ℕ)) (f : Following) (documents : List Document) (answers : List Answer)
     (turns : List (SeenTurn Global)) (g : Following) → AreAnswers f documents answers turns g
-    → flat_map (report_lines version paths) answers ≡ numbered_lines (turn_text version paths) (f.turns + 1) (reports_in answers)
+    → flat_map (report_lines version chains paths) answers ≡ numbered_lines (turn_text version chains paths) (f.turns + 1) (reports_in answers)

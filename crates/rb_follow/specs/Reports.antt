@@ -3,7 +3,7 @@ use Rattle.rb_core_model.specs.Forgetting.{has_many_to_forget}
 use Rattle.rb_core_model.specs.Standing.{Standing}
 use Rattle.rb_forgetting.specs.Laws.{floors_after, AreForgetful}
 use Rattle.rb_script_types.specs.declared.version.Version.{Version}
-use Rattle.rb_script_types.specs.declared.version.Version.TheVariants.{One, Two, Three}
+use Rattle.rb_script_types.specs.declared.version.Version.TheVariants.{One, Two, Three, Four}
 use Rattle.rb_super_turn.specs.Report.{Report}
 use Rattle.rb_super_turn.specs.Script.{Turn}
 use Rattle.rb_super_turn.specs.Turns.{AreTurnReports}
@@ -15,3 +15,4 @@ abbrev pub AreReportsIn : Version → Standing → List Turn → Report → Type
 AreReportsIn One s ts rs = AreTurnReports s ts rs
 AreReportsIn Two s ts rs = AreTurnReports s ts rs
 AreReportsIn Three s ts rs = AreForgetful s ts (floors_after (has_many_to_forget least_to_go) s ts rs) rs
+AreReportsIn Four s ts rs = AreForgetful s ts (floors_after (has_many_to_forget least_to_go) s ts rs) rs

@@ -13,7 +13,7 @@ use Rattle.rb_script_types.specs.declared.config.ClientConfig.{ClientConfig}
 use Rattle.rb_script_types.specs.declared.config.PathConfig.{PathConfig}
 use Rattle.rb_script_types.specs.declared.observation.Observation.{Observation}
 use Rattle.rb_script_types.specs.declared.version.Version.{Version}
-use Rattle.rb_script_types.specs.declared.version.Version.TheVariants.{One, Two, Three}
+use Rattle.rb_script_types.specs.declared.version.Version.TheVariants.{One, Two, Three, Four}
 use Rattle.rb_script_toml.specs.Faults.{Fault, fault}
 use Rattle.rb_script_toml.specs.KeyPaths.{element}
 use Rattle.rb_script_toml.specs.declared.fault.FaultName.TheVariants.{Forgotten}
@@ -29,6 +29,7 @@ abbrev pub forgets : Version → Standing → Bool
 forgets One s = false
 forgets Two s = false
 forgets Three s = has_many_to_forget least_to_go s
+forgets Four s = has_many_to_forget least_to_go s
 
 -- ---- events that speak of what was forgotten
 

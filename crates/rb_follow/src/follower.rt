@@ -21,7 +21,7 @@ use crate::driver::Driver;
 use crate::setup::{path_ids, read_setup_text};
 use crate::tidying::{check_spoken, forgets, raise};
 use crate::turns::read_turn_is_turn;
-use rb_base::{Gate, PathId};
+use rb_base::{ChainId, Gate, PathId};
 use rb_core::MAX_EVENTS;
 use rb_core_model::rules::fee_tables;
 use rb_script_config::Setup;
@@ -66,22 +66,23 @@ fn max_turns(version: Version) -> usize
 {
     match version {
         Version::One | Version::Two => MAX_TURNS,
-        Version::Three => MOST_TURNS,
+        Version::Three | Version::Four => MOST_TURNS,
     }
 }
 
-/// The most events that a turn gives: its window, its goals, events and settlements, the scans of both parts of
-/// each path, and a plan for each client and the taking of its batch.
+/// The most events that a turn gives: its window and those of hosts, its goals, events and settlements, the scans
+/// of both parts of each path, and a plan for each client and the taking of its batch.
 fn most_events(setup: &Setup, turn: &Turn) -> u128
     ensures most { result ≡ most_events (setup_view setup.now) (turn_view turn.now) }
     ensures fits { result ≤ 147573952589676412928 }
 {
+    let windows = turn.windows.len() as u128;
     let goals = turn.goals.len() as u128;
     let events = turn.events.len() as u128;
     let settlements = turn.settlements.len() as u128;
     let paths = setup.paths.as_slice().len() as u128;
     let clients = setup.clients.as_slice().len() as u128;
-    1 + goals + events + settlements + 2 * paths + 2 * clients
+    1 + windows + goals + events + settlements + 2 * paths + 2 * clients
 }
 
 /// How many events can have been given after one more turn, if there is room for them.
@@ -200,6 +201,13 @@ impl<G: Gate + Send + Sync + Drop + 'static> Follower<G> {
         ensures { result ≡ (following self.now).config.version }
     {
         self.setup.version
+    }
+
+    /// The identifiers of the chains, by their places.
+    pub fn chains(&self) -> &[ChainId]
+        ensures { result.now ≡ (following self.now).config.chains }
+    {
+        self.setup.chains.as_slice()
     }
 
     /// The identifiers of the paths, by their places.

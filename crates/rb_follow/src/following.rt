@@ -55,15 +55,17 @@ impl<N: Watcher> Teller<'_, N> {
         writer: &mut W,
     ) -> Result<(), RunError>
         requires { W.is_broken writer.old ≡ false }
-        ensures written { OnOk result (Appends (W.taken writer.old) (W.taken writer.new) (answer_text self.now.form (following follower.now).config.version (path_ids (following follower.now).config.paths) (answer_view answer.now))) }
+        ensures written { OnOk result (Appends (W.taken writer.old) (W.taken writer.new) (answer_text self.now.form (following follower.now).config.version (following follower.now).config.chains (path_ids (following follower.now).config.paths) (answer_view answer.now))) }
         ensures works { OnOk result (W.is_broken writer.new ≡ false) }
-        ensures begun { OnErr result (AppendsBeginning (W.taken writer.old) (W.taken writer.new) (answer_text self.now.form (following follower.now).config.version (path_ids (following follower.now).config.paths) (answer_view answer.now))) }
+        ensures begun { OnErr result (AppendsBeginning (W.taken writer.old) (W.taken writer.new) (answer_text self.now.form (following follower.now).config.version (following follower.now).config.chains (path_ids (following follower.now).config.paths) (answer_view answer.now))) }
         ensures failed { IfErr result (λ e. IsWriteError e (W.is_broken writer.new)) }
     {
+        let chains = follower.chains();
         let paths = follower.paths();
         put_answer(
             self.alloc,
             follower.version(),
+            chains,
             paths,
             answer,
             self.form,
@@ -91,9 +93,9 @@ where
     N: Watcher,
     requires { W.is_broken writer.old ≡ false }
     ensures same { IfOk result (λ g. g ≡ follower) }
-    ensures written { OnOk result (Appends (W.taken writer.old) (W.taken writer.new) (answer_text teller.now.form (following follower).config.version (path_ids (following follower).config.paths) (answer_view answer.now))) }
+    ensures written { OnOk result (Appends (W.taken writer.old) (W.taken writer.new) (answer_text teller.now.form (following follower).config.version (following follower).config.chains (path_ids (following follower).config.paths) (answer_view answer.now))) }
     ensures works { OnOk result (W.is_broken writer.new ≡ false) }
-    ensures begun { OnErr result (AppendsBeginning (W.taken writer.old) (W.taken writer.new) (answer_text teller.now.form (following follower).config.version (path_ids (following follower).config.paths) (answer_view answer.now))) }
+    ensures begun { OnErr result (AppendsBeginning (W.taken writer.old) (W.taken writer.new) (answer_text teller.now.form (following follower).config.version (following follower).config.chains (path_ids (following follower).config.paths) (answer_view answer.now))) }
     ensures failed { IfErr result (λ e. IsFollowError e (W.is_broken writer.new)) }
 {
     match teller.put(&follower, answer, writer) {

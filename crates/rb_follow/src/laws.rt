@@ -1,7 +1,7 @@
 //! Laws of following, over definitions alone.
 ghost use Rattle.rb_follow.specs.Laws.{BeginningsAreReported, AnswersAreReports, ForgettingChangesNoAnswer, AnswersAreLines};
 
-use rb_batch::laws::least_cut_is_one;
+use rb_batch::laws::{cut_apart_is_division, cut_apart_is_one, least_cut_is_one};
 use rb_forgetting::laws::forgetting_by_floors_is_unseen;
 use rb_plan_types::laws::answers_are_one;
 
@@ -27,6 +27,8 @@ pub fn forgetting_changes_no_answer()
 {
     answers_are_one();
     least_cut_is_one();
+    cut_apart_is_division();
+    cut_apart_is_one();
     forgetting_by_floors_is_unseen();
 }
 

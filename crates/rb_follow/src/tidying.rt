@@ -28,7 +28,7 @@ pub(crate) fn forgets<G: Gate + Send + Sync + Drop + 'static>(
 {
     match version {
         Version::One | Version::Two => false,
-        Version::Three => driver.has_many_to_forget(LEAST_TO_GO),
+        Version::Three | Version::Four => driver.has_many_to_forget(LEAST_TO_GO),
     }
 }
 

@@ -11,7 +11,7 @@ ghost use Rattle.rb_follow.specs.Answers.{mark, answer_view, answer_text};
 ghost use Rattle.rb_follow.specs.FaultJson.{fault_json, named_members};
 
 use crate::answer::Answer;
-use rb_base::{Device, PathId, Sink, write_whole};
+use rb_base::{ChainId, Device, PathId, Sink, write_whole};
 use rb_script_toml::{Fault, RunError};
 use rb_script_types::Version;
 use rb_super_turn::TurnReport;
@@ -31,14 +31,15 @@ pub enum Form {
 fn text_of_turn(
     alloc: Global,
     version: Version,
+    chains: &[ChainId],
     paths: &[PathId],
     number: u64,
     report: &TurnReport,
 ) -> Result<String, AllocError>
-    ensures { IfOk result (λ text. string_bytes text ≡ turn_text version paths.now number (turn_report_view report.now) ++ mark) }
+    ensures { IfOk result (λ text. string_bytes text ≡ turn_text version chains.now paths.now number (turn_report_view report.now) ++ mark) }
 {
     let mut text = String::new(alloc);
-    push_turn(&mut text, version, paths, number, report)?;
+    push_turn(&mut text, version, chains, paths, number, report)?;
     text.push_str("---\n")?;
     Ok(text)
 }
@@ -112,19 +113,20 @@ fn json_of_fault(alloc: Global, fault: &Fault) -> Result<String, AllocError>
 fn text_of(
     alloc: Global,
     version: Version,
+    chains: &[ChainId],
     paths: &[PathId],
     answer: &Answer,
     form: Form,
 ) -> Result<String, AllocError>
-    ensures { IfOk result (λ text. string_bytes text ≡ answer_text form version paths.now (answer_view answer.now)) }
+    ensures { IfOk result (λ text. string_bytes text ≡ answer_text form version chains.now paths.now (answer_view answer.now)) }
 {
     match (form, answer) {
         (Form::Text, Answer::Planned { number, report }) => {
-            text_of_turn(alloc, version, paths, *number, report)
+            text_of_turn(alloc, version, chains, paths, *number, report)
         }
         (Form::Text, Answer::Refused(fault)) => text_of_fault(alloc, fault),
         (Form::Json, Answer::Planned { report, .. }) => {
-            json_of_turn(alloc, version, paths, report)
+            json_of_turn(alloc, version, chains, paths, report)
         }
         (Form::Json, Answer::Refused(fault)) => json_of_fault(alloc, fault),
     }
@@ -144,7 +146,7 @@ pub(crate) fn put<W: Sink>(writer: &mut W, bytes: &[u8]) -> Result<(), RunError>
     }
 }
 
-/// Writes an answer, with the identifiers of the paths by their places, whole or as the writer takes it: of a
+/// Writes an answer, with the identifiers of the chains and the paths by their places, whole or as the writer takes it: of a
 /// writer that holds nothing back who reads has it at once. `Device` where the writer fails, and `NoMemory`
 /// where a growth is refused; either way a beginning of the answer was taken. The writer must not have failed
 /// before.
@@ -152,17 +154,18 @@ pub(crate) fn put<W: Sink>(writer: &mut W, bytes: &[u8]) -> Result<(), RunError>
 pub fn put_answer<W: Sink>(
     alloc: Global,
     version: Version,
+    chains: &[ChainId],
     paths: &[PathId],
     answer: &Answer,
     form: Form,
     writer: &mut W,
 ) -> Result<(), RunError>
     requires { W.is_broken writer.old ≡ false }
-    ensures written { OnOk result (Appends (W.taken writer.old) (W.taken writer.new) (answer_text form version paths.now (answer_view answer.now))) }
+    ensures written { OnOk result (Appends (W.taken writer.old) (W.taken writer.new) (answer_text form version chains.now paths.now (answer_view answer.now))) }
     ensures works { OnOk result (W.is_broken writer.new ≡ false) }
-    ensures begun { OnErr result (AppendsBeginning (W.taken writer.old) (W.taken writer.new) (answer_text form version paths.now (answer_view answer.now))) }
+    ensures begun { OnErr result (AppendsBeginning (W.taken writer.old) (W.taken writer.new) (answer_text form version chains.now paths.now (answer_view answer.now))) }
     ensures failed { IfErr result (λ e. IsWriteError e (W.is_broken writer.new)) }
 {
-    let text = text_of(alloc, version, paths, answer, form)?;
+    let text = text_of(alloc, version, chains, paths, answer, form)?;
     put(writer, text.as_bytes())
 }

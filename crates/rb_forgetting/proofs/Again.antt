@@ -14,7 +14,7 @@ use Rattle.rb_scan.specs.declared.path.Order.{Order}
 use Rattle.rb_scan.specs.declared.path.Order.TheVariants.{Unordered}
 use Rattle.rb_step.specs.LightClient.{Update}
 use Rattle.rb_core_model.specs.Over.{from_later}
-use Rattle.rb_core_model.specs.Standing.{OpenBatch, ClientState, PathState, Standing, book_at}
+use Rattle.rb_core_model.specs.Standing.{OpenBatch, ClientState, PathState, Standing, book_at, window_for}
 use Rattle.rb_forgetting.specs.Left.{IsLeft, IsBookLeft, AreStoredLeft}
 use Rattle.rb_forgetting.specs.Laws.{greatest}
 use Rattle.rb_forgetting.specs.Remains.{IsAfterGone, PacketFits, PathFits, IsClientLeft, IsPathLeft, IsLeftOf}
@@ -191,12 +191,12 @@ module _ (m n : ℕ → ℕ) (s t u : Standing) (one : IsLeftOf m s t) (two : Is
   client_again c d e p q = over d.stored (subst (λ (x : ClientState). IsClientLeft n one.window t.books x e) p.is q) p.stored
     where
       over : (ys : List ℕ) → IsClientLeft n one.window t.books (record c { stored = ys }) e
-          → AreStoredLeft (m c.config.tracks) c.config.options.period one.window (book_at s.books c.config.tracks) c.stored ys → IsClientLeft (greatest m n) one.window s.books c e
+          → AreStoredLeft (m c.config.tracks) c.config.options.period (window_for one.window c) (book_at s.books c.config.tracks) c.stored ys → IsClientLeft (greatest m n) one.window s.books c e
       over ys r stored = record {
         is = r.is;
         stored =
             stored_again (m c.config.tracks) (n c.config.tracks) (book_at s.books c.config.tracks) (book_at t.books c.config.tracks) (book_at u.books c.config.tracks) (one.books c.config.tracks) (two.books c.config.tracks)
-            c.config.options.period one.window c.stored ys e.stored stored r.stored;
+            c.config.options.period (window_for one.window c) c.stored ys e.stored stored r.stored;
         batch = updates_above (m c.config.tracks) (n c.config.tracks) c.batch p.batch r.batch;
       }
 

@@ -1,10 +1,10 @@
 -- What is right for a client over a light store is right over what is left of it.
-use Rattle.std.proofs.Common.{◌≡◌, ℕ, List, Option, Some, None, MatchOption, refl, sym, ap, ◌∙◌, subst}
+use Rattle.std.proofs.Common.{◌≡◌, ℕ, Bool, List, map, Option, Some, None, MatchOption, refl, sym, ap, ◌∙◌, subst}
 use Rattle.std.specs.List.{All}
 use Rattle.std.specs.Option.{IfSome, option_map}
 use Rattle.rb_base.specs.declared.votes.CarriedVotes.{CarriedVotes}
 use Rattle.rb_base.specs.declared.votes.CarriedVotes.TheVariants.{Commit, Cast, Needed}
-use Rattle.rb_batch.specs.Cut.{IsLeastCut, IsFirstTooBig}
+use Rattle.rb_batch.specs.Cut.{IsFirstTooBig}
 use Rattle.rb_book.specs.Book.{Book}
 use Rattle.rb_book.specs.Invariant.{Rises}
 use Rattle.rb_script_types.specs.declared.goal.Goal.{Goal}
@@ -13,16 +13,16 @@ use Rattle.rb_step.specs.Sent.{sent_of, sent_by, sent_at}
 use Rattle.rb_step.specs.View.{IsView, client_of}
 use Rattle.rb_plan_types.specs.Labelling.{label_of}
 use Rattle.rb_plan_types.specs.Least.{IsUnreachable}
-use Rattle.rb_plan_client.specs.Draft.{Sending, nothing, too_big, batched, Plan, Planned, IsSending, IsPlan, IsPlanned, IsIdle}
+use Rattle.rb_plan_client.specs.Draft.{Sending, nothing, too_big, batched, Plan, Planned, IsCut, IsSending, IsPlan, IsPlanned, IsIdle}
 use Rattle.rb_plan_client.specs.Next.{IsNext}
 use Rattle.rb_plan_client.specs.Reach.{IsReachable, IsReach}
-use Rattle.rb_plan_client.specs.Task.{Task, Message, view_of, messages_of}
+use Rattle.rb_plan_client.specs.Task.{Task, Message, view_of, is_apart, gas_of}
 use Rattle.rb_forgetting.specs.Alike.{AreAlike}
 use Rattle.rb_forgetting.specs.Left.{IsBookLeft, AreStoredLeft, HaveFloors}
 use Rattle.rb_forgetting.proofs.Books.{same_step}
 use Rattle.rb_forgetting.proofs.Planning.{IsAbove, exact, least, unreachable, proof_height, updates_above}
 use Rattle.rb_forgetting.proofs.Runs.{acceptable, leaves}
-use Rattle.rb_forgetting.proofs.Tasks.{rest_of, are_alike, goal_same, messages_same, next_same, gases_same}
+use Rattle.rb_forgetting.proofs.Tasks.{rest_of, are_alike, goal_same, apart_same, messages_same, next_same, fees_same, gases_same}
 
 -- ---- the reach of clients that are alike is the same
 
@@ -60,29 +60,38 @@ module _ (m : ℕ) (t : Task) (ys : List ℕ) (c : Book) (left : IsBookLeft m t.
     goal = sym (goal_same m t ys c left stored floors rises view is.reach is.is_reach) ∙ is.goal;
   }
 
-  pub next_left : (us : List Update) (next : Option ℕ) → All (IsAbove m) us → IsNext t us next → IsNext (record t { stored = ys; book = c }) us next
-  next_left us next above is = record {
+  pub next_left : (us : List Update) (next : Option ℕ) → IsAcceptable (client_of (view_of t)) us → IsNext t us next → IsNext (record t { stored = ys; book = c }) us next
+  next_left us next a is = record {
     reach = is.reach;
     is_reach = reach_there is.reach is.is_reach;
-    is = is.is ∙ next_same m t ys c left stored floors rises view is.reach is.is_reach us above;
+    proof = is.proof;
+    is_proof = proof_height m (client_of (view_of t)) (client_of (view_of (record t { stored = ys; book = c }))) both us is.proof a is.is_proof;
+    is = is.is ∙ next_same m t ys c left stored floors rises view is.reach is.is_reach us is.proof a (high us a) is.is_proof;
   }
 
-  sending_left : (p : Plan) (s : Sending) → IsAcceptable (client_of (view_of t)) p.updates → IsSending t p s → IsSending (record t { stored = ys; book = c }) p s
-  sending_left p nothing a is = is
-  sending_left p (too_big index) a is =
-      subst (λ (gs : List ℕ). IsFirstTooBig t.config.limits gs index) (gases_same m t ys c left stored floors rises view p.updates p.messages (high p.updates a)) is
-  sending_left p (batched b) a is = record {
-    some = is.some;
-    proof = proof_height m (client_of (view_of t)) (client_of (view_of (record t { stored = ys; book = c }))) both p.updates (Some b.proof) a is.proof;
-    transactions = subst (λ (gs : List ℕ). IsLeastCut t.config.limits gs b.transactions) (gases_same m t ys c left stored floors rises view p.updates p.messages (high p.updates a)) is.transactions;
-  }
+  module _ (r : Option ℕ) (is_reach : IsReach (client_of (view_of t)) r) where
+    sending_left : (p : Plan) (s : Sending) → IsAcceptable (client_of (view_of t)) p.updates → IsSending t r p s → IsSending (record t { stored = ys; book = c }) r p s
+    sending_left p nothing a is = is
+    sending_left p (too_big index) a is =
+        subst (λ (gs : List ℕ). IsFirstTooBig t.config.limits gs index) (gases_same m t ys c left stored floors rises view p.updates p.messages (high p.updates a)) is
+    sending_left p (batched b) a is = record {
+      some = is.some;
+      proof = proof_height m (client_of (view_of t)) (client_of (view_of (record t { stored = ys; book = c }))) both p.updates (Some b.proof) a is.proof;
+      transactions =
+          subst (λ (apart : Bool). IsCut apart t.config.limits (map (gas_of rest) p.updates) (map (λ (x : Message). x.gas) p.messages) b.transactions)
+          (apart_same m t ys c left stored floors rises view r is_reach)
+          (subst (λ (gs : List ℕ). IsCut (is_apart t r) t.config.limits gs (map (λ (x : Message). x.gas) p.messages) b.transactions)
+          (fees_same m t ys c left stored floors rises view p.updates (high p.updates a)) is.transactions);
+    }
 
-  plan_left : (goal : Goal) (ms : List Message) (p : Plan) → IsPlan t goal ms p → IsPlan (record t { stored = ys; book = c }) goal ms p
-  plan_left goal ms p is = record {
-    least = least m (client_of (view_of t)) (client_of (view_of (record t { stored = ys; book = c }))) both goal p.updates is.least;
-    messages = is.messages;
-    sending = sending_left p p.sending is.least.acceptable is.sending;
-  }
+    plan_left : (goal : Goal) (p : Plan) → IsPlan t r goal p → IsPlan (record t { stored = ys; book = c }) r goal p
+    plan_left goal p is = record {
+      least = least m (client_of (view_of t)) (client_of (view_of (record t { stored = ys; book = c }))) both goal p.updates is.least;
+      proof = is.proof;
+      is_proof = proof_height m (client_of (view_of t)) (client_of (view_of (record t { stored = ys; book = c }))) both p.updates is.proof is.least.acceptable is.is_proof;
+      messages = is.messages ∙ messages_same m t ys c left stored floors rises view r is_reach is.proof;
+      sending = sending_left p p.sending is.least.acceptable is.sending;
+    }
 
   pub planned_left : (p : Planned) → IsPlanned t p → IsPlanned (record t { stored = ys; book = c }) p
   planned_left p is = record {
@@ -91,15 +100,13 @@ module _ (m : ℕ) (t : Task) (ys : List ℕ) (c : Book) (left : IsBookLeft m t.
     goal = sym (goal_same m t ys c left stored floors rises view is.reach is.is_reach) ∙ is.goal;
     labels = is.labels;
     exact = exact m (client_of (view_of t)) (client_of (view_of (record t { stored = ys; book = c }))) both (label_of p.labels) is.exact;
-    plan =
-        subst (λ (ms : List Message). MatchOption p.plan (IsUnreachable (client_of (view_of (record t { stored = ys; book = c }))) p.goal) (IsPlan (record t { stored = ys; book = c }) p.goal ms))
-        (messages_same m t ys c left stored floors rises view is.reach is.is_reach) (go p.plan is.plan);
+    plan = go p.plan is.plan;
   }
     where
-      go : (o : Option Plan) → MatchOption o (IsUnreachable (client_of (view_of t)) p.goal) (IsPlan t p.goal (messages_of t is.reach))
-          → MatchOption o (IsUnreachable (client_of (view_of (record t { stored = ys; book = c }))) p.goal) (IsPlan (record t { stored = ys; book = c }) p.goal (messages_of t is.reach))
+      go : (o : Option Plan) → MatchOption o (IsUnreachable (client_of (view_of t)) p.goal) (IsPlan t is.reach p.goal)
+          → MatchOption o (IsUnreachable (client_of (view_of (record t { stored = ys; book = c }))) p.goal) (IsPlan (record t { stored = ys; book = c }) is.reach p.goal)
       go None none = unreachable m (client_of (view_of t)) (client_of (view_of (record t { stored = ys; book = c }))) both p.goal none
-      go (Some plan) right = plan_left p.goal (messages_of t is.reach) plan right
+      go (Some plan) right = plan_left is.reach is.is_reach p.goal plan right
 
   -- ---- what is reported of updates
 

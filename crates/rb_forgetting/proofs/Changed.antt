@@ -1,11 +1,13 @@
 -- What an event makes of all, it makes of what is left, if the event speaks of nothing that went.
-use Rattle.std.proofs.Common.{◌≡◌, ℕ, ◌+◌, ◌<◌, ◌≤◌, ◌==◌, ◌⊎◌, Bool, true, false, cond, ◌||◌, nat_lt, List, length, set, count_by, Option, Some, None, is_some, inl, inr, refl, sym, ap, ◌∙◌, subst, arith}
-use Rattle.std.specs.List.{All, slice_get, slice_index_or}
-use Rattle.std.specs.Option.{IfSome, IsSomeAnd, option_map, option_map_or, option_and_then}
+use Rattle.std.proofs.Common.{◌≡◌, ℕ, ◌+◌, ◌<◌, ◌≤◌, ◌==◌, ◌⊎◌, ◌&&◌, Bool, true, false, cond, ◌||◌, nat_lt, List, [], ◌∷◌, length, set, count_by, Option, Some, None, is_some, inl, inr, refl, sym, ap, ◌∙◌, subst, arith}
+use Rattle.std.specs.Prelude.{unwrap_or}
+use Rattle.std.specs.List.{All, AllByRecursion, list_any, slice_get, slice_index_or}
+use Rattle.std.specs.Option.{IfSome, IsSomeAnd, option_map, option_map_or, option_and_then, option_or}
 use Rattle.std.proofs.lemmas.Bool.{cases_eq, cases_lt, ltb-false}
 use Rattle.std.proofs.lemmas.List.{get_or-set_same, get_or-set_other, length-set, set_past}
 use Rattle.std.proofs.lemmas.List.Elements.{All-from_recursion, All-weaker, recursion_from_All}
 use Rattle.std.proofs.lemmas.Option.{cond_some, same_Some}
+use Rattle.rb_script_types.specs.declared.block.Block.{Block}
 use Rattle.rb_base.specs.Window.{Span}
 use Rattle.rb_valset.specs.Validator.{Member}
 use Rattle.rb_valset.specs.ValidatorSet.{set_hash, same_set}
@@ -24,14 +26,14 @@ use Rattle.rb_scan.specs.declared.path.Order.TheVariants.{Unordered}
 use Rattle.rb_script_types.specs.Refusal.{of_book}
 use Rattle.rb_script_types.specs.declared.refusal.Refusal.TheVariants.{OutOfOrder, WindowBack}
 use Rattle.rb_step.specs.LightClient.{Update}
-use Rattle.rb_core_model.specs.Event.{Event, IsEvent, Window, Asked, SetSeen, HeaderSeen, StoredSeen, Sent, Received, AckWritten, Cleared, Closed, Scanned, Planned, Settled}
+use Rattle.rb_core_model.specs.Event.{Event, IsEvent, Window, HostWindow, Asked, SetSeen, HeaderSeen, StoredSeen, Sent, Received, AckWritten, Cleared, Closed, Scanned, Planned, Settled}
 use Rattle.rb_core_model.specs.Refusal.{refused_if}
-use Rattle.rb_core_model.specs.Standing.{OpenBatch, ClientState, PathState, Standing, empty_book, book_at, tracked, goes_back, open_batch, judged, changed, changed_at, with_book, with_client, with_path, with_packet, with_mark, with_height, new_packet, after_batch, after_messages, after_settled, settled_messages, view_of_path, sent_refusal}
+use Rattle.rb_core_model.specs.Standing.{OpenBatch, ClientState, PathState, Standing, empty_book, book_at, tracked, window_for, goes_back, goes_back_on, open_batch, judged, changed, changed_at, with_book, with_client, with_path, with_packet, with_mark, with_height, in_host_window, new_packet, after_batch, after_messages, after_settled, settled_messages, view_of_path, sent_refusal}
 use Rattle.rb_core_model.specs.Steps.{IsFromOutside}
 use Rattle.rb_core_model.proofs.Intake.{set_accepted, header_accepted, record_accepted}
 use Rattle.rb_core_model.proofs.Options.{passes, chained}
 use Rattle.rb_forgetting.specs.Free.{if_not_full, freely}
-use Rattle.rb_forgetting.specs.Left.{IsBookLeft}
+use Rattle.rb_forgetting.specs.Left.{IsBookLeft, AreStoredLeft}
 use Rattle.rb_forgetting.specs.Remains.{IsAfterGone, PacketFits, PathFits, IsClientLeft, IsPathLeft, IsLeftOf}
 use Rattle.rb_forgetting.specs.Spoken.{IsSpared}
 use Rattle.rb_forgetting.proofs.Additions.{IsNewOrSame, record_kept, header_kept, set_kept}
@@ -42,7 +44,7 @@ use Rattle.rb_forgetting.proofs.Paths.{received_left, written_left, cleared_left
 use Rattle.rb_forgetting.proofs.Refusals.{if_room}
 use Rattle.rb_forgetting.proofs.Rises.{record_rises, header_rises}
 use Rattle.rb_forgetting.proofs.Stored.{one_stored, batch_stored}
-use Rattle.rb_forgetting.proofs.Zips.{IsPair, pair_at, zip_weaker, zip_changed}
+use Rattle.rb_forgetting.proofs.Zips.{IsPair, pair_at, zip_weaker, zip_changed, zip_mapped}
 
 -- ---- books at their places
 
@@ -122,6 +124,36 @@ if_weaker : {X : Type 0} (P Q : X → Type 0) → ((x : X) → P x → Q x) → 
 if_weaker P Q f None p = p
 if_weaker P Q f (Some x) p = f x p
 
+-- ---- windows that go on
+
+or_false : (a b : Bool) → (a || b) ≡ false → (a ≡ false) × (b ≡ false)
+or_false true b e = absurd (cc)
+or_false false b e = (refl, e)
+
+none_any : {X : Type 0} (p : X → Bool) (xs : List X) → list_any p xs ≡ false → AllByRecursion (λ x. p x ≡ false) xs
+none_any p [] e = tt
+none_any p (x ∷ xs) e = (let parts = or_false (p x) (list_any p xs) e in (parts.0, none_any p xs parts.1))
+
+-- a window that doesn't go back ends no earlier
+until_forward : (present window : Span) → goes_back (Some present) window ≡ false → present.until ≤ window.until
+until_forward present window e = ltb-false window.until present.until (or_false (nat_lt window.from present.from) (nat_lt window.until present.until) e).1
+
+forward_until : (o : Option Span) (common window : Span) → goes_back (option_or o (Some common)) window ≡ false → (unwrap_or o common).until ≤ window.until
+forward_until None common window e = until_forward common window e
+forward_until (Some own) common window e = until_forward own window e
+
+-- what is dead in a window is dead in a later one
+stored_later : (k period : ℕ) (w v : Span) → w.until ≤ v.until → (b : Book) (xs ys : List ℕ) → AreStoredLeft k period w b xs ys → AreStoredLeft k period v b xs ys
+stored_later k period w v later b xs ys is = record {
+  heights = is.heights;
+  dead = λ i d lt live. is.dead i d lt (sooner (record_at b (slice_index_or is.heights.gone i d)) live);
+  some = is.some;
+}
+  where
+    sooner : (o : Option Record) → IsSomeAnd o (λ (r : Record). v.until < r.time + period) → IsSomeAnd o (λ (r : Record). w.until < r.time + period)
+    sooner None live = live
+    sooner (Some r) live = omega arith
+
 module _ (m : ℕ → ℕ) (s t : Standing) (left : IsLeftOf m s t) where
   -- ---- a light store that took something in
 
@@ -136,7 +168,7 @@ module _ (m : ℕ → ℕ) (s t : Standing) (left : IsLeftOf m s t) where
         heights = is.stored.heights;
         dead = λ i d lt live.
             is.stored.dead i d lt
-            (subst (λ (o : Option Record). IsSomeAnd o (λ (r : Record). left.window.until < r.time + x.config.options.period))
+            (subst (λ (o : Option Record). IsSomeAnd o (λ (r : Record). (window_for left.window x).until < r.time + x.config.options.period))
             ((takes_at x.config.tracks).below (slice_index_or is.stored.heights.gone i d) (is.stored.heights.below i d lt)) live);
         some = is.stored.some;
       };
@@ -232,29 +264,57 @@ module _ (m : ℕ → ℕ) (s t : Standing) (left : IsLeftOf m s t) where
     fit = left.fit;
   }
     where
-      sooner : (period : ℕ) (o : Option Record) → IsSomeAnd o (λ (r : Record). window.until < r.time + period) → IsSomeAnd o (λ (r : Record). left.window.until < r.time + period)
-      sooner period None live = live
-      sooner period (Some r) live = omega arith
+      later_for : (o : Option Span) → (unwrap_or o left.window).until ≤ (unwrap_or o window).until
+      later_for None = later
+      later_for (Some own) = omega arith
 
       aged : (x y : ClientState) → IsClientLeft m left.window s.books x y → IsClientLeft m window s.books x y
       aged x y is = record {
         is = is.is;
-        stored = record {
-          heights = is.stored.heights;
-          dead = λ i d lt live. is.stored.dead i d lt (sooner x.config.options.period (record_at (book_at s.books x.config.tracks) (slice_index_or is.stored.heights.gone i d)) live);
-          some = is.stored.some;
-        };
+        stored = stored_later (m x.config.tracks) x.config.options.period (window_for left.window x) (window_for window x) (later_for x.window) (book_at s.books x.config.tracks) x.stored y.stored is.stored;
         batch = is.batch;
       }
 
-  or_false : (a b : Bool) → (a || b) ≡ false → b ≡ false
-  or_false true b e = absurd (cc)
-  or_false false b e = e
+  -- ---- a window of a host
+
+  module _ (host : ℕ) (window : Span) where
+    client_entered : (x y : ClientState) → IsClientLeft m left.window s.books x y → goes_back_on (Some left.window) host window y ≡ false
+        → IsClientLeft m left.window s.books (in_host_window host window x) (in_host_window host window y)
+    client_entered x y is forward =
+        subst (λ (z : ClientState). IsClientLeft m left.window s.books (in_host_window host window x) (in_host_window host window z)) (sym is.is)
+        (go (x.config.host == host) (subst (λ (z : ClientState). goes_back_on (Some left.window) host window z ≡ false) is.is forward))
+      where
+        go : (b : Bool) → (b && goes_back (option_or x.window (Some left.window)) window) ≡ false
+            → IsClientLeft m left.window s.books (cond b (record x { window = Some window }) x) (cond b (record x { window = Some window; stored = y.stored }) (record x { stored = y.stored }))
+        go false e = subst (λ (z : ClientState). IsClientLeft m left.window s.books x z) is.is is
+        go true e = record {
+          is = refl;
+          stored =
+              stored_later (m x.config.tracks) x.config.options.period (window_for left.window x) window (forward_until x.window left.window window e) (book_at s.books x.config.tracks) x.stored y.stored is.stored;
+          batch = is.batch;
+        }
+
+    host_left : judged t (HostWindow host window) ≡ None → IsLeftOf m (changed s (HostWindow host window)) (changed t (HostWindow host window))
+    host_left ok = record {
+      window = left.window;
+      in_force = left.in_force;
+      still = left.still;
+      paths = left.paths;
+      chains = left.chains;
+      books = left.books;
+      rises = left.rises;
+      rest = left.rest;
+      clients =
+          zip_mapped (IsClientLeft m left.window s.books) (λ y. goes_back_on (Some left.window) host window y ≡ false) (in_host_window host window) (in_host_window host window) client_entered s.clients t.clients left.clients
+          (none_any (goes_back_on (Some left.window) host window) t.clients
+          (ap (λ (o : Option Span). list_any (goes_back_on o host window) t.clients) (sym left.still) ∙ (passes (list_any (goes_back_on t.window host window) t.clients) WindowBack None ok).0));
+      fit = left.fit;
+    }
 
   not_back : (window : Span) → judged t (Window window) ≡ None → left.window.until ≤ window.until
   not_back window ok =
       let forward : goes_back (Some left.window) window ≡ false = (passes (goes_back (Some left.window) window) WindowBack None (ap (λ (o : Option Span). refused_if (goes_back o window) WindowBack None) (sym left.still) ∙ ok)).0 in
-      ltb-false window.until left.window.until (or_false (nat_lt window.from left.window.from) (nat_lt window.until left.window.until) forward)
+      until_forward left.window window forward
 
   -- ---- settlements
 
@@ -341,7 +401,7 @@ new_or_same b set ok = go (set_of b (set_hash set)) refl
         inr (e ∙ ap Some same)
 
 -- a packet that is accepted has no lower sequence than the first
-sent_above : (t : Standing) (path sequence block : ℕ) (timeout_height timeout_time : Option ℕ) (q : PathState) → judged t (Sent path sequence block timeout_height timeout_time) ≡ None → slice_get t.paths path ≡ Some q → q.first ≤ sequence
+sent_above : (t : Standing) (path sequence : ℕ) (block : Block) (timeout_height timeout_time : Option ℕ) (q : PathState) → judged t (Sent path sequence block timeout_height timeout_time) ≡ None → slice_get t.paths path ≡ Some q → q.first ≤ sequence
 sent_above t path sequence block timeout_height timeout_time q ok at =
     let fits : sent_refusal (view_of_path t.books q) sequence ≡ None = ap (λ o. option_and_then (λ v. sent_refusal v sequence) (option_map (view_of_path t.books) o)) (sym at) ∙ ok in
     ltb-false sequence q.first (passes (nat_lt sequence q.first) OutOfOrder _ fits).0
@@ -365,6 +425,7 @@ module _ (m : ℕ → ℕ) (s t : Standing) (left : IsLeftOf m s t) (stays : Sta
 
   pub changed_left : (e : Event) → IsFromOutside e → IsEvent e → IsSpared m s t e → freely s e ≡ None → judged t e ≡ None → IsLeftOf m (changed s e) (changed t e)
   changed_left (Window window) from right spared in_s in_t = window_left m s t left window (not_back m s t left window in_t)
+  changed_left (HostWindow host window) from right spared in_s in_t = host_left m s t left host window in_t
   changed_left (SetSeen chain x) from right spared in_s in_t =
       let b = book_at s.books chain in
       let c = book_at t.books chain in
@@ -390,9 +451,9 @@ module _ (m : ℕ → ℕ) (s t : Standing) (left : IsLeftOf m s t) (stays : Sta
   changed_left (Received path sequence block) from right spared in_s in_t =
       path_left m s t left path (with_mark (λ q. record q { received = Some block }) sequence) (λ p at fits. received_fits m s.books block sequence p fits) (λ p q at_p at_q is. received_left block sequence p q is)
   changed_left (AckWritten path sequence block) from right spared in_s in_t =
-      path_left m s t left path (with_mark (λ q. record q { written = Some block }) sequence)
+      path_left m s t left path (with_mark (λ q. record q { written = Some block.height; written_time = block.time }) sequence)
       (λ p at fits. written_fits m s.books block sequence p
-      (subst (λ (o : Option PathState). IfSome o (λ (k : PathState). (k.config.order ≡ Unordered) ⊎ (m k.config.destination ≤ block + 1))) at spared.0) fits)
+      (subst (λ (o : Option PathState). IfSome o (λ (k : PathState). (k.config.order ≡ Unordered) ⊎ (m k.config.destination ≤ block.height + 1))) at spared.0) fits)
       (λ p q at_p at_q is. written_left block sequence p q is)
   changed_left (Cleared path sequence) from right spared in_s in_t =
       path_left m s t left path (with_mark (λ q. record q { cleared = true }) sequence) (λ p at fits. cleared_fits m s.books sequence p fits) (λ p q at_p at_q is. cleared_left sequence p q is)

@@ -7,7 +7,7 @@ use Rattle.std.proofs.lemmas.List.Elements.{filter_map-append, recursion_from_Al
 use Rattle.rb_base.specs.declared.gate.Part.{Part}
 use Rattle.rb_base.specs.declared.gate.Part.TheVariants.{Packets, Channel}
 use Rattle.rb_scan.specs.Expiry.{is_expired, timeout_floor}
-use Rattle.rb_scan.specs.Owed.{floor_of, expires_for, message_of, open_messages, messages, owed_part}
+use Rattle.rb_scan.specs.Owed.{floor_of, expires_for, since_for, timeout_for, message_of, open_messages, messages, owed_part}
 use Rattle.rb_scan.specs.Packet.{Packet, is_finished, is_cleared, is_in_flight}
 use Rattle.rb_scan.specs.Path.{Path}
 use Rattle.rb_scan.specs.declared.message.Kind.{Kind}
@@ -32,7 +32,7 @@ no_floor records Timeout q cleared = ap (λ f. if f && is_expired records q then
 none_owed : (records : List (ℕ × ℕ)) (kind : Kind) (gone : List Packet) → AllByRecursion (λ (q : Packet). is_cleared q ≡ true) gone → filter_map (message_of records kind) gone ≡ []
 none_owed records kind [] all = refl
 none_owed records kind (q ∷ gone) all =
-    ap (λ o. cons_option (option_map (λ (floor : ℕ). record { kind = kind; sequence = q.sequence; floor = floor; expires = expires_for kind q }) o) (filter_map (message_of records kind) gone)) (no_floor records kind q all.0)
+    ap (λ o. cons_option (option_map (λ (floor : ℕ). record { kind = kind; sequence = q.sequence; floor = floor; expires = expires_for kind q; since = since_for kind q; timeout = timeout_for kind q }) o) (filter_map (message_of records kind) gone)) (no_floor records kind q all.0)
     ∙ none_owed records kind gone all.1
 
 module _ (v w : Path) (cut : IsCutPath v w) where

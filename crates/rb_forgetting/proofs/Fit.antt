@@ -1,5 +1,5 @@
 -- From turn to turn how things stand is sound, and clients and paths are configured as they were.
-use Rattle.std.proofs.Common.{◌≡◌, ℕ, suc, ◌+◌, ◌<◌, Bool, true, false, List, [], ◌∷◌, Option, Some, None, is_some, length, refl, sym, ap, ◌∙◌, subst, arith, if◌then◌else◌}
+use Rattle.std.proofs.Common.{◌≡◌, ℕ, suc, ◌+◌, ◌<◌, ◌≤◌, Bool, true, false, List, [], ◌∷◌, Option, Some, None, is_some, length, refl, sym, ap, ◌∙◌, subst, arith, if◌then◌else◌}
 use Rattle.std.specs.List.{AllByRecursion, AllZip, enumerate_from, fold, range_with_len}
 use Rattle.std.specs.Option.{option_map_or}
 use Rattle.std.proofs.lemmas.List.{length-replicate}
@@ -8,10 +8,11 @@ use Rattle.rb_book.specs.Laws.{FindsWhatWasAdded, StaysABook}
 use Rattle.rb_script_types.specs.Config.{Config}
 use Rattle.rb_script_types.specs.declared.refusal.Refusal.{Refusal}
 use Rattle.rb_script_types.specs.declared.script.Asked.{Asked as Question}
+use Rattle.rb_script_types.specs.declared.script.HostWindow.{HostWindow as WindowOf}
 use Rattle.rb_script_types.specs.declared.script.Settlement.{Settlement}
 use Rattle.rb_step.specs.Laws.{ViewsAreOrderly}
 use Rattle.rb_core_model.specs.Config.{IsSetUp}
-use Rattle.rb_core_model.specs.Event.{Event, IsEvent, Window, Asked, SetSeen, HeaderSeen, StoredSeen, Sent, Received, AckWritten, Cleared, Closed, Scanned, Planned, Settled}
+use Rattle.rb_core_model.specs.Event.{Event, IsEvent, Window, HostWindow, Asked, SetSeen, HeaderSeen, StoredSeen, Sent, Received, AckWritten, Cleared, Closed, Scanned, Planned, Settled}
 use Rattle.rb_core_model.specs.Machine.{State, no_scans, opening, is_known, refusal_of}
 use Rattle.rb_core_model.specs.Standing.{ClientState, Standing, opening_standing, task_in, with_batch, judged, changed, standing_after}
 use Rattle.rb_core_model.specs.Steps.{IsFromOutside, JudgedByStanding}
@@ -19,10 +20,10 @@ use Rattle.rb_core_model.proofs.Lengths.{lengths_changed}
 use Rattle.rb_core_model.proofs.Sound.{IsSoundClient, IsSound, answer_sound, step_sound}
 use Rattle.rb_super_turn.specs.Report.{Outcome, held, idle, planned, ClientReport, TurnReport}
 use Rattle.rb_super_turn.specs.Script.{Turn, IsSeen, IsTurn}
-use Rattle.rb_super_turn.specs.Turns.{after_window, after_question, opened, IsOutcome, after_outcome, IsClientReport, before_events, before_plans, after_reports, after_plans, settlement_event, after_settlement, taking, after_taking, takers, IsTurnReport, after_turn}
+use Rattle.rb_super_turn.specs.Turns.{after_window, window_event, after_host_window, after_question, opened, IsOutcome, after_outcome, IsClientReport, before_events, before_plans, after_reports, after_plans, settlement_event, after_settlement, taking, after_taking, takers, IsTurnReport, after_turn}
 use Rattle.rb_super_turn.proofs.Reported.{opened_back}
 use Rattle.rb_super_turn.proofs.Takings.{taker, row_below}
-use Rattle.rb_super_turn.proofs.Sizes.{HasSizes, sizes_opening, seen_known, client_known}
+use Rattle.rb_super_turn.proofs.Sizes.{HasSizes, sizes_opening, seen_known, chain_known, client_known}
 
 -- ---- what is kept
 
@@ -47,6 +48,7 @@ opening_fit config is sound =
 
 pub seen_outside : (config : Config) (e : Event) → IsSeen config e → IsFromOutside e
 seen_outside config (Window window) is = absurd is
+seen_outside config (HostWindow host window) is = absurd is
 seen_outside config (Asked client goal) is = absurd is
 seen_outside config (SetSeen chain x) is = tt
 seen_outside config (HeaderSeen chain header) is = tt
@@ -83,6 +85,13 @@ module _ (finds : FindsWhatWasAdded) (stays : StaysABook) (orderly : ViewsAreOrd
             paths = same.paths ∙ fit.paths;
           }
 
+  hosts_fit : (config : Config) (ws : List WindowOf) → AllByRecursion (λ (w : WindowOf). (w.host < length config.chains) × (w.window.from ≤ w.window.until)) ws → (s : Standing) → IsFit config s
+      → IsFit config (fold after_host_window s ws)
+  hosts_fit config [] all s fit = fit
+  hosts_fit config (w ∷ ws) all s fit =
+      hosts_fit config ws all.1 (after_host_window s w)
+      (event_fit config s (window_event w) all.0.1 tt (chain_known config (at_rest config s) w.host (sizes config s fit) all.0.0) fit)
+
   goals_fit : (config : Config) (qs : List Question) → AllByRecursion (λ (q : Question). q.client < length config.clients) qs → (s : Standing) → IsFit config s → IsFit config (fold after_question s qs)
   goals_fit config [] all s fit = fit
   goals_fit config (q ∷ qs) all s fit =
@@ -97,8 +106,10 @@ module _ (finds : FindsWhatWasAdded) (stays : StaysABook) (orderly : ViewsAreOrd
 
   pub before_fit : (config : Config) (s : Standing) (t : Turn) → IsTurn config t → IsFit config s → IsFit config (before_plans s t)
   before_fit config s t is fit =
-      let entered = event_fit config s (Window t.window) is.window tt refl fit in
-      let asked = goals_fit config t.goals (recursion_from_All (λ (q : Question). q.client < length config.clients) t.goals is.goals) (after_window s t.window) entered in
+      let hosts = fold after_host_window s t.windows in
+      let there = hosts_fit config t.windows (recursion_from_All (λ (w : WindowOf). (w.host < length config.chains) × (w.window.from ≤ w.window.until)) t.windows is.windows) s fit in
+      let entered = event_fit config hosts (Window t.window) is.window tt refl there in
+      let asked = goals_fit config t.goals (recursion_from_All (λ (q : Question). q.client < length config.clients) t.goals is.goals) (after_window hosts t.window) entered in
       events_fit config t.events (recursion_from_All (IsSeen config) t.events is.events) (recursion_from_All IsEvent t.events is.right) (before_events s t) asked
 
   row_sound : (s : Standing) (place : ℕ) (c : ClientState) (r : ClientReport) → IsSound s → IsSoundClient s.books c → IsClientReport s (place, c) r → IsSoundClient s.books (after_outcome r.outcome c)

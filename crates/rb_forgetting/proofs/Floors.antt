@@ -10,7 +10,7 @@ use Rattle.rb_base.specs.declared.gate.Part.TheVariants.{Packets, Channel}
 use Rattle.rb_book.specs.Book.{Book, RecordAt, height_of, time_of, heights_and_times_of}
 use Rattle.rb_book.proofs.Lists.{found_holds, found_passes}
 use Rattle.rb_scan.specs.Expiry.{has_come, is_height_expired, is_time_expired, is_expired, height_floor, time_floor, lesser, timeout_floor}
-use Rattle.rb_scan.specs.Owed.{floor_of, expires_for, message_of, messages, open_messages, owed_part}
+use Rattle.rb_scan.specs.Owed.{floor_of, expires_for, since_for, timeout_for, message_of, messages, open_messages, owed_part}
 use Rattle.rb_scan.specs.Packet.{Packet, is_cleared, is_in_flight}
 use Rattle.rb_scan.specs.Path.{Path}
 use Rattle.rb_scan.specs.declared.message.Kind.{Kind}
@@ -127,7 +127,7 @@ module _ (source m : ℕ) (b : Book) (v : Path) (over : v.destination ≡ height
   floor_in n kind q low =
       some_if (λ (x : PacketMsg). n ≤ x.floor) (message_of v.destination kind q)
       (λ x e.
-      let from = map_some (λ (floor : ℕ). record { kind = kind; sequence = q.sequence; floor = floor; expires = expires_for kind q }) (floor_of v.destination kind q) x e in
+      let from = map_some (λ (floor : ℕ). record { kind = kind; sequence = q.sequence; floor = floor; expires = expires_for kind q; since = since_for kind q; timeout = timeout_for kind q }) (floor_of v.destination kind q) x e in
       subst (λ (y : PacketMsg). n ≤ y.floor) from.2 (low from.0 from.1))
 
   of_kind : (n : ℕ) (kind : Kind) → ((q : Packet) → PacketFits source m b Ordered q → (f : ℕ) → floor_of v.destination kind q ≡ Some f → n ≤ f)

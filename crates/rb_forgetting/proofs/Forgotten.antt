@@ -12,7 +12,7 @@ use Rattle.rb_book.specs.Book.{Book, record_at}
 use Rattle.rb_book.specs.Invariant.{IsBook}
 use Rattle.rb_book.proofs.Rising.{Up, Up-from_pairs}
 use Rattle.std.proofs.lemmas.List.Kept.{AllPairs-from_increasing}
-use Rattle.rb_core_model.specs.Standing.{ClientState, Standing, book_at}
+use Rattle.rb_core_model.specs.Standing.{ClientState, Standing, book_at, window_for}
 use Rattle.rb_forgetting.specs.Left.{IsBookLeft, AreStoredLeft}
 use Rattle.rb_forgetting.specs.Remains.{IsClientLeft, IsLeftOf}
 use Rattle.rb_book.specs.Rest.{rest_of_book}
@@ -69,7 +69,7 @@ clients_left m w books [] rising needs = tt
 clients_left m w books (c ∷ cs) rising needs = (
   record {
     is = refl;
-    stored = stored_left (m c.config.tracks) c.config.options.period w (book_at books c.config.tracks) c.stored rising.0 needs.0.dead needs.0.newest;
+    stored = stored_left (m c.config.tracks) c.config.options.period (window_for w c) (book_at books c.config.tracks) c.stored rising.0 needs.0.dead needs.0.newest;
     batch = needs.0.batch;
   },
   clients_left m w books cs rising.1 needs.1,

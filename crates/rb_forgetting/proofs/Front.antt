@@ -6,7 +6,7 @@ use Rattle.std.proofs.lemmas.Bool.{and_parts, cases_eq, eq-eqb, eqb-true, ne_eqb
 use Rattle.rb_base.specs.declared.gate.Part.{Part}
 use Rattle.rb_base.specs.declared.gate.Part.TheVariants.{Packets, Channel}
 use Rattle.rb_scan.specs.Expiry.{is_expired, timeout_floor}
-use Rattle.rb_scan.specs.Owed.{floor_of, expires_for, message_of, message_at, packet_at, is_done, is_done_at, next_sequence, run, open_messages, messages, owed_part}
+use Rattle.rb_scan.specs.Owed.{floor_of, expires_for, since_for, timeout_for, message_of, message_at, packet_at, is_done, is_done_at, next_sequence, run, open_messages, messages, owed_part}
 use Rattle.rb_scan.specs.Packet.{Packet, is_finished, is_cleared, is_in_flight}
 use Rattle.rb_scan.specs.Path.{Path}
 use Rattle.rb_scan.specs.declared.message.Kind.{Kind}
@@ -46,7 +46,7 @@ none_owed records kind order s zero qs over = refl
 none_owed records kind order s (suc n) [] over = refl
 none_owed records kind order s (suc n) (q ∷ qs) over =
     none_owed records kind order (s + 1) n qs over.3
-    ∙ sym (ap (λ o. cons_option (option_map (λ (floor : ℕ). record { kind = kind; sequence = q.sequence; floor = floor; expires = expires_for kind q }) o) (filter_map (message_of records kind) qs))
+    ∙ sym (ap (λ o. cons_option (option_map (λ (floor : ℕ). record { kind = kind; sequence = q.sequence; floor = floor; expires = expires_for kind q; since = since_for kind q; timeout = timeout_for kind q }) o) (filter_map (message_of records kind) qs))
     (no_floor records kind q (over_cleared order q over.1) (over_landed order q over.1)))
 
 -- ---- numbers one after another

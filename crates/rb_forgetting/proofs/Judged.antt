@@ -1,6 +1,6 @@
 -- What is left judges an event as all would, if the event speaks of nothing that went and no light store is full.
-use Rattle.std.proofs.Common.{◌≡◌, ℕ, ◌+◌, ◌<◌, ◌≤◌, ◌==◌, ◌⊎◌, ◌&&◌, nat_lt, nat_le, Bool, true, false, List, ◌∷◌, length, drop, Option, Some, None, is_some, inl, inr, refl, sym, ap, ◌∙◌, subst, arith}
-use Rattle.std.specs.List.{find, slice_get}
+use Rattle.std.proofs.Common.{◌≡◌, ℕ, ◌+◌, ◌<◌, ◌≤◌, ◌==◌, ◌⊎◌, ◌&&◌, ◌||◌, nat_lt, nat_le, Bool, true, false, List, [], ◌∷◌, length, drop, Option, Some, None, is_some, inl, inr, refl, sym, ap, ◌∙◌, subst, arith}
+use Rattle.std.specs.List.{AllZip, find, list_any, slice_get}
 use Rattle.std.specs.Option.{IfSome, option_map, option_map_or, option_and_then}
 use Rattle.std.proofs.lemmas.Bool.{le-ltb, lt-ltb}
 use Rattle.rb_base.specs.Window.{Span}
@@ -21,10 +21,10 @@ use Rattle.rb_scan.specs.declared.path.Order.TheVariants.{Ordered, Unordered}
 use Rattle.rb_script_types.specs.Refusal.{of_book}
 use Rattle.rb_script_types.specs.declared.refusal.Refusal.{Refusal}
 use Rattle.rb_script_types.specs.declared.refusal.Refusal.TheVariants.{Full, Repeat, OutOfOrder, WindowBack}
-use Rattle.rb_core_model.specs.Event.{Event, Window, Asked, SetSeen, HeaderSeen, StoredSeen, Sent, Received, AckWritten, Cleared, Closed, Scanned, Planned, Settled}
+use Rattle.rb_core_model.specs.Event.{Event, Window, HostWindow, Asked, SetSeen, HeaderSeen, StoredSeen, Sent, Received, AckWritten, Cleared, Closed, Scanned, Planned, Settled}
 use Rattle.rb_core_model.specs.Over.{over_in, from_later}
 use Rattle.rb_core_model.specs.Refusal.{refused_if}
-use Rattle.rb_core_model.specs.Standing.{ClientState, PathState, Standing, book_at, tracked, view_of_path, path_view, goes_back, max_packets, sent_refusal, received_refusal, written_refusal, cleared_refusal, settled_refusal, judged}
+use Rattle.rb_core_model.specs.Standing.{ClientState, PathState, Standing, book_at, tracked, view_of_path, path_view, goes_back, goes_back_on, max_packets, sent_refusal, received_refusal, written_refusal, cleared_refusal, settled_refusal, judged}
 use Rattle.rb_forgetting.specs.Free.{if_not_full}
 use Rattle.rb_forgetting.specs.Left.{IsBookLeft}
 use Rattle.rb_forgetting.specs.Remains.{IsClientLeft, IsLeftOf, IsPathLeft}
@@ -177,8 +177,19 @@ module _ (m : ℕ → ℕ) (s t : Standing) (left : IsLeftOf m s t) where
           ∙ ap (λ (c : ClientState). settled_refusal c number done) p.related.is
           ∙ sym (ap (option_and_then (λ c. settled_refusal c number done)) p.in_first)
 
+  -- a host's window goes back of all where it does of what is left
+  pub hosts_same : (common : Option Span) (host : ℕ) (window : Span) (cs ds : List ClientState) → AllZip (IsClientLeft m left.window s.books) cs ds
+      → list_any (goes_back_on common host window) ds ≡ list_any (goes_back_on common host window) cs
+  hosts_same common host window [] [] zip = refl
+  hosts_same common host window [] (d ∷ ds) zip = absurd zip
+  hosts_same common host window (c ∷ cs) [] zip = absurd zip
+  hosts_same common host window (c ∷ cs) (d ∷ ds) zip = λ i. goes_back_on common host window (zip.0.is i) || hosts_same common host window cs ds zip.1 i
+
   pub judged_same : (e : Event) → IsSpared m s t e → if_not_full (judged t e) ≡ if_not_full (judged s e)
   judged_same (Window window) spared = ap (λ (o : Option Span). if_not_full (refused_if (goes_back o window) WindowBack None)) (left.still ∙ sym left.in_force)
+  judged_same (HostWindow host window) spared =
+      ap (λ (o : Option Span). if_not_full (refused_if (list_any (goes_back_on o host window) t.clients) WindowBack None)) (left.still ∙ sym left.in_force)
+      ∙ ap (λ b. if_not_full (refused_if b WindowBack None)) (hosts_same s.window host window s.clients t.clients left.clients)
   judged_same (Asked client goal) spared = refl
   judged_same (SetSeen chain set) spared =
       by_book (set_refusal (book_at t.books chain) set) (set_refusal (book_at s.books chain) set)
@@ -196,8 +207,8 @@ module _ (m : ℕ → ℕ) (s t : Standing) (left : IsLeftOf m s t) where
   judged_same (Received path sequence block) spared =
       on_path (λ v. received_refusal v sequence (packet_at v sequence)) path (λ p n le at_p at_q. received_same s.books t.books p n le sequence (spoken path sequence spared p (from_later n p) at_p at_q))
   judged_same (AckWritten path sequence block) spared =
-      on_path (λ v. written_refusal block (packet_at v sequence)) path
-      (λ p n le at_p at_q. ap (λ o. if_not_full (written_refusal block o)) (packet_same p n le sequence (spoken path sequence spared.1 p (from_later n p) at_p at_q)))
+      on_path (λ v. written_refusal block.height (packet_at v sequence)) path
+      (λ p n le at_p at_q. ap (λ o. if_not_full (written_refusal block.height o)) (packet_same p n le sequence (spoken path sequence spared.1 p (from_later n p) at_p at_q)))
   judged_same (Cleared path sequence) spared =
       on_path (λ v. cleared_refusal (packet_at v sequence)) path
       (λ p n le at_p at_q. ap (λ o. if_not_full (cleared_refusal o)) (packet_same p n le sequence (spoken path sequence spared p (from_later n p) at_p at_q)))

@@ -4,6 +4,7 @@ use Rattle.std.specs.List.{AllByRecursion, slice_get}
 use Rattle.std.specs.Option.{IfSome, option_map_or}
 use Rattle.std.proofs.lemmas.Bool.{true≢false}
 use Rattle.std.proofs.lemmas.List.Elements.{All-from_recursion, recursion_from_All}
+use Rattle.rb_script_types.specs.declared.block.Block.{Block}
 use Rattle.rb_book.specs.Book.{Book}
 use Rattle.rb_book.proofs.Lists.{All-insert}
 use Rattle.rb_scan.specs.Owed.{same_kind}
@@ -84,7 +85,7 @@ ended false false e = absurd (true≢false e)
 received_ends : (block : ℕ) → OnlyEnds (λ q. record q { received = Some block })
 received_ends block = record { sent = λ q. refl; by_height = λ q. refl; by_time = λ q. refl; lands = λ q e. refl; clears = λ q e. e }
 
-written_ends : (block : ℕ) → OnlyEnds (λ q. record q { written = Some block })
+written_ends : (block : Block) → OnlyEnds (λ q. record q { written = Some block.height; written_time = block.time })
 written_ends block = record { sent = λ q. refl; by_height = λ q. refl; by_time = λ q. refl; lands = λ q e. e; clears = λ q e. e }
 
 cleared_ends : OnlyEnds (λ q. record q { cleared = true })
@@ -153,13 +154,13 @@ module _ (m : ℕ → ℕ) (books : List Book) where
   pub cleared_fits : (sequence : ℕ) (p : PathState) → PathFits m books p → PathFits m books (with_mark (λ q. record q { cleared = true }) sequence p)
   cleared_fits sequence p fits = mark_fits (λ q. record q { cleared = true }) sequence p (same_written _ _ _ p.config.order _ cleared_ends (λ q. refl)) fits
 
-  pub written_fits : (block sequence : ℕ) (p : PathState) → (p.config.order ≡ Unordered) ⊎ (m p.config.destination ≤ block + 1) → PathFits m books p
-      → PathFits m books (with_mark (λ q. record q { written = Some block }) sequence p)
+  pub written_fits : (block : Block) (sequence : ℕ) (p : PathState) → (p.config.order ≡ Unordered) ⊎ (m p.config.destination ≤ block.height + 1) → PathFits m books p
+      → PathFits m books (with_mark (λ q. record q { written = Some block.height; written_time = block.time }) sequence p)
   written_fits block sequence p high fits =
-      mark_fits (λ q. record q { written = Some block }) sequence p (λ q. fits_marked _ _ _ p.config.order (λ q. record q { written = Some block }) (written_ends block) q (λ old. go q high)) fits
+      mark_fits (λ q. record q { written = Some block.height; written_time = block.time }) sequence p (λ q. fits_marked _ _ _ p.config.order (λ q. record q { written = Some block.height; written_time = block.time }) (written_ends block) q (λ old. go q high)) fits
     where
-      go : (q : Packet) → (p.config.order ≡ Unordered) ⊎ (m p.config.destination ≤ block + 1)
-          → (p.config.order ≡ Unordered) ⊎ ((is_cleared q ≡ true) ⊎ (m p.config.destination ≤ block + 1))
+      go : (q : Packet) → (p.config.order ≡ Unordered) ⊎ (m p.config.destination ≤ block.height + 1)
+          → (p.config.order ≡ Unordered) ⊎ ((is_cleared q ≡ true) ⊎ (m p.config.destination ≤ block.height + 1))
       go q (inl unordered) = inl unordered
       go q (inr le) = inr (inr le)
 

@@ -16,7 +16,7 @@ use Rattle.rb_scan.specs.Packet.{Packet, is_cleared, is_in_flight}
 use Rattle.rb_scan.specs.declared.path.Order.{Order}
 use Rattle.rb_scan.specs.declared.path.Order.TheVariants.{Ordered, Unordered}
 use Rattle.rb_step.specs.LightClient.{Update}
-use Rattle.rb_core_model.specs.Standing.{OpenBatch, ClientState, PathState, Standing, book_at}
+use Rattle.rb_core_model.specs.Standing.{OpenBatch, ClientState, PathState, Standing, book_at, window_for}
 use Rattle.rb_forgetting.specs.Laws.{FloorsAreFloors}
 use Rattle.rb_core_model.specs.Forgetting.{is_live_in, needs_of_client, lowest_late, needs_there, needs_here, needs_of_path, needs, lowest_of, floor}
 use Rattle.rb_forgetting.specs.Remains.{IsAfterGone, PacketFits, PathFits}
@@ -120,16 +120,16 @@ of_passing P p (x ∷ xs) all = go (p x) refl (of_passing P p xs) all
 
 client_needs : (m : ℕ) (w : Span) (b : Book) (c : ClientState) → AllByRecursion (λ h. m ≤ h) (needs_of_client w b c) → NeedsNoLower m w b c
 client_needs m w b c all =
-    let lives = front (λ h. m ≤ h) (filter (is_live_in w c.config.options.period b) c.stored) _ all in
-    let others = behind (λ h. m ≤ h) (filter (is_live_in w c.config.options.period b) c.stored) _ all in
+    let lives = front (λ h. m ≤ h) (filter (is_live_in (window_for w c) c.config.options.period b) c.stored) _ all in
+    let others = behind (λ h. m ≤ h) (filter (is_live_in (window_for w c) c.config.options.period b) c.stored) _ all in
     let newest = front (λ h. m ≤ h) (option_to_list (slice_get c.stored (length c.stored - 1))) _ others in
     let batch = behind (λ h. m ≤ h) (option_to_list (slice_get c.stored (length c.stored - 1))) _ others in
     record {
       dead =
-          All-from_recursion (λ h. h < m → IsSomeAnd (record_at b h) (λ (r : Record). w.until < r.time + c.config.options.period) → ⊥) c.stored
-          (weaker (λ h. is_live_in w c.config.options.period b h ≡ true → m ≤ h) (λ h. h < m → IsSomeAnd (record_at b h) (λ (r : Record). w.until < r.time + c.config.options.period) → ⊥)
-          (λ h needed lt live. (let le = needed (live_passes w c.config.options.period b h live) in absurd (omega arith))) c.stored
-          (of_passing (λ h. m ≤ h) (is_live_in w c.config.options.period b) c.stored lives));
+          All-from_recursion (λ h. h < m → IsSomeAnd (record_at b h) (λ (r : Record). (window_for w c).until < r.time + c.config.options.period) → ⊥) c.stored
+          (weaker (λ h. is_live_in (window_for w c) c.config.options.period b h ≡ true → m ≤ h) (λ h. h < m → IsSomeAnd (record_at b h) (λ (r : Record). (window_for w c).until < r.time + c.config.options.period) → ⊥)
+          (λ h needed lt live. (let le = needed (live_passes (window_for w c) c.config.options.period b h live) in absurd (omega arith))) c.stored
+          (of_passing (λ h. m ≤ h) (is_live_in (window_for w c) c.config.options.period b) c.stored lives));
       newest = listed (λ h. m ≤ h) (slice_get c.stored (length c.stored - 1)) newest;
       batch = go c.batch batch;
     }

@@ -11,7 +11,7 @@ use Rattle.rb_base.specs.declared.gate.Part.TheVariants.{Packets, Channel}
 use Rattle.rb_book.specs.Book.{Book, RecordAt, height_of, time_of, heights_and_times_of}
 use Rattle.rb_book.proofs.Lists.{found_holds}
 use Rattle.rb_scan.specs.Expiry.{top, has_come, is_height_expired, is_time_expired, is_expired, lesser, timeout_floor}
-use Rattle.rb_scan.specs.Owed.{floor_of, expires_for, message_of, packet_at, message_at, next_sequence, sequences_from, run, open_messages, messages, owed_part}
+use Rattle.rb_scan.specs.Owed.{floor_of, expires_for, since_for, timeout_for, message_of, packet_at, message_at, next_sequence, sequences_from, run, open_messages, messages, owed_part}
 use Rattle.rb_scan.specs.Packet.{Packet, is_in_flight}
 use Rattle.rb_scan.specs.Path.{Path}
 use Rattle.rb_scan.specs.declared.message.Kind.{Kind}
@@ -119,7 +119,7 @@ module _ (m : ℕ) (b c : Book) (left : IsBookLeft m b c) where
 
   pub message_same : (source : ℕ) (order : Order) (kind : Kind) (q : Packet) → PacketFits source m b order q → message_of (heights_and_times_of b) kind q ≡ message_of (heights_and_times_of c) kind q
   message_same source order kind q fits =
-      ap (option_map (λ (floor : ℕ). record { kind = kind; sequence = q.sequence; floor = floor; expires = expires_for kind q })) (floor_same source order kind q fits)
+      ap (option_map (λ (floor : ℕ). record { kind = kind; sequence = q.sequence; floor = floor; expires = expires_for kind q; since = since_for kind q; timeout = timeout_for kind q })) (floor_same source order kind q fits)
 
 -- ---- a path over two lists of records
 

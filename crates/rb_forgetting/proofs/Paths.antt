@@ -4,6 +4,7 @@ use Rattle.std.specs.List.{All, AllByRecursion, AllZip, insert}
 use Rattle.std.proofs.lemmas.Bool.{and_parts, lt-ltb}
 use Rattle.std.proofs.lemmas.List.{drop-map}
 use Rattle.std.proofs.lemmas.List.Elements.{All-from_recursion, recursion_from_All}
+use Rattle.rb_script_types.specs.declared.block.Block.{Block}
 use Rattle.rb_book.specs.Book.{Book}
 use Rattle.rb_book.specs.Intake.{placed}
 use Rattle.rb_book.proofs.Rising.{count-step}
@@ -51,8 +52,8 @@ ends f finishes clears Ordered q over =
 received_over : (block : ℕ) → KeepsOver (λ q. record q { received = Some block })
 received_over block = record { sequence = λ q. refl; over = ends (λ q. record q { received = Some block }) (λ q e. refl) (λ q e. e) }
 
-written_over : (block : ℕ) → KeepsOver (λ q. record q { written = Some block })
-written_over block = record { sequence = λ q. refl; over = ends (λ q. record q { written = Some block }) (λ q e. e) (λ q e. e) }
+written_over : (block : Block) → KeepsOver (λ q. record q { written = Some block.height; written_time = block.time })
+written_over block = record { sequence = λ q. refl; over = ends (λ q. record q { written = Some block.height; written_time = block.time }) (λ q e. e) (λ q e. e) }
 
 cleared_over : KeepsOver (λ q. record q { cleared = true })
 cleared_over = record { sequence = λ q. refl; over = ends (λ q. record q { cleared = true }) (λ q e. ap (λ b. b || q.receive_settled) (or_true (is_some q.received))) (λ q e. refl) }
@@ -89,8 +90,8 @@ mark_left f keeps sequence p q left = record {
 pub received_left : (block sequence : ℕ) (p q : PathState) → IsPathLeft p q → IsPathLeft (with_mark (λ x. record x { received = Some block }) sequence p) (with_mark (λ x. record x { received = Some block }) sequence q)
 received_left block = mark_left (λ x. record x { received = Some block }) (received_over block)
 
-pub written_left : (block sequence : ℕ) (p q : PathState) → IsPathLeft p q → IsPathLeft (with_mark (λ x. record x { written = Some block }) sequence p) (with_mark (λ x. record x { written = Some block }) sequence q)
-written_left block = mark_left (λ x. record x { written = Some block }) (written_over block)
+pub written_left : (block : Block) (sequence : ℕ) (p q : PathState) → IsPathLeft p q → IsPathLeft (with_mark (λ x. record x { written = Some block.height; written_time = block.time }) sequence p) (with_mark (λ x. record x { written = Some block.height; written_time = block.time }) sequence q)
+written_left block = mark_left (λ x. record x { written = Some block.height; written_time = block.time }) (written_over block)
 
 pub cleared_left : (sequence : ℕ) (p q : PathState) → IsPathLeft p q → IsPathLeft (with_mark (λ x. record x { cleared = true }) sequence p) (with_mark (λ x. record x { cleared = true }) sequence q)
 cleared_left = mark_left (λ x. record x { cleared = true }) cleared_over

@@ -1,8 +1,8 @@
 -- What is reported of a client is the same over what is left.
-use Rattle.std.proofs.Common.{◌≡◌, ℕ, ◌+◌, ◌≤◌, ◌⊎◌, true, List, [], ◌∷◌, map, zero, suc, Option, Some, None, MatchOption, inl, inr, refl, sym, ap, ◌∙◌, subst, arith}
+use Rattle.std.proofs.Common.{◌≡◌, ℕ, ◌+◌, ◌≤◌, ◌⊎◌, true, List, [], ◌∷◌, map, zero, suc, is_some, if◌then◌else◌, Option, Some, None, MatchOption, inl, inr, refl, sym, ap, ◌∙◌, subst, arith}
 use Rattle.std.specs.List.{All, AllByRecursion, AllZip, cons_option, enumerate_from, filter_map, slice_get}
 use Rattle.std.specs.Option.{IfSome, option_map, option_map_or}
-use Rattle.std.proofs.lemmas.List.Elements.{All-from_recursion, All-nil, recursion_from_All}
+use Rattle.std.proofs.lemmas.List.Elements.{All-from_recursion, recursion_from_All}
 use Rattle.std.proofs.lemmas.Option.{none-some, same_Some}
 use Rattle.rb_base.specs.Window.{Span}
 use Rattle.rb_base.specs.declared.gate.Part.{Part}
@@ -18,11 +18,11 @@ use Rattle.rb_step.specs.LightClient.{Update, IsAcceptable}
 use Rattle.rb_step.specs.View.{IsView, client_of}
 use Rattle.rb_plan_client.specs.Draft.{Plan, Planned as Answer, IsPlan, IsPlanned, planned_updates}
 use Rattle.rb_script_types.specs.declared.goal.Goal.{Goal}
-use Rattle.rb_plan_client.specs.Task.{Task, Message, view_of, messages_of}
+use Rattle.rb_plan_client.specs.Task.{Task, Message, view_of}
 use Rattle.rb_core_model.specs.Config.{part_for}
 use Rattle.rb_core_model.specs.Standing.{ClientState, PathState, Standing, book_at, view_of_path, owed_at, path_task, path_tasks, task_in}
 use Rattle.rb_super_turn.specs.Report.{PricedUpdate, PlanReport, PlannedReport, Outcome, held, idle, planned, ClientReport}
-use Rattle.rb_super_turn.specs.Turns.{priced, numbered, reported_plan, reported, IsPlanFor, IsOutcome, IsClientReport}
+use Rattle.rb_super_turn.specs.Turns.{priced, numbered, reported_plan, beyond_goal, reported, IsPlanFor, IsOutcome, told_too_big, IsClientReport}
 use Rattle.rb_forgetting.specs.Left.{IsBookLeft, FitsFloor, HaveFloors}
 use Rattle.rb_forgetting.specs.Remains.{PacketFits, PathFits, IsClientLeft, IsPathLeft, IsLeftOf, AreRouted}
 use Rattle.rb_core_model.proofs.Over.{counted_over}
@@ -33,7 +33,7 @@ use Rattle.rb_forgetting.proofs.Front.{part_later}
 use Rattle.rb_forgetting.proofs.Last.{map_same}
 use Rattle.rb_forgetting.proofs.Owed.{message_same, owed_same}
 use Rattle.rb_forgetting.proofs.Planning.{IsAbove, updates_above, same_cost}
-use Rattle.rb_forgetting.proofs.Tasks.{are_alike}
+use Rattle.rb_forgetting.proofs.Tasks.{are_alike, told_same}
 use Rattle.rb_forgetting.proofs.Zips.{IsPair, pair_at}
 
 -- ---- paths
@@ -170,25 +170,27 @@ module _ (m : ℕ → ℕ) (s t : Standing) (left : IsLeftOf m s t) where
     reported_same : (number : ℕ) (next : Option ℕ) (a : Answer) → IsPlanned (task_in s left.window client c) a → reported (task_in s left.window client c) number next a ≡ reported part number next a
     reported_same number next a right = go a.plan right.plan
       where
-        go : (o : Option Plan) → MatchOption o (IsUnreachable (client_of (view_of (task_in s left.window client c))) a.goal) (IsPlan (task_in s left.window client c) a.goal (messages_of (task_in s left.window client c) right.reach))
-            → ◌≡◌ {A = PlannedReport} (record { goal = a.goal; labels = a.labels; plan = option_map (reported_plan (task_in s left.window client c) number) o; next = next })
-            (record { goal = a.goal; labels = a.labels; plan = option_map (reported_plan part number) o; next = next })
+        go : (o : Option Plan) → MatchOption o (IsUnreachable (client_of (view_of (task_in s left.window client c))) a.goal) (IsPlan (task_in s left.window client c) right.reach a.goal)
+            → ◌≡◌ {A = PlannedReport}
+            (record { goal = a.goal; beyond = beyond_goal part a.goal; labels = a.labels; plan = option_map (reported_plan (task_in s left.window client c) number) o; next = next })
+            (record { goal = a.goal; beyond = beyond_goal part a.goal; labels = a.labels; plan = option_map (reported_plan part number) o; next = next })
         go None none = refl
-        go (Some p) is_plan = λ i. record { goal = a.goal; labels = a.labels; plan = Some (plan_same number p is_plan.least.acceptable i); next = next }
+        go (Some p) is_plan =
+            λ i. record { goal = a.goal; beyond = beyond_goal part a.goal; labels = a.labels; plan = Some (plan_same number p is_plan.least.acceptable i); next = next }
 
-    planned_above : (a : Answer) → IsPlanned (task_in s left.window client c) a → All (IsAbove (m c.config.tracks)) (planned_updates (Some a))
-    planned_above a right = go a.plan right.plan
+    planned_acceptable : (a : Answer) → IsPlanned (task_in s left.window client c) a → IsAcceptable (client_of (view_of (task_in s left.window client c))) (planned_updates (Some a))
+    planned_acceptable a right = go a.plan right.plan
       where
-        go : (o : Option Plan) → MatchOption o (IsUnreachable (client_of (view_of (task_in s left.window client c))) a.goal) (IsPlan (task_in s left.window client c) a.goal (messages_of (task_in s left.window client c) right.reach))
-            → All (IsAbove (m c.config.tracks)) (option_map_or (λ (p : Plan). p.updates) o [])
-        go None none = All-nil (IsAbove (m c.config.tracks))
-        go (Some p) is_plan = high p.updates is_plan.least.acceptable
+        go : (o : Option Plan) → MatchOption o (IsUnreachable (client_of (view_of (task_in s left.window client c))) a.goal) (IsPlan (task_in s left.window client c) right.reach a.goal)
+            → IsAcceptable (client_of (view_of (task_in s left.window client c))) (option_map_or (λ (p : Plan). p.updates) o [])
+        go None none = tt
+        go (Some p) is_plan = is_plan.least.acceptable
 
     plan_for : (number : ℕ) (p : PlannedReport) → IsPlanFor (task_in s left.window client c) number p → IsPlanFor part number p
     plan_for number p for = record {
       answer = for.answer;
       right = planned_left (m c.config.tracks) (task_in s left.window client c) d.stored (book_at t.books c.config.tracks) kept is.stored have_floors (left.rises c.config.tracks) view for.answer for.right;
-      next = next_left (m c.config.tracks) (task_in s left.window client c) d.stored (book_at t.books c.config.tracks) kept is.stored have_floors (left.rises c.config.tracks) view (planned_updates (Some for.answer)) p.next (planned_above for.answer for.right) for.next;
+      next = next_left (m c.config.tracks) (task_in s left.window client c) d.stored (book_at t.books c.config.tracks) kept is.stored have_floors (left.rises c.config.tracks) view (planned_updates (Some for.answer)) p.next (planned_acceptable for.answer for.right) for.next;
       is = for.is ∙ reported_same number p.next for.answer for.right;
     }
 
@@ -197,20 +199,27 @@ module _ (m : ℕ → ℕ) (s t : Standing) (left : IsLeftOf m s t) where
     outcome_left (idle next) (none, is_idle, is_next) = (
       none,
       idle_left (m c.config.tracks) (task_in s left.window client c) d.stored (book_at t.books c.config.tracks) kept is.stored have_floors (left.rises c.config.tracks) view is_idle,
-      next_left (m c.config.tracks) (task_in s left.window client c) d.stored (book_at t.books c.config.tracks) kept is.stored have_floors (left.rises c.config.tracks) view [] next (All-nil (IsAbove (m c.config.tracks))) is_next,
+      next_left (m c.config.tracks) (task_in s left.window client c) d.stored (book_at t.books c.config.tracks) kept is.stored have_floors (left.rises c.config.tracks) view [] next tt is_next,
     )
     outcome_left (planned p) (none, for) = (none, plan_for (c.batches + 1) p for)
+
+    told_left : told_too_big (task_in s left.window client c) c ≡ told_too_big part c
+    told_left =
+        ap (λ (ms : List Message). if is_some c.batch then [] else ms)
+        (told_same (m c.config.tracks) (task_in s left.window client c) d.stored (book_at t.books c.config.tracks) kept is.stored have_floors (left.rises c.config.tracks) view)
 
     pub report_left : (r : ClientReport) → IsClientReport s (client, c) r → IsClientReport t (client, d) r
     report_left r right =
         let same : left.window ≡ right.window = same_Some left.window right.window (sym left.in_force ∙ right.is_window) in
         let here : IsOutcome (task_in s left.window client c) c r.outcome = subst (λ (w : Span). IsOutcome (task_in s w client c) c r.outcome) (sym same) right.outcome in
+        let told : r.too_big ≡ told_too_big (task_in s left.window client c) c = subst (λ (w : Span). r.too_big ≡ told_too_big (task_in s w client c) c) (sym same) right.too_big in
         subst (λ (x : ClientState). IsClientReport t (client, x) r) (sym is.is)
         (record {
           id = right.id;
           window = left.window;
           is_window = left.still;
           outcome = subst (λ (k : Task). IsOutcome k (record c { stored = d.stored }) r.outcome) task_is (outcome_left r.outcome here);
+          too_big = subst (λ (k : Task). r.too_big ≡ told_too_big k (record c { stored = d.stored })) task_is (told ∙ told_left);
         })
 
     -- ---- what the report leaves of the client
@@ -219,16 +228,16 @@ module _ (m : ℕ → ℕ) (s t : Standing) (left : IsLeftOf m s t) where
     updates_high r right p e plan f =
         let same : left.window ≡ right.window = same_Some left.window right.window (sym left.in_force ∙ right.is_window) in
         let here : IsOutcome (task_in s left.window client c) c (planned p) = subst (λ (o : Outcome). IsOutcome (task_in s left.window client c) c o) e (subst (λ (w : Span). IsOutcome (task_in s w client c) c r.outcome) (sym same) right.outcome) in
-        go here.1.answer.goal (messages_of (task_in s left.window client c) here.1.right.reach) here.1.answer.plan here.1.right.plan (ap (λ (x : PlannedReport). x.plan) (sym here.1.is) ∙ f)
+        go here.1.answer.goal here.1.right.reach here.1.answer.plan here.1.right.plan (ap (λ (x : PlannedReport). x.plan) (sym here.1.is) ∙ f)
       where
         heights : (us : List Update) → AllByRecursion (IsAbove (m c.config.tracks)) us → AllByRecursion (λ (u : PricedUpdate). m c.config.tracks ≤ u.update.height) (map (priced (task_in s left.window client c)) us)
         heights [] all = tt
         heights (u ∷ us) all = (all.0.1, heights us all.1)
 
-        go : (goal : Goal) (ms : List Message) (o : Option Plan) → MatchOption o (IsUnreachable (client_of (view_of (task_in s left.window client c))) goal) (IsPlan (task_in s left.window client c) goal ms)
+        go : (goal : Goal) (reach : Option ℕ) (o : Option Plan) → MatchOption o (IsUnreachable (client_of (view_of (task_in s left.window client c))) goal) (IsPlan (task_in s left.window client c) reach goal)
             → option_map (reported_plan (task_in s left.window client c) (c.batches + 1)) o ≡ Some plan → All (λ (u : PricedUpdate). m c.config.tracks ≤ u.update.height) plan.updates
-        go goal ms None none at = absurd (none-some plan at)
-        go goal ms (Some q) is_plan at =
+        go goal reach None none at = absurd (none-some plan at)
+        go goal reach (Some q) is_plan at =
             subst (λ (x : PlanReport). All (λ (u : PricedUpdate). m c.config.tracks ≤ u.update.height) x.updates) (same_Some _ plan at)
             (All-from_recursion (λ (u : PricedUpdate). m c.config.tracks ≤ u.update.height) (map (priced (task_in s left.window client c)) q.updates)
             (heights q.updates (recursion_from_All (IsAbove (m c.config.tracks)) q.updates (high q.updates is_plan.least.acceptable))))

@@ -38,6 +38,7 @@ module _ (s : Standing) (turn : Turn) (room : HasRoom (before_events s turn) tur
   pub with_limits : (r : TurnReport) → IsFreeReport s turn r → IsTurnReport s turn r
   with_limits r right = record {
     window = right.window;
+    hosts = right.hosts;
     refused = right.refused ∙ (same_run 0 (before_events s turn) turn.events room).1;
     clients = subst (λ (x : Standing). AllZip (IsClientReport x) (enumerate_from 0 x.clients) r.clients) plans_same right.clients;
     settlements = right.settlements ∙ ap (reports_of_all turn.settlements turn.taken) (sent_same r);
@@ -46,6 +47,7 @@ module _ (s : Standing) (turn : Turn) (room : HasRoom (before_events s turn) tur
   pub without_limits : (r : TurnReport) → IsTurnReport s turn r → IsFreeReport s turn r
   without_limits r right = record {
     window = right.window;
+    hosts = right.hosts;
     refused = right.refused ∙ sym (same_run 0 (before_events s turn) turn.events room).1;
     clients = subst (λ (x : Standing). AllZip (IsClientReport x) (enumerate_from 0 x.clients) r.clients) (sym plans_same) right.clients;
     settlements = right.settlements ∙ sym (ap (reports_of_all turn.settlements turn.taken) (sent_same r));

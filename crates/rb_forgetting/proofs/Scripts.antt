@@ -20,19 +20,21 @@ use Rattle.rb_script_types.specs.Config.{Config, IsPathConfig}
 use Rattle.rb_script_types.specs.declared.config.ClientConfig.{ClientConfig}
 use Rattle.rb_script_types.specs.declared.config.PathConfig.{PathConfig}
 use Rattle.rb_script_types.specs.declared.script.Asked.{Asked as Question}
+use Rattle.rb_script_types.specs.declared.script.HostWindow.{HostWindow as WindowOf}
 use Rattle.rb_script_types.specs.declared.script.Settlement.{Settlement}
 use Rattle.rb_step.specs.Laws.{ViewsAreOrderly}
 use Rattle.rb_step.specs.LightClient.{Update}
 use Rattle.rb_core_model.specs.Config.{part_for, IsSetUp}
-use Rattle.rb_core_model.specs.Event.{Event, Window, Asked, SetSeen, HeaderSeen, StoredSeen, Sent, Received, AckWritten, Cleared, Closed, Scanned, Planned, Settled}
-use Rattle.rb_core_model.specs.Standing.{OpenBatch, ClientState, PathState, Standing, opening_standing, new_client, new_path, book_at, open_batch, with_batch, judged, changed, changed_at, standing_after, after_batch, after_settled, settled_messages}
+use Rattle.rb_core_model.specs.Event.{Event, Window, HostWindow, Asked, SetSeen, HeaderSeen, StoredSeen, Sent, Received, AckWritten, Cleared, Closed, Scanned, Planned, Settled}
+use Rattle.rb_core_model.specs.Standing.{OpenBatch, ClientState, PathState, Standing, opening_standing, new_client, new_path, book_at, window_for, open_batch, with_batch, judged, changed, changed_at, standing_after, after_batch, after_settled, settled_messages, in_host_window}
 use Rattle.rb_core_model.specs.Steps.{IsFromOutside, JudgedByStanding}
 use Rattle.rb_core_model.proofs.Accepted.{window_stays, window_entered}
+use Rattle.rb_core_model.proofs.HostWindows.{config_in_host, same_mapped}
 use Rattle.rb_core_model.proofs.Marks.{all_at, configs_changed, configs_messages}
 use Rattle.rb_core_model.proofs.Sound.{IsSoundClient, IsSound, client_view_sound, opening_sound}
 use Rattle.rb_super_turn.specs.Report.{Outcome, held, idle, planned, ClientReport, TurnReport, Report}
 use Rattle.rb_super_turn.specs.Script.{Turn, Script, IsSeen, IsTurn, IsScript}
-use Rattle.rb_super_turn.specs.Turns.{after_window, after_question, before_events, before_plans, opened, after_outcome, after_reports, after_plans, settlement_event, after_settlement, taking, after_taking, takers, after_turn}
+use Rattle.rb_super_turn.specs.Turns.{after_window, window_event, after_host_window, after_question, before_events, before_plans, opened, after_outcome, after_reports, after_plans, settlement_event, after_settlement, taking, after_taking, takers, after_turn}
 use Rattle.rb_forgetting.specs.Free.{after_freely, turn_freely, AreFreeReports}
 use Rattle.rb_forgetting.specs.Laws.{HasRoom, AreSpared, forgotten, MayForget, raised, AreForgetful, AreSparedRuns, ForgettingIsUnseen, floors_if, floors_after, AreSparedTurns, ForgettingByFloorsIsUnseen}
 use Rattle.rb_forgetting.specs.Left.{IsLeft, IsBookLeft, AreStoredLeft}
@@ -79,7 +81,8 @@ turn_window : (s : Standing) (turn : Turn) (r : TurnReport) → is_some (after_t
 turn_window s turn r =
     takings_window (takers (after_plans s turn r) turn.taken) (fold after_settlement (after_plans s turn r) turn.settlements)
     (settlements_window turn.settlements (after_plans s turn r)
-    (events_window turn.events (before_events s turn) (questions_window turn.goals (after_window s turn.window) (window_entered s turn.window))))
+    (events_window turn.events (before_events s turn)
+    (questions_window turn.goals (after_window (fold after_host_window s turn.windows) turn.window) (window_entered (fold after_host_window s turn.windows) turn.window))))
 
 -- ---- clients and paths are configured as they were
 
@@ -111,6 +114,8 @@ by_paths config s f i same has = configs_changed f same s.paths i ∙ has.paths
 
 changed_configs : (config : Config) (s : Standing) (e : Event) → IsFromOutside e → HasConfigs config s → HasConfigs config (changed s e)
 changed_configs config s (Window window) from has = record { clients = has.clients; paths = has.paths }
+changed_configs config s (HostWindow host window) from has =
+    record { clients = same_mapped (λ (c : ClientState). c.config) (in_host_window host window) (config_in_host host window) s.clients ∙ has.clients; paths = has.paths }
 changed_configs config s (Asked client goal) from has = record { clients = by_clients config s (λ c. record c { asked = Some goal }) client (λ c. refl) has; paths = has.paths }
 changed_configs config s (SetSeen chain x) from has = record { clients = has.clients; paths = has.paths }
 changed_configs config s (HeaderSeen chain header) from has = record { clients = has.clients; paths = has.paths }
@@ -135,6 +140,10 @@ event_configs config s e from has = go (is_some (judged s e))
     go true = has
     go false = changed_configs config s e from has
 
+hosts_configs : (config : Config) (ws : List WindowOf) (s : Standing) → HasConfigs config s → HasConfigs config (fold after_host_window s ws)
+hosts_configs config [] s has = has
+hosts_configs config (w ∷ ws) s has = hosts_configs config ws (after_host_window s w) (event_configs config s (window_event w) tt has)
+
 questions_configs : (config : Config) (qs : List Question) (s : Standing) → HasConfigs config s → HasConfigs config (fold after_question s qs)
 questions_configs config [] s has = has
 questions_configs config (q ∷ qs) s has = questions_configs config qs (after_question s q) (event_configs config s (Asked q.client q.goal) tt has)
@@ -146,7 +155,8 @@ events_configs config (e ∷ es) are s has = events_configs config es are.1 (sta
 before_configs : (config : Config) (s : Standing) (turn : Turn) → IsTurn config turn → HasConfigs config s → HasConfigs config (before_plans s turn)
 before_configs config s turn is has =
     events_configs config turn.events (recursion_from_All (IsSeen config) turn.events is.events) (before_events s turn)
-    (questions_configs config turn.goals (after_window s turn.window) (event_configs config s (Window turn.window) tt has))
+    (questions_configs config turn.goals (after_window (fold after_host_window s turn.windows) turn.window)
+    (event_configs config (fold after_host_window s turn.windows) (Window turn.window) tt (hosts_configs config turn.windows s has)))
 
 outcome_config : (o : Outcome) (c : ClientState) → (after_outcome o c).config ≡ c.config
 outcome_config (held number) c = refl
@@ -279,7 +289,7 @@ clients_left w books [] = tt
 clients_left w books (c ∷ cs) = (
   record {
     is = refl;
-    stored = stored_left c.config.options.period w (book_at books c.config.tracks) c.stored;
+    stored = stored_left c.config.options.period (window_for w c) (book_at books c.config.tracks) c.stored;
     batch = if_all (λ (b : OpenBatch). All (λ (u : Update). 0 ≤ u.height) b.updates) c.batch (λ b e k d lt. omega arith);
   },
   clients_left w books cs,

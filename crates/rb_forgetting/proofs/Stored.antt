@@ -8,7 +8,7 @@ use Rattle.rb_base.specs.Window.{Span}
 use Rattle.rb_book.specs.Book.{Book}
 use Rattle.rb_book.specs.Intake.{placed}
 use Rattle.rb_step.specs.LightClient.{Update}
-use Rattle.rb_core_model.specs.Standing.{OpenBatch, ClientState, with_height, settled_updates, count_in, after_batch, book_at}
+use Rattle.rb_core_model.specs.Standing.{OpenBatch, ClientState, with_height, settled_updates, count_in, after_batch, book_at, window_for}
 use Rattle.rb_core_model.proofs.Marks.{all_take}
 use Rattle.rb_forgetting.specs.Left.{AreStoredLeft}
 use Rattle.rb_forgetting.specs.Remains.{IsClientLeft}
@@ -59,7 +59,7 @@ module _ (m : ℕ → ℕ) (w : Span) (books : List Book) (c d : ClientState) (l
   pub one_stored : (height : ℕ) → m c.config.tracks ≤ height → IsClientLeft m w books (record c { stored = with_height height c.stored }) (record d { stored = with_height height d.stored })
   one_stored height le = record {
     is = ap (λ (k : ClientState). record k { stored = with_height height d.stored }) left.is;
-    stored = height_left (m c.config.tracks) c.config.options.period w (book_at books c.config.tracks) height le c.stored d.stored left.stored;
+    stored = height_left (m c.config.tracks) c.config.options.period (window_for w c) (book_at books c.config.tracks) height le c.stored d.stored left.stored;
     batch = left.batch;
   }
 
@@ -67,7 +67,7 @@ module _ (m : ℕ → ℕ) (w : Span) (books : List Book) (c d : ClientState) (l
   batch_stored b done high = record {
     is = ap (λ (k : ClientState). record k { stored = fold (λ heights (u : Update). with_height u.height heights) d.stored (settled_updates b done); batch = None }) left.is;
     stored =
-        heights_left (m c.config.tracks) c.config.options.period w (book_at books c.config.tracks) (settled_updates b done)
+        heights_left (m c.config.tracks) c.config.options.period (window_for w c) (book_at books c.config.tracks) (settled_updates b done)
         (all_take (λ (u : Update). m c.config.tracks ≤ u.height) (count_in b done) b.updates (recursion_from_All (λ (u : Update). m c.config.tracks ≤ u.height) b.updates high)) c.stored d.stored left.stored;
     batch = tt;
   }

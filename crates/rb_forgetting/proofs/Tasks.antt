@@ -12,21 +12,26 @@ use Rattle.rb_book.specs.Invariant.{Rises}
 use Rattle.rb_book.proofs.Lists.{found_passes, found_holds}
 use Rattle.rb_book.proofs.Rising.{Up, Up-from_increasing}
 use Rattle.rb_scan.specs.Expiry.{lesser}
-use Rattle.rb_scan.specs.Owed.{is_ready, is_near, ready_beyond, wanted}
+use Rattle.rb_scan.specs.Going.{can_go, is_going, going}
+use Rattle.rb_scan.specs.Owed.{is_ready, is_near, ready, ready_beyond, wanted}
 use Rattle.rb_scan.specs.declared.message.PacketMsg.{PacketMsg}
 use Rattle.rb_scan.specs.declared.path.Order.{Order}
 use Rattle.rb_scan.specs.declared.path.Order.TheVariants.{Unordered}
 use Rattle.rb_script_types.specs.Waits.{wait_for}
 use Rattle.rb_script_types.specs.declared.waits.Waits.{Waits}
 use Rattle.rb_script_types.specs.declared.config.RefreshTo.{RefreshTo}
-use Rattle.rb_script_types.specs.declared.config.RefreshTo.TheVariants.{Lowest, Highest}
+use Rattle.rb_script_types.specs.declared.config.RefreshTo.TheVariants.{Lowest, Highest, Newer}
 use Rattle.rb_script_types.specs.declared.goal.Goal.TheVariants.{AtLeast}
 use Rattle.rb_step.specs.Fee.{fee_of}
-use Rattle.rb_step.specs.LightClient.{Update, Client, IsAcceptable, Leaves}
+use Rattle.rb_step.specs.LightClient.{Update, Client, IsAcceptable, IsStoredAfter, Leaves}
 use Rattle.rb_step.specs.View.{IsView, IsLive, client_of}
+use Rattle.rb_plan_refresh.specs.Refresh.{needed_time, refresh_moment as moment_of_refresh}
+use Rattle.rb_plan_refresh.specs.declared.terms.Terms.{Terms}
+use Rattle.rb_plan_types.specs.ProofHeight.{IsProofHeight}
 use Rattle.rb_plan_client.specs.Reach.{IsReach}
-use Rattle.rb_plan_client.specs.Task.{PathTask, Task, Message, view_of, ready_messages, is_live, near_reach, since, press_moment, press_moments_on, first_press, sending_reach, due_messages, wanted_height, newest_stored, is_due, is_fresh, lowest_fresh, fresh_reach, refresh_height, refresh_goal, goal_of, messages_of, greater, newest_after, is_overtaken, refresh_moment, if_later, next_moment, gas_of, gases}
+use Rattle.rb_plan_client.specs.Task.{PathTask, Task, Message, view_of, message_on, bars_of, going_by, going_on, ready_on, ready_messages, too_big_by, too_big_on, too_big_messages, is_live, near_reach, since, press_moment, moments_beyond, first_beyond, first_press, sending_reach, due_messages, wanted_height, newest_stored, is_due, is_fresh, lowest_fresh, fresh_reach, terms_of, reach_record, gain_time, newer_height, refresh_height, refresh_goal, is_apart_by, is_apart, greater, asked_in_reach, joined_goal, goal_by, goal_of, messages_by, messages_of, newest_after, is_overtaken, refresh_moment, if_later, no_earlier, gain_moment, next_by, next_moment, gas_of, gases}
 use Rattle.rb_plan_client.proofs.Waits.{near_is}
+use Rattle.rb_core_model.proofs.Options.{chained}
 use Rattle.rb_forgetting.specs.Alike.{AreAlike}
 use Rattle.rb_forgetting.specs.Left.{IsBookLeft, AreStoredLeft, HaveFloors, FitsFloor}
 use Rattle.rb_forgetting.proofs.Books.{record_here, same_step}
@@ -131,12 +136,28 @@ beyond m ms order (Some n) (Some r) none above (inl e) =
         let high : n < q.1.floor = leb-false q.1.floor n (not-true (nat_le q.1.floor n) past) in
         omega arith
 
+-- what holds of all that are owed holds of those that go
+goes : (P : PacketMsg → Type 0) (order : Order) (can : PacketMsg → Bool) (ms : List PacketMsg) → AllByRecursion P ms → AllByRecursion P (going order can ms)
+goes P order can ms all =
+    passing P (λ (q : ℕ × PacketMsg). is_going order can ms q.0 q.1) (enumerate_from 0 ms)
+    (implied (λ (q : ℕ × PacketMsg). P q.1) (λ (q : ℕ × PacketMsg). is_going order can ms q.0 q.1 ≡ true → P q.1) (λ q holds e. holds) (enumerate_from 0 ms) (floors_ordered P 0 ms all))
+
+-- ---- what a refresh by gain needs is no older than the newest stored state
+
+no_older : (t : Terms) (stored reach until time : ℕ) → needed_time t stored reach until ≡ Some time → stored ≤ time
+no_older t stored reach until time e = grind arith
+
 -- ---- a list that leaves a height live begins at one that is stored and live
 
 begins : (client : Client) → ((t h : ℕ) → client.Accepts t h → client.IsLive t) → (us : List Update) (h : ℕ) → IsAcceptable client us → Leaves client us h
     → (g : ℕ) × Contains client.stored g × client.IsLive g
 begins client trusts [] h a (at, live) = (h, at, live)
 begins client trusts (u ∷ us) h (has, accepted, rest) l = (u.trusted, has, trusts u.trusted u.height accepted)
+
+-- what was stored before stays stored
+stays_stored : (client : Client) (us : List Update) (h : ℕ) → Contains client.stored h → IsStoredAfter client us h
+stays_stored client [] h has = has
+stays_stored client (u ∷ us) h has = inr (stays_stored client us h has)
 
 module _ (m : ℕ) (t : Task) (ys : List ℕ) (c : Book) (left : IsBookLeft m t.book c) (stored : AreStoredLeft m t.config.options.period t.window t.book t.stored ys)
     (floors : HaveFloors m t.paths) (rises : Rises t.book.records) (view : IsView (view_of (record t { stored = ys; book = c }))) where
@@ -201,34 +222,94 @@ module _ (m : ℕ) (t : Task) (ys : List ℕ) (c : Book) (left : IsBookLeft m t.
 
   since_same : (x : PacketMsg) → m ≤ x.floor → since t x ≡ since rest_of x
   since_same x le =
-      ap (option_map time_of) (find_left height_of m t.book.records c.records left.records (λ k. nat_le x.floor (height_of k)) (λ k lt. lt-leb x.floor (height_of k) (omega arith)))
+      ap (λ o. lesser x.since (option_map time_of o)) (find_left height_of m t.book.records c.records left.records (λ k. nat_le x.floor (height_of k)) (λ k lt. lt-leb x.floor (height_of k) (omega arith)))
 
   press_same : (w : Waits) (x : PacketMsg) → m ≤ x.floor → press_moment t w x ≡ press_moment rest_of w x
   press_same w x le =
       ap (λ o. if wait_for w x.kind == 0 then Some 0 else lesser (option_map (λ moment. moment + wait_for w x.kind) o) (option_map (λ moment. moment - wait_for w x.kind) x.expires)) (since_same x le)
 
-  module _ (r : Option ℕ) (is : IsReach (client_of (view_of t)) r) where
-    on_path : (p : PathTask) → FitsFloor m p → press_moments_on t r p ≡ press_moments_on rest_of r p
-    on_path p fits =
-        map_same (press_moment t p.waits) (press_moment rest_of p.waits) (ready_beyond p.owed p.order (near_reach t) r)
-        (implied (λ (x : PacketMsg). m ≤ x.floor) (λ (x : PacketMsg). press_moment t p.waits x ≡ press_moment rest_of p.waits x) (press_same p.waits) (ready_beyond p.owed p.order (near_reach t) r)
-        (beyond m p.owed p.order (near_reach t) r (reach_none r is) near_above fits))
-        ∙ ap (λ n. map (press_moment rest_of p.waits) (ready_beyond p.owed p.order n r)) near_same
+  -- ---- what goes
 
-    pub first_same : first_press t r ≡ first_press rest_of r
-    first_same =
+  going_same : (p : PathTask) → going_on t p ≡ going_on rest_of p
+  going_same p = go t.config.refresh_to
+    where
+      go : (to : RefreshTo) → going_by t p to ≡ going_by rest_of p to
+      go Lowest = refl
+      go Highest = refl
+      go Newer = refl
+
+  going_fits : (p : PathTask) → FitsFloor m p → (p.order ≡ Unordered) ⊎ All (λ (x : PacketMsg). m ≤ x.floor) (going_on t p)
+  going_fits p (inl e) = inl e
+  going_fits p (inr all) = inr (go t.config.refresh_to)
+    where
+      go : (to : RefreshTo) → All (λ (x : PacketMsg). m ≤ x.floor) (going_by t p to)
+      go Lowest = all
+      go Highest = all
+      go Newer =
+          All-from_recursion (λ (x : PacketMsg). m ≤ x.floor) (going p.order (can_go (bars_of t p)) p.owed)
+          (goes (λ (x : PacketMsg). m ≤ x.floor) p.order (can_go (bars_of t p)) p.owed (recursion_from_All (λ (x : PacketMsg). m ≤ x.floor) p.owed all))
+
+  ready_same : (r : Option ℕ) → ready_messages t r ≡ ready_messages rest_of r
+  ready_same r =
+      flat_map_each (ready_on t r) (ready_on rest_of r) t.paths
+      (each (λ (p : PathTask). ready_on t r p ≡ ready_on rest_of r p) (λ (p : PathTask). ap (λ ms. map (message_on p) (ready ms p.order r)) (going_same p)) t.paths)
+
+  -- what is left out and told is the same
+  pub told_same : too_big_messages t ≡ too_big_messages rest_of
+  told_same = flat_map_each (too_big_on t) (too_big_on rest_of) t.paths (each (λ (p : PathTask). too_big_on t p ≡ too_big_on rest_of p) (λ (p : PathTask). ap (map (message_on p)) (go p t.config.refresh_to)) t.paths)
+    where
+      go : (p : PathTask) (to : RefreshTo) → too_big_by t p to ≡ too_big_by rest_of p to
+      go p Lowest = refl
+      go p Highest = refl
+      go p Newer = refl
+
+  -- ---- moments at which messages press beyond a height that is not below
+
+  module _ (low r : Option ℕ) (none : low ≡ None → r ≡ None) (above : IfSome low (λ n. m ≤ n)) where
+    on_path : (p : PathTask) → FitsFloor m p → moments_beyond t low r p ≡ moments_beyond rest_of low r p
+    on_path p fits =
+        map_same (press_moment t p.waits) (press_moment rest_of p.waits) (ready_beyond (going_on t p) p.order low r)
+        (implied (λ (x : PacketMsg). m ≤ x.floor) (λ (x : PacketMsg). press_moment t p.waits x ≡ press_moment rest_of p.waits x) (press_same p.waits) (ready_beyond (going_on t p) p.order low r)
+        (beyond m (going_on t p) p.order low r none above (going_fits p fits)))
+        ∙ ap (λ ms. map (press_moment rest_of p.waits) (ready_beyond ms p.order low r)) (going_same p)
+
+    beyond_same : first_beyond t low r ≡ first_beyond rest_of low r
+    beyond_same =
         ap (fold lesser None)
-        (flat_map_each (press_moments_on t r) (press_moments_on rest_of r) t.paths
-        (implied (FitsFloor m) (λ p. press_moments_on t r p ≡ press_moments_on rest_of r p) on_path t.paths (recursion_from_All (FitsFloor m) t.paths floors)))
+        (flat_map_each (moments_beyond t low r) (moments_beyond rest_of low r) t.paths
+        (implied (FitsFloor m) (λ p. moments_beyond t low r p ≡ moments_beyond rest_of low r p) on_path t.paths (recursion_from_All (FitsFloor m) t.paths floors)))
+
+  -- ---- the proof height of a list of updates
+
+  -- where the client can be brought to a height, each list leaves one
+  proof_none : (r : Option ℕ) → IsReach (client_of (view_of t)) r → (us : List Update) (proof : Option ℕ) → IsProofHeight (client_of (view_of t)) us proof → proof ≡ None → r ≡ None
+  proof_none None is us proof is_proof e = refl
+  proof_none (Some h) is us proof is_proof e =
+      let way = is.reached in
+      let from = begins (client_of (view_of t)) are_alike.there.trusts_live way.0 h way.1 way.2 in
+      absurd (subst (λ (o : Option ℕ). IsSomeAnd o (λ top. from.0 ≤ top)) e (is_proof.greatest from.0 (stays_stored (client_of (view_of t)) us from.0 from.1, from.2)))
+
+  proof_above : (us : List Update) (proof : Option ℕ) → IsAcceptable (client_of (view_of t)) us → IsProofHeight (client_of (view_of t)) us proof → IfSome proof (λ n. m ≤ n)
+  proof_above us None a is_proof = tt
+  proof_above us (Some h) a is_proof = (leaves m (client_of (view_of t)) (client_of (view_of rest_of)) are_alike.there us h a is_proof.left).0
+
+  module _ (r : Option ℕ) (is : IsReach (client_of (view_of t)) r) where
+    pub first_same : first_press t r ≡ first_press rest_of r
+    first_same = beyond_same (near_reach t) r (reach_none r is) near_above ∙ ap (λ n. first_beyond rest_of n r) near_same
 
     sending_same : sending_reach t r ≡ sending_reach rest_of r
     sending_same = λ i. if option_map_or (λ moment. nat_le moment t.window.until) (first_same i) false then r else near_same i
 
     due_same : due_messages t r ≡ due_messages rest_of r
-    due_same = ap (ready_messages t) sending_same
+    due_same = ap (ready_messages t) sending_same ∙ ready_same (sending_reach rest_of r)
 
-    pub messages_same : messages_of t r ≡ messages_of rest_of r
-    messages_same = ap (λ (ms : List Message). if is_some t.asked then [] else ms) due_same
+    pub messages_same : (proof : Option ℕ) → messages_of t r proof ≡ messages_of rest_of r proof
+    messages_same proof = go t.config.refresh_to
+      where
+        go : (to : RefreshTo) → messages_by t r proof to ≡ messages_by rest_of r proof to
+        go Lowest = ap (λ (ms : List Message). if is_some t.asked then [] else ms) due_same
+        go Highest = ap (λ (ms : List Message). if is_some t.asked then [] else ms) due_same
+        go Newer = ready_same proof
 
     wanted_same : wanted_height t r ≡ wanted_height rest_of r
     wanted_same = ap (λ (ms : List Message). wanted (map (λ (x : Message). x.packet) ms)) due_same
@@ -242,7 +323,14 @@ module _ (m : ℕ) (t : Task) (ys : List ℕ) (c : Book) (left : IsBookLeft m t.
     due_is_same : is_due t ≡ is_due rest_of
     due_is_same = ap (λ (o : Option Record). not (t.config.refresh == 0) && option_map_or (λ (x : Record). nat_le (x.time + t.config.refresh) t.window.until) o false) newest_same
 
-    -- what went is as old as the greatest stored height, or older
+    -- what went is older than a record that is left
+    older : (g : ℕ) (x : Record) → record_at c g ≡ Some x → All (λ k. time_of k < x.time) left.records.gone
+    older g x there =
+        let k = at_height c g x there in
+        subst (λ (z : Record). All (λ k. time_of k < z.time) left.records.gone) k.2
+        (before_found time_of (is_at g) left.records.gone c.records k.0 (subst (λ (xs : List RecordAt). IsStrictlyIncreasing (map time_of xs)) left.records.parts rises.times) k.1)
+
+    -- so it is due where the greatest stored height is
     stale : (o : Option ℕ) → slice_get ys (length ys - 1) ≡ o → option_map_or (λ (x : Record). nat_le (x.time + t.config.refresh) t.window.until) (option_and_then (record_at c) o) false ≡ true
         → All (λ k. is_fresh t k ≡ false) left.records.gone
     stale None at e = absurd (true≢false (sym e))
@@ -250,16 +338,8 @@ module _ (m : ℕ) (t : Task) (ys : List ℕ) (c : Book) (left : IsBookLeft m t.
       where
         go : (o : Option Record) → record_at c g ≡ o → option_map_or (λ (x : Record). nat_le (x.time + t.config.refresh) t.window.until) o false ≡ true → All (λ k. is_fresh t k ≡ false) left.records.gone
         go None there due = absurd (true≢false (sym due))
-        go (Some x) there due = All-weaker (λ k. time_of k < x.time) (λ k. is_fresh t k ≡ false) old left.records.gone older
+        go (Some x) there due = All-weaker (λ k. time_of k < x.time) (λ k. is_fresh t k ≡ false) old left.records.gone (older g x there)
           where
-            found : (k : RecordAt) × (find (is_at g) c.records ≡ Some k) × (k.record_of ≡ x)
-            found = at_height c g x there
-
-            older : All (λ k. time_of k < x.time) left.records.gone
-            older =
-                subst (λ (z : Record). All (λ k. time_of k < z.time) left.records.gone) found.2
-                (before_found time_of (is_at g) left.records.gone c.records found.0 (subst (λ (xs : List RecordAt). IsStrictlyIncreasing (map time_of xs)) left.records.parts rises.times) found.1)
-
             old : (k : RecordAt) → time_of k < x.time → is_fresh t k ≡ false
             old k lt =
                 let past = leb-true (x.time + t.config.refresh) t.window.until due in
@@ -278,24 +358,64 @@ module _ (m : ℕ) (t : Task) (ys : List ℕ) (c : Book) (left : IsBookLeft m t.
         go None le = refl
         go (Some h) le = ap (λ (o : Option Record). if option_map_or (λ (x : Record). nat_lt t.window.until (x.time + t.config.refresh)) o false then Some h else None) (record_here m t.book c left h le)
 
-    height_same : (to : RefreshTo) → is_due rest_of ≡ true → refresh_height t r to ≡ refresh_height rest_of r to
-    height_same Lowest due = lowest_same due
-    height_same Highest due = λ i. option_or (fresh_same i) (lowest_same due i)
+    -- by gain: what went is older than what a refresh needs
+    reached_same : reach_record t r ≡ reach_record rest_of r
+    reached_same = go r (reach_above r is)
+      where
+        go : (o : Option ℕ) → IfSome o (λ h. m ≤ h) → reach_record t o ≡ reach_record rest_of o
+        go None le = refl
+        go (Some h) le = record_here m t.book c left h le
+
+    gain_same : gain_time t r ≡ gain_time rest_of r
+    gain_same =
+        λ i. option_and_then (λ (s : Record). option_and_then (λ (x : Record). needed_time (terms_of t) s.time x.time t.window.until) (reached_same i)) (newest_same i)
+
+    none_gains : (time : ℕ) → gain_time rest_of r ≡ Some time → All (λ k. nat_le time (time_of k) ≡ false) left.records.gone
+    none_gains time e =
+        let s =
+        chained (λ (s : Record). option_and_then (λ (x : Record). needed_time (terms_of t) s.time x.time t.window.until) (reach_record rest_of r)) (newest_stored rest_of) time e in
+        let x = chained (λ (x : Record). needed_time (terms_of t) s.0.time x.time t.window.until) (reach_record rest_of r) time s.2 in
+        let g = chained (record_at c) (slice_get ys (length ys - 1)) s.0 s.1 in
+        let le = no_older (terms_of t) s.0.time x.0.time t.window.until time x.2 in
+        All-weaker (λ k. time_of k < s.0.time) (λ k. nat_le time (time_of k) ≡ false) (λ k lt. lt-leb time (time_of k) (omega arith)) left.records.gone (older g.0 s.0 g.2)
+
+    newer_same : newer_height t r ≡ newer_height rest_of r
+    newer_same =
+        and_then_same (gain_time t r) (gain_time rest_of r) (λ time. option_map height_of (find (λ k. nat_le time (time_of k)) t.book.records))
+        (λ time. option_map height_of (find (λ k. nat_le time (time_of k)) c.records)) gain_same
+        (λ time e. ap (option_map height_of)
+        (ap (find (λ k. nat_le time (time_of k))) left.records.parts ∙ find_behind (λ k. nat_le time (time_of k)) left.records.gone c.records (none_gains time e)))
+
+    where_due : (a b : Option ℕ) → (is_due rest_of ≡ true → a ≡ b) → (if is_due t then a else None) ≡ (if is_due rest_of then b else None)
+    where_due a b same = go (is_due rest_of) refl
+      where
+        go : (d : Bool) → is_due rest_of ≡ d → (if is_due t then a else None) ≡ (if is_due rest_of then b else None)
+        go true e = ap (λ x. if x then a else None) (due_is_same ∙ e) ∙ same e ∙ sym (ap (λ x. if x then b else None) e)
+        go false e = ap (λ x. if x then a else None) (due_is_same ∙ e) ∙ sym (ap (λ x. if x then b else None) e)
+
+    height_same : (to : RefreshTo) → refresh_height t r to ≡ refresh_height rest_of r to
+    height_same Lowest = where_due (lowest_fresh t) (lowest_fresh rest_of) lowest_same
+    height_same Highest = where_due (option_or (fresh_reach t r) (lowest_fresh t)) (option_or (fresh_reach rest_of r) (lowest_fresh rest_of)) (λ due. λ i. option_or (fresh_same i) (lowest_same due i))
+    height_same Newer = newer_same
 
     refresh_same : refresh_goal t r ≡ refresh_goal rest_of r
-    refresh_same = go (is_due rest_of) refl
+    refresh_same = ap (option_map (λ h. AtLeast h)) (height_same t.config.refresh_to)
+
+    pub apart_same : is_apart t r ≡ is_apart rest_of r
+    apart_same = go t.config.refresh_to
       where
-        go : (b : Bool) → is_due rest_of ≡ b → refresh_goal t r ≡ refresh_goal rest_of r
-        go true e =
-            ap (λ b. if b then option_map (λ h. AtLeast h) (refresh_height t r t.config.refresh_to) else None) (due_is_same ∙ e)
-            ∙ ap (option_map (λ h. AtLeast h)) (height_same t.config.refresh_to e)
-            ∙ sym (ap (λ b. if b then option_map (λ h. AtLeast h) (refresh_height rest_of r t.config.refresh_to) else None) e)
-        go false e =
-            ap (λ b. if b then option_map (λ h. AtLeast h) (refresh_height t r t.config.refresh_to) else None) (due_is_same ∙ e)
-            ∙ sym (ap (λ b. if b then option_map (λ h. AtLeast h) (refresh_height rest_of r t.config.refresh_to) else None) e)
+        go : (to : RefreshTo) → is_apart_by t r to ≡ is_apart_by rest_of r to
+        go Lowest = refl
+        go Highest = refl
+        go Newer = ap (λ (o : Option ℕ). is_some o) newer_same
 
     pub goal_same : goal_of t r ≡ goal_of rest_of r
-    goal_same = λ i. option_or t.asked (option_or (option_map (λ h. AtLeast h) (wanted_same i)) (refresh_same i))
+    goal_same = go t.config.refresh_to
+      where
+        go : (to : RefreshTo) → goal_by t r to ≡ goal_by rest_of r to
+        go Lowest = λ i. option_or t.asked (option_or (option_map (λ h. AtLeast h) (wanted_same i)) (refresh_same i))
+        go Highest = λ i. option_or t.asked (option_or (option_map (λ h. AtLeast h) (wanted_same i)) (refresh_same i))
+        go Newer = λ i. option_or (joined_goal (asked_in_reach t r) (wanted_same i) (newer_same i)) t.asked
 
     -- ---- what comes next
 
@@ -337,15 +457,26 @@ module _ (m : ℕ) (t : Task) (ys : List ℕ) (c : Book) (left : IsBookLeft m t.
         and_then_same (newest_after t us) (newest_after rest_of us) _ _ (newest_after_same us above)
         (λ x e. ap (λ b. if not (t.config.refresh == 0) && b then Some (x.time + t.config.refresh) else None) (overtaken_same x))
 
-    pub next_same : (us : List Update) → All (IsAbove m) us → next_moment t r us ≡ next_moment rest_of r us
-    next_same us above = λ i. lesser (if_later t (first_same i)) (if_later t (moment_same us above i))
+    gain_moment_same : (us : List Update) → All (IsAbove m) us → gain_moment t r us ≡ gain_moment rest_of r us
+    gain_moment_same us above =
+        λ i. option_and_then (λ (s : Record). option_and_then (λ (x : Record). moment_of_refresh (terms_of t) s.time x.time) (reached_same i)) (newest_after_same us above i)
+
+    pub next_same : (us : List Update) (proof : Option ℕ) → IsAcceptable (client_of (view_of t)) us → All (IsAbove m) us → IsProofHeight (client_of (view_of t)) us proof
+        → next_moment t r proof us ≡ next_moment rest_of r proof us
+    next_same us proof a above is_proof = go t.config.refresh_to
+      where
+        go : (to : RefreshTo) → next_by t r proof us to ≡ next_by rest_of r proof us to
+        go Lowest = λ i. lesser (if_later t (first_same i)) (if_later t (moment_same us above i))
+        go Highest = λ i. lesser (if_later t (first_same i)) (if_later t (moment_same us above i))
+        go Newer = λ i. no_earlier t (lesser (beyond_same proof r (proof_none r is us proof is_proof) (proof_above us proof a is_proof) i) (gain_moment_same us above i))
 
   -- ---- gas
 
   gas_same : (u : Update) → IsAbove m u → gas_of t u ≡ gas_of rest_of u
   gas_same u above = ap (λ s. option_map_or (fee_of t.config.options t.config.gas) s 0) (same_step m t.book c left u.trusted u.height above.0 above.1)
 
+  pub fees_same : (us : List Update) → All (IsAbove m) us → map (gas_of t) us ≡ map (gas_of rest_of) us
+  fees_same us above = map_same (gas_of t) (gas_of rest_of) us (implied (IsAbove m) (λ u. gas_of t u ≡ gas_of rest_of u) gas_same us (recursion_from_All (IsAbove m) us above))
+
   pub gases_same : (us : List Update) (ms : List Message) → All (IsAbove m) us → gases t us ms ≡ gases rest_of us ms
-  gases_same us ms above =
-      ap (λ xs. xs ++ map (λ (x : Message). x.gas) ms)
-      (map_same (gas_of t) (gas_of rest_of) us (implied (IsAbove m) (λ u. gas_of t u ≡ gas_of rest_of u) gas_same us (recursion_from_All (IsAbove m) us above)))
+  gases_same us ms above = ap (λ xs. xs ++ map (λ (x : Message). x.gas) ms) (fees_same us above)

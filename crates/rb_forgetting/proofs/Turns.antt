@@ -1,8 +1,8 @@
 -- A turn's report is the same over what is left.
-use Rattle.std.proofs.Common.{◌≡◌, ℕ, ◌+◌, ◌≤◌, ◌⊎◌, Bool, true, false, cond, List, [], ◌∷◌, ◌++◌, length, map, suc, Option, Some, None, is_some, inl, inr, refl, sym, ap, ◌∙◌, subst, arith, if◌then◌else◌}
-use Rattle.std.specs.List.{All, AllByRecursion, AllZip, enumerate_from, fold, range_with_len, slice_get}
+use Rattle.std.proofs.Common.{◌≡◌, ℕ, ◌+◌, ◌<◌, ◌≤◌, ◌⊎◌, Bool, true, false, cond, List, [], ◌∷◌, ◌++◌, length, map, suc, Option, Some, None, is_some, inl, inr, refl, sym, ap, ◌∙◌, subst, arith, if◌then◌else◌}
+use Rattle.std.specs.List.{All, AllByRecursion, AllZip, enumerate_from, fold, list_any, range_with_len, slice_get}
 use Rattle.std.specs.Option.{IfSome, option_map, option_map_or, option_and_then, option_to_list}
-use Rattle.std.proofs.lemmas.List.Elements.{All-from_recursion, recursion_from_All}
+use Rattle.std.proofs.lemmas.List.Elements.{All-from_recursion, All-weaker, recursion_from_All}
 use Rattle.std.proofs.lemmas.Option.{none-some, same_Some}
 use Rattle.rb_base.specs.Window.{Span}
 use Rattle.rb_book.specs.Laws.{StaysABook}
@@ -11,6 +11,7 @@ use Rattle.rb_script_types.specs.declared.config.PathConfig.{PathConfig}
 use Rattle.rb_script_types.specs.declared.refusal.Refusal.{Refusal}
 use Rattle.rb_script_types.specs.declared.refusal.Refusal.TheVariants.{UnknownSet, WrongVerdictCount, BadVote, Conflict, TimeOrder, Full, HashClash, UnknownObject, Stale, Busy, Repeat, OutOfOrder, WindowBack, NotOwed, LogFull}
 use Rattle.rb_script_types.specs.declared.script.Asked.{Asked as Question}
+use Rattle.rb_script_types.specs.declared.script.HostWindow.{HostWindow as WindowOf}
 use Rattle.rb_script_types.specs.declared.script.Settlement.{Settlement}
 use Rattle.rb_step.specs.LightClient.{Update}
 use Rattle.rb_core_model.specs.Event.{Event, IsEvent, Window, Asked}
@@ -19,11 +20,11 @@ use Rattle.rb_step.specs.View.{IsView}
 use Rattle.rb_plan_client.specs.Task.{view_of}
 use Rattle.rb_core_model.specs.Config.{part_for}
 use Rattle.rb_core_model.specs.Refusal.{refused_if}
-use Rattle.rb_core_model.specs.Standing.{OpenBatch, ClientState, PathState, Standing, book_at, goes_back, with_batch, task_in, judged, changed, standing_after, batch_open}
+use Rattle.rb_core_model.specs.Standing.{OpenBatch, ClientState, PathState, Standing, book_at, goes_back, goes_back_on, with_batch, task_in, judged, changed, standing_after, batch_open}
 use Rattle.rb_core_model.specs.Steps.{IsFromOutside}
 use Rattle.rb_super_turn.specs.Report.{PricedUpdate, SendingReport, nothing, too_big, batched, PlanReport, PlannedReport, Outcome, held, idle, planned, ClientReport, TurnReport}
 use Rattle.rb_super_turn.specs.Script.{Turn, IsSeen, IsTurn}
-use Rattle.rb_super_turn.specs.Turns.{after_window, after_question, refused_as, refusals, before_events, before_plans, IsClientReport, update_of, batch_sent, opened, after_outcome, after_reports, after_plans, settlement_event, after_settlement, id_of, settlement_report, settlement_reports, taking, after_taking, taking_reports, takers, after_all, reports_of_all, IsTurnReport, after_turn}
+use Rattle.rb_super_turn.specs.Turns.{after_window, window_event, after_host_window, hosts_back, after_question, refused_as, refusals, before_events, before_plans, IsClientReport, update_of, batch_sent, opened, after_outcome, after_reports, after_plans, settlement_event, after_settlement, id_of, settlement_report, settlement_reports, taking, after_taking, taking_reports, takers, after_all, reports_of_all, IsTurnReport, after_turn}
 use Rattle.rb_forgetting.specs.Remains.{IsClientLeft, IsPathLeft, IsLeftOf, AreRouted}
 use Rattle.rb_forgetting.specs.Spoken.{IsSpared}
 use Rattle.rb_forgetting.specs.Free.{if_not_full, freely, after_freely, refusals_freely, plans_freely, sent_freely, IsFreeReport, turn_freely}
@@ -31,7 +32,7 @@ use Rattle.rb_forgetting.specs.Laws.{AreSpared}
 use Rattle.rb_forgetting.proofs.Changed.{changed_left, settled_left}
 use Rattle.rb_forgetting.proofs.Fit.{seen_outside}
 use Rattle.rb_forgetting.proofs.Plannable.{IsPlannable}
-use Rattle.rb_forgetting.proofs.Judged.{judged_same, settled_same}
+use Rattle.rb_forgetting.proofs.Judged.{hosts_same, judged_same, settled_same}
 use Rattle.rb_forgetting.proofs.Reports.{report_left, updates_high}
 use Rattle.rb_forgetting.proofs.Zips.{IsPair, pair_at}
 
@@ -301,20 +302,41 @@ module _ (stays : StaysABook) (m : ℕ → ℕ) where
           by None is = changed_left m s t left stays e from right spared is (same ∙ is)
           by (Some r) is = left
 
-  window_left : (s t : Standing) → IsLeftOf m s t → (window : Span) → window.from ≤ window.until → IsLeftOf m (after_window s window) (after_window t window)
-  window_left s t left window right = go (judged s (Window window)) refl
+  -- an event that is judged the same leaves what is left
+  told_left : (s t : Standing) → IsLeftOf m s t → (e : Event) → IsFromOutside e → IsEvent e → IsSpared m s t e → judged t e ≡ judged s e → IsLeftOf m (standing_after s e) (standing_after t e)
+  told_left s t left e from right spared same = go (judged s e) refl
     where
-      same : judged t (Window window) ≡ judged s (Window window)
-      same = ap (λ (o : Option Span). refused_if (goes_back o window) WindowBack None) (left.still ∙ sym left.in_force)
-
-      go : (o : Option Refusal) → judged s (Window window) ≡ o → IsLeftOf m (after_window s window) (after_window t window)
+      go : (o : Option Refusal) → judged s e ≡ o → IsLeftOf m (standing_after s e) (standing_after t e)
       go o is =
-          subst (λ x. IsLeftOf m (if is_some x then s else changed s (Window window)) (after_window t window)) (sym is)
-          (subst (λ y. IsLeftOf m (if is_some o then s else changed s (Window window)) (if is_some y then t else changed t (Window window))) (sym (same ∙ is)) (by o is))
+          subst (λ x. IsLeftOf m (if is_some x then s else changed s e) (standing_after t e)) (sym is)
+          (subst (λ y. IsLeftOf m (if is_some o then s else changed s e) (if is_some y then t else changed t e)) (sym (same ∙ is)) (by o is))
         where
-          by : (x : Option Refusal) → judged s (Window window) ≡ x → IsLeftOf m (if is_some x then s else changed s (Window window)) (if is_some x then t else changed t (Window window))
-          by None is = changed_left m s t left stays (Window window) tt right tt (ap if_not_full is) (same ∙ is)
+          by : (x : Option Refusal) → judged s e ≡ x → IsLeftOf m (if is_some x then s else changed s e) (if is_some x then t else changed t e)
+          by None is = changed_left m s t left stays e from right spared (ap if_not_full is) (same ∙ is)
           by (Some r) is = left
+
+  window_left : (s t : Standing) → IsLeftOf m s t → (window : Span) → window.from ≤ window.until → IsLeftOf m (after_window s window) (after_window t window)
+  window_left s t left window right =
+      told_left s t left (Window window) tt right tt (ap (λ (o : Option Span). refused_if (goes_back o window) WindowBack None) (left.still ∙ sym left.in_force))
+
+  -- ---- windows of hosts
+
+  host_judged : (s t : Standing) → IsLeftOf m s t → (w : WindowOf) → judged t (window_event w) ≡ judged s (window_event w)
+  host_judged s t left w =
+      ap (λ (o : Option Span). refused_if (list_any (goes_back_on o w.host w.window) t.clients) WindowBack None) (left.still ∙ sym left.in_force)
+      ∙ ap (λ b. refused_if b WindowBack None) (hosts_same m s t left s.window w.host w.window s.clients t.clients left.clients)
+
+  host_left : (s t : Standing) → IsLeftOf m s t → (w : WindowOf) → w.window.from ≤ w.window.until → IsLeftOf m (after_host_window s w) (after_host_window t w)
+  host_left s t left w right = told_left s t left (window_event w) tt right tt (host_judged s t left w)
+
+  hosts_left : (s t : Standing) → IsLeftOf m s t → (ws : List WindowOf) → AllByRecursion (λ (w : WindowOf). w.window.from ≤ w.window.until) ws → IsLeftOf m (fold after_host_window s ws) (fold after_host_window t ws)
+  hosts_left s t left [] all = left
+  hosts_left s t left (w ∷ ws) all = hosts_left (after_host_window s w) (after_host_window t w) (host_left s t left w all.0) ws all.1
+
+  hosts_back_same : (s t : Standing) → IsLeftOf m s t → (ws : List WindowOf) → AllByRecursion (λ (w : WindowOf). w.window.from ≤ w.window.until) ws → hosts_back t ws ≡ hosts_back s ws
+  hosts_back_same s t left [] all = refl
+  hosts_back_same s t left (w ∷ ws) all =
+      λ i. (if is_some (host_judged s t left w i) then w.host ∷ [] else []) ++ hosts_back_same (after_host_window s w) (after_host_window t w) (host_left s t left w all.0) ws all.1 i
 
   goals_left : (s t : Standing) → IsLeftOf m s t → (goals : List Question) → IsLeftOf m (fold after_question s goals) (fold after_question t goals)
   goals_left s t left [] = left
@@ -339,8 +361,18 @@ module _ (stays : StaysABook) (m : ℕ → ℕ) where
   all_outside config (e ∷ es) all = (seen_outside config e all.0, all_outside config es all.1)
 
   module _ (config : Config) (s t : Standing) (left : IsLeftOf m s t) (turn : Turn) (is : IsTurn config turn) (spared : AreSpared m (before_events s turn) (before_events t turn) turn.events) (can : IsPlannable (before_plans t turn)) where
+    ends : AllByRecursion (λ (w : WindowOf). w.window.from ≤ w.window.until) turn.windows
+    ends =
+        recursion_from_All (λ (w : WindowOf). w.window.from ≤ w.window.until) turn.windows
+        (All-weaker (λ (w : WindowOf). (w.host < length config.chains) × (w.window.from ≤ w.window.until)) (λ (w : WindowOf). w.window.from ≤ w.window.until) (λ w both. both.1) turn.windows is.windows)
+
+    entered : IsLeftOf m (fold after_host_window s turn.windows) (fold after_host_window t turn.windows)
+    entered = hosts_left s t left turn.windows ends
+
     begun : IsLeftOf m (before_events s turn) (before_events t turn)
-    begun = goals_left (after_window s turn.window) (after_window t turn.window) (window_left s t left turn.window is.window) turn.goals
+    begun =
+        goals_left (after_window (fold after_host_window s turn.windows) turn.window) (after_window (fold after_host_window t turn.windows) turn.window)
+        (window_left (fold after_host_window s turn.windows) (fold after_host_window t turn.windows) entered turn.window is.window) turn.goals
 
     outside : AllByRecursion IsFromOutside turn.events
     outside = all_outside config turn.events (recursion_from_All (IsSeen config) turn.events is.events)
@@ -354,6 +386,7 @@ module _ (stays : StaysABook) (m : ℕ → ℕ) where
     pub turn_reported : (r : TurnReport) → IsFreeReport s turn r → IsTurnReport t turn r
     turn_reported r right = record {
       window = right.window ∙ ap (λ (o : Option Span). goes_back o turn.window) (left.in_force ∙ sym left.still);
+      hosts = right.hosts ∙ sym (hosts_back_same s t left turn.windows ends);
       refused = right.refused ∙ sym (refusals_same 0 (before_events s turn) (before_events t turn) begun turn.events outside (recursion_from_All IsEvent turn.events is.right) spared);
       clients = plans_reported m (plans_freely s turn) (before_plans t turn) seen can r.clients right.clients;
       settlements = right.settlements ∙ sym (all_same m (sent_freely s turn r) (after_plans t turn r) (planned_for r right) turn.settlements turn.taken);

@@ -1,6 +1,6 @@
 -- Two lists whose elements are related place by place.
-use Rattle.std.proofs.Common.{◌≡◌, ℕ, zero, suc, ◌⊎◌, List, [], ◌∷◌, set, Option, Some, None, inl, inr, refl, sym, subst}
-use Rattle.std.specs.List.{AllZip, slice_get}
+use Rattle.std.proofs.Common.{◌≡◌, ℕ, zero, suc, ◌⊎◌, List, [], ◌∷◌, map, set, Option, Some, None, inl, inr, refl, sym, subst}
+use Rattle.std.specs.List.{AllByRecursion, AllZip, slice_get}
 use Rattle.std.specs.Option.{option_map_or}
 use Rattle.rb_core_model.specs.Standing.{changed_at}
 
@@ -28,6 +28,14 @@ zip_weaker R S f [] [] all = tt
 zip_weaker R S f [] (y ∷ ys) all = all
 zip_weaker R S f (x ∷ xs) [] all = all
 zip_weaker R S f (x ∷ xs) (y ∷ ys) all = (f x y all.0, zip_weaker R S f xs ys all.1)
+
+-- both changed whole, by what holds of each second one
+pub zip_mapped : {X Y : Type 0} (R : X → Y → Type 0) (P : Y → Type 0) (f : X → X) (g : Y → Y) → ((x : X) (y : Y) → R x y → P y → R (f x) (g y)) → (xs : List X) (ys : List Y)
+    → AllZip R xs ys → AllByRecursion P ys → AllZip R (map f xs) (map g ys)
+zip_mapped R P f g new [] [] zip all = tt
+zip_mapped R P f g new [] (y ∷ ys) zip all = absurd zip
+zip_mapped R P f g new (x ∷ xs) [] zip all = absurd zip
+zip_mapped R P f g new (x ∷ xs) (y ∷ ys) zip all = (new x y zip.0 all.0, zip_mapped R P f g new xs ys zip.1 all.1)
 
 zip_set : {X Y : Type 0} (R : X → Y → Type 0) (xs : List X) (ys : List Y) (k : ℕ) (x : X) (y : Y) → R x y → AllZip R xs ys → AllZip R (set xs k x) (set ys k y)
 zip_set R [] [] k x y new all = tt

@@ -7,7 +7,7 @@ use Rattle.rb_core_model.specs.Event.{Event}
 use Rattle.rb_core_model.specs.Standing.{Standing, goes_back, judged, changed}
 use Rattle.rb_super_turn.specs.Report.{RefusedEvent, TurnReport, Report}
 use Rattle.rb_super_turn.specs.Script.{Turn}
-use Rattle.rb_super_turn.specs.Turns.{refused_as, before_events, IsClientReport, after_reports, after_all, reports_of_all}
+use Rattle.rb_super_turn.specs.Turns.{hosts_back, refused_as, before_events, IsClientReport, after_reports, after_all, reports_of_all}
 
 -- a refusal, unless it is for want of room
 abbrev pub if_not_full : Option Refusal → Option Refusal
@@ -36,6 +36,7 @@ sent_freely s turn r = record (plans_freely s turn) { clients = after_reports (p
 -- what a turn reports (as IsTurnReport says, but for what is refused)
 pub record IsFreeReport (s : Standing) (turn : Turn) (r : TurnReport) : Type 0 where
   pub window : r.window_back ≡ goes_back s.window turn.window
+  pub hosts : r.hosts_back ≡ hosts_back s turn.windows
   pub refused : r.refused ≡ refusals_freely 0 (before_events s turn) turn.events
   pub clients : AllZip (IsClientReport (plans_freely s turn)) (enumerate_from 0 (plans_freely s turn).clients) r.clients
   pub settlements : r.settlements ≡ reports_of_all turn.settlements turn.taken (sent_freely s turn r)

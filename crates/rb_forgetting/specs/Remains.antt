@@ -11,7 +11,7 @@ use Rattle.rb_step.specs.LightClient.{Update}
 use Rattle.rb_base.specs.declared.gate.Part.TheVariants.{Packets, Channel}
 use Rattle.rb_core_model.specs.Config.{part_for}
 use Rattle.rb_core_model.specs.Over.{over_in, from_later}
-use Rattle.rb_core_model.specs.Standing.{OpenBatch, ClientState, PathState, Standing, book_at}
+use Rattle.rb_core_model.specs.Standing.{OpenBatch, ClientState, PathState, Standing, book_at, window_for}
 use Rattle.rb_forgetting.specs.Left.{IsBookLeft, AreStoredLeft}
 
 -- ---- what a path needs
@@ -35,9 +35,10 @@ PathFits m books p =
 
 -- ---- what is left of a client
 
+-- this being the common window
 pub record IsClientLeft (m : ℕ → ℕ) (w : Span) (books : List Book) (c d : ClientState) : Type 0 where
   pub is : d ≡ record c { stored = d.stored }
-  pub stored : AreStoredLeft (m c.config.tracks) c.config.options.period w (book_at books c.config.tracks) c.stored d.stored
+  pub stored : AreStoredLeft (m c.config.tracks) c.config.options.period (window_for w c) (book_at books c.config.tracks) c.stored d.stored
   pub batch : IfSome c.batch (λ (b : OpenBatch). All (λ (u : Update). m c.config.tracks ≤ u.height) b.updates)
 
 -- ---- of a path

@@ -5,7 +5,8 @@ use Rattle.rb_valset.specs.ValidatorSet.{set_hash}
 use Rattle.rb_book.specs.Header.{Record, Header}
 use Rattle.rb_book.specs.Book.{Book, set_of}
 use Rattle.rb_scan.specs.declared.path.Order.TheVariants.{Unordered}
-use Rattle.rb_core_model.specs.Event.{Event, Window, Asked, SetSeen, HeaderSeen, StoredSeen, Sent, Received, AckWritten, Cleared, Closed, Scanned, Planned, Settled}
+use Rattle.rb_script_types.specs.declared.block.Block.{Block}
+use Rattle.rb_core_model.specs.Event.{Event, Window, HostWindow, Asked, SetSeen, HeaderSeen, StoredSeen, Sent, Received, AckWritten, Cleared, Closed, Scanned, Planned, Settled}
 use Rattle.rb_core_model.specs.Standing.{PathState, Standing, book_at, tracked, new_packet}
 use Rattle.rb_forgetting.specs.Remains.{PacketFits}
 
@@ -25,14 +26,14 @@ abbrev pub SparesHeader : ℕ → Book → Book → Header → Type 0
 SparesHeader m b c h = SparesRecord m b c h.height h.record_of × IsKeptSet b c h.set_hash
 
 -- a packet that is sent fits what went on its destination, and on an ORDERED path what went on its source
-abbrev pub SparesPacket : (ℕ → ℕ) → Standing → ℕ → ℕ → ℕ → Option ℕ → Option ℕ → Type 0
+abbrev pub SparesPacket : (ℕ → ℕ) → Standing → ℕ → ℕ → Block → Option ℕ → Option ℕ → Type 0
 SparesPacket m s path sequence block timeout_height timeout_time =
     IfSome (slice_get s.paths path)
     (λ (p : PathState). PacketFits (m p.config.source) (m p.config.destination) (book_at s.books p.config.destination) p.config.order
     (new_packet sequence block timeout_height timeout_time))
 
-abbrev pub SparesAck : (ℕ → ℕ) → Standing → ℕ → ℕ → Type 0
-SparesAck m s path block = IfSome (slice_get s.paths path) (λ (p : PathState). (p.config.order ≡ Unordered) ⊎ (m p.config.destination ≤ block + 1))
+abbrev pub SparesAck : (ℕ → ℕ) → Standing → ℕ → Block → Type 0
+SparesAck m s path block = IfSome (slice_get s.paths path) (λ (p : PathState). (p.config.order ≡ Unordered) ⊎ (m p.config.destination ≤ block.height + 1))
 
 -- no packet with the sequence was forgotten of the path
 abbrev pub SparesSequence : Standing → Standing → ℕ → ℕ → Type 0
@@ -41,6 +42,7 @@ SparesSequence s t path sequence = IfSome (slice_get s.paths path) (λ (p : Path
 -- the event speaks of nothing that was forgotten: the first is how things would stand, the second how they do
 abbrev pub IsSpared : (ℕ → ℕ) → Standing → Standing → Event → Type 0
 IsSpared m s t (Window window) = Unit {0}
+IsSpared m s t (HostWindow host window) = Unit {0}
 IsSpared m s t (Asked client goal) = Unit {0}
 IsSpared m s t (SetSeen chain set) = IsSetAgain (book_at s.books chain) (book_at t.books chain) set
 IsSpared m s t (HeaderSeen chain header) = SparesHeader (m chain) (book_at s.books chain) (book_at t.books chain) header

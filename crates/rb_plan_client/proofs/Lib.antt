@@ -1,3 +1,4 @@
+pub mod Ages
 pub mod Ids
 pub mod Far
 pub mod Lowest

@@ -15,10 +15,11 @@ use Rattle.rb_scan.specs.Owed.{is_ready, is_near, ready, ready_beyond, wanted}
 use Rattle.rb_scan.specs.declared.message.PacketMsg.{PacketMsg}
 use Rattle.rb_scan.specs.declared.path.Order.{Order}
 use Rattle.rb_script_types.specs.declared.config.RefreshTo.{RefreshTo}
-use Rattle.rb_script_types.specs.declared.config.RefreshTo.TheVariants.{Lowest, Highest}
+use Rattle.rb_script_types.specs.declared.config.RefreshTo.TheVariants.{Lowest, Highest, Newer}
 use Rattle.rb_script_types.specs.declared.goal.Goal.TheVariants.{AtLeast}
 use Rattle.rb_plan_client.specs.Laws.{in_window, NextIsNext}
-use Rattle.rb_plan_client.specs.Task.{PathTask, Task, Message, message_on, ready_on, ready_messages, is_live, near_reach, press_moment, press_moments_on, first_press, presses, due_messages, wanted_height, newest_stored, is_due, is_fresh, lowest_fresh, fresh_reach, refresh_height, refresh_goal, goal_of, greater, newest_after, is_overtaken, refresh_moment, if_later, next_moment}
+use Rattle.rb_plan_client.specs.Task.{PathTask, Task, Message, message_on, going_on, ready_on, ready_messages, is_live, near_reach, press_moment, press_moments_on, first_press, presses, due_messages, wanted_height, newest_stored, is_due, is_fresh, lowest_fresh, fresh_reach, sending_reach, greater, newest_after, is_overtaken, refresh_moment, if_later}
+use Rattle.rb_plan_client.proofs.Ages.{age_height, age_refresh, age_goal, age_next, goal_is_age, next_is_age, going_same}
 use Rattle.rb_plan_client.proofs.Waits.{near_is}
 
 -- ---- options and lists
@@ -135,16 +136,18 @@ not_fresh_reach t (k ∷ ks) h e = go (not_fresh_reach t ks h) (is_fresh t k) re
     go rest false f true g = f
     go rest false f false g = rest g
 
-no_refresh_height : (t : Task) (reach : Option ℕ) → find (is_fresh t) t.book.records ≡ None → (to : RefreshTo) → refresh_height t reach to ≡ None
+no_refresh_height : (t : Task) (reach : Option ℕ) → find (is_fresh t) t.book.records ≡ None → (to : RefreshTo) → age_height t reach to ≡ None
 no_refresh_height t reach none Lowest = ap (option_map height_of) none
+no_refresh_height t reach none Newer = ap (option_map height_of) none
 no_refresh_height t reach none Highest = ap (λ o. option_or o (lowest_fresh t)) (low reach) ∙ ap (option_map height_of) none
   where
     low : (o : Option ℕ) → fresh_reach t o ≡ None
     low None = refl
     low (Some h) = ap (λ b. if b then Some h else None) (not_fresh_reach t t.book.records h none)
 
-fresh_found : (t : Task) (reach : Option ℕ) (to : RefreshTo) → refresh_height t reach to ≡ None → find (is_fresh t) t.book.records ≡ None
+fresh_found : (t : Task) (reach : Option ℕ) (to : RefreshTo) → age_height t reach to ≡ None → find (is_fresh t) t.book.records ≡ None
 fresh_found t reach Lowest e = unmapped height_of (find (is_fresh t) t.book.records) e
+fresh_found t reach Newer e = unmapped height_of (find (is_fresh t) t.book.records) e
 fresh_found t reach Highest e = unmapped height_of (find (is_fresh t) t.book.records) (neither (fresh_reach t reach) (lowest_fresh t) e).1
 
 -- ---- times rise, so the last record is the latest
@@ -195,40 +198,46 @@ newest_now t = ap (option_and_then (record_at t.book)) (alone (slice_get t.store
 
 -- ---- nothing is ready at a height
 
-nothing_at : Option ℕ → List PathTask → Type 0
-nothing_at height ps = AllByRecursion (λ (p : PathTask). ready p.owed p.order height ≡ []) ps
+nothing_at : Task → Option ℕ → List PathTask → Type 0
+nothing_at t height ps = AllByRecursion (λ (p : PathTask). ready (going_on t p) p.order height ≡ []) ps
 
-all_empty : (height : Option ℕ) (ps : List PathTask) → flat_map (ready_on height) ps ≡ [] → nothing_at height ps
+all_empty : (t : Task) (height : Option ℕ) (ps : List PathTask) → flat_map (ready_on t height) ps ≡ [] → nothing_at t height ps
 unfolding nothing_at
-all_empty height [] e = tt
-all_empty height (p ∷ ps) e =
-    let parts = both_empty (map (message_on p) (ready p.owed p.order height)) (flat_map (ready_on height) ps) e in
-    (unmapped_list (message_on p) (ready p.owed p.order height) parts.0, all_empty height ps parts.1)
+all_empty t height [] e = tt
+all_empty t height (p ∷ ps) e =
+    let parts = both_empty (map (message_on p) (ready (going_on t p) p.order height)) (flat_map (ready_on t height) ps) e in
+    (unmapped_list (message_on p) (ready (going_on t p) p.order height) parts.0, all_empty t height ps parts.1)
 
-empty_all : (height : Option ℕ) (ps : List PathTask) → nothing_at height ps → flat_map (ready_on height) ps ≡ []
+empty_all : (t : Task) (height : Option ℕ) (ps : List PathTask) → nothing_at t height ps → flat_map (ready_on t height) ps ≡ []
 unfolding nothing_at
-empty_all height [] all = refl
-empty_all height (p ∷ ps) all = (λ i. map (message_on p) (all.0 i) ++ flat_map (ready_on height) ps) ∙ empty_all height ps all.1
+empty_all t height [] all = refl
+empty_all t height (p ∷ ps) all = (λ i. map (message_on p) (all.0 i) ++ flat_map (ready_on t height) ps) ∙ empty_all t height ps all.1
 
-no_height : (ps : List PathTask) → nothing_at None ps
+no_height : (t : Task) (ps : List PathTask) → nothing_at t None ps
 unfolding nothing_at
-no_height [] = tt
-no_height (p ∷ ps) = (refl, no_height ps)
+no_height t [] = tt
+no_height t (p ∷ ps) = (refl, no_height t ps)
 
 -- what isn't ready has no moment from which on it presses
-no_moment : (t : Task) (reach : Option ℕ) (ps : List PathTask) → nothing_at reach ps → flat_map (press_moments_on t reach) ps ≡ []
+no_moment : (t : Task) (reach : Option ℕ) (ps : List PathTask) → nothing_at t reach ps → flat_map (press_moments_on t reach) ps ≡ []
 unfolding nothing_at
 no_moment t reach [] all = refl
-no_moment t reach (p ∷ ps) all = (λ i. map (press_moment t p.waits) (far_is_ready p.owed p.order (near_reach t) reach all.0 i) ++ flat_map (press_moments_on t reach) ps) ∙ no_moment t reach ps all.1
+no_moment t reach (p ∷ ps) all = (λ i. map (press_moment t p.waits) (far_is_ready (going_on t p) p.order (near_reach t) reach all.0 i) ++ flat_map (press_moments_on t reach) ps) ∙ no_moment t reach ps all.1
 
 pub none_first : (t : Task) (reach : Option ℕ) → ready_messages t reach ≡ [] → first_press t reach ≡ None
-none_first t reach none = ap (fold lesser None) (no_moment t reach t.paths (all_empty reach t.paths none))
+none_first t reach none = ap (fold lesser None) (no_moment t reach t.paths (all_empty t reach t.paths none))
 
 -- ---- the law
 
-module _ (t : Task) (reach : Option ℕ) (window : Span) (later : t.window.until ≤ window.until) (in_range : window.until ≤ 100000000000000000000) where
+module _ (t : Task) (reach : Option ℕ) (window : Span) (by_age : t.config.refresh_to ≢ Newer) (later : t.window.until ≤ window.until)
+    (in_range : window.until ≤ 100000000000000000000) where
   abbrev then_ : Task
   then_ = in_window t window
+
+  -- what is ready at a height is so then
+  ready_then : (height : Option ℕ) (ps : List PathTask) → flat_map (ready_on then_ height) ps ≡ flat_map (ready_on t height) ps
+  ready_then height [] = refl
+  ready_then height (p ∷ ps) = (λ i. map (message_on p) (ready (going_same t window p by_age i) p.order height) ++ ready_then height ps i)
 
   -- the near reach is as it was, or there is none any more
   near_then : (near_reach then_ ≡ near_reach t) ⊎ (near_reach then_ ≡ None)
@@ -249,26 +258,27 @@ module _ (t : Task) (reach : Option ℕ) (window : Span) (later : t.window.until
           inl (e ∙ sym (ap (option_and_then (λ k. if is_live t k then Some k else None)) is.0 ∙ ap (λ b. cond b (Some h) None) (stays h is.1)))
 
   -- so what is far is the same, and presses from the same moment on
-  same_press : (ps : List PathTask) → nothing_at (near_reach t) ps → nothing_at (near_reach then_) ps
+  same_press : (ps : List PathTask) → nothing_at t (near_reach t) ps → nothing_at t (near_reach then_) ps
       → flat_map (press_moments_on then_ reach) ps ≡ flat_map (press_moments_on t reach) ps
   unfolding nothing_at
   same_press [] now next = refl
   same_press (p ∷ ps) now next =
-      let far = far_alone p.owed p.order (near_reach then_) reach next.0 ∙ sym (far_alone p.owed p.order (near_reach t) reach now.0) in
+      let same = ap (λ ms. ready_beyond ms p.order (near_reach then_) reach) (going_same t window p by_age) in
+      let far = same ∙ far_alone (going_on t p) p.order (near_reach then_) reach next.0 ∙ sym (far_alone (going_on t p) p.order (near_reach t) reach now.0) in
       (λ i. map (press_moment t p.waits) (far i) ++ same_press ps now.1 next.1 i)
 
   -- ---- of a client without a goal
 
-  module _ (idle : goal_of t reach ≡ None) where
+  module _ (idle : age_goal t reach ≡ None) where
     asked_none : t.asked ≡ None
     asked_none = (neither t.asked _ idle).0
 
     nothing_due : due_messages t reach ≡ []
     nothing_due =
-        none_wanted (due_messages t reach) (unmapped (λ h. AtLeast h) (wanted_height t reach) (neither (option_map (λ h. AtLeast h) (wanted_height t reach)) (refresh_goal t reach) (neither t.asked _ idle).1).0)
+        none_wanted (due_messages t reach) (unmapped (λ h. AtLeast h) (wanted_height t reach) (neither (option_map (λ h. AtLeast h) (wanted_height t reach)) (age_refresh t reach) (neither t.asked _ idle).1).0)
 
-    no_refresh : refresh_goal t reach ≡ None
-    no_refresh = (neither (option_map (λ h. AtLeast h) (wanted_height t reach)) (refresh_goal t reach) (neither t.asked _ idle).1).1
+    no_refresh : age_refresh t reach ≡ None
+    no_refresh = (neither (option_map (λ h. AtLeast h) (wanted_height t reach)) (age_refresh t reach) (neither t.asked _ idle).1).1
 
     -- where one pressed it would be far, and go
     not_pressed : presses t reach ≡ false
@@ -280,13 +290,13 @@ module _ (t : Task) (reach : Option ℕ) (window : Span) (later : t.window.until
             let none : ready_messages t reach ≡ [] = ap (λ b. ready_messages t (if b then reach else near_reach t)) (sym e) ∙ nothing_due in
             ap (λ o. option_map_or (λ m. nat_le m t.window.until) o false) (none_first t reach none)
 
-    nothing_near : nothing_at (near_reach t) t.paths
-    nothing_near = all_empty (near_reach t) t.paths (ap (λ b. ready_messages t (if b then reach else near_reach t)) (sym not_pressed) ∙ nothing_due)
+    nothing_near : nothing_at t (near_reach t) t.paths
+    nothing_near = all_empty t (near_reach t) t.paths (ap (λ b. ready_messages t (if b then reach else near_reach t)) (sym not_pressed) ∙ nothing_due)
 
-    nothing_near_then : nothing_at (near_reach then_) t.paths
+    nothing_near_then : nothing_at t (near_reach then_) t.paths
     nothing_near_then = elim near_then [
-      | inl same ↦ subst (λ h. nothing_at h t.paths) (sym same) nothing_near
-      | inr none ↦ subst (λ h. nothing_at h t.paths) (sym none) (no_height t.paths)
+      | inl same ↦ subst (λ h. nothing_at t h t.paths) (sym same) nothing_near
+      | inr none ↦ subst (λ h. nothing_at t h t.paths) (sym none) (no_height t t.paths)
     ]
 
     same_first : first_press then_ reach ≡ first_press t reach
@@ -297,7 +307,7 @@ module _ (t : Task) (reach : Option ℕ) (window : Span) (later : t.window.until
     told n after before =
         ap (λ b. if b then Some n else None) (λ i. lt-ltb t.window.until n after i && le-leb n 100000000000000000000 (omega (arith, before, in_range)) i)
 
-    module _ (none_yet : (next : ℕ) → next_moment t reach [] ≡ Some next → window.until < next) where
+    module _ (none_yet : (next : ℕ) → age_next t reach ≡ Some next → window.until < next) where
       not_pressed_then : presses then_ reach ≡ false
       not_pressed_then = ap (λ o. option_map_or (λ m. nat_le m window.until) o false) same_first ∙ go (first_press t reach) refl
         where
@@ -318,9 +328,11 @@ module _ (t : Task) (reach : Option ℕ) (window : Span) (later : t.window.until
                   absurd (omega (arith, still, next.2, before))
 
       nothing_due_then : due_messages then_ reach ≡ []
-      nothing_due_then = ap (λ b. ready_messages t (if b then reach else near_reach then_)) not_pressed_then ∙ empty_all (near_reach then_) t.paths nothing_near_then
+      nothing_due_then =
+          ready_then (sending_reach then_ reach) t.paths ∙ ap (λ b. ready_messages t (if b then reach else near_reach then_)) not_pressed_then
+          ∙ empty_all t (near_reach then_) t.paths nothing_near_then
 
-      no_refresh_then : IsBook t.book → refresh_goal then_ reach ≡ None
+      no_refresh_then : IsBook t.book → age_refresh then_ reach ≡ None
       no_refresh_then book = go (is_due then_) refl
         where
           to : RefreshTo
@@ -329,9 +341,9 @@ module _ (t : Task) (reach : Option ℕ) (window : Span) (later : t.window.until
           -- the newest record was due before: then none was fresh
           was_due : is_due t ≡ true → find (is_fresh then_) t.book.records ≡ None
           was_due e =
-              let goal : option_map (λ h. AtLeast h) (refresh_height t reach to) ≡ None =
-              ap (λ b. if b then option_map (λ h. AtLeast h) (refresh_height t reach to) else None) (sym e) ∙ no_refresh in
-              none_fresh t window later t.book.records (fresh_found t reach to (unmapped (λ h. AtLeast h) (refresh_height t reach to) goal))
+              let goal : option_map (λ h. AtLeast h) (age_height t reach to) ≡ None =
+              ap (λ b. if b then option_map (λ h. AtLeast h) (age_height t reach to) else None) (sym e) ∙ no_refresh in
+              none_fresh t window later t.book.records (fresh_found t reach to (unmapped (λ h. AtLeast h) (age_height t reach to) goal))
 
           -- it is due only now: then no record is later, or its moment was told
           is_now_due : (r : Record) → newest_stored t ≡ Some r → not (eqb t.config.refresh 0) ≡ true → t.window.until < r.time + t.config.refresh → r.time + t.config.refresh ≤ window.until
@@ -369,13 +381,13 @@ module _ (t : Task) (reach : Option ℕ) (window : Span) (later : t.window.until
               by_newest (newest_stored t) refl parts.0 parts.1
               (ap (λ b. b && option_map_or (λ (r : Record). nat_le (r.time + t.config.refresh) t.window.until) (newest_stored t) false) (sym parts.0) ∙ e)
 
-          go : (b : Bool) → is_due then_ ≡ b → refresh_goal then_ reach ≡ None
-          go false e = ap (λ b. if b then option_map (λ h. AtLeast h) (refresh_height then_ reach to) else None) e
+          go : (b : Bool) → is_due then_ ≡ b → age_refresh then_ reach ≡ None
+          go false e = ap (λ b. if b then option_map (λ h. AtLeast h) (age_height then_ reach to) else None) e
           go true e =
-              ap (λ b. if b then option_map (λ h. AtLeast h) (refresh_height then_ reach to) else None) e
+              ap (λ b. if b then option_map (λ h. AtLeast h) (age_height then_ reach to) else None) e
               ∙ ap (option_map (λ h. AtLeast h)) (no_refresh_height then_ reach (none_is_fresh e (is_due t) refl) to)
 
-      idle_then : IsBook t.book → goal_of then_ reach ≡ None
+      idle_then : IsBook t.book → age_goal then_ reach ≡ None
       idle_then book =
           (λ i. option_or (asked_none i) (option_or (option_map (λ h. AtLeast h) (wanted (map (λ (m : Message). m.packet) (nothing_due_then i)))) (no_refresh_then book i)))
 
@@ -390,52 +402,55 @@ module _ (t : Task) (reach : Option ℕ) (window : Span) (later : t.window.until
         go true f false g = absurd (none-some n g)
         go false f b g = absurd (none-some n g)
 
-    pressed_then : first_press t reach ≡ Some window.until → goal_of then_ reach ≢ None
+    pressed_then : first_press t reach ≡ Some window.until → age_goal then_ reach ≢ None
     pressed_then first = λ none.
         let now : presses then_ reach ≡ true =
         ap (λ o. option_map_or (λ m. nat_le m window.until) o false) (same_first ∙ first) ∙ le-leb window.until window.until (omega arith) in
-        let wanted_none = unmapped (λ h. AtLeast h) (wanted_height then_ reach) (neither (option_map (λ h. AtLeast h) (wanted_height then_ reach)) (refresh_goal then_ reach) (neither t.asked _ none).1).0 in
+        let wanted_none = unmapped (λ h. AtLeast h) (wanted_height then_ reach) (neither (option_map (λ h. AtLeast h) (wanted_height then_ reach)) (age_refresh then_ reach) (neither t.asked _ none).1).0 in
         let due : due_messages then_ reach ≡ [] = none_wanted (due_messages then_ reach) wanted_none in
-        let ready_none : ready_messages t reach ≡ [] = ap (λ b. ready_messages t (if b then reach else near_reach then_)) (sym now) ∙ due in
+        let ready_none : ready_messages t reach ≡ [] = sym (ready_then reach t.paths) ∙ ap (λ b. ready_messages then_ (if b then reach else near_reach then_)) (sym now) ∙ due in
         none-some window.until (sym (none_first t reach ready_none) ∙ first)
 
-    refreshed_then : refresh_moment t [] ≡ Some window.until → goal_of then_ reach ≢ None
+    refreshed_then : refresh_moment t [] ≡ Some window.until → age_goal then_ reach ≢ None
     refreshed_then moment = λ none.
-        let refresh_none : refresh_goal then_ reach ≡ None = (neither (option_map (λ h. AtLeast h) (wanted_height then_ reach)) (refresh_goal then_ reach) (neither t.asked _ none).1).1 in
+        let refresh_none : age_refresh then_ reach ≡ None = (neither (option_map (λ h. AtLeast h) (wanted_height then_ reach)) (age_refresh then_ reach) (neither t.asked _ none).1).1 in
         by_newest (newest_stored t) refl (sym (ap (option_and_then (λ (x : Record). if not (eqb t.config.refresh 0) && is_overtaken t x then Some (x.time + t.config.refresh) else None)) (newest_now t)) ∙ moment) refresh_none
       where
         to : RefreshTo
         to = t.config.refresh_to
 
         by_record : (r : Record) → newest_stored t ≡ Some r → (a : Bool) → not (eqb t.config.refresh 0) ≡ a → (b : Bool) → is_overtaken t r ≡ b
-            → (if a && b then Some (r.time + t.config.refresh) else None) ≡ Some window.until → refresh_goal then_ reach ≡ None → ⊥
+            → (if a && b then Some (r.time + t.config.refresh) else None) ≡ Some window.until → age_refresh then_ reach ≡ None → ⊥
         by_record r newest false f b g e none = none-some window.until e
         by_record r newest true f false g e none = none-some window.until e
         by_record r newest true f true g e none =
             let same : r.time + t.config.refresh ≡ window.until = same_Some (r.time + t.config.refresh) window.until e in
             let due : is_due then_ ≡ true =
             (λ i. f i && option_map_or (λ (x : Record). nat_le (x.time + t.config.refresh) window.until) (newest i) false) ∙ le-leb (r.time + t.config.refresh) window.until (omega (arith, same)) in
-            let height : refresh_height then_ reach to ≡ None =
-            unmapped (λ h. AtLeast h) (refresh_height then_ reach to) (ap (λ b. if b then option_map (λ h. AtLeast h) (refresh_height then_ reach to) else None) (sym due) ∙ none) in
+            let height : age_height then_ reach to ≡ None =
+            unmapped (λ h. AtLeast h) (age_height then_ reach to) (ap (λ b. if b then option_map (λ h. AtLeast h) (age_height then_ reach to) else None) (sym due) ∙ none) in
             some_later t window r.time t.book.records g (sym same) (fresh_found then_ reach to height)
 
         by_newest : (o : Option Record) → newest_stored t ≡ o
             → option_and_then (λ (x : Record). if not (eqb t.config.refresh 0) && is_overtaken t x then Some (x.time + t.config.refresh) else None) (newest_stored t) ≡ Some window.until
-            → refresh_goal then_ reach ≡ None → ⊥
+            → age_refresh then_ reach ≡ None → ⊥
         by_newest None newest e none =
             none-some window.until (sym (ap (option_and_then (λ (x : Record). if not (eqb t.config.refresh 0) && is_overtaken t x then Some (x.time + t.config.refresh) else None)) newest) ∙ e)
         by_newest (Some r) newest e none =
             by_record r newest (not (eqb t.config.refresh 0)) refl (is_overtaken t r) refl
             (sym (ap (option_and_then (λ (x : Record). if not (eqb t.config.refresh 0) && is_overtaken t x then Some (x.time + t.config.refresh) else None)) newest) ∙ e) none
 
-    goal_then : next_moment t reach [] ≡ Some window.until → goal_of then_ reach ≢ None
+    goal_then : age_next t reach ≡ Some window.until → age_goal then_ reach ≢ None
     goal_then e = elim (either_moment (if_later t (first_press t reach)) (if_later t (refresh_moment t [])) window.until e) [
       | inl first ↦ pressed_then (later_is (first_press t reach) window.until first).0
       | inr refresh ↦ refreshed_then (later_is (refresh_moment t []) window.until refresh).0
     ]
 
 pub next_is_next : NextIsNext
-next_is_next t reach window book is is_then idle later in_range = (
-  λ none_yet. idle_then t reach window later in_range idle none_yet book,
-  goal_then t reach window later in_range idle,
-)
+next_is_next t reach proof window by_age book is is_then idle later in_range =
+    let idle_by_age = sym (goal_is_age t reach by_age) ∙ idle in
+    let told = next_is_age t reach proof by_age in
+    let goal_then_is = goal_is_age (in_window t window) reach by_age in (
+      λ none_yet. goal_then_is ∙ idle_then t reach window by_age later in_range idle_by_age (λ next e. none_yet next (told ∙ e)) book,
+      λ e none. goal_then t reach window by_age later in_range idle_by_age (sym told ∙ e) (sym goal_then_is ∙ none),
+    )

@@ -9,6 +9,7 @@ use Rattle.rb_plan_types.specs.Least.{IsUnreachable}
 use Rattle.rb_scan.specs.Laws.{ReadyIsWithinReach}
 use Rattle.rb_scan.specs.Owed.{ready, wanted}
 use Rattle.rb_scan.specs.declared.message.PacketMsg.{PacketMsg}
+use Rattle.rb_script_types.specs.declared.config.RefreshTo.TheVariants.{Newer}
 use Rattle.rb_script_types.specs.declared.goal.Goal.{Goal}
 use Rattle.rb_script_types.specs.declared.goal.Goal.TheVariants.{AtLeast}
 use Rattle.rb_step.specs.LightClient.{Client}
@@ -16,7 +17,8 @@ use Rattle.rb_step.specs.View.{client_of}
 use Rattle.rb_plan_client.specs.Draft.{Plan, Planned, IsPlan, IsAnswer}
 use Rattle.rb_plan_client.specs.Laws.{PressingGoes}
 use Rattle.rb_plan_client.specs.Reach.{IsReach}
-use Rattle.rb_plan_client.specs.Task.{PathTask, Task, Message, view_of, message_on, ready_on, ready_messages, near_reach, presses, due_messages, refresh_goal, goal_of, messages_of}
+use Rattle.rb_plan_client.specs.Task.{PathTask, Task, Message, view_of, message_on, going_on, ready_on, ready_messages, near_reach, presses, due_messages, refresh_goal, goal_of}
+use Rattle.rb_plan_client.proofs.Ages.{first_is_goal, messages_are_due}
 use Rattle.rb_plan_client.proofs.Nexts.{none_first, none_wanted}
 
 -- ---- the reach is one
@@ -40,12 +42,12 @@ under_path : (p : PathTask) (top : ℕ) (ms : List PacketMsg) → AllByRecursion
 under_path p top [] all = tt
 under_path p top (m ∷ ms) all = (all.0, under_path p top ms all.1)
 
-ready_under : ReadyIsWithinReach → (top : ℕ) (ps : List PathTask) → Under top (flat_map (ready_on (Some top)) ps)
-ready_under law top [] = tt
-ready_under law top (p ∷ ps) =
-    under_append top (ready_on (Some top) p) (flat_map (ready_on (Some top)) ps)
-    (under_path p top (ready p.owed p.order (Some top)) (recursion_from_All (λ (m : PacketMsg). m.floor ≤ top) (ready p.owed p.order (Some top)) (law p.owed p.order top)))
-    (ready_under law top ps)
+ready_under : ReadyIsWithinReach → (t : Task) (top : ℕ) (ps : List PathTask) → Under top (flat_map (ready_on t (Some top)) ps)
+ready_under law t top [] = tt
+ready_under law t top (p ∷ ps) =
+    under_append top (ready_on t (Some top) p) (flat_map (ready_on t (Some top)) ps)
+    (under_path p top (ready (going_on t p) p.order (Some top)) (recursion_from_All (λ (m : PacketMsg). m.floor ≤ top) (ready (going_on t p) p.order (Some top)) (law (going_on t p) p.order top)))
+    (ready_under law t top ps)
 
 greatest_under : (top a : ℕ) (ms : List Message) → a ≤ top → Under top ms → fold max a (map (λ (m : PacketMsg). m.floor) (map (λ (m : Message). m.packet) ms)) ≤ top
 greatest_under top a [] le all = le
@@ -59,7 +61,7 @@ wanted_under top h (m ∷ ms) all e =
 
 -- ---- the law
 
-module _ (law : ReadyIsWithinReach) (t : Task) (reach : Option ℕ) (is : IsReach (client_of (view_of t)) reach) (asked : t.asked ≡ None) (pressing : presses t reach ≡ true) where
+module _ (law : ReadyIsWithinReach) (t : Task) (reach : Option ℕ) (by_age : t.config.refresh_to ≢ Newer) (is : IsReach (client_of (view_of t)) reach) (asked : t.asked ≡ None) (pressing : presses t reach ≡ true) where
   all_due : due_messages t reach ≡ ready_messages t reach
   all_due = ap (λ b. ready_messages t (if b then reach else near_reach t)) pressing
 
@@ -72,7 +74,8 @@ module _ (law : ReadyIsWithinReach) (t : Task) (reach : Option ℕ) (is : IsReac
   goal_is (Some h) e = (
     h,
     refl,
-    (λ i. option_or (asked i) (option_or (option_map (λ h. AtLeast h) (wanted (map (λ (m : Message). m.packet) (all_due i)))) (refresh_goal t reach)))
+    first_is_goal t reach by_age
+        ∙ (λ i. option_or (asked i) (option_or (option_map (λ h. AtLeast h) (wanted (map (λ (m : Message). m.packet) (all_due i)))) (refresh_goal t reach)))
         ∙ ap (λ o. option_or (option_map (λ h. AtLeast h) o) (refresh_goal t reach)) e,
   )
 
@@ -83,13 +86,13 @@ module _ (law : ReadyIsWithinReach) (t : Task) (reach : Option ℕ) (is : IsReac
       go : (r : Option ℕ) → reach ≡ r → ⊥
       go None at = some_ready (ap (ready_messages t) at ∙ nothing t.paths)
         where
-          nothing : (ps : List PathTask) → flat_map (ready_on None) ps ≡ []
+          nothing : (ps : List PathTask) → flat_map (ready_on t None) ps ≡ []
           nothing [] = refl
           nothing (p ∷ ps) = nothing ps
       go (Some top) at =
           let there = subst (IsReach (client_of (view_of t))) at is in
           let us = there.reached in
-          let low = wanted_under top h (ready_messages t (Some top)) (ready_under law top t.paths) (sym (ap (λ r. wanted (map (λ (m : Message). m.packet) (ready_messages t r))) at) ∙ e) in
+          let low = wanted_under top h (ready_messages t (Some top)) (ready_under law t top t.paths) (sym (ap (λ r. wanted (map (λ (m : Message). m.packet) (ready_messages t r))) at) ∙ e) in
           unreachable us.0 us.1 (top, us.2, low)
 
   by_answer : (answer : Option Planned) → IsAnswer t answer → IsSomeAnd answer (λ (a : Planned). IsSomeAnd a.plan (λ (p : Plan). p.messages ≡ ready_messages t reach))
@@ -100,14 +103,14 @@ module _ (law : ReadyIsWithinReach) (t : Task) (reach : Option ℕ) (is : IsReac
       let g = goal_is (wanted (map (λ (m : Message). m.packet) (ready_messages t reach))) refl in
       let same : reach ≡ planned.reach = one_reach (client_of (view_of t)) reach planned.reach is planned.is_reach in
       let goal : a.goal ≡ AtLeast g.0 = same_Some a.goal (AtLeast g.0) (sym planned.goal ∙ ap (goal_of t) (sym same) ∙ g.2) in
-      let plan : MatchOption a.plan (IsUnreachable (client_of (view_of t)) (AtLeast g.0)) (IsPlan t (AtLeast g.0) (messages_of t reach)) =
-      subst (λ (x : Goal × Option ℕ). MatchOption a.plan (IsUnreachable (client_of (view_of t)) x.0) (IsPlan t x.0 (messages_of t x.1))) (λ i. (goal i, sym same i)) planned.plan in
+      let plan : MatchOption a.plan (IsUnreachable (client_of (view_of t)) (AtLeast g.0)) (IsPlan t reach (AtLeast g.0)) =
+      subst (λ (x : Goal × Option ℕ). MatchOption a.plan (IsUnreachable (client_of (view_of t)) x.0) (IsPlan t x.1 x.0)) (λ i. (goal i, sym same i)) planned.plan in
       go a.plan g.0 g.1 plan
     where
       go : (o : Option Plan) (h : ℕ) → wanted (map (λ (m : Message). m.packet) (ready_messages t reach)) ≡ Some h
-          → MatchOption o (IsUnreachable (client_of (view_of t)) (AtLeast h)) (IsPlan t (AtLeast h) (messages_of t reach)) → IsSomeAnd o (λ (p : Plan). p.messages ≡ ready_messages t reach)
+          → MatchOption o (IsUnreachable (client_of (view_of t)) (AtLeast h)) (IsPlan t reach (AtLeast h)) → IsSomeAnd o (λ (p : Plan). p.messages ≡ ready_messages t reach)
       go None h e unreachable = reachable h e unreachable
-      go (Some p) h e is_plan = is_plan.messages ∙ ap (λ (o : Option Goal). if is_some o then [] else due_messages t reach) asked ∙ all_due
+      go (Some p) h e is_plan = is_plan.messages ∙ messages_are_due t reach is_plan.proof by_age ∙ ap (λ (o : Option Goal). if is_some o then [] else due_messages t reach) asked ∙ all_due
 
 pub pressing_goes : ReadyIsWithinReach → PressingGoes
-pressing_goes law t reach answer is asked pressing is_answer = by_answer law t reach is asked pressing answer is_answer
+pressing_goes law t reach answer by_age is asked pressing is_answer = by_answer law t reach by_age is asked pressing answer is_answer

@@ -8,7 +8,7 @@ use Rattle.rb_base.specs.declared.ties.Ties.{Ties}
 use Rattle.rb_base.specs.declared.ties.Ties.TheVariants.{Lower, Higher}
 use Rattle.rb_base.specs.contracts.ties.Ties.{the_type as ties_type}
 use Rattle.rb_script_types.specs.declared.config.RefreshTo.{RefreshTo}
-use Rattle.rb_script_types.specs.declared.config.RefreshTo.TheVariants.{Lowest, Highest}
+use Rattle.rb_script_types.specs.declared.config.RefreshTo.TheVariants.{Lowest, Highest, Newer}
 use Rattle.rb_script_types.specs.contracts.config.RefreshTo.{the_type}
 use Rattle.rb_plan_client.specs.Same.{same_refresh_to, same_carried, same_ties}
 
@@ -19,8 +19,13 @@ is_equal a b = sameb the_type a b
 pub same_refresh : (a b : RefreshTo) → is_equal a b ≡ same_refresh_to a b
 same_refresh Lowest Lowest = refl
 same_refresh Lowest Highest = refl
+same_refresh Lowest Newer = refl
 same_refresh Highest Lowest = refl
 same_refresh Highest Highest = refl
+same_refresh Highest Newer = refl
+same_refresh Newer Lowest = refl
+same_refresh Newer Highest = refl
+same_refresh Newer Newer = refl
 
 abbrev pub is_equally_carried : CarriedVotes → CarriedVotes → Bool
 is_equally_carried v w = sameb votes_type v w

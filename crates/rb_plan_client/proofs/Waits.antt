@@ -17,7 +17,8 @@ use Rattle.rb_script_types.specs.declared.waits.Waits.{Waits}
 use Rattle.rb_step.specs.View.{client_of}
 use Rattle.rb_plan_client.specs.Laws.{WaitsNot, NoneWaits}
 use Rattle.rb_plan_client.specs.Reach.{IsReachable, IsReach}
-use Rattle.rb_plan_client.specs.Task.{PathTask, Task, Message, view_of, message_on, ready_on, ready_messages, is_live, near_reach, since, press_moment, press_moments_on, first_press, presses, due_messages, first_goal}
+use Rattle.rb_plan_client.specs.Task.{PathTask, Task, Message, view_of, message_on, going_on, ready_on, ready_messages, is_live, near_reach, since, press_moment, press_moments_on, first_press, presses, due_messages, first_goal}
+use Rattle.rb_plan_client.proofs.Ages.{first_is_goal, messages_are_due}
 use Rattle.rb_plan_client.proofs.Far.{NoHigher, near_is_all}
 
 -- ---- what may not wait presses at once
@@ -51,7 +52,7 @@ once_zero a x xs e = ap (λ y. fold lesser (lesser a y) xs) e ∙ ap (λ b. fold
 
 module _ (t : Task) (reach : Option ℕ) where
   abbrev far : PathTask → List PacketMsg
-  far p = ready_beyond p.owed p.order (near_reach t) reach
+  far p = ready_beyond (going_on t p) p.order (near_reach t) reach
 
   one_presses : (p : PathTask) (a : Option ℕ) (rest : List (Option ℕ)) → WaitsNot p.waits → (m : PacketMsg) (ms : List PacketMsg)
       → fold lesser a (map (press_moment t p.waits) (m ∷ ms) ++ rest) ≡ Some 0
@@ -71,11 +72,11 @@ module _ (t : Task) (reach : Option ℕ) where
         | inr none ↦ inr (e, none)
       ]
 
-  all_near : NoHigher (near_reach t) reach → (ps : List PathTask) → AllByRecursion (λ p. far p ≡ []) ps → flat_map (ready_on (near_reach t)) ps ≡ flat_map (ready_on reach) ps
+  all_near : NoHigher (near_reach t) reach → (ps : List PathTask) → AllByRecursion (λ p. far p ≡ []) ps → flat_map (ready_on t (near_reach t)) ps ≡ flat_map (ready_on t reach) ps
   all_near le [] none = refl
   all_near le (p ∷ ps) none =
-      (λ i. map (message_on p) (near_is_all p.owed p.order (near_reach t) reach le none.0 i) ++ flat_map (ready_on (near_reach t)) ps)
-      ∙ ap (λ ms. map (message_on p) (ready p.owed p.order reach) ++ ms) (all_near le ps none.1)
+      (λ i. map (message_on p) (near_is_all (going_on t p) p.order (near_reach t) reach le none.0 i) ++ flat_map (ready_on t (near_reach t)) ps)
+      ∙ ap (λ ms. map (message_on p) (ready (going_on t p) p.order reach) ++ ms) (all_near le ps none.1)
 
 -- ---- the near reach can be reached
 
@@ -142,9 +143,9 @@ due_are_ready t reach is all = elim (press_or_near t reach t.paths None all) [
     go false none = all_near t reach (near_no_higher t reach is) t.paths none
 
 pub none_waits : NoneWaits
-none_waits t reach is all =
+none_waits t reach by_age is all =
     let same = due_are_ready t reach is (recursion_from_All (λ (p : PathTask). WaitsNot p.waits) t.paths all) in
     record {
-      goal = ap (λ ms. first_goal t reach (wanted (map (λ (m : Message). m.packet) ms))) same;
-      messages = ap (λ ms. if is_some t.asked then [] else ms) same;
+      goal = first_is_goal t reach by_age ∙ ap (λ ms. first_goal t reach (wanted (map (λ (m : Message). m.packet) ms))) same;
+      messages = λ proof. messages_are_due t reach proof by_age ∙ ap (λ ms. if is_some t.asked then [] else ms) same;
     }

@@ -1,7 +1,8 @@
 -- What is planned for a client (own choice, over the least lists, the exact labellings and the least cuts).
-use Rattle.std.specs.Prelude.{◌≡◌, ℕ, ◌+◌, ◌<◌, Bool, List, [], length, Option, Some, None, MatchOption}
+use Rattle.std.specs.Prelude.{◌≡◌, ℕ, ◌+◌, ◌<◌, Bool, true, false, List, [], ◌++◌, length, map, Option, Some, None, MatchOption}
 use Rattle.std.specs.Option.{option_map_or}
-use Rattle.rb_batch.specs.Cut.{IsLeastCut, IsFirstTooBig}
+use Rattle.rb_batch.specs.Cut.{IsLeastCut, IsCutApart, IsFirstTooBig}
+use Rattle.rb_batch.specs.Limits.{TransactionLimits}
 use Rattle.rb_batch.specs.declared.transaction.Transaction.{Transaction}
 use Rattle.rb_script_types.specs.declared.goal.Goal.{Goal}
 use Rattle.rb_plan_types.specs.declared.labelling.Label.{Label}
@@ -12,7 +13,7 @@ use Rattle.rb_step.specs.LightClient.{Update}
 use Rattle.rb_step.specs.View.{client_of}
 use Rattle.rb_plan_client.specs.Next.{IsNext}
 use Rattle.rb_plan_client.specs.Reach.{IsReach}
-use Rattle.rb_plan_client.specs.Task.{Task, Message, view_of, goal_of, messages_of, gases}
+use Rattle.rb_plan_client.specs.Task.{Task, Message, view_of, goal_of, messages_of, is_apart, gas_of, gases}
 
 -- the height that a batch proves its packets at, and its transactions
 pub record Batch : Type 0 where
@@ -39,21 +40,28 @@ pub record Planned : Type 0 where
 
 -- ---- what is right for a task
 
-pub record IsBatch (t : Task) (p : Plan) (b : Batch) : Type 0 where
+-- the least cut of all messages, the updates first, or the updates apart from the others
+abbrev pub IsCut : Bool → TransactionLimits → List ℕ → List ℕ → List Transaction → Type 0
+IsCut true limits us ms cut = IsCutApart limits us ms cut
+IsCut false limits us ms cut = IsLeastCut limits (us ++ ms) cut
+
+pub record IsBatch (t : Task) (reach : Option ℕ) (p : Plan) (b : Batch) : Type 0 where
   pub some : 0 < length p.updates + length p.messages
   pub proof : IsProofHeight (client_of (view_of t)) p.updates (Some b.proof)
-  pub transactions : IsLeastCut t.config.limits (gases t p.updates p.messages) b.transactions
+  pub transactions : IsCut (is_apart t reach) t.config.limits (map (gas_of t) p.updates) (map (λ (m : Message). m.gas) p.messages) b.transactions
 
-abbrev pub IsSending : Task → Plan → Sending → Type 0
-IsSending t p nothing = (p.updates ≡ []) × (p.messages ≡ [])
-IsSending t p (too_big index) = IsFirstTooBig t.config.limits (gases t p.updates p.messages) index
-IsSending t p (batched b) = IsBatch t p b
+abbrev pub IsSending : Task → Option ℕ → Plan → Sending → Type 0
+IsSending t reach p nothing = (p.updates ≡ []) × (p.messages ≡ [])
+IsSending t reach p (too_big index) = IsFirstTooBig t.config.limits (gases t p.updates p.messages) index
+IsSending t reach p (batched b) = IsBatch t reach p b
 
--- the least list of updates that meets the goal, the messages that go with it, and the least cut of them all
-pub record IsPlan (t : Task) (goal : Goal) (ms : List Message) (p : Plan) : Type 0 where
+-- the least list of updates that meets the goal, the messages that go with it, and the cut of them all
+pub record IsPlan (t : Task) (reach : Option ℕ) (goal : Goal) (p : Plan) : Type 0 where
   pub least : IsLeast (client_of (view_of t)) goal p.updates
-  pub messages : p.messages ≡ ms
-  pub sending : IsSending t p p.sending
+  pub proof : Option ℕ
+  pub is_proof : IsProofHeight (client_of (view_of t)) p.updates proof
+  pub messages : p.messages ≡ messages_of t reach proof
+  pub sending : IsSending t reach p p.sending
 
 pub record IsPlanned (t : Task) (p : Planned) : Type 0 where
   pub reach : Option ℕ
@@ -61,7 +69,7 @@ pub record IsPlanned (t : Task) (p : Planned) : Type 0 where
   pub goal : goal_of t reach ≡ Some p.goal
   pub labels : IsLabelling p.labels
   pub exact : IsExact (client_of (view_of t)) (label_of p.labels)
-  pub plan : MatchOption p.plan (IsUnreachable (client_of (view_of t)) p.goal) (IsPlan t p.goal (messages_of t reach))
+  pub plan : MatchOption p.plan (IsUnreachable (client_of (view_of t)) p.goal) (IsPlan t reach p.goal)
 
 -- there is no goal
 pub record IsIdle (t : Task) : Type 0 where

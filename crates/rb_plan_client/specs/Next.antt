@@ -2,6 +2,7 @@
 use Rattle.std.specs.Prelude.{◌≡◌, ℕ, List, Option}
 use Rattle.rb_step.specs.LightClient.{Update}
 use Rattle.rb_step.specs.View.{client_of}
+use Rattle.rb_plan_types.specs.ProofHeight.{IsProofHeight}
 use Rattle.rb_plan_client.specs.Reach.{IsReach}
 use Rattle.rb_plan_client.specs.Task.{Task, view_of, next_moment}
 
@@ -10,4 +11,12 @@ use Rattle.rb_plan_client.specs.Task.{Task, view_of, next_moment}
 pub record IsNext (t : Task) (us : List Update) (next : Option ℕ) : Type 0 where
   pub reach : Option ℕ
   pub is_reach : IsReach (client_of (view_of t)) reach
-  pub is : next ≡ next_moment t reach us
+  pub proof : Option ℕ
+  pub is_proof : IsProofHeight (client_of (view_of t)) us proof
+  pub is : next ≡ next_moment t reach proof us
+
+-- the same where the client can be brought to this height at most
+pub record IsNextWithin (t : Task) (reach : Option ℕ) (us : List Update) (next : Option ℕ) : Type 0 where
+  pub proof : Option ℕ
+  pub is_proof : IsProofHeight (client_of (view_of t)) us proof
+  pub is : next ≡ next_moment t reach proof us

@@ -1,5 +1,5 @@
 -- Jobs are compared by their content.
-use Rattle.std.specs.Prelude.{◌≡◌, ◌==◌, ◌&&◌, Bool, true, false, Option, Some, None, refl}
+use Rattle.std.specs.Prelude.{◌≡◌, ◌==◌, ◌&&◌, Bool, true, false, refl}
 use Rattle.std.proofs.Common.{ap, nat_eq}
 use Rattle.std.specs.Bool.{Decides, beq}
 use Rattle.std.specs.Option.{option_eq}
@@ -20,7 +20,7 @@ use Rattle.rb_book.specs.Book.{same_book}
 use Rattle.rb_book.specs.Same.{same_book-Decides}
 use Rattle.rb_script_types.specs.declared.config.ClientConfig.{ClientConfig}
 use Rattle.rb_script_types.specs.declared.config.RefreshTo.{RefreshTo}
-use Rattle.rb_script_types.specs.declared.config.RefreshTo.TheVariants.{Lowest, Highest}
+use Rattle.rb_script_types.specs.declared.config.RefreshTo.TheVariants.{Lowest, Highest, Newer}
 use Rattle.rb_script_types.specs.declared.waits.Waits.{Waits}
 use Rattle.rb_script_types.specs.declared.goal.Goal.{Goal}
 use Rattle.rb_script_types.specs.declared.goal.Goal.TheVariants.{Exactly, AtLeast}
@@ -54,8 +54,13 @@ same_limits l m = (l.gas == m.gas) && ((l.count == m.count) && (l.transaction_ga
 abbrev pub same_refresh_to : RefreshTo → RefreshTo → Bool
 same_refresh_to Lowest Lowest = true
 same_refresh_to Lowest Highest = false
+same_refresh_to Lowest Newer = false
 same_refresh_to Highest Lowest = false
 same_refresh_to Highest Highest = true
+same_refresh_to Highest Newer = false
+same_refresh_to Newer Lowest = false
+same_refresh_to Newer Highest = false
+same_refresh_to Newer Newer = true
 
 -- by all that a client is set up with
 abbrev pub same_config : ClientConfig → ClientConfig → Bool
@@ -73,7 +78,9 @@ abbrev pub same_waits : Waits → Waits → Bool
 same_waits w x = (w.receive == x.receive) && ((w.acknowledge == x.acknowledge) && (w.timeout == x.timeout))
 
 abbrev pub same_packet_message : PacketMsg → PacketMsg → Bool
-same_packet_message m n = same_kind m.kind n.kind && (m.sequence == n.sequence) && (m.floor == n.floor) && option_eq nat_eq m.expires n.expires
+same_packet_message m n =
+    same_kind m.kind n.kind && (m.sequence == n.sequence) && (m.floor == n.floor) && option_eq nat_eq m.expires n.expires && option_eq nat_eq m.since n.since
+    && option_eq nat_eq m.timeout n.timeout
 
 abbrev pub same_path_task : PathTask → PathTask → Bool
 same_path_task p q =
@@ -115,8 +122,13 @@ goals_Decides (AtLeast g) (AtLeast h) = Decides-like _ (λ e. ap (λ n. AtLeast 
 refresh_to_Decides : (a b : RefreshTo) → Decides (same_refresh_to a b) (a ≡ b)
 refresh_to_Decides Lowest Lowest = (λ _. refl, λ _. refl)
 refresh_to_Decides Lowest Highest = (λ e. cc, λ e. cc)
+refresh_to_Decides Lowest Newer = (λ e. cc, λ e. cc)
 refresh_to_Decides Highest Lowest = (λ e. cc, λ e. cc)
 refresh_to_Decides Highest Highest = (λ _. refl, λ _. refl)
+refresh_to_Decides Highest Newer = (λ e. cc, λ e. cc)
+refresh_to_Decides Newer Lowest = (λ e. cc, λ e. cc)
+refresh_to_Decides Newer Highest = (λ e. cc, λ e. cc)
+refresh_to_Decides Newer Newer = (λ _. refl, λ _. refl)
 
 carried_Decides : (v w : CarriedVotes) → Decides (same_carried v w) (v ≡ w)
 carried_Decides Commit Commit = (λ _. refl, λ _. refl)
@@ -177,10 +189,11 @@ same_gas-Decides g h =
 
 same_packet_message-Decides : (m n : PacketMsg) → Decides (same_packet_message m n) (m ≡ n)
 same_packet_message-Decides m n =
-    Decides-like _ (λ e i. record { kind = e.0.0.0 i; sequence = e.0.0.1 i; floor = e.0.1 i; expires = e.1 i })
-    (λ e. (((ap (λ (x : PacketMsg). x.kind) e, ap (λ (x : PacketMsg). x.sequence) e), ap (λ (x : PacketMsg). x.floor) e), ap (λ (x : PacketMsg). x.expires) e))
-    (Decides-and _ _ (Decides-and _ _ (Decides-and _ _ (kinds_Decides m.kind n.kind) (unsigned_Decides m.sequence n.sequence)) (unsigned_Decides m.floor n.floor))
-    (options_Decides nat_eq unsigned_Decides m.expires n.expires))
+    Decides-like _ (λ e i. record { kind = e.0.0.0.0.0 i; sequence = e.0.0.0.0.1 i; floor = e.0.0.0.1 i; expires = e.0.0.1 i; since = e.0.1 i; timeout = e.1 i })
+    (λ e. (((((ap (λ (x : PacketMsg). x.kind) e, ap (λ (x : PacketMsg). x.sequence) e), ap (λ (x : PacketMsg). x.floor) e), ap (λ (x : PacketMsg). x.expires) e), ap (λ (x : PacketMsg). x.since) e), ap (λ (x : PacketMsg). x.timeout) e))
+    (Decides-and _ _ (Decides-and _ _ (Decides-and _ _ (Decides-and _ _ (Decides-and _ _ (kinds_Decides m.kind n.kind) (unsigned_Decides m.sequence n.sequence)) (unsigned_Decides m.floor n.floor))
+    (options_Decides nat_eq unsigned_Decides m.expires n.expires)) (options_Decides nat_eq unsigned_Decides m.since n.since))
+    (options_Decides nat_eq unsigned_Decides m.timeout n.timeout))
 
 same_waits-Decides : (w x : Waits) → Decides (same_waits w x) (w ≡ x)
 same_waits-Decides w x =

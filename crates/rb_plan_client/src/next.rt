@@ -1,18 +1,23 @@
 //! When a client has a goal next.
-ghost use Rattle.std.specs.Prelude.{◌≡◌, max, map};
+ghost use Rattle.std.specs.Prelude.{◌≡◌, IfOk, max, map};
 ghost use Rattle.std.specs.List.{reduce};
 ghost use Rattle.std.specs.Option.{option_copied};
 ghost use Rattle.rb_scan.specs.Expiry.{lesser};
 ghost use Rattle.rb_step.specs.LightClient.{Update};
 ghost use Rattle.rb_plan_client.specs.Draft.{planned_updates};
-ghost use Rattle.rb_plan_client.specs.Task.{greater, newest_after, is_overtaken, refresh_moment, if_later, first_press, next_moment};
+ghost use Rattle.rb_plan_client.specs.Next.{IsNextWithin};
+ghost use Rattle.rb_plan_client.specs.Task.{greater, newest_after, is_overtaken, refresh_moment, if_later, no_earlier, gain_moment, first_press, next_by, next_moment};
 
+use crate::goal::{reach_record, terms_of};
 use crate::job::JobView;
 use crate::planned::Planned;
+use crate::waiting::{earlier, first_beyond, lesser};
 use rb_base::{Height, Moment};
 use rb_book::Record;
-use rb_plan_types::Update;
-use std::alloc::Allocator;
+use rb_plan_refresh::refresh_moment as moment_of_refresh;
+use rb_plan_types::{Update, proof_height};
+use rb_script_types::RefreshTo;
+use std::alloc::{AllocError, Allocator};
 
 /// The greatest height of updates.
 fn highest(updates: &[Update]) -> Option<Height>
@@ -22,7 +27,7 @@ fn highest(updates: &[Update]) -> Option<Height>
 }
 
 /// The greater of two heights, or the only one.
-fn greater(height: Option<Height>, other: Option<Height>) -> Option<Height>
+pub(crate) fn greater(height: Option<Height>, other: Option<Height>) -> Option<Height>
     ensures { result ≡ greater height other }
 {
     match (height, other) {
@@ -78,30 +83,57 @@ fn if_later<A: Allocator + Copy>(job: &JobView<A>, moment: Option<u128>) -> Opti
     }
 }
 
-/// The earlier of two moments, or the only one.
-fn earlier(moment: Option<Moment>, other: Option<Moment>) -> Option<Moment>
-    ensures { result ≡ lesser moment other }
-{
-    match (moment, other) {
-        (Some(moment), Some(other)) => Some(moment.min(other)),
-        (moment, other) => moment.or(other),
-    }
-}
-
 /// The first moment after the window at which a message that waits presses, or the client is due for a
-/// refresh, once updates are taken.
-fn next_moment<A: Allocator + Copy>(
+/// refresh by age, once updates are taken.
+fn next_by_age<A: Allocator + Copy>(
     job: &JobView<A>,
     reach: Option<Height>,
     first: &Option<u128>,
     updates: &[Update],
 ) -> Option<Moment>
     requires { first.now ≡ first_press job.now.task reach }
-    ensures { result ≡ next_moment job.now.task reach updates.now }
+    ensures { result ≡ lesser (if_later job.now.task (first_press job.now.task reach)) (if_later job.now.task (refresh_moment job.now.task updates.now)) }
 {
     let pressing = if_later(job, *first);
     let refreshing = if_later(job, refresh_moment(job, updates));
     earlier(pressing, refreshing)
+}
+
+/// A moment, or the window's end where that is later, if a window can end then.
+fn no_earlier<A: Allocator + Copy>(job: &JobView<A>, moment: Option<u128>) -> Option<Moment>
+    ensures { result ≡ no_earlier job.now.task moment }
+{
+    let moment = Moment::new(moment?)?;
+    Some(moment.max(job.window().until()))
+}
+
+/// The moment from which on a refresh by gain is needed once updates are taken, by what can be reached now.
+fn gain_moment<A: Allocator + Copy>(
+    job: &JobView<A>,
+    reach: Option<Height>,
+    updates: &[Update],
+) -> Option<u128>
+    ensures { result ≡ gain_moment job.now.task reach updates.now }
+{
+    let newest = newest_after(job, updates)?;
+    let reached = reach_record(job, reach)?;
+    moment_of_refresh(terms_of(job), newest.time(), reached.time())
+}
+
+/// The first moment, from the window's end on, at which a message presses beyond the proof height, or a refresh by
+/// gain is needed, once updates are taken.
+fn next_by_gain<A: Allocator + Copy>(
+    alloc: A,
+    job: &JobView<A>,
+    reach: &Option<Height>,
+    proof: &Option<Height>,
+    updates: &[Update],
+) -> Result<Option<Moment>, AllocError>
+    ensures { IfOk result (λ next. next ≡ next_by job.now.task reach.now proof.now updates.now RefreshTo.Newer) }
+{
+    let pressing = first_beyond(alloc, job, proof, reach)?;
+    let refreshing = gain_moment(job, *reach, updates);
+    Ok(no_earlier(job, lesser(pressing, refreshing)))
 }
 
 /// The updates that are planned for a client: none where it has no goal, or where no list meets it.
@@ -117,15 +149,21 @@ fn planned_updates<A: Allocator>(planned: &Option<Planned<A>>) -> &[Update]
     }
 }
 
-/// The first moment after the window at which a client has a goal, once what is planned for it is taken.
+/// The first moment at which a client has a goal next, once what is planned for it is taken, by how it is refreshed.
 pub fn next_once_taken<A: Allocator + Copy>(
+    alloc: A,
     job: &JobView<A>,
     reach: &Option<Height>,
     first: &Option<u128>,
     planned: &Option<Planned<A>>,
-) -> Option<Moment>
+) -> Result<Option<Moment>, AllocError>
     requires { first.now ≡ first_press job.now.task reach.now }
-    ensures { result ≡ next_moment job.now.task reach.now (planned_updates planned.now) }
+    ensures { IfOk result (IsNextWithin job.now.task reach.now (planned_updates planned.now)) }
 {
-    next_moment(job, *reach, first, planned_updates(planned))
+    let updates = planned_updates(planned);
+    let proof = proof_height(&job.view(), updates);
+    match job.config().refresh_to {
+        RefreshTo::Lowest | RefreshTo::Highest => Ok(next_by_age(job, *reach, first, updates)),
+        RefreshTo::Newer => next_by_gain(alloc, job, reach, &proof, updates),
+    }
 }

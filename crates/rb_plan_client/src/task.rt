@@ -1,14 +1,9 @@
-//! The paths of a client, and their messages that are ready.
-ghost use Rattle.std.specs.Prelude.{◌≡◌, ◌↔◌, ◌++◌, map, IsTrue, IfOk, OnOk};
+//! The paths of a client.
+ghost use Rattle.std.specs.Prelude.{◌≡◌, ◌↔◌, IsTrue, IfOk};
 ghost use Rattle.std.specs.Cmp.Lexicographic.{pointwise};
-ghost use Rattle.std.specs.List.{flat_map};
-ghost use Rattle.rb_scan.specs.Owed.{ready};
 ghost use Rattle.rb_plan_client.specs.Same.{same_packet_message, same_path_task};
-ghost use Rattle.rb_plan_client.specs.Task.{message_on, ready_on};
 
-use crate::message::Message;
-use rb_base::Height;
-use rb_scan::{Order, PacketMsg, ready};
+use rb_scan::{Order, PacketMsg};
 use rb_script_types::{PathGas, Waits};
 use std::alloc::{AllocError, Allocator, Global};
 use std::marker::Model;
@@ -145,50 +140,4 @@ impl<A: Allocator + Copy> PathTask<A> {
             owed: Vec::from_slice(*self.owed.allocator(), self.owed.as_slice())?,
         })
     }
-
-    /// The owed messages that are ready: those that a height up to `reach` proves, and of an ORDERED
-    /// path none that follows one that isn't; none where there is no `reach`.
-    fn ready(&self, alloc: A, reach: Option<Height>) -> Result<Vec<PacketMsg, A>, AllocError>
-        ensures { IfOk result (λ list. list.items ≡ ready self.now.owed self.now.order reach) }
-    {
-        ready(alloc, self.owed.as_slice(), self.order, reach)
-    }
-
-    /// The message for a packet, with its gas.
-    fn message(&self, packet: PacketMsg) -> Message
-        ensures { result ≡ message_on self.now packet }
-    {
-        Message::new(self.path, self.gas, packet)
-    }
-
-    /// Puts the ready messages to the end of a list.
-    fn append_ready(
-        &self,
-        alloc: A,
-        reach: &Option<Height>,
-        messages: &mut Vec<Message, A>,
-    ) -> Result<(), AllocError>
-        ensures { OnOk result (messages.new.items ≡ messages.old.items ++ ready_on reach.now self.now) }
-    {
-        let packets = self.ready(alloc, *reach)?;
-        for packet in packets.as_slice() {
-            messages.push(self.message(*packet))?;
-        }
-        Ok(())
-    }
-}
-
-/// The ready messages of all paths, in their order: those that a height up to `reach` proves.
-pub fn ready_messages<A: Allocator + Copy>(
-    alloc: A,
-    paths: &[PathTask<A>],
-    reach: &Option<Height>,
-) -> Result<Vec<Message, A>, AllocError>
-    ensures { IfOk result (λ messages. messages.items ≡ flat_map (ready_on reach.now) paths.now) }
-{
-    let mut messages = Vec::new(alloc);
-    for path in paths {
-        path.append_ready(alloc, reach, &mut messages)?;
-    }
-    Ok(messages)
 }

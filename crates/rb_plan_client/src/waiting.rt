@@ -1,16 +1,16 @@
 //! Messages that wait for others to go with them.
-ghost use Rattle.std.specs.Prelude.{◌≡◌, ◌+◌, ◌-◌, nat_le, None, IfOk, fold, map, find};
-ghost use Rattle.std.specs.List.{flat_map};
+ghost use Rattle.std.specs.Prelude.{◌≡◌, ◌+◌, ◌-◌, nat_le, IfOk, fold, map, find};
 ghost use Rattle.std.specs.Option.{option_map, option_copied};
-ghost use Rattle.rb_book.specs.Book.{height_of};
+ghost use Rattle.rb_book.specs.Book.{height_of, time_of};
 ghost use Rattle.rb_scan.specs.Expiry.{lesser};
-ghost use Rattle.rb_plan_client.specs.Task.{is_live, near_reach, since, press_moment, press_moments_on, first_press, presses, sending_reach};
+ghost use Rattle.rb_plan_client.specs.Task.{is_live, near_reach, since, press_moment, moments_beyond, first_beyond, first_press, presses, sending_reach};
 
 use crate::job::JobView;
+use crate::leaving::packets_beyond;
 use crate::task::PathTask;
 use rb_base::{Height, Moment};
 use rb_book::RecordAt;
-use rb_scan::{PacketMsg, ready_beyond};
+use rb_scan::PacketMsg;
 use rb_script_types::Waits;
 use std::alloc::{AllocError, Allocator};
 
@@ -45,11 +45,29 @@ fn first_from<A: Allocator + Copy>(job: &JobView<A>, floor: Height) -> Option<&R
     book.records().get(book.lower_count(floor))
 }
 
-/// The time of the lowest known height at or above a message's floor.
+/// The time of the lowest known height at or above a floor.
+fn proved_since<A: Allocator + Copy>(job: &JobView<A>, floor: Height) -> Option<Moment>
+    ensures { result ≡ option_map time_of (find (λ k. nat_le floor (height_of k)) job.now.task.book.records) }
+{
+    Some(first_from(job, floor)?.record().time())
+}
+
+/// The earlier of two moments, or the only one.
+pub(crate) fn earlier(moment: Option<Moment>, other: Option<Moment>) -> Option<Moment>
+    ensures { result ≡ lesser moment other }
+{
+    match (moment, other) {
+        (Some(moment), Some(other)) => Some(moment.min(other)),
+        (moment, other) => moment.or(other),
+    }
+}
+
+/// When a message came to be provable: the time of the lowest known height at or above its floor, or that of the block
+/// that wrote what it proves, where it is told and earlier.
 fn since<A: Allocator + Copy>(job: &JobView<A>, message: &PacketMsg) -> Option<Moment>
     ensures { result ≡ since job.now.task message.now }
 {
-    Some(first_from(job, message.floor)?.record().time())
+    earlier(message.since, proved_since(job, message.floor))
 }
 
 /// The lesser of two numbers, or the only one.
@@ -116,21 +134,37 @@ fn first_of<A: Allocator + Copy>(
     first
 }
 
-/// The same of those messages of a path that only an update brings across.
+/// The same of the messages of a path that are ready at `reach`, but not at `low`.
 fn first_on<A: Allocator + Copy>(
     alloc: A,
     job: &JobView<A>,
-    near: &Option<Height>,
+    low: &Option<Height>,
     reach: &Option<Height>,
     path: &PathTask<A>,
     first: Option<u128>,
 ) -> Result<Option<u128>, AllocError>
-    requires { near.now ≡ near_reach job.now.task }
-    ensures { IfOk result (λ found. found ≡ fold lesser first (press_moments_on job.now.task reach.now path.now)) }
+    ensures { IfOk result (λ found. found ≡ fold lesser first (moments_beyond job.now.task low.now reach.now path.now)) }
 {
-    let far = ready_beyond(alloc, path.owed(), path.order(), *near, *reach)?;
+    let far = packets_beyond(alloc, job, low, reach, path)?;
     let waits = path.waits();
     Ok(first_of(job, &waits, far.as_slice(), first))
+}
+
+/// The first moment, in nanoseconds since 1970-01-01T00:00:00Z, at which a message presses that is ready at `reach`,
+/// but not at `low`.
+pub(crate) fn first_beyond<A: Allocator + Copy>(
+    alloc: A,
+    job: &JobView<A>,
+    low: &Option<Height>,
+    reach: &Option<Height>,
+) -> Result<Option<u128>, AllocError>
+    ensures { IfOk result (λ first. first ≡ first_beyond job.now.task low.now reach.now) }
+{
+    let mut first = None;
+    for path in job.paths() {
+        first = first_on(alloc, job, low, reach, path, first)?;
+    }
+    Ok(first)
 }
 
 /// The first moment, in nanoseconds since 1970-01-01T00:00:00Z, at which a message presses that only an
@@ -142,12 +176,7 @@ pub fn first_press<A: Allocator + Copy>(
 ) -> Result<Option<u128>, AllocError>
     ensures { IfOk result (λ first. first ≡ first_press job.now.task reach.now) }
 {
-    let near = near_reach(job);
-    let mut first = None;
-    for path in job.paths() {
-        first = first_on(alloc, job, &near, reach, path, first)?;
-    }
-    Ok(first)
+    first_beyond(alloc, job, &near_reach(job), reach)
 }
 
 /// The height up to which messages go: the reach where one presses, else the near reach.

@@ -1,23 +1,21 @@
 -- What is planned for a task is right by the exact labelling.
-use Rattle.std.proofs.Common.{◌≡◌, ℕ, zero, suc, ◌<◌, ◌≤◌, Bool, true, false, cond, eqb, List, [], ◌∷◌, length, map, Option, Some, None, MatchOption, IfSome, IsSomeAnd, All, is_some, refl, sym, ap, ◌∙◌, subst, arith, if◌then◌else◌}
+use Rattle.std.proofs.Common.{◌≡◌, ℕ, zero, suc, ◌≤◌, Bool, true, false, cond, eqb, List, [], ◌∷◌, Option, Some, None, MatchOption, IfSome, IsSomeAnd, All, refl, sym, ap, ◌∙◌, subst, arith}
 use Rattle.std.specs.List.{Any, find, AllByRecursion}
-use Rattle.std.specs.Option.{option_map, option_or}
+use Rattle.std.specs.Option.{option_map}
 use Rattle.std.proofs.lemmas.Bool.{eqb-true, eq-eqb, true≢false}
 use Rattle.std.proofs.lemmas.List.Elements.{recursion_from_All}
 use Rattle.std.proofs.lemmas.Option.{none-some}
 use Rattle.rb_plan_types.specs.declared.cost.Cost.{Cost}
 use Rattle.rb_script_types.specs.declared.goal.Goal.{Goal}
-use Rattle.rb_script_types.specs.declared.goal.Goal.TheVariants.{AtLeast}
 use Rattle.rb_plan_types.specs.declared.labelling.Label.{Label}
 use Rattle.rb_plan_types.specs.Labelling.{IsExact, label_of}
 use Rattle.rb_plan_types.specs.Least.{IsUnreachable}
-use Rattle.rb_scan.specs.Owed.{wanted}
 use Rattle.rb_step.specs.LightClient.{Client}
 use Rattle.rb_step.specs.View.{client_of}
-use Rattle.rb_plan_client.specs.Draft.{Planned, IsPlan, IsPlanned, IsIdle, IsAnswer}
+use Rattle.rb_plan_client.specs.Draft.{Planned, IsPlan, IsPlanned, IsAnswer}
 use Rattle.rb_plan_drafting.specs.Planning.{IsPlannedFor, IsPlannedIf}
-use Rattle.rb_plan_client.specs.Reach.{IsReachable, IsReach}
-use Rattle.rb_plan_client.specs.Task.{Task, Message, view_of, due_messages, refresh_goal, first_goal, goal_of, messages_of}
+use Rattle.rb_plan_client.specs.Reach.{IsReach}
+use Rattle.rb_plan_client.specs.Task.{Task, view_of, goal_of}
 
 -- ---- the greatest labelled height is the reach
 
@@ -60,38 +58,20 @@ reach_from_top client ls (Some t) exact there greatest = record {
       bounded ls h t c.0 c.1 (recursion_from_All (λ (l : Label). l.height ≤ t) ls greatest);
 }
 
--- ---- the goal by the messages that go with it
+-- ---- the answer
 
-pub goal_same : (t : Task) (reach : Option ℕ) → first_goal t reach (wanted (map (λ (m : Message). m.packet) (messages_of t reach))) ≡ goal_of t reach
-goal_same t reach = go t.asked
-  where
-    go : (o : Option Goal)
-        → option_or o (option_or (option_map (λ h. AtLeast h) (wanted (map (λ (m : Message). m.packet) (if is_some o then [] else due_messages t reach)))) (refresh_goal t reach))
-        ≡ option_or o (option_or (option_map (λ h. AtLeast h) (wanted (map (λ (m : Message). m.packet) (due_messages t reach)))) (refresh_goal t reach))
-    go None = refl
-    go (Some g) = refl
-
-by_messages : (t : Task) (reach : Option ℕ) (ms : List Message) (o : Option Goal) → ms ≡ messages_of t reach → first_goal t reach (wanted (map (λ (m : Message). m.packet) ms)) ≡ o → goal_of t reach ≡ o
-by_messages t reach ms o same goal = sym (goal_same t reach) ∙ ap (λ (xs : List Message). first_goal t reach (wanted (map (λ (m : Message). m.packet) xs))) (sym same) ∙ goal
-
-pub planned_right : (t : Task) (reach : Option ℕ) (ms : List Message) (g : Goal) (p : Planned) → IsReach (client_of (view_of t)) reach → ms ≡ messages_of t reach
-    → first_goal t reach (wanted (map (λ (m : Message). m.packet) ms)) ≡ Some g → IsPlannedFor t g ms p → IsPlanned t p
-planned_right t reach ms g p is same goal planned = record {
+planned_right : (t : Task) (reach : Option ℕ) (g : Goal) (p : Planned) → IsReach (client_of (view_of t)) reach → goal_of t reach ≡ Some g → IsPlannedFor t reach g p → IsPlanned t p
+planned_right t reach g p is goal planned = record {
   reach = reach;
   is_reach = is;
-  goal = by_messages t reach ms (Some g) same goal ∙ ap (λ (x : Goal). Some x) (sym planned.goal);
+  goal = goal ∙ ap (λ (x : Goal). Some x) (sym planned.goal);
   labels = planned.labels;
   exact = planned.exact;
-  plan = subst (λ (x : Goal). MatchOption p.plan (IsUnreachable (client_of (view_of t)) x) (IsPlan t x (messages_of t reach))) (sym planned.goal)
-      (subst (λ (xs : List Message). MatchOption p.plan (IsUnreachable (client_of (view_of t)) g) (IsPlan t g xs)) same planned.plan);
+  plan = subst (λ (x : Goal). MatchOption p.plan (IsUnreachable (client_of (view_of t)) x) (IsPlan t reach x)) (sym planned.goal) planned.plan;
 }
 
-pub idle_right : (t : Task) (reach : Option ℕ) (ms : List Message) → IsReach (client_of (view_of t)) reach → ms ≡ messages_of t reach → first_goal t reach (wanted (map (λ (m : Message). m.packet) ms)) ≡ None → IsIdle t
-idle_right t reach ms is same goal = record { reach = reach; is_reach = is; goal = by_messages t reach ms None same goal }
-
-pub answer_right : (t : Task) (reach : Option ℕ) (ms : List Message) (o : Option Goal) (p : Option Planned) → IsReach (client_of (view_of t)) reach → ms ≡ messages_of t reach
-    → o ≡ first_goal t reach (wanted (map (λ (m : Message). m.packet) ms)) → IsPlannedIf t o ms p → IsAnswer t p
-answer_right t reach ms None None is same goal planned = idle_right t reach ms is same (sym goal)
-answer_right t reach ms None (Some p) is same goal planned = absurd planned
-answer_right t reach ms (Some g) None is same goal planned = absurd planned
-answer_right t reach ms (Some g) (Some p) is same goal planned = planned_right t reach ms g p is same (sym goal) planned
+pub answer_right : (t : Task) (reach : Option ℕ) (o : Option Goal) (p : Option Planned) → IsReach (client_of (view_of t)) reach → o ≡ goal_of t reach → IsPlannedIf t reach o p → IsAnswer t p
+answer_right t reach None None is goal planned = record { reach = reach; is_reach = is; goal = sym goal }
+answer_right t reach None (Some p) is goal planned = absurd planned
+answer_right t reach (Some g) None is goal planned = absurd planned
+answer_right t reach (Some g) (Some p) is goal planned = planned_right t reach g p is (sym goal) planned

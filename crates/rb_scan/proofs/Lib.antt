@@ -6,3 +6,5 @@ pub mod Within
 pub mod Replaced
 pub mod ReadyAfter
 pub mod Ends
+pub mod GoingLemmas
+mod Along

@@ -1,5 +1,5 @@
 -- what is true of ready messages
-use Rattle.std.proofs.Common.{ℕ, ◌+◌, ◌-◌, ◌<◌, ◌≤◌, ◌≡◌, ◌∷◌, ◌&&◌, suc, zero, Bool, true, false, ltb, leb, eqb, cond, List, [], length, map, take, get_or, Option, Some, None, refl, sym, ap, ◌∙◌, inl, inr, zero-add, arith}
+use Rattle.std.proofs.Common.{ℕ, ◌+◌, ◌-◌, ◌<◌, ◌≤◌, ◌≡◌, ◌∷◌, ◌&&◌, suc, zero, Bool, true, false, ltb, leb, eqb, cond, List, [], length, map, take, get_or, Option, Some, None, refl, sym, ap, subst, ◌∙◌, inl, inr, zero-add, arith}
 use Rattle.std.specs.Bool.{⊤}
 use Rattle.std.specs.List.{All, find, filter, enumerate_from, range_with_len}
 use Rattle.std.specs.Option.{option_map, some_prefix}
@@ -12,7 +12,8 @@ use Rattle.std.proofs.lemmas.List.Sums.{fails_before_first}
 use Rattle.std.proofs.lemmas.List.FromFn.{length-enumerate_from, get_or-enumerate_from}
 use Rattle.rb_scan.specs.Packet.{Packet}
 use Rattle.rb_scan.specs.Path.{Path}
-use Rattle.rb_scan.specs.Owed.{expires_for, message_of, message_at, floor_of, packet_at, next_sequence, open_messages, messages, same_kind, run_end, is_ready, ready}
+use Rattle.rb_scan.specs.Going.{going_end, is_going, going}
+use Rattle.rb_scan.specs.Owed.{expires_for, since_for, timeout_for, message_of, message_at, floor_of, packet_at, next_sequence, open_messages, messages, same_kind, run_end, is_ready, ready}
 use Rattle.rb_scan.specs.declared.path.Order.{Order}
 use Rattle.rb_scan.specs.declared.path.Order.TheVariants.{Ordered, Unordered}
 use Rattle.rb_scan.specs.declared.message.Kind.{Kind}
@@ -66,7 +67,7 @@ found : (path : Path) (kind : Kind) (s : ℕ) (m : PacketMsg) → message_at pat
 found path kind s m e =
     option_and_then_some (message_of path.destination kind) (packet_at path s) m e (λ p at made.
     let numbered : p.sequence ≡ s = eqb-true p.sequence s (find-passes (λ (q : Packet). eqb q.sequence s) path.packets p at) in
-    (elim (floor_of path.destination kind p) as (λ o. option_map (λ (floor : ℕ). record { kind = kind; sequence = p.sequence; floor = floor; expires = expires_for kind p }) o ≡ Some m → (m.sequence ≡ s) × (m.kind ≡ kind)) [
+    (elim (floor_of path.destination kind p) as (λ o. option_map (λ (floor : ℕ). record { kind = kind; sequence = p.sequence; floor = floor; expires = expires_for kind p; since = since_for kind p; timeout = timeout_for kind p }) o ≡ Some m → (m.sequence ≡ s) × (m.kind ≡ kind)) [
       | None ↦ λ none. cc
       | Some floor ↦ λ some. let is = same_Some _ _ some in (ap (λ (n : PacketMsg). n.sequence) (sym is) ∙ numbered, ap (λ (n : PacketMsg). n.kind) (sym is))
     ])
@@ -143,3 +144,48 @@ pub receives-consecutive : (path : Path) (reach : ℕ) → path.order ≡ Ordere
 receives-consecutive path reach ordered =
     let told = owed-receives path ordered in
     ready-consecutive reach (next_sequence path Receive) (messages path Receive) told.0 told.1
+
+-- ---- those that go
+
+-- receives go up to the first that can't
+going-receives : (can : PacketMsg → Bool) (all ms : List PacketMsg) (n : ℕ) → AreReceives ms
+    → map (λ (p : ℕ × PacketMsg). p.1) (filter (λ (p : ℕ × PacketMsg). is_going Ordered can all p.0 p.1) (enumerate_from n ms)) ≡ take (going_end can Receive all - n) ms
+going-receives can all [] n h = sym (take-nil (going_end can Receive all - n))
+going-receives can all (m ∷ ms) n h =
+    let end = going_end can Receive all in
+    let later = going-receives can all ms (n + 1) h.1 in
+    elim (cases_lt n end) [
+      | inl less ↦
+          let test : is_going Ordered can all n m ≡ true = rw h.0 (lt-ltb n end less) in
+          let more : end - n ≡ suc (end - (n + 1)) = omega arith in
+          rw (test, more) (ap (λ ns. m ∷ ns) later)
+      | inr past ↦
+          let test : is_going Ordered can all n m ≡ false = rw h.0 (le-ltb n end past) in
+          let none : end - n ≡ 0 = omega arith in
+          let none_later : end - (n + 1) ≡ 0 = omega arith in
+          rw (test, none) (later ∙ rw none_later refl)
+    ]
+
+front-receives : (k : ℕ) (ms : List PacketMsg) → AreReceives ms → AreReceives (take k ms)
+front-receives zero ms h = tt
+front-receives (suc k) [] h = tt
+front-receives (suc k) (m ∷ ms) h = (h.0, front-receives k ms h.1)
+
+front-consecutive : (k s : ℕ) (ms : List PacketMsg) → map (λ (m : PacketMsg). m.sequence) ms ≡ range_with_len s (length ms)
+    → map (λ (m : PacketMsg). m.sequence) (take k ms) ≡ range_with_len s (length (take k ms))
+front-consecutive k s ms e =
+    let sequence = λ (m : PacketMsg). m.sequence in
+    let front : map sequence (take k ms) ≡ take k (range_with_len s (length ms)) = sym (take-map sequence k ms) ∙ ap (take k) e in
+    let count : length (take k ms) ≡ length (take k (range_with_len s (length ms))) = sym (length-map (take k ms) sequence) ∙ ap length front in
+    front ∙ take-range s (length ms) k ∙ ap (range_with_len s) (sym count)
+
+pub going-consecutive : (path : Path) (can : PacketMsg → Bool) (reach : ℕ) → path.order ≡ Ordered
+    → let kept = ready (going Ordered can (messages path Receive)) Ordered (Some reach)
+    in map (λ (m : PacketMsg). m.sequence) kept ≡ range_with_len (next_sequence path Receive) (length kept)
+going-consecutive path can reach ordered =
+    let told = owed-receives path ordered in
+    let all = messages path Receive in
+    let end = going_end can Receive all - 0 in
+    let front : going Ordered can all ≡ take end all = going-receives can all all 0 told.0 in
+    subst (λ ms. let kept = ready ms Ordered (Some reach) in map (λ (m : PacketMsg). m.sequence) kept ≡ range_with_len (next_sequence path Receive) (length kept)) (sym front)
+    (ready-consecutive reach (next_sequence path Receive) (take end all) (front-receives end all told.0) (front-consecutive end (next_sequence path Receive) all told.1))

@@ -3,6 +3,7 @@ use Rattle.std.specs.Prelude.{◌≡◌, ◌≢◌, ℕ, ◌<◌, ◌≤◌, ◌
 use Rattle.std.specs.List.{range_with_len}
 use Rattle.rb_scan.specs.Packet.{Packet}
 use Rattle.rb_scan.specs.Path.{Path, IsPath}
+use Rattle.rb_scan.specs.Going.{going}
 use Rattle.rb_scan.specs.Owed.{message_of, is_done_at, next_sequence, messages, ready}
 use Rattle.rb_scan.specs.declared.path.Order.{Order}
 use Rattle.rb_scan.specs.declared.path.Order.TheVariants.{Ordered, Unordered}
@@ -45,6 +46,13 @@ ReadyReceivesAreConsecutive =
     → let kept = ready (messages path Receive) Ordered (Some reach)
     in map (λ (m : PacketMsg). m.sequence) kept ≡ range_with_len (next_sequence path Receive) (length kept)
 
+-- so do those of the receives that go
+abbrev pub GoingReceivesAreConsecutive : Type 0
+GoingReceivesAreConsecutive =
+    (path : Path) (can : PacketMsg → Bool) (reach : ℕ) → path.order ≡ Ordered
+    → let kept = ready (going Ordered can (messages path Receive)) Ordered (Some reach)
+    in map (λ (m : PacketMsg). m.sequence) kept ≡ range_with_len (next_sequence path Receive) (length kept)
+
 -- a message is ready after those that stand before it: its floor is within reach and, in an ORDERED run, where it is no
 -- timeout, so is each earlier floor of its kind
 abbrev pub IsReadyAfter : Order → ℕ → List PacketMsg → PacketMsg → Type 0
@@ -60,3 +68,9 @@ ReadyIsAllBefore =
     → (ready [] order (Some reach) ≡ [])
     × ((IsReadyAfter order reach earlier m → ready (earlier ++ m ∷ []) order (Some reach) ≡ ready earlier order (Some reach) ++ m ∷ [])
     × ((¬ IsReadyAfter order reach earlier m) → ready (earlier ++ m ∷ []) order (Some reach) ≡ ready earlier order (Some reach)))
+
+-- at any height from the greatest floor of the ready messages up to the reach the same messages are ready
+abbrev pub AllGoAlong : Type 0
+AllGoAlong =
+    (ms : List PacketMsg) (order : Order) (proof reach : ℕ) → proof ≤ reach
+    → All (λ (m : PacketMsg). m.floor ≤ proof) (ready ms order (Some reach)) → ready ms order (Some proof) ≡ ready ms order (Some reach)

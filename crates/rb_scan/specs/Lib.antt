@@ -3,7 +3,9 @@ pub mod Packet
 pub mod Path
 pub mod Expiry
 pub mod Owed
+pub mod Going
 pub mod Ends
+pub mod GoingEnds
 pub mod Orders
 pub mod Same
 pub mod Laws

@@ -25,9 +25,23 @@ expires_for Receive p = expires_from p
 expires_for Acknowledge p = None
 expires_for Timeout p = None
 
+-- the time of the block that wrote what a message of a kind proves, where it is told: the packet of a receive, the acknowledgement
+abbrev pub since_for : Kind → Packet → Option ℕ
+since_for Receive p = p.sent_time
+since_for Acknowledge p = p.written_time
+since_for Timeout p = None
+
+-- the time of the destination from which on it takes no message of a kind, of a receive alone
+abbrev pub timeout_for : Kind → Packet → Option ℕ
+timeout_for Receive p = p.timeout_time
+timeout_for Acknowledge p = None
+timeout_for Timeout p = None
+
 abbrev pub message_of : List (ℕ × ℕ) → Kind → Packet → Option PacketMsg
 message_of records kind p =
-    option_map (λ (floor : ℕ). record { kind = kind; sequence = p.sequence; floor = floor; expires = expires_for kind p }) (floor_of records kind p)
+    option_map
+    (λ (floor : ℕ). record { kind = kind; sequence = p.sequence; floor = floor; expires = expires_for kind p; since = since_for kind p; timeout = timeout_for kind p })
+    (floor_of records kind p)
 
 -- the packet that was sent under a sequence, and the message that the table has for it
 abbrev pub packet_at : Path → ℕ → Option Packet

@@ -1,15 +1,18 @@
 -- what is known of a packet (ICS 4)
 use Rattle.std.specs.Prelude.{ℕ, Bool, Option, is_some, not, ◌||◌}
 
--- the block that sent it, the height and time of the destination at which it expires, the blocks where it was seen received and its
--- acknowledgement seen written, and three marks: seen cleared, receive settled, acknowledgement or timeout settled
+-- the block that sent it and its time where it is told, the height and time of the destination at which it expires, the blocks where it was
+-- seen received and its acknowledgement seen written, the latter with its time where it is told, and three marks: seen cleared, receive settled,
+-- acknowledgement or timeout settled
 pub record Packet : Type 0 where
   pub sequence : ℕ
   pub sent : ℕ
+  pub sent_time : Option ℕ
   pub timeout_height : Option ℕ
   pub timeout_time : Option ℕ
   pub received : Option ℕ
   pub written : Option ℕ
+  pub written_time : Option ℕ
   pub cleared : Bool
   pub receive_settled : Bool
   pub outcome_settled : Bool

@@ -13,12 +13,19 @@ use Rattle.rb_scan.specs.Orders.{same_order}
 use Rattle.rb_scan.specs.declared.path.Order.{Order}
 use Rattle.rb_scan.specs.declared.path.Order.TheVariants.{Ordered, Unordered}
 
+-- two packets were sent alike, and the same came of them
+abbrev pub same_sending : Packet → Packet → Bool
+same_sending p q =
+    (p.sequence == q.sequence) && (p.sent == q.sent) && option_eq nat_eq p.sent_time q.sent_time && option_eq nat_eq p.timeout_height q.timeout_height
+    && option_eq nat_eq p.timeout_time q.timeout_time
+
+abbrev pub same_fate : Packet → Packet → Bool
+same_fate p q =
+    option_eq nat_eq p.received q.received && option_eq nat_eq p.written q.written && option_eq nat_eq p.written_time q.written_time && beq p.cleared q.cleared
+    && beq p.receive_settled q.receive_settled && beq p.outcome_settled q.outcome_settled
+
 abbrev pub same_packet : Packet → Packet → Bool
-same_packet p q =
-    ((p.sequence == q.sequence) && (p.sent == q.sent) && option_eq nat_eq p.timeout_height q.timeout_height
-    && option_eq nat_eq p.timeout_time q.timeout_time)
-    && (option_eq nat_eq p.received q.received && option_eq nat_eq p.written q.written && beq p.cleared q.cleared
-    && beq p.receive_settled q.receive_settled && beq p.outcome_settled q.outcome_settled)
+same_packet p q = same_sending p q && same_fate p q
 
 abbrev pub same_record : ℕ × ℕ → ℕ × ℕ → Bool
 same_record r s = (r.0 == s.0) && (r.1 == s.1)
@@ -45,23 +52,25 @@ pub same_packet-Decides : (p q : Packet) → Decides (same_packet p q) (p ≡ q)
 same_packet-Decides p q =
     Decides-like _
     (λ h i. record {
-      sequence = h.0.0.0.0 i;
-      sent = h.0.0.0.1 i;
+      sequence = h.0.0.0.0.0 i;
+      sent = h.0.0.0.0.1 i;
+      sent_time = h.0.0.0.1 i;
       timeout_height = h.0.0.1 i;
       timeout_time = h.0.1 i;
-      received = h.1.0.0.0.0 i;
-      written = h.1.0.0.0.1 i;
+      received = h.1.0.0.0.0.0 i;
+      written = h.1.0.0.0.0.1 i;
+      written_time = h.1.0.0.0.1 i;
       cleared = h.1.0.0.1 i;
       receive_settled = h.1.0.1 i;
       outcome_settled = h.1.1 i;
     })
     (λ e. (
-      (((ap (λ (x : Packet). x.sequence) e, ap (λ (x : Packet). x.sent) e), ap (λ (x : Packet). x.timeout_height) e), ap (λ (x : Packet). x.timeout_time) e),
-      ((((ap (λ (x : Packet). x.received) e, ap (λ (x : Packet). x.written) e), ap (λ (x : Packet). x.cleared) e), ap (λ (x : Packet). x.receive_settled) e), ap (λ (x : Packet). x.outcome_settled) e),
+      ((((ap (λ (x : Packet). x.sequence) e, ap (λ (x : Packet). x.sent) e), ap (λ (x : Packet). x.sent_time) e), ap (λ (x : Packet). x.timeout_height) e), ap (λ (x : Packet). x.timeout_time) e),
+      (((((ap (λ (x : Packet). x.received) e, ap (λ (x : Packet). x.written) e), ap (λ (x : Packet). x.written_time) e), ap (λ (x : Packet). x.cleared) e), ap (λ (x : Packet). x.receive_settled) e), ap (λ (x : Packet). x.outcome_settled) e),
     ))
     (Decides-and _ _
-    (Decides-and _ _ (Decides-and _ _ (Decides-and _ _ (unsigned_Decides p.sequence q.sequence) (unsigned_Decides p.sent q.sent)) (options_Decides nat_eq unsigned_Decides p.timeout_height q.timeout_height)) (options_Decides nat_eq unsigned_Decides p.timeout_time q.timeout_time))
-    (Decides-and _ _ (Decides-and _ _ (Decides-and _ _ (Decides-and _ _ (options_Decides nat_eq unsigned_Decides p.received q.received) (options_Decides nat_eq unsigned_Decides p.written q.written)) (booleans_Decides p.cleared q.cleared)) (booleans_Decides p.receive_settled q.receive_settled)) (booleans_Decides p.outcome_settled q.outcome_settled)))
+    (Decides-and _ _ (Decides-and _ _ (Decides-and _ _ (Decides-and _ _ (unsigned_Decides p.sequence q.sequence) (unsigned_Decides p.sent q.sent)) (options_Decides nat_eq unsigned_Decides p.sent_time q.sent_time)) (options_Decides nat_eq unsigned_Decides p.timeout_height q.timeout_height)) (options_Decides nat_eq unsigned_Decides p.timeout_time q.timeout_time))
+    (Decides-and _ _ (Decides-and _ _ (Decides-and _ _ (Decides-and _ _ (Decides-and _ _ (options_Decides nat_eq unsigned_Decides p.received q.received) (options_Decides nat_eq unsigned_Decides p.written q.written)) (options_Decides nat_eq unsigned_Decides p.written_time q.written_time)) (booleans_Decides p.cleared q.cleared)) (booleans_Decides p.receive_settled q.receive_settled)) (booleans_Decides p.outcome_settled q.outcome_settled)))
 
 same_record-Decides : (r s : ℕ × ℕ) → Decides (same_record r s) (r ≡ s)
 same_record-Decides r s =

@@ -1,7 +1,8 @@
 //! Pending packet messages (ICS 4): which messages a path owes, from which height on each can be proved,
-//! and which of them are ready.
+//! which of them are ready, and which can go.
 #![tactic(auto)]
 
+mod bars;
 pub mod laws;
 mod message;
 mod packet;
@@ -11,6 +12,7 @@ mod scan;
 mod sequence;
 mod table;
 
+pub use bars::{Bars, going};
 pub use message::{Kind, PacketMsg};
 pub use packet::Packet;
 pub use path::{Order, PathView, is_path};

@@ -37,4 +37,9 @@ pub struct PacketMsg {
     /// Of a receive, the moment from which on its packet may have expired: its timeout time, or 0 where
     /// it has a timeout height, since the times of blocks to come are not known.
     pub expires: Option<Moment>,
+    /// The time of the block that wrote what it proves, where it is told: of a receive the block that sent
+    /// the packet, of an acknowledgement the one that wrote it.
+    pub since: Option<Moment>,
+    /// Of a receive, the time of the destination from which on it is refused: the packet's timeout time.
+    pub timeout: Option<Moment>,
 }

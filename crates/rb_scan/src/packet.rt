@@ -4,6 +4,7 @@ ghost use Rattle.std.specs.Option.{option_map};
 ghost use Rattle.rb_scan.specs.Packet.{is_finished, is_cleared, is_in_flight};
 ghost use Rattle.rb_scan.specs.Expiry.{expires_from};
 ghost use Rattle.rb_scan.specs.Owed.{is_done};
+ghost use Rattle.rb_scan.specs.Same.{same_sending, same_fate};
 
 use crate::message::Kind;
 use crate::sequence::Sequence;
@@ -19,10 +20,12 @@ use std::marker::Model;
 pub struct Packet {
     sequence: Sequence,
     sent: Height,
+    sent_time: Option<Moment>,
     timeout_height: Option<Height>,
     timeout_time: Option<Moment>,
     received: Option<Height>,
     written: Option<Height>,
+    written_time: Option<Moment>,
     cleared: bool,
     receive_settled: bool,
     outcome_settled: bool,
@@ -39,10 +42,12 @@ impl Model for Packet {
     ghost view = { λ p. record {
       sequence = p.sequence;
       sent = p.sent;
+      sent_time = p.sent_time;
       timeout_height = p.timeout_height;
       timeout_time = p.timeout_time;
       received = p.received;
       written = p.written;
+      written_time = p.written_time;
       cleared = p.cleared;
       receive_settled = p.receive_settled;
       outcome_settled = p.outcome_settled;
@@ -53,10 +58,12 @@ impl Model for Packet {
     ghost inverse = { λ p. record {
       sequence = p.sequence;
       sent = p.sent;
+      sent_time = p.sent_time;
       timeout_height = p.timeout_height;
       timeout_time = p.timeout_time;
       received = p.received;
       written = p.written;
+      written_time = p.written_time;
       cleared = p.cleared;
       receive_settled = p.receive_settled;
       outcome_settled = p.outcome_settled;
@@ -71,16 +78,7 @@ impl PartialEq for Packet {
     ghost laws = { same_packet-laws };
 
     fn eq(&self, other: &Packet) -> bool {
-        let same_sending = self.sequence == other.sequence
-            && self.sent == other.sent
-            && self.timeout_height == other.timeout_height
-            && self.timeout_time == other.timeout_time;
-        let same_fate = self.received == other.received
-            && self.written == other.written
-            && self.cleared == other.cleared
-            && self.receive_settled == other.receive_settled
-            && self.outcome_settled == other.outcome_settled;
-        same_sending && same_fate
+        self.same_sending(other) && self.same_fate(other)
     }
 }
 
@@ -91,11 +89,35 @@ impl Eq for Packet {
 }
 
 impl Packet {
-    /// A packet that was sent in a block, with the height and the time of the destination at
-    /// which it expires.
+    /// Whether two packets were sent alike.
+    fn same_sending(&self, other: &Packet) -> bool
+        ensures { result ≡ same_sending self.now other.now }
+    {
+        self.sequence == other.sequence
+            && self.sent == other.sent
+            && self.sent_time == other.sent_time
+            && self.timeout_height == other.timeout_height
+            && self.timeout_time == other.timeout_time
+    }
+
+    /// Whether the same came of two packets.
+    fn same_fate(&self, other: &Packet) -> bool
+        ensures { result ≡ same_fate self.now other.now }
+    {
+        self.received == other.received
+            && self.written == other.written
+            && self.written_time == other.written_time
+            && self.cleared == other.cleared
+            && self.receive_settled == other.receive_settled
+            && self.outcome_settled == other.outcome_settled
+    }
+
+    /// A packet that was sent in a block, at the block's time where it is told, with the height and the time
+    /// of the destination at which it expires.
     pub fn new(
         sequence: Sequence,
         sent: Height,
+        sent_time: Option<Moment>,
         timeout_height: Option<Height>,
         timeout_time: Option<Moment>,
     ) -> Packet
@@ -103,10 +125,12 @@ impl Packet {
         ensures { result ≡ record {
           sequence = sequence;
           sent = sent;
+          sent_time = sent_time;
           timeout_height = timeout_height;
           timeout_time = timeout_time;
           received = None;
           written = None;
+          written_time = None;
           cleared = false;
           receive_settled = false;
           outcome_settled = false;
@@ -115,10 +139,12 @@ impl Packet {
         Packet {
             sequence,
             sent,
+            sent_time,
             timeout_height,
             timeout_time,
             received: None,
             written: None,
+            written_time: None,
             cleared: false,
             receive_settled: false,
             outcome_settled: false,
@@ -135,13 +161,15 @@ impl Packet {
         }
     }
 
-    /// The packet, its acknowledgement seen written in a block of the destination.
-    pub fn with_written(self, block: Height) -> Packet
+    /// The packet, its acknowledgement seen written in a block of the destination, at the block's time
+    /// where it is told.
+    pub fn with_written(self, block: Height, time: Option<Moment>) -> Packet
         requires { block + 1 < 2 ^ 63 }
-        ensures { result ≡ record self { written = Some block } }
+        ensures { result ≡ record self { written = Some block; written_time = time } }
     {
         Packet {
             written: Some(block),
+            written_time: time,
             ..self
         }
     }
@@ -191,6 +219,13 @@ impl Packet {
         self.sent
     }
 
+    /// The time of that block, where it is told.
+    pub fn sent_time(&self) -> Option<Moment>
+        ensures { result ≡ self.now.sent_time }
+    {
+        self.sent_time
+    }
+
     /// The height of the destination at which it expires.
     pub fn timeout_height(&self) -> Option<Height>
         ensures { result ≡ self.now.timeout_height }
@@ -230,6 +265,13 @@ impl Packet {
         ensures { result ≡ self.now.written }
     {
         self.written
+    }
+
+    /// The time of that block, where it is told.
+    pub fn written_time(&self) -> Option<Moment>
+        ensures { result ≡ self.now.written_time }
+    {
+        self.written_time
     }
 
     /// Whether its receive is finished: seen received, seen cleared, or settled.

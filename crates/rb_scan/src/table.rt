@@ -4,7 +4,7 @@ ghost use Rattle.std.specs.List.Sorted.{IsStrictlyIncreasing};
 ghost use Rattle.std.specs.Option.{option_map};
 ghost use Rattle.rb_scan.specs.Path.{times_of};
 ghost use Rattle.rb_scan.specs.Expiry.{has_come, is_expired, height_floor, time_floor, timeout_floor};
-ghost use Rattle.rb_scan.specs.Owed.{floor_of, expires_for, message_of};
+ghost use Rattle.rb_scan.specs.Owed.{floor_of, expires_for, since_for, timeout_for, message_of};
 
 use crate::message::{Kind, PacketMsg};
 use crate::packet::Packet;
@@ -80,6 +80,8 @@ impl<A: Allocator> PathView<A> {
             sequence: packet.sequence(),
             floor,
             expires: expires_for(kind, packet),
+            since: since_for(kind, packet),
+            timeout: timeout_for(kind, packet),
         })
     }
 }
@@ -90,6 +92,27 @@ fn expires_for(kind: Kind, packet: &Packet) -> Option<Moment>
 {
     match kind {
         Kind::Receive => packet.expires_from(),
+        Kind::Acknowledge | Kind::Timeout => None,
+    }
+}
+
+/// The time of the block that wrote what a message of this kind for the packet proves, where it is told.
+fn since_for(kind: Kind, packet: &Packet) -> Option<Moment>
+    ensures { result ≡ since_for kind packet.now }
+{
+    match kind {
+        Kind::Receive => packet.sent_time(),
+        Kind::Acknowledge => packet.written_time(),
+        Kind::Timeout => None,
+    }
+}
+
+/// The time of the destination from which on a message of this kind for the packet is refused.
+fn timeout_for(kind: Kind, packet: &Packet) -> Option<Moment>
+    ensures { result ≡ timeout_for kind packet.now }
+{
+    match kind {
+        Kind::Receive => packet.timeout_time(),
         Kind::Acknowledge | Kind::Timeout => None,
     }
 }

@@ -301,6 +301,7 @@ limit-form : (v : Version) → (1 ≤ max_records v) × (max_records v ≤ most_
 limit-form versions.One = (omega arith, omega arith)
 limit-form versions.Two = (omega arith, omega arith)
 limit-form versions.Three = (omega arith, omega arith)
+limit-form versions.Four = (omega arith, omega arith)
 
 pub config-form : (t : Tables) (c : Config) → AreFew t → config t ≡ Ok c → IsConfig c
 unfolding config

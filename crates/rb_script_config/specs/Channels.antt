@@ -4,7 +4,7 @@ use Rattle.std.specs.List.{list_all}
 use Rattle.rb_script_types.specs.declared.channel.Channel.{Channel}
 use Rattle.rb_script_types.specs.declared.channel.ChannelEnd.{ChannelEnd}
 use Rattle.rb_script_types.specs.declared.version.Version.{Version}
-use Rattle.rb_script_types.specs.declared.version.Version.TheVariants.{One, Two, Three}
+use Rattle.rb_script_types.specs.declared.version.Version.TheVariants.{One, Two, Three, Four}
 use Rattle.rb_script_toml.specs.Faults.{Fault, ◌>>=◌, check}
 use Rattle.rb_script_toml.specs.Fields.{Field, Section, text, needs, optional}
 use Rattle.rb_script_toml.specs.Identifiers.{is_identifier_byte}
@@ -48,3 +48,4 @@ abbrev pub channel_in : Version → Section → Result (Option Channel) Fault
 channel_in One s = Ok None
 channel_in Two s = Ok None
 channel_in Three s = channel s
+channel_in Four s = channel s

@@ -1,19 +1,20 @@
 -- The tables of clients.
-use Rattle.std.specs.Prelude.{ℕ, List, [], ◌∷◌, map, codes, Option, Some, None, option_map, unwrap_or, slice_get, Result, Ok, not, ◌==◌, if◌then◌else◌}
+use Rattle.std.specs.Prelude.{ℕ, ◌/◌, List, [], ◌∷◌, map, codes, Option, Some, None, option_map, unwrap_or, slice_get, Result, Ok, not, ◌==◌, if◌then◌else◌}
+use Rattle.std.specs.Option.{option_or}
 use Rattle.std.specs.Str.{bytes_eq}
 use Rattle.rb_batch.specs.Limits.{TransactionLimits}
 use Rattle.rb_script_types.specs.declared.config.ClientConfig.{ClientConfig}
 use Rattle.rb_script_types.specs.declared.config.RefreshTo.{RefreshTo}
-use Rattle.rb_script_types.specs.declared.config.RefreshTo.TheVariants.{Lowest, Highest}
+use Rattle.rb_script_types.specs.declared.config.RefreshTo.TheVariants.{Lowest, Highest, Newer}
 use Rattle.rb_script_types.specs.declared.version.Version.{Version}
-use Rattle.rb_script_types.specs.declared.version.Version.TheVariants.{One, Two, Three}
+use Rattle.rb_script_types.specs.declared.version.Version.TheVariants.{One, Two, Three, Four}
 use Rattle.rb_base.specs.declared.ties.Ties.{Ties}
-use Rattle.rb_base.specs.declared.ties.Ties.TheVariants.{Lower}
+use Rattle.rb_base.specs.declared.ties.Ties.TheVariants.{Lower, Higher}
 use Rattle.rb_base.specs.declared.votes.CarriedVotes.{CarriedVotes}
 use Rattle.rb_base.specs.declared.votes.CarriedVotes.TheVariants.{Commit, Cast, Needed}
 use Rattle.rb_script_toml.specs.Faults.{Fault, ◌>>=◌, check, fault}
 use Rattle.rb_script_toml.specs.KeyPaths.{element}
-use Rattle.rb_script_toml.specs.Fields.{Field, Section, only, text, needs, optional, or_default, number, within, three_integers, fee_table, trust, max_number}
+use Rattle.rb_script_toml.specs.Fields.{Field, Section, only, text, needs, optional, or_default, maybe, number, within, three_integers, fee_table, trust, max_number}
 use Rattle.rb_script_toml.specs.declared.fault.FaultName.TheVariants.{OutOfRange, BadLimit, BadVotes, SameChain}
 use Rattle.rb_script_config.specs.declared.defaults.Defaults.{Defaults}
 use Rattle.rb_script_config.specs.declared.chain.Chain.{Chain}
@@ -49,6 +50,9 @@ client_keys Two =
 client_keys Three =
     codes "id" ∷ codes "host" ∷ codes "of" ∷ codes "period_ns" ∷ codes "drift_ns" ∷ codes "refresh_ns" ∷ codes "fee" ∷ codes "gas"
     ∷ codes "limits" ∷ codes "trust" ∷ codes "votes" ∷ []
+client_keys Four =
+    codes "id" ∷ codes "host" ∷ codes "of" ∷ codes "period_ns" ∷ codes "drift_ns" ∷ codes "refresh_ns" ∷ codes "fee" ∷ codes "gas"
+    ∷ codes "limits" ∷ codes "trust" ∷ codes "votes" ∷ []
 
 -- what the clients that track this chain share
 abbrev pub shared_by : List Chain → ℕ → Defaults
@@ -71,11 +75,11 @@ identity version chains before s = do
 -- what scripts and setups say of a client alike
 unfoldable pub terms : Defaults → Section → Result ClientTerms Fault
 terms d s = do
-  refresh ← or_default d.refresh (number 0 max_number OutOfRange) (optional (codes "refresh_ns") s)
+  own_refresh ← maybe (number 0 max_number OutOfRange) (optional (codes "refresh_ns") s)
   fees ← own d.fees (codes "fee") fee_table s
   gas ← own d.gas (codes "gas") fee_table s
   limit ← needs (codes "limits") limits s
-  Ok (record { refresh = refresh; fees = fees; gas = gas; limits = limit })
+  Ok (record { refresh = option_or own_refresh d.refresh; fees = fees; gas = gas; limits = limit })
 
 abbrev pub carried_of : List ℕ → Option CarriedVotes
 carried_of word =
@@ -98,18 +102,28 @@ abbrev pub votes_in : Version → Section → Result CarriedVotes Fault
 votes_in One s = Ok Commit
 votes_in Two s = Ok Commit
 votes_in Three s = or_default Cast carried (optional (codes "votes") s)
+votes_in Four s = or_default Cast carried (optional (codes "votes") s)
 
--- to which height clients are refreshed: from version 3 on to the greatest
+-- how clients are refreshed: in version 3 to the greatest height, from version 4 on by gain
 abbrev pub refresh_to : Version → RefreshTo
 refresh_to One = Lowest
 refresh_to Two = Lowest
 refresh_to Three = Highest
+refresh_to Four = Newer
 
--- which heights come first in lists of updates that are equally cheap: the lower ones in versions 1 to 3
+-- the refresh age where none is given: from version 4 on a third of the trusting period, before that never
+abbrev pub default_refresh : Version → ℕ → ℕ
+default_refresh One period = 0
+default_refresh Two period = 0
+default_refresh Three period = 0
+default_refresh Four period = period / 3
+
+-- which heights come first in lists of updates that are equally cheap: the lower ones in versions 1 to 3, the higher ones from version 4 on
 abbrev pub ties_of : Version → Ties
 ties_of One = Lower
 ties_of Two = Lower
 ties_of Three = Lower
+ties_of Four = Higher
 
 -- a client of these chains, beside those before it
 unfoldable pub client : Version → List Chain → List ClientConfig → Section → Result ClientConfig Fault
@@ -127,7 +141,7 @@ client version chains before s = do
     host = i.host;
     tracks = i.tracks;
     options = record { period = period; drift = drift; trust = level; votes = votes; ties = ties_of version };
-    refresh = t.refresh;
+    refresh = unwrap_or t.refresh (default_refresh version period);
     refresh_to = refresh_to version;
     fees = t.fees;
     gas = t.gas;

@@ -8,6 +8,7 @@ pub mod Clients
 pub mod Channels
 pub mod Paths
 pub mod Goals
+pub mod HostWindows
 pub mod Setups
 pub mod Tables
 pub mod Laws

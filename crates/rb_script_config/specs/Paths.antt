@@ -7,7 +7,7 @@ use Rattle.rb_script_types.specs.Gas.{PathGas}
 use Rattle.rb_script_types.specs.declared.config.ClientConfig.{ClientConfig}
 use Rattle.rb_script_types.specs.declared.config.PathConfig.{PathConfig}
 use Rattle.rb_script_types.specs.declared.version.Version.{Version}
-use Rattle.rb_script_types.specs.declared.version.Version.TheVariants.{One, Two, Three}
+use Rattle.rb_script_types.specs.declared.version.Version.TheVariants.{One, Two, Three, Four}
 use Rattle.rb_script_types.specs.declared.waits.Waits.{Waits}
 use Rattle.rb_script_toml.specs.Faults.{Fault, ◌>>=◌, fault, check}
 use Rattle.rb_script_toml.specs.KeyPaths.{element}
@@ -70,6 +70,9 @@ path_keys Two =
 path_keys Three =
     codes "id" ∷ codes "source" ∷ codes "dest" ∷ codes "order" ∷ codes "first" ∷ codes "forward" ∷ codes "back" ∷ codes "gas"
     ∷ codes "wait_ns" ∷ codes "port" ∷ codes "channel" ∷ codes "counterparty_port" ∷ codes "counterparty_channel" ∷ []
+path_keys Four =
+    codes "id" ∷ codes "source" ∷ codes "dest" ∷ codes "order" ∷ codes "first" ∷ codes "forward" ∷ codes "back" ∷ codes "gas"
+    ∷ codes "wait_ns" ∷ codes "port" ∷ codes "channel" ∷ codes "counterparty_port" ∷ codes "counterparty_channel" ∷ []
 
 -- no message may wait
 abbrev pub no_waits : Waits
@@ -110,6 +113,7 @@ abbrev pub waits_in : Version → Section → Result Waits Fault
 waits_in One s = Ok no_waits
 waits_in Two s = Ok no_waits
 waits_in Three s = or_default no_waits waits (optional (codes "wait_ns") s)
+waits_in Four s = or_default no_waits waits (optional (codes "wait_ns") s)
 
 -- a path of these chains and clients, beside those before it
 unfoldable pub path : Version → List (List ℕ) → List ClientConfig → List PathConfig → Section → Result PathConfig Fault

@@ -35,7 +35,7 @@ fn only_chain_keys(version: Version, section: &Section<'_>) -> Result<(), RunErr
 {
     match version {
         Version::One => section.only(&["id"]),
-        Version::Two | Version::Three => section.only(&["id", "defaults"]),
+        Version::Two | Version::Three | Version::Four => section.only(&["id", "defaults"]),
     }
 }
 
@@ -45,7 +45,7 @@ fn read_shared(version: Version, section: &Section<'_>) -> Result<Defaults, RunE
 {
     match version {
         Version::One => Ok(no_defaults()),
-        Version::Two | Version::Three => match section.optional("defaults") {
+        Version::Two | Version::Three | Version::Four => match section.optional("defaults") {
             Some(field) => read_defaults(&field),
             None => Ok(no_defaults()),
         },

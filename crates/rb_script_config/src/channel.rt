@@ -99,6 +99,6 @@ pub fn read_channel(version: Version, section: &Section<'_>) -> Result<Option<Ch
 {
     match version {
         Version::One | Version::Two => Ok(None),
-        Version::Three => channel(section),
+        Version::Three | Version::Four => channel(section),
     }
 }

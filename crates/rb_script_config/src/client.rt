@@ -4,19 +4,17 @@ ghost use Rattle.toml.specs.View.{view, items_view};
 ghost use Rattle.rb_script_toml.specs.Faults.{Gives, check};
 ghost use Rattle.rb_script_toml.specs.Fields.{field_view, section_view, number, fee_table, max_number, at_element, elements};
 ghost use Rattle.rb_script_toml.specs.declared.fault.FaultName.TheVariants.{OutOfRange, SameChain};
-ghost use Rattle.rb_script_config.specs.Clients.{carried, limits, identity, terms, client, own, shared_by, refresh_to, ties_of, votes_in};
+ghost use Rattle.rb_script_config.specs.Clients.{carried, limits, identity, terms, client, own, shared_by, refresh_to, default_refresh, ties_of, votes_in};
 
 use crate::chain::Chain;
-use crate::client_keys::{
-    DRIFT, FEE, GAS, HOST, LIMITS, OF, PERIOD, REFRESH, VOTES, only_client_keys,
-};
-use crate::defaults::{Defaults, read_drift, read_period, trust_or};
+use crate::client_keys::{DRIFT, FEE, GAS, HOST, LIMITS, OF, PERIOD, VOTES, only_client_keys};
+use crate::defaults::{Defaults, maybe_refresh, read_drift, read_period, trust_or};
 use crate::directory::Directory;
 use crate::drift::Drift;
 use crate::named::{Named, new_identifier, reference};
 use rb_base::{CarriedVotes, ClientId, FeeTable, Options, Period, Ties};
 use rb_batch::Limits;
-use rb_script_toml::{FaultName, Field, MAX_NUMBER, RunError, Section, element_path, section_at};
+use rb_script_toml::{FaultName, Field, RunError, Section, element_path, section_at};
 use rb_script_types::{ClientConfig, RefreshTo, Version};
 use std::alloc::Global;
 use toml::Value;
@@ -30,12 +28,12 @@ pub struct ClientIdentity {
     pub tracks: usize,
 }
 
-/// What a client's table says, beside the identity, in a script and in a setup alike: the age in
-/// nanoseconds at which the client is refreshed (0: never), what an update costs in fees and in gas,
+/// What a client's table says, beside the identity, in a script and in a setup alike: the refresh age in
+/// nanoseconds (0: never), where one is given, what an update costs in fees and in gas,
 /// and what a transaction may carry.
 #[derive(Clone, Copy)]
 pub struct ClientTerms {
-    pub refresh: u64,
+    pub refresh: Option<u64>,
     pub fees: FeeTable,
     pub gas: FeeTable,
     pub limits: Limits,
@@ -147,7 +145,7 @@ pub fn read_identity<C: Named, T: Named>(
 pub fn read_terms(section: &Section<'_>, shared: &Defaults) -> Result<ClientTerms, RunError>
     ensures { Gives (λ t. t) result (terms shared.now (section_view section.now)) }
 {
-    let refresh = section.number_or(REFRESH, shared.refresh, 0, MAX_NUMBER)?;
+    let refresh = maybe_refresh(section)?.or(shared.refresh);
     let fees = own_fees(section, FEE, shared.fees)?;
     let gas = own_fees(section, GAS, shared.gas)?;
     let limits = limits(&section.required(LIMITS)?)?;
@@ -188,20 +186,31 @@ fn votes_in(version: Version, section: &Section<'_>) -> Result<CarriedVotes, Run
 {
     match version {
         Version::One | Version::Two => Ok(CarriedVotes::Commit),
-        Version::Three => match section.optional(VOTES) {
+        Version::Three | Version::Four => match section.optional(VOTES) {
             Some(field) => carried(&field),
             None => Ok(CarriedVotes::Cast),
         },
     }
 }
 
-/// To which height clients are refreshed: from version 3 on to the greatest.
+/// How clients are refreshed: in version 3 to the greatest height, from version 4 on by gain.
 fn refresh_to(version: Version) -> RefreshTo
     ensures { result ≡ refresh_to version }
 {
     match version {
         Version::One | Version::Two => RefreshTo::Lowest,
         Version::Three => RefreshTo::Highest,
+        Version::Four => RefreshTo::Newer,
+    }
+}
+
+/// The refresh age where none is given: from version 4 on a third of the trusting period, before that never.
+fn default_refresh(version: Version, period: Period) -> u64
+    ensures { result ≡ default_refresh version period }
+{
+    match version {
+        Version::One | Version::Two | Version::Three => 0,
+        Version::Four => period.nanoseconds() / 3,
     }
 }
 
@@ -211,6 +220,7 @@ fn ties_of(version: Version) -> Ties
 {
     match version {
         Version::One | Version::Two | Version::Three => Ties::Lower,
+        Version::Four => Ties::Higher,
     }
 }
 
@@ -239,7 +249,7 @@ fn read_client(
             .with_trust(trust)
             .with_votes(votes)
             .with_ties(ties_of(version)),
-        refresh: terms.refresh,
+        refresh: terms.refresh.unwrap_or(default_refresh(version, period)),
         refresh_to: refresh_to(version),
         fees: terms.fees,
         gas: terms.gas,
@@ -264,10 +274,11 @@ fn read_client_at(
 
 /// Reads the tables of the array `client`, in their order, each as `read_identity` and `read_terms` tell,
 /// with `period_ns` and `drift_ns` before the terms, and `trust` and, from version 3 on, `votes` behind them:
-/// `all`, as where it isn't there, or `needed`, else `BadVotes`. The trusting period and the
-/// clock drift are needed where the tracked chain shares none; the trust level is a third where it has
-/// none. `Fault` is the first of the first table that is refused, at last `SameChain` where it tracks the
-/// chain that hosts it. `NoMemory` comes where a growth is refused.
+/// `all`, as where it isn't there, or `needed`, else `BadVotes`. The trusting period and the clock drift are
+/// needed where the tracked chain shares none. Where it shares none, the trust level is a third, and the refresh
+/// age is a third of the trusting period from version 4 on, before that 0. `Fault` is the first of the first
+/// table that is refused, at last `SameChain` where it tracks the chain that hosts it. `NoMemory` comes where a
+/// growth is refused.
 pub fn read_clients(
     alloc: Global,
     version: Version,

@@ -195,7 +195,7 @@ pub fn only_client_keys(version: Version, section: &Section<'_>) -> Result<(), R
 {
     match version {
         Version::One | Version::Two => section.only(&NAMES),
-        Version::Three => section.only(&NAMES_WITH_VOTES),
+        Version::Three | Version::Four => section.only(&NAMES_WITH_VOTES),
     }
 }
 

@@ -12,13 +12,13 @@ use rb_base::{FeeTable, Fraction, Period};
 use rb_script_toml::{FaultName, Field, MAX_NUMBER, RunError, Section, child_path, section_at};
 
 /// What holds for each client that tracks a chain where it has no key of its own: the trusting
-/// period, the clock drift that is allowed, the age at which it is refreshed (0: never), what an
+/// period, the clock drift that is allowed, the refresh age (0: never), what an
 /// update costs in fees and in gas, and the trust level. None where a client needs its own.
 #[derive(Clone, Copy)]
 pub struct Defaults {
     pub period: Option<Period>,
     pub drift: Option<Drift>,
-    pub refresh: u64,
+    pub refresh: Option<u64>,
     pub fees: Option<FeeTable>,
     pub gas: Option<FeeTable>,
     pub trust: Fraction,
@@ -31,7 +31,7 @@ pub fn no_defaults() -> Defaults
     Defaults {
         period: None,
         drift: None,
-        refresh: 0,
+        refresh: None,
         fees: None,
         gas: None,
         trust: Fraction::one_third(),
@@ -80,6 +80,19 @@ pub fn maybe_drift(section: &Section<'_>) -> Result<Option<Drift>, RunError>
     }
 }
 
+/// The refresh age of the key `refresh_ns`, in nanoseconds, 0 being never; `None` where it isn't there. `Fault` is
+/// `WrongType` where it is no integer, else `OutOfRange` where it isn't from 0 to 2^63 - 1; `NoMemory` where the path
+/// finds no room.
+#[tactic(auto, using(rb_script_toml::proofs::Steps::steps))]
+pub fn maybe_refresh(section: &Section<'_>) -> Result<Option<u64>, RunError>
+    ensures { Gives (λ n. n) result (maybe (number 0 max_number OutOfRange) (optional (codes "refresh_ns") (section_view section.now))) }
+{
+    match section.optional(REFRESH) {
+        Some(field) => Ok(Some(field.number(0, MAX_NUMBER, FaultName::OutOfRange)?)),
+        None => Ok(None),
+    }
+}
+
 #[tactic(auto, using(rb_script_toml::proofs::Steps::steps))]
 fn maybe_fees<'a>(section: &Section<'a>, key: &'a str) -> Result<Option<FeeTable>, RunError>
     ensures { Gives (λ t. t) result (maybe fee_table (optional key.entry.now (section_view section.now))) }
@@ -110,7 +123,7 @@ fn defaults_of(section: &Section<'_>) -> Result<Defaults, RunError>
     only_default_keys(section)?;
     let period = maybe_period(section)?;
     let drift = maybe_drift(section)?;
-    let refresh = section.number_or(REFRESH, 0, 0, MAX_NUMBER)?;
+    let refresh = maybe_refresh(section)?;
     let fees = maybe_fees(section, FEE)?;
     let gas = maybe_fees(section, GAS)?;
     let trust = trust_or(section, Fraction::one_third())?;

@@ -1,6 +1,6 @@
 //! What a script is set up with: its version, and its chains, clients and paths, each read from its
-//! table, beside those before it, and found by its identifier; and what a turn says of clients, its
-//! goals and settlements; or the first fault.
+//! table, beside those before it, and found by its identifier; and what a turn says of hosts and clients, its
+//! windows, goals and settlements; or the first fault.
 #![tactic(auto)]
 
 mod chain;
@@ -11,6 +11,7 @@ mod defaults;
 mod directory;
 mod drift;
 mod goal;
+mod host_window;
 pub mod laws;
 mod named;
 mod path;
@@ -27,6 +28,7 @@ pub use defaults::{Defaults, maybe_drift, maybe_period, no_defaults};
 pub use directory::Directory;
 pub use drift::Drift;
 pub use goal::read_goals;
+pub use host_window::read_windows;
 pub use named::{Client, Named, new_identifier, place_of, reference};
 pub use path::{judge_path, needed_sequence, read_path_config, read_waits};
 pub use settlement::read_settlements;

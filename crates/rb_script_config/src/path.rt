@@ -93,7 +93,7 @@ fn only_path_keys(version: Version, section: &Section<'_>) -> Result<(), RunErro
         Version::One | Version::Two => section.only(&[
             "id", "source", "dest", "order", "first", "forward", "back", "gas",
         ]),
-        Version::Three => section.only(&[
+        Version::Three | Version::Four => section.only(&[
             "id",
             "source",
             "dest",
@@ -136,7 +136,7 @@ pub fn read_waits(version: Version, section: &Section<'_>) -> Result<Waits, RunE
 {
     match version {
         Version::One | Version::Two => Ok(Waits::NONE),
-        Version::Three => match section.optional("wait_ns") {
+        Version::Three | Version::Four => match section.optional("wait_ns") {
             Some(field) => waits(&field),
             None => Ok(Waits::NONE),
         },

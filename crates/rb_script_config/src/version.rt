@@ -14,7 +14,7 @@ pub(crate) fn max_records(version: Version) -> usize
 {
     match version {
         Version::One => 1024,
-        Version::Two | Version::Three => MAX_RECORDS,
+        Version::Two | Version::Three | Version::Four => MAX_RECORDS,
     }
 }
 
@@ -22,18 +22,20 @@ pub(crate) fn max_records(version: Version) -> usize
 fn read_version(field: &Field<'_>) -> Result<Version, RunError>
     ensures { Gives (λ v. v) result (version (field_view field.now)) }
 {
-    let number = field.number(1, 3, FaultName::BadVersion)?;
+    let number = field.number(1, 4, FaultName::BadVersion)?;
     if number == 1 {
         Ok(Version::One)
     } else if number == 2 {
         Ok(Version::Two)
-    } else {
+    } else if number == 3 {
         Ok(Version::Three)
+    } else {
+        Ok(Version::Four)
     }
 }
 
 /// The version of a text, which the key `version` holds. `Fault` is `MissingKey` where the key isn't there,
-/// `WrongType` where it holds no integer, `BadVersion` where that isn't from 1 to 3; `NoMemory` where the
+/// `WrongType` where it holds no integer, `BadVersion` where that isn't from 1 to 4; `NoMemory` where the
 /// path finds no room.
 #[tactic(auto, using(rb_script_toml::proofs::Steps::steps))]
 pub fn needed_version(section: &Section<'_>) -> Result<Version, RunError>

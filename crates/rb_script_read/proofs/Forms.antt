@@ -7,7 +7,7 @@ use Rattle.std.proofs.lemmas.List.Sums.{sum_by_push}
 use Rattle.std.proofs.lemmas.List.Elements.{All-cons, All-push}
 use Rattle.std.proofs.lemmas.List.Quantifiers.{all_pairs_push}
 use Rattle.toml.specs.Data.{Items, no_items, item}
-use Rattle.rb_script_types.specs.Script.{Script, Turn, IsReadScript, IsReadTurn, IsReadObservation, entry_count, script_view}
+use Rattle.rb_script_types.specs.Script.{Script, Turn, IsReadScript, IsReadTurn, IsReadObservation, IsReadWindow, entry_count, script_view}
 use Rattle.rb_script_types.specs.declared.version.Version.{Version}
 use Rattle.rb_script_types.specs.Config.{Config}
 use Rattle.rb_script_types.specs.Limits.{max_entries}
@@ -15,11 +15,12 @@ use Rattle.rb_script_types.specs.declared.script.Script.{Script as CodeScript}
 use Rattle.rb_script_types.specs.declared.config.ClientConfig.{ClientConfig}
 use Rattle.rb_script_types.specs.declared.config.PathConfig.{PathConfig}
 use Rattle.rb_script_types.specs.declared.script.Asked.{Asked}
+use Rattle.rb_script_types.specs.declared.script.HostWindow.{HostWindow}
 use Rattle.rb_script_types.specs.declared.script.Settlement.{Settlement}
 use Rattle.rb_script_types.specs.declared.observation.Observation.{Observation}
 use Rattle.rb_script_toml.specs.Faults.{Fault, check, Gives}
 use Rattle.rb_script_toml.specs.declared.fault.RunError.{RunError}
-use Rattle.rb_script_toml.specs.declared.fault.FaultName.TheVariants.{OutOfRange, TwoGoals, TooManyEvents, BadWindow}
+use Rattle.rb_script_toml.specs.declared.fault.FaultName.TheVariants.{OutOfRange, TwoGoals, TooManyEvents, DuplicateIdentifier, BadWindow}
 use Rattle.rb_script_toml.specs.Fields.{Section, section_at, elements, next_in_sequence, in_sequence, needs, optional, or_default, only, maybe, number, max_number, height, time, hash, zero_hash, items, items_count}
 use Rattle.rb_script_toml.specs.KeyPaths.{child, element}
 use Rattle.rb_script_config.specs.Named.{reference}
@@ -30,10 +31,11 @@ use Rattle.rb_script_read.specs.declared.event.EventKind.TheVariants as kinds
 use Rattle.rb_script_read.specs.Names.{Names, new_set_name, set_reference}
 use Rattle.rb_script_read.specs.Sets.{validators}
 use Rattle.rb_script_config.specs.Paths.{path, path_ids, sequence}
-use Rattle.rb_script_read.specs.Packets.{block, height_or_none, time_or_none, sent, sent_keys, received, ack_written, packet_keys, cleared, cleared_keys, closed, closed_keys}
+use Rattle.rb_script_read.specs.Packets.{block, height_or_none, time_or_none, time_in, sent, sent_keys, received, ack_written, ack_keys, packet_keys, cleared, cleared_keys, closed, closed_keys}
 use Rattle.rb_script_read.specs.Events.{kind, votes, set_seen, set_keys, header_seen, header_keys, stored_seen, stored_keys, tracked_by, unnamed, event_of_kind, event}
 use Rattle.rb_script_config.specs.Goals.{asked, goal_keys, goal_of, one_goal, is_asked, settlement, settlement_keys}
-use Rattle.rb_script_read.specs.Turns.{TurnHead, Reading, opening, entries, is_taken, frame, turn_keys, turn}
+use Rattle.rb_script_config.specs.HostWindows.{host_window, window_keys, has_window}
+use Rattle.rb_script_read.specs.Turns.{TurnHead, Reading, opening, entries, is_taken, windows_in, frame, turn_keys, turn}
 use Rattle.rb_script_config.specs.Tables.{tables, config}
 use Rattle.rb_script_read.specs.Work.{little}
 use Rattle.rb_script_read.specs.Scripts.{script}
@@ -67,6 +69,45 @@ module _ {S A : Type 0} (read : S → Section → Result (A × S) Fault) (P : Li
       pass (next_in_sequence read path (length before) state d) (λ x. in_sequence read path x.1 (before ++ x.0 ∷ []) ds) all h (λ x e rest.
       pass (section_at (element path (length before)) d) (read state) x e (λ s t r.
       states-keep path x.1 (before ++ x.0 ∷ []) ds all (more before state s x kept r) rest))
+
+-- ---- windows of hosts
+
+no_window-next : (host : ℕ) (w : HostWindow) (ws : List HostWindow) (b : Bool) → (w.host == host) ≡ b → not (b || has_window host ws) ≡ true
+    → (not (has_window host ws) ≡ true → All (λ x. x.host ≢ host) ws) → All (λ x. x.host ≢ host) (w ∷ ws)
+no_window-next host w ws true e h rest = absurd (true≢false (sym h))
+no_window-next host w ws false e h rest =
+    All-cons (λ x. x.host ≢ host) w ws (λ same. true≢false (sym (eq-eqb w.host host same) ∙ e)) (rest h)
+
+no_window : (host : ℕ) (before : List HostWindow) → not (has_window host before) ≡ true → All (λ w. w.host ≢ host) before
+no_window host [] h = λ k d lt. absurd (omega arith)
+no_window host (w ∷ ws) h = no_window-next host w ws (w.host == host) refl h (no_window host ws)
+
+host_window-form : (chains : List (List ℕ)) (before : List HostWindow) (s : Section) (w : HostWindow) → host_window chains before s ≡ Ok w
+    → IsReadWindow (length chains) w × All (λ x. x.host ≢ w.host) before
+unfolding host_window
+host_window-form chains before s w h =
+    pass (only window_keys s) _ w h (λ u e0 h0.
+    pass (needs (codes "host") (reference chains) s) _ w h0 (λ i e1 h1.
+    pass (needs (codes "from") time s) _ w h1 (λ from e2 h2.
+    pass (needs (codes "until") time s) _ w h2 (λ until e3 h3.
+    pass (check (not (has_window i before)) DuplicateIdentifier s.path) _ w h3 (λ v passed h4.
+    pass (check (nat_le from until) BadWindow s.path) _ w h4 (λ t ordered same.
+    subst (λ x. IsReadWindow (length chains) x × All (λ y. y.host ≢ x.host) before) (same_ok _ w same) (
+      (place-within (codes "host") chains s i e1, leb-true from until (check-passed _ BadWindow s.path t ordered)),
+      no_window i before (check-passed _ DuplicateIdentifier s.path v passed),
+    )))))))
+
+abbrev AreWindows : ℕ → List HostWindow → Type 0
+AreWindows chains ws = All (IsReadWindow chains) ws × AllPairs (λ v w. v.host ≢ w.host) ws
+
+windows-form : (chains : List (List ℕ)) (path : List ℕ) (ds : Items) (windows : List HostWindow) → elements (host_window chains) path [] ds ≡ Ok windows
+    → AreWindows (length chains) windows
+windows-form chains path ds windows h =
+    elements-keep (host_window chains) (AreWindows (length chains)) (λ before s w kept read.
+    let one = host_window-form chains before s w read in (
+      All-push (IsReadWindow (length chains)) before w kept.0 one.0,
+      all_pairs_push (λ a b. a.host ≢ b.host) before w kept.1 (λ k d lt. one.1 k d lt),
+    )) path [] ds windows ((λ k d lt. absurd (omega arith)), (λ i j d lt end. absurd (omega arith))) h
 
 -- ---- goals and settlements
 
@@ -173,20 +214,21 @@ stored_seen-form chains paths clients names s x h =
     pass (needs (codes "next") (set_reference (names (tracked_by clients i))) s) _ x h4 (λ next e5 same.
     subst (IsReadObservation chains (length clients) paths) (same_ok _ x same) (client-within (codes "client") clients s i e1)))))))
 
-module _ (chains clients : ℕ) (paths : List PathConfig) (s : Section) (x : Observation Global) where
+module _ (version : Version) (chains clients : ℕ) (paths : List PathConfig) (s : Section) (x : Observation Global) where
   abbrev Kept : Type 0
   Kept = IsReadObservation chains clients (length paths) x
 
-  sent-form : sent paths s ≡ Ok x → Kept
+  sent-form : sent version paths s ≡ Ok x → Kept
   unfolding sent
   sent-form h =
-      pass (only sent_keys s) _ x h (λ u e0 h0.
+      pass (only (sent_keys version) s) _ x h (λ u e0 h0.
       pass (needs (codes "path") (reference (path_ids paths)) s) _ x h0 (λ i e1 h1.
       pass (needs (codes "seq") sequence s) _ x h1 (λ seq e2 h2.
       pass (needs (codes "height") block s) _ x h2 (λ at e3 h3.
-      pass (or_default None height_or_none (optional (codes "timeout_height") s)) _ x h3 (λ th e4 h4.
-      pass (or_default None time_or_none (optional (codes "timeout_time") s)) _ x h4 (λ tt e5 same.
-      subst (IsReadObservation chains clients (length paths)) (same_ok _ x same) (path-within paths s i e1)))))))
+      pass (time_in version s) _ x h3 (λ moment e4 h4.
+      pass (or_default None height_or_none (optional (codes "timeout_height") s)) _ x h4 (λ th e5 h5.
+      pass (or_default None time_or_none (optional (codes "timeout_time") s)) _ x h5 (λ tt e6 same.
+      subst (IsReadObservation chains clients (length paths)) (same_ok _ x same) (path-within paths s i e1))))))))
 
   received-form : received paths s ≡ Ok x → Kept
   unfolding received
@@ -197,14 +239,15 @@ module _ (chains clients : ℕ) (paths : List PathConfig) (s : Section) (x : Obs
       pass (needs (codes "height") block s) _ x h2 (λ at e3 same.
       subst (IsReadObservation chains clients (length paths)) (same_ok _ x same) (path-within paths s i e1)))))
 
-  ack_written-form : ack_written paths s ≡ Ok x → Kept
+  ack_written-form : ack_written version paths s ≡ Ok x → Kept
   unfolding ack_written
   ack_written-form h =
-      pass (only packet_keys s) _ x h (λ u e0 h0.
+      pass (only (ack_keys version) s) _ x h (λ u e0 h0.
       pass (needs (codes "path") (reference (path_ids paths)) s) _ x h0 (λ i e1 h1.
       pass (needs (codes "seq") sequence s) _ x h1 (λ seq e2 h2.
-      pass (needs (codes "height") block s) _ x h2 (λ at e3 same.
-      subst (IsReadObservation chains clients (length paths)) (same_ok _ x same) (path-within paths s i e1)))))
+      pass (needs (codes "height") block s) _ x h2 (λ at e3 h3.
+      pass (time_in version s) _ x h3 (λ moment e4 same.
+      subst (IsReadObservation chains clients (length paths)) (same_ok _ x same) (path-within paths s i e1))))))
 
   cleared-form : cleared paths s ≡ Ok x → Kept
   unfolding cleared
@@ -232,15 +275,15 @@ of_kind-form kinds.Header c names s x h =
 of_kind-form kinds.Stored c names s x h =
     unnamed-form (length c.chains) (length c.clients) (length c.paths) names (stored_seen c.clients names s) x h (stored_seen-form (length c.chains) (length c.paths) c.clients names s)
 of_kind-form kinds.Sent c names s x h =
-    unnamed-form (length c.chains) (length c.clients) (length c.paths) names (sent c.paths s) x h (sent-form (length c.chains) (length c.clients) c.paths s)
+    unnamed-form (length c.chains) (length c.clients) (length c.paths) names (sent c.version c.paths s) x h (sent-form c.version (length c.chains) (length c.clients) c.paths s)
 of_kind-form kinds.Received c names s x h =
-    unnamed-form (length c.chains) (length c.clients) (length c.paths) names (received c.paths s) x h (received-form (length c.chains) (length c.clients) c.paths s)
+    unnamed-form (length c.chains) (length c.clients) (length c.paths) names (received c.paths s) x h (received-form c.version (length c.chains) (length c.clients) c.paths s)
 of_kind-form kinds.Ack c names s x h =
-    unnamed-form (length c.chains) (length c.clients) (length c.paths) names (ack_written c.paths s) x h (ack_written-form (length c.chains) (length c.clients) c.paths s)
+    unnamed-form (length c.chains) (length c.clients) (length c.paths) names (ack_written c.version c.paths s) x h (ack_written-form c.version (length c.chains) (length c.clients) c.paths s)
 of_kind-form kinds.Cleared c names s x h =
-    unnamed-form (length c.chains) (length c.clients) (length c.paths) names (cleared c.paths s) x h (cleared-form (length c.chains) (length c.clients) c.paths s)
+    unnamed-form (length c.chains) (length c.clients) (length c.paths) names (cleared c.paths s) x h (cleared-form c.version (length c.chains) (length c.clients) c.paths s)
 of_kind-form kinds.Closed c names s x h =
-    unnamed-form (length c.chains) (length c.clients) (length c.paths) names (closed c.paths s) x h (closed-form (length c.chains) (length c.clients) c.paths s)
+    unnamed-form (length c.chains) (length c.clients) (length c.paths) names (closed c.paths s) x h (closed-form c.version (length c.chains) (length c.clients) c.paths s)
 
 event-form : (c : Config) (names : Names) (s : Section) (x : Observation Global × Names) → event c names s ≡ Ok x → IsSeenBy c x.0
 unfolding event
@@ -256,7 +299,7 @@ events-form c path names ds all h =
 -- a window that doesn't end before it begins, and the room that is left
 record IsTurnHead (room : ℕ) (f : TurnHead) : Type 0 where
   window : f.window.from ≤ f.window.until
-  left : entries f.goals f.events f.settlements + f.room ≡ room
+  left : entries f.windows f.goals f.events f.settlements + f.room ≡ room
 
 head-form : (ver : Version) (room : ℕ) (s : Section) (f : TurnHead) → frame ver room s ≡ Ok f → IsTurnHead room f
 unfolding frame
@@ -264,17 +307,18 @@ head-form ver room s f h =
     pass (only (turn_keys ver) s) _ f h (λ u e0 h0.
     pass (needs (codes "from") time s) _ f h0 (λ from e1 h1.
     pass (needs (codes "until") time s) _ f h1 (λ until e2 h2.
-    pass (or_default no_items items (optional (codes "goal") s)) _ f h2 (λ goals e3 h3.
-    pass (or_default no_items items (optional (codes "event") s)) _ f h3 (λ events e4 h4.
-    pass (or_default no_items items (optional (codes "settle") s)) _ f h4 (λ settlements e5 h5.
-    pass (is_taken ver s) _ f h5 (λ whole e6 h6.
-    pass (check (nat_le (entries goals events settlements) room) TooManyEvents s.path) _ f h6 (λ v few h7.
-    pass (check (nat_le from until) BadWindow s.path) _ f h7 (λ w ordered same.
-    let fits = leb-true (entries goals events settlements) room (check-passed _ TooManyEvents s.path v few) in
+    pass (windows_in ver s) _ f h2 (λ windows e3 h3.
+    pass (or_default no_items items (optional (codes "goal") s)) _ f h3 (λ goals e4 h4.
+    pass (or_default no_items items (optional (codes "event") s)) _ f h4 (λ events e5 h5.
+    pass (or_default no_items items (optional (codes "settle") s)) _ f h5 (λ settlements e6 h6.
+    pass (is_taken ver s) _ f h6 (λ whole e7 h7.
+    pass (check (nat_le (entries windows goals events settlements) room) TooManyEvents s.path) _ f h7 (λ v few h8.
+    pass (check (nat_le from until) BadWindow s.path) _ f h8 (λ w ordered same.
+    let fits = leb-true (entries windows goals events settlements) room (check-passed _ TooManyEvents s.path v few) in
     subst (IsTurnHead room) (same_ok _ f same) (record {
       window = leb-true from until (check-passed _ BadWindow s.path w ordered);
       left = omega (arith, fits);
-    }))))))))))
+    })))))))))))
 
 -- a turn keeps what every turn keeps, and takes room for its entries
 pub record IsTaken (c : Config) (reading : Reading) (x : Turn Global × Reading) : Type 0 where
@@ -287,25 +331,30 @@ turn-form c reading s x h =
     let ids = client_ids c.clients in
     let count = length-map c.clients (λ (k : ClientConfig). k.id) in
     pass (frame c.version reading.room s) _ x h (λ f e0 h0.
-    pass (elements (asked ids) (child s.path (codes "goal")) [] f.goals) _ x h0 (λ goals e1 h1.
-    pass (in_sequence (event c) (child s.path (codes "event")) reading.names [] f.events) _ x h1 (λ events e2 h2.
-    pass (elements (settlement ids) (child s.path (codes "settle")) [] f.settlements) _ x h2 (λ settlements e3 same.
+    pass (elements (host_window c.chains) (child s.path (codes "window")) [] f.windows) _ x h0 (λ windows e1 h1.
+    pass (elements (asked ids) (child s.path (codes "goal")) [] f.goals) _ x h1 (λ goals e2 h2.
+    pass (in_sequence (event c) (child s.path (codes "event")) reading.names [] f.events) _ x h2 (λ events e3 h3.
+    pass (elements (settlement ids) (child s.path (codes "settle")) [] f.settlements) _ x h3 (λ settlements e4 same.
     let framed = head-form c.version reading.room s f e0 in
-    let asked_well = subst (λ n. AreGoals n goals) count (goals-form ids (child s.path (codes "goal")) f.goals goals e1) in
-    let settled_well = subst (λ n. All (λ (y : Settlement). y.client < n) settlements) count (settlements-form ids (child s.path (codes "settle")) f.settlements settlements e3) in
-    let asked_count = elements-count (asked ids) (child s.path (codes "goal")) [] f.goals goals e1 in
-    let seen_count = in_sequence-count (event c) (child s.path (codes "event")) reading.names [] f.events events e2 in
-    let settled_count = elements-count (settlement ids) (child s.path (codes "settle")) [] f.settlements settlements e3 in
+    let hosted_well = windows-form c.chains (child s.path (codes "window")) f.windows windows e1 in
+    let asked_well = subst (λ n. AreGoals n goals) count (goals-form ids (child s.path (codes "goal")) f.goals goals e2) in
+    let settled_well = subst (λ n. All (λ (y : Settlement). y.client < n) settlements) count (settlements-form ids (child s.path (codes "settle")) f.settlements settlements e4) in
+    let hosted_count = elements-count (host_window c.chains) (child s.path (codes "window")) [] f.windows windows e1 in
+    let asked_count = elements-count (asked ids) (child s.path (codes "goal")) [] f.goals goals e2 in
+    let seen_count = in_sequence-count (event c) (child s.path (codes "event")) reading.names [] f.events events e3 in
+    let settled_count = elements-count (settlement ids) (child s.path (codes "settle")) [] f.settlements settlements e4 in
     subst (IsTaken c reading) (same_ok _ x same) (record {
       turn = record {
         window = framed.window;
+        windows = hosted_well.0;
+        hosts = hosted_well.1;
         goals = asked_well.0;
         once = asked_well.1;
-        events = events-form c (child s.path (codes "event")) reading.names f.events events e2;
+        events = events-form c (child s.path (codes "event")) reading.names f.events events e3;
         settlements = settled_well;
       };
-      room = omega (arith, framed.left, asked_count, seen_count, settled_count);
-    })))))
+      room = omega (arith, framed.left, hosted_count, asked_count, seen_count, settled_count);
+    }))))))
 
 -- so do all turns
 record AreTaken (c : Config) (ts : List (Turn Global)) (reading : Reading) : Type 0 where

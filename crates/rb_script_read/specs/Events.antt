@@ -126,9 +126,9 @@ abbrev pub event_of_kind : EventKind → Config → Names → Section → Result
 event_of_kind kinds.Set c names s = set_seen c.chains names s
 event_of_kind kinds.Header c names s = unnamed names (header_seen c.chains names s)
 event_of_kind kinds.Stored c names s = unnamed names (stored_seen c.clients names s)
-event_of_kind kinds.Sent c names s = unnamed names (sent c.paths s)
+event_of_kind kinds.Sent c names s = unnamed names (sent c.version c.paths s)
 event_of_kind kinds.Received c names s = unnamed names (received c.paths s)
-event_of_kind kinds.Ack c names s = unnamed names (ack_written c.paths s)
+event_of_kind kinds.Ack c names s = unnamed names (ack_written c.version c.paths s)
 event_of_kind kinds.Cleared c names s = unnamed names (cleared c.paths s)
 event_of_kind kinds.Closed c names s = unnamed names (closed c.paths s)
 

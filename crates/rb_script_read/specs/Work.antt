@@ -5,7 +5,7 @@ use Rattle.rb_base.specs.declared.votes.CarriedVotes.{CarriedVotes}
 use Rattle.rb_base.specs.declared.votes.CarriedVotes.TheVariants.{Commit, Cast, Needed}
 use Rattle.rb_book.specs.Book.{max_sets}
 use Rattle.rb_script_types.specs.Config.{Config}
-use Rattle.rb_script_types.specs.Script.{Turn}
+use Rattle.rb_script_types.specs.Script.{Script, Turn}
 use Rattle.rb_script_types.specs.declared.config.ClientConfig.{ClientConfig}
 use Rattle.rb_script_types.specs.declared.config.PathConfig.{PathConfig}
 use Rattle.rb_script_types.specs.declared.observation.Observation.{Observation}
@@ -69,19 +69,28 @@ with_record limit chain height votes w = record w {
   work = counted w.work (moved_for height (store_of w chain));
 }
 
-abbrev pub after_event : {A : Type 0} → Config → Work → Observation A → Work
-after_event c w (SetSeen chain members) = with_set chain (length members) w
-after_event c w (HeaderSeen chain header) = with_record c.limit chain header.height (length header.votes) w
-after_event c w (StoredSeen client height r) = with_record c.limit (tracked_by c.clients client) height 0 w
-after_event c w (Sent path sequence block timeout_height timeout_time) = record w { sent = counted w.sent 1 }
-after_event c w (Received path sequence block) = w
-after_event c w (AckWritten path sequence block) = w
-after_event c w (Cleared path sequence) = w
-after_event c w (Closed path) = w
+-- with so many records at most, and these clients
+abbrev pub after_event : {A : Type 0} → ℕ → List ClientConfig → Work → Observation A → Work
+after_event limit clients w (SetSeen chain members) = with_set chain (length members) w
+after_event limit clients w (HeaderSeen chain header) = with_record limit chain header.height (length header.votes) w
+after_event limit clients w (StoredSeen client height r) = with_record limit (tracked_by clients client) height 0 w
+after_event limit clients w (Sent path sequence block timeout_height timeout_time) = record w { sent = counted w.sent 1 }
+after_event limit clients w (Received path sequence block) = w
+after_event limit clients w (AckWritten path sequence block) = w
+after_event limit clients w (Cleared path sequence) = w
+after_event limit clients w (Closed path) = w
 
-abbrev pub after_events : {A : Type 0} → Config → Work → List (Observation A) → Work
-after_events c w [] = w
-after_events c w (e ∷ es) = after_events c (after_event c w e) es
+abbrev pub after_events : {A : Type 0} → ℕ → List ClientConfig → Work → List (Observation A) → Work
+after_events limit clients w [] = w
+after_events limit clients w (e ∷ es) = after_events limit clients (after_event limit clients w e) es
+
+abbrev pub after_events_of : {A : Type 0} → ℕ → List ClientConfig → Work → List (Turn A) → Work
+after_events_of limit clients w [] = w
+after_events_of limit clients w (t ∷ ts) = after_events_of limit clients (after_events limit clients w t.events) ts
+
+-- how large the light store of each chain can be after all turns
+abbrev pub stores_of : {A : Type 0} → Script A → List StoreSize
+stores_of s = (after_events_of s.config.limit s.config.clients (no_work (length s.config.chains)) s.turns).stores
 
 -- a chain's step table can be made anew in each turn: a sum over each set for each record
 abbrev pub sums_after : ℕ → List StoreSize → ℕ
@@ -102,6 +111,10 @@ abbrev pub carried : CarriedVotes → StoreSize → ℕ
 carried Commit s = 0
 carried Cast s = 0
 carried Needed s = s.votes * 2
+
+-- the work of a plan for a client whose updates carry these votes
+abbrev pub plan_work : CarriedVotes → StoreSize → ℕ
+plan_work votes s = counted (counted 0 (s.records * (s.sets * 2 + 51))) (walked votes s)
 
 -- a client's answer can have a label of each record of its chain, with a step to it from a record for each set, and an update to each
 abbrev pub after_client : Work → ClientConfig → Work
@@ -127,7 +140,7 @@ abbrev pub after_packets : Work → Work
 after_packets w = record w { work = counted w.work (w.sent * 36); space = counted w.space (w.sent * 13) }
 
 abbrev pub after_turn : {A : Type 0} → Config → Work → List (Observation A) → Work
-after_turn c w es = after_packets (after_paths (after_clients (after_tables (after_events c w es)) c.clients) c.paths)
+after_turn c w es = after_packets (after_paths (after_clients (after_tables (after_events c.limit c.clients w es)) c.clients) c.paths)
 
 -- a chain's step table can have a number for each record and set, 2 units of space each
 abbrev pub numbers_after : ℕ → List StoreSize → ℕ

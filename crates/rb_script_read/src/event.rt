@@ -208,9 +208,9 @@ fn read_event(
         EventKind::Set => read_set(section, &setup.chains, names, ready),
         EventKind::Header => read_header(section, &setup.chains, names),
         EventKind::Stored => read_stored(section, &setup.clients, names),
-        EventKind::Sent => read_sent(section, &setup.paths),
+        EventKind::Sent => read_sent(setup.version, section, &setup.paths),
         EventKind::Received => read_received(section, &setup.paths),
-        EventKind::Ack => read_ack(section, &setup.paths),
+        EventKind::Ack => read_ack(setup.version, section, &setup.paths),
         EventKind::Cleared => read_cleared(section, &setup.paths),
         EventKind::Closed => read_closed(section, &setup.paths),
     }

@@ -2,12 +2,12 @@
 ghost use Rattle.std.specs.Prelude.{◌≡◌, None, codes};
 ghost use Rattle.rb_script_toml.specs.Faults.{Gives};
 ghost use Rattle.rb_script_toml.specs.Fields.{field_view, section_view, only, needs, optional, or_default};
-ghost use Rattle.rb_script_read.specs.Packets.{block, height_or_none, time_or_none, unless_zero, sent, sent_keys, received, ack_written, packet_keys, cleared, cleared_keys, closed, closed_keys};
+ghost use Rattle.rb_script_read.specs.Packets.{block, height_or_none, time_or_none, unless_zero, time_in, sent, sent_keys, received, ack_written, ack_keys, packet_keys, cleared, cleared_keys, closed, closed_keys};
 
 use rb_base::{Height, Moment};
 use rb_script_config::{Directory, needed_sequence, reference};
 use rb_script_toml::{FaultName, Field, MAX_NUMBER, RunError, Section};
-use rb_script_types::{BlockHeight, Observation, PathConfig};
+use rb_script_types::{Block, BlockHeight, Observation, PathConfig, Version};
 
 /// The height of the block.
 #[tactic(auto, using(rb_script_toml::proofs::Steps::steps))]
@@ -64,37 +64,64 @@ fn timeout_time(section: &Section<'_>) -> Result<Option<Moment>, RunError>
     }
 }
 
-fn only_sent_keys(section: &Section<'_>) -> Result<(), RunError>
-    ensures { Gives (λ u. u) result (only sent_keys (section_view section.now)) }
+/// The time of the block, where it is told.
+#[tactic(auto, using(rb_script_toml::proofs::Steps::steps))]
+fn time_in(version: Version, section: &Section<'_>) -> Result<Option<Moment>, RunError>
+    ensures { Gives (λ t. t) result (time_in version (section_view section.now)) }
 {
-    section.only(&[
-        "kind",
-        "path",
-        "seq",
-        "height",
-        "timeout_height",
-        "timeout_time",
-    ])
+    match version {
+        Version::One | Version::Two | Version::Three => Ok(None),
+        Version::Four => match section.optional("time") {
+            Some(field) => Ok(Some(field.time()?)),
+            None => Ok(None),
+        },
+    }
+}
+
+fn only_sent_keys(version: Version, section: &Section<'_>) -> Result<(), RunError>
+    ensures { Gives (λ u. u) result (only (sent_keys version) (section_view section.now)) }
+{
+    match version {
+        Version::One | Version::Two | Version::Three => section.only(&[
+            "kind",
+            "path",
+            "seq",
+            "height",
+            "timeout_height",
+            "timeout_time",
+        ]),
+        Version::Four => section.only(&[
+            "kind",
+            "path",
+            "seq",
+            "height",
+            "time",
+            "timeout_height",
+            "timeout_time",
+        ]),
+    }
 }
 
 /// Reads that a block of the source sent a packet, and when the packet expires.
 #[tactic(auto, using(rb_script_toml::proofs::Steps::steps), unfolding(crate::specs::Packets::sent))]
 pub fn read_sent(
+    version: Version,
     section: &Section<'_>,
     paths: &Directory<PathConfig>,
 ) -> Result<Observation, RunError>
-    ensures { Gives (λ e. e) result (sent paths.now (section_view section.now)) }
+    ensures { Gives (λ e. e) result (sent version paths.now (section_view section.now)) }
 {
-    only_sent_keys(section)?;
+    only_sent_keys(version, section)?;
     let path = reference(section, "path", paths)?;
     let sequence = needed_sequence(section)?;
-    let block = needed_block(section)?;
+    let height = needed_block(section)?;
+    let time = time_in(version, section)?;
     let timeout_height = timeout_height(section)?;
     let timeout_time = timeout_time(section)?;
     Ok(Observation::Sent {
         path,
         sequence,
-        block,
+        block: Block { height, time },
         timeout_height,
         timeout_time,
     })
@@ -125,22 +152,35 @@ pub fn read_received(
     })
 }
 
+fn only_ack_keys(version: Version, section: &Section<'_>) -> Result<(), RunError>
+    ensures { Gives (λ u. u) result (only (ack_keys version) (section_view section.now)) }
+{
+    match version {
+        Version::One | Version::Two | Version::Three => {
+            section.only(&["kind", "path", "seq", "height"])
+        }
+        Version::Four => section.only(&["kind", "path", "seq", "height", "time"]),
+    }
+}
+
 /// Reads that a block of the destination wrote a packet's acknowledgement.
 #[tactic(auto, using(rb_script_toml::proofs::Steps::steps), unfolding(crate::specs::Packets::ack_written))]
 pub fn read_ack(
+    version: Version,
     section: &Section<'_>,
     paths: &Directory<PathConfig>,
 ) -> Result<Observation, RunError>
-    ensures { Gives (λ e. e) result (ack_written paths.now (section_view section.now)) }
+    ensures { Gives (λ e. e) result (ack_written version paths.now (section_view section.now)) }
 {
-    only_packet_keys(section)?;
+    only_ack_keys(version, section)?;
     let path = reference(section, "path", paths)?;
     let sequence = needed_sequence(section)?;
-    let block = needed_block(section)?;
+    let height = needed_block(section)?;
+    let time = time_in(version, section)?;
     Ok(Observation::AckWritten {
         path,
         sequence,
-        block,
+        block: Block { height, time },
     })
 }
 

@@ -4,7 +4,7 @@ ghost use Rattle.toml.specs.View.{view, items_view};
 ghost use Rattle.rb_script_types.specs.Script.{turn_view};
 ghost use Rattle.rb_script_toml.specs.Faults.{Gives};
 ghost use Rattle.rb_script_toml.specs.Fields.{section_view, only};
-ghost use Rattle.rb_script_read.specs.Turns.{turn, turn_at, turn_keys, is_taken, frame, head_view, opening, reading_view};
+ghost use Rattle.rb_script_read.specs.Turns.{turn, turn_at, turn_keys, is_taken, windows_in, frame, head_view, opening, reading_view};
 ghost use Rattle.rb_script_read.specs.Ready.{AreReadyAt, AreReadyIn, events_of};
 ghost use Rattle.rb_script_read.specs.NextTurns.{next_turn_view, reading_after};
 ghost use Rattle.rb_script_config.specs.Setups.{setup_view};
@@ -14,7 +14,7 @@ use crate::names::{Naming, SetNames};
 use crate::ready::ReadySet;
 use crate::turn_names::TurnNames;
 use rb_base::Window;
-use rb_script_config::{Setup, read_goals, read_settlements};
+use rb_script_config::{Setup, read_goals, read_settlements, read_windows};
 use rb_script_toml::{FaultName, RunError, Section, child_path, element_path, section_at};
 use rb_script_types::{MAX_ENTRIES, Turn, Version};
 use std::alloc::{AllocError, Global};
@@ -24,6 +24,7 @@ use toml::Value;
 #[derive(Clone, Copy)]
 pub struct TurnHead<'a> {
     pub window: Window,
+    pub windows: &'a [Value],
     pub goals: &'a [Value],
     pub events: &'a [Value],
     pub settlements: &'a [Value],
@@ -31,8 +32,8 @@ pub struct TurnHead<'a> {
     pub room: usize,
 }
 
-/// What the turns before leave to the next: the names that they gave, and room for so many goals,
-/// events and settlements.
+/// What the turns before leave to the next: the names that they gave, and room for so many windows of hosts,
+/// goals, events and settlements.
 #[derive(Drop)]
 pub struct Reading {
     pub names: SetNames,
@@ -85,6 +86,9 @@ fn only_turn_keys(version: Version, section: &Section<'_>) -> Result<(), RunErro
             section.only(&["from", "until", "goal", "event", "settle"])
         }
         Version::Three => section.only(&["from", "until", "goal", "event", "settle", "taken"]),
+        Version::Four => section.only(&[
+            "from", "until", "window", "goal", "event", "settle", "taken",
+        ]),
     }
 }
 
@@ -94,15 +98,32 @@ fn is_taken(version: Version, section: &Section<'_>) -> Result<bool, RunError>
 {
     match version {
         Version::One | Version::Two => Ok(false),
-        Version::Three => section.flag("taken"),
+        Version::Three | Version::Four => section.flag("taken"),
     }
 }
 
-/// How much room is left of so much after so many goals, events and settlements, if they fit.
-fn room_after(room: usize, goals: usize, events: usize, settlements: usize) -> Option<usize>
-    ensures { SomeIff result (goals + events + settlements ≤ room) (room - (goals + events + settlements)) }
+/// The windows of hosts.
+fn windows_in<'a>(version: Version, section: &Section<'a>) -> Result<&'a [Value], RunError>
+    ensures { Gives (λ vs. items_view vs.now) result (windows_in version (section_view section.now)) }
 {
-    room.checked_sub(goals)?
+    match version {
+        Version::One | Version::Two | Version::Three => Ok(&[]),
+        Version::Four => section.items("window"),
+    }
+}
+
+/// How much room is left of so much after so many windows of hosts, goals, events and settlements, if they fit.
+fn room_after(
+    room: usize,
+    windows: usize,
+    goals: usize,
+    events: usize,
+    settlements: usize,
+) -> Option<usize>
+    ensures { SomeIff result (windows + goals + events + settlements ≤ room) (room - (windows + goals + events + settlements)) }
+{
+    room.checked_sub(windows)?
+        .checked_sub(goals)?
         .checked_sub(events)?
         .checked_sub(settlements)
 }
@@ -119,16 +140,24 @@ fn read_head<'a>(
     only_turn_keys(version, &section)?;
     let from = section.time("from")?;
     let until = section.time("until")?;
+    let windows = windows_in(version, &section)?;
     let goals = section.items("goal")?;
     let events = section.items("event")?;
     let settlements = section.items("settle")?;
     let taken = is_taken(version, &section)?;
-    let Some(room) = room_after(room, goals.len(), events.len(), settlements.len()) else {
+    let Some(room) = room_after(
+        room,
+        windows.len(),
+        goals.len(),
+        events.len(),
+        settlements.len(),
+    ) else {
         return Err(section.fault(FaultName::TooManyEvents));
     };
     match Window::new(from, until) {
         Ok(window) => Ok(TurnHead {
             window,
+            windows,
             goals,
             events,
             settlements,
@@ -151,6 +180,8 @@ pub(crate) fn read_turn(
     ensures { Gives (next_turn_view (reading_view reading.now)) result (turn (setup_view setup.now) (reading_view reading.now) (section_view section.now)) }
 {
     let frame = read_head(setup.version, *section, reading.room)?;
+    let path = child_path(section.alloc, section.path, "window")?;
+    let windows = read_windows(section.alloc, path.as_str(), frame.windows, &setup.chains)?;
     let path = child_path(section.alloc, section.path, "goal")?;
     let goals = read_goals(section.alloc, path.as_str(), frame.goals, &setup.clients)?;
     let path = child_path(section.alloc, section.path, "event")?;
@@ -165,6 +196,7 @@ pub(crate) fn read_turn(
     )?;
     let turn = Turn {
         window: frame.window,
+        windows,
         goals,
         events,
         settlements,

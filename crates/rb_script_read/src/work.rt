@@ -1,16 +1,16 @@
 //! How much the turns of a script ask for.
 ghost use Rattle.std.specs.Prelude.{◌≡◌, ◌+◌, ◌*◌, codes, get_or, map, min, set, IfOk};
-ghost use Rattle.rb_script_types.specs.Script.{turn_view};
+ghost use Rattle.rb_script_types.specs.Script.{script_view, turn_view};
 ghost use Rattle.rb_script_toml.specs.Faults.{Gives, IsFault};
 ghost use Rattle.rb_script_toml.specs.KeyPaths.{element};
 ghost use Rattle.rb_script_config.specs.Setups.{setup_view};
 ghost use Rattle.rb_script_read.specs.Events.{tracked_by};
-ghost use Rattle.rb_script_read.specs.Work.{after_client, after_clients, after_event, after_events, after_packets, after_path, after_paths, after_tables, after_turn, carried, counted, is_little, larger_by_record, larger_by_set, little, moved_for, no_store, no_work, numbers_after, sums_after, walked, with_record, with_set, work_view};
+ghost use Rattle.rb_script_read.specs.Work.{after_client, after_clients, after_event, after_events, after_packets, after_path, after_paths, after_tables, after_turn, carried, counted, is_little, larger_by_record, larger_by_set, little, moved_for, no_store, no_work, numbers_after, plan_work, stores_of, sums_after, walked, with_record, with_set, work_view};
 
 use rb_base::{CarriedVotes, Height};
-use rb_script_config::{Directory, Setup};
+use rb_script_config::Setup;
 use rb_script_toml::{FaultName, RunError, element_path, fault_at};
-use rb_script_types::{ClientConfig, Observation, PathConfig, Turn};
+use rb_script_types::{ClientConfig, Observation, PathConfig, Script, Turn};
 use std::alloc::{AllocError, Global};
 
 /// So many units of work, each of some ten nanoseconds, all turns may ask for.
@@ -119,6 +119,14 @@ impl StoreSize {
         self.records.saturating_mul(steps)
     }
 
+    /// The work of a plan for a client whose updates carry these votes, in units of some ten nanoseconds: at most 2^32,
+    /// which stands for more, too.
+    pub fn plan_work(self, votes: CarriedVotes) -> u64
+        ensures { result ≡ plan_work votes self }
+    {
+        counted(counted(0, self.planned()), self.walked(votes))
+    }
+
     /// The work of the votes where updates carry those that they need: 60 for each vote and 50 for each
     /// consensus state, for each set, and ten times for the updates.
     fn walked(self, votes: CarriedVotes) -> u64
@@ -206,10 +214,10 @@ fn sums_after(work: u64, stores: &[StoreSize]) -> u64
 }
 
 /// The chain that a client follows.
-fn tracked_by(clients: &Directory<ClientConfig>, client: usize) -> usize
+fn tracked_by(clients: &[ClientConfig], client: usize) -> usize
     ensures { result ≡ tracked_by clients.now client }
 {
-    match clients.as_slice().get(client) {
+    match clients.get(client) {
         Some(client) => client.tracks,
         None => 0,
     }
@@ -261,17 +269,17 @@ impl Work {
         );
     }
 
-    fn count_event(&mut self, setup: &Setup, event: &Observation)
-        ensures { work_view self.new ≡ after_event (setup_view setup.now) (work_view self.old) event.now }
+    fn count_event(&mut self, limit: usize, clients: &[ClientConfig], event: &Observation)
+        ensures { work_view self.new ≡ after_event limit clients.now (work_view self.old) event.now }
     {
         match event {
             Observation::SetSeen { chain, set } => self.count_set(*chain, set.size()),
             Observation::HeaderSeen { chain, header } => {
-                self.count_record(setup.limit, *chain, header.height(), header.votes().len());
+                self.count_record(limit, *chain, header.height(), header.votes().len());
             }
             Observation::StoredSeen { client, height, .. } => {
-                let chain = tracked_by(&setup.clients, *client);
-                self.count_record(setup.limit, chain, *height, 0);
+                let chain = tracked_by(clients, *client);
+                self.count_record(limit, chain, *height, 0);
             }
             Observation::Sent { .. } => self.sent = counted(self.sent, 1),
             Observation::Received { .. }
@@ -281,11 +289,11 @@ impl Work {
         }
     }
 
-    fn count_events(&mut self, setup: &Setup, events: &[Observation])
-        ensures { work_view self.new ≡ after_events (setup_view setup.now) (work_view self.old) events.now }
+    fn count_events(&mut self, limit: usize, clients: &[ClientConfig], events: &[Observation])
+        ensures { work_view self.new ≡ after_events limit clients.now (work_view self.old) events.now }
     {
         for event in events {
-            self.count_event(setup, event);
+            self.count_event(limit, clients, event);
         }
     }
 
@@ -338,12 +346,28 @@ impl Work {
     fn count_turn(&mut self, setup: &Setup, events: &[Observation])
         ensures { work_view self.new ≡ after_turn (setup_view setup.now) (work_view self.old) events.now }
     {
-        self.count_events(setup, events);
+        self.count_events(setup.limit, setup.clients.as_slice(), events);
         self.count_tables();
         self.count_clients(setup.clients.as_slice());
         self.count_paths(setup.paths.as_slice());
         self.count_packets();
     }
+}
+
+/// How large the light store of each chain of a script can be after all turns. `AllocError` where a growth is refused.
+pub fn stores_of(alloc: Global, script: &Script) -> Result<Vec<StoreSize>, AllocError>
+    ensures { IfOk result (λ stores. stores.items ≡ stores_of (script_view script.now)) }
+{
+    let config = &script.config;
+    let mut work = Work::new(alloc, config.chains.len())?;
+    for turn in script.turns.as_slice() {
+        work.count_events(
+            config.limit,
+            config.clients.as_slice(),
+            turn.events.as_slice(),
+        );
+    }
+    Ok(work.stores)
 }
 
 fn too_much_at(alloc: Global, index: usize) -> RunError

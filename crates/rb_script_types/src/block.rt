@@ -1,8 +1,8 @@
-//! The heights of blocks that packets are written in.
+//! Blocks that packets are written in.
 ghost use Rattle.std.specs.Prelude.{◌≡◌, SomeIff};
 ghost use Rattle.rb_script_types.specs.Block.{IsBlockHeight};
 
-use rb_base::Height;
+use rb_base::{Height, Moment};
 use std::marker::Model;
 
 /// The height of a block that sent a packet, received it or wrote its acknowledgement: 1 to
@@ -47,4 +47,11 @@ impl BlockHeight {
     {
         self.height
     }
+}
+
+/// A block that sent a packet or wrote its acknowledgement: its height, and its time where that is told.
+#[derive(Clone, Copy, PartialEq, Eq)]
+pub struct Block {
+    pub height: BlockHeight,
+    pub time: Option<Moment>,
 }

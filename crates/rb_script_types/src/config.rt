@@ -14,17 +14,20 @@ use rb_book::MAX_RECORDS;
 use rb_scan::{Order, Sequence};
 use std::alloc::{AllocError, Allocator, Global};
 
-/// To which height a client is brought where it is due for a refresh.
+/// When a client is refreshed, and to which height. By the first two a client has the first of its needs as its goal; by the
+/// third it has one goal of all of them.
 #[derive(Clone, Copy, PartialEq, Eq)]
 pub enum RefreshTo {
-    /// The lowest known one whose record is not due, or one above it.
+    /// By age, to the lowest known one whose record is not due, or one above it.
     Lowest,
-    /// The greatest that can be reached, where its record is not due; else as `Lowest` has it.
+    /// By age, to the greatest that can be reached, where its record is not due; else as `Lowest` has it.
     Highest,
+    /// By gain: where its newest record can be made newer by the refresh age, or its expiry is near.
+    Newer,
 }
 
-/// A client: the chain that hosts it, the chain that it tracks, how it judges headers, after how
-/// many nanoseconds it is to be refreshed (0: never) and to which height, what an update costs in fees
+/// A client: the chain that hosts it, the chain that it tracks, how it judges headers, the refresh age in
+/// nanoseconds (0: it is never refreshed) and to which height it is refreshed, what an update costs in fees
 /// and in gas, and what a transaction may carry.
 #[derive(Clone, Copy, PartialEq, Eq)]
 pub struct ClientConfig {

@@ -1,6 +1,6 @@
 //! What a client is to be brought to.
-ghost use Rattle.std.specs.Prelude.{◌↔◌, IsTrue};
-ghost use Rattle.rb_script_types.specs.Goal.{Wants};
+ghost use Rattle.std.specs.Prelude.{◌≡◌, ◌↔◌, IsTrue};
+ghost use Rattle.rb_script_types.specs.Goal.{height_in, Wants};
 
 use rb_base::Height;
 
@@ -14,6 +14,15 @@ pub enum Goal {
 }
 
 impl Goal {
+    /// The height that it names.
+    pub fn height(self) -> Height
+        ensures { result ≡ height_in self }
+    {
+        match self {
+            Goal::Exactly(height) | Goal::AtLeast(height) => height,
+        }
+    }
+
     /// Whether the goal is met where this height is stored and live.
     pub fn wants(self, height: Height) -> bool
         ensures { IsTrue result ↔ Wants self height }

@@ -15,7 +15,7 @@ mod script;
 mod version;
 mod waits;
 
-pub use block::BlockHeight;
+pub use block::{Block, BlockHeight};
 pub use channel::{Channel, ChannelEnd};
 pub use config::{ClientConfig, Config, PathConfig, RefreshTo, is_config};
 pub use end_id::EndId;
@@ -24,6 +24,6 @@ pub use goal::Goal;
 pub use limits::{MAX_CHAINS, MAX_CLIENTS, MAX_ENTRIES, MAX_PATHS, MAX_TURNS};
 pub use observation::Observation;
 pub use refusal::Refusal;
-pub use script::{Asked, Script, Settlement, Turn};
+pub use script::{Asked, HostWindow, Script, Settlement, Turn};
 pub use version::Version;
 pub use waits::Waits;

@@ -1,7 +1,7 @@
 //! What is observed of chains, clients and paths.
 ghost use Rattle.std.specs.Prelude.{◌≡◌, IfOk};
 
-use crate::block::BlockHeight;
+use crate::block::{Block, BlockHeight};
 use rb_base::{Height, Moment};
 use rb_book::{Header, Record};
 use rb_scan::Sequence;
@@ -32,7 +32,7 @@ pub enum Observation<A: Allocator = Global> {
     Sent {
         path: usize,
         sequence: Sequence,
-        block: BlockHeight,
+        block: Block,
         timeout_height: Option<Height>,
         timeout_time: Option<Moment>,
     },
@@ -47,7 +47,7 @@ pub enum Observation<A: Allocator = Global> {
     AckWritten {
         path: usize,
         sequence: Sequence,
-        block: BlockHeight,
+        block: Block,
     },
     /// A packet to which the source holds no commitment any more.
     Cleared {

@@ -3,10 +3,9 @@ use Rattle.std.proofs.Common.{◌≡◌, ℕ, zero, suc, ◌+◌, List, [], ◌�
 use Rattle.std.specs.List.{AllZip, enumerate_from}
 use Rattle.std.specs.Option.{option_map}
 use Rattle.std.proofs.lemmas.Option.{same_Some}
-use Rattle.rb_batch.specs.Laws.{LeastCutIsOne}
 use Rattle.rb_plan_client.specs.Draft.{Plan as SentPlan, Planned as Answer, IsPlan}
 use Rattle.rb_core_model.specs.Standing.{Standing, opening_standing, task_in}
-use Rattle.rb_plan_client.specs.Task.{Task, view_of, messages_of}
+use Rattle.rb_plan_client.specs.Task.{Task, view_of}
 use Rattle.rb_script_types.specs.declared.goal.Goal.{Goal}
 use Rattle.rb_plan_types.specs.Answer.{Shows}
 use Rattle.rb_plan_types.specs.Labelling.{Labels, IsExact, label_of}
@@ -18,7 +17,7 @@ use Rattle.rb_super_scripts.specs.Judging.{Leads, IsPlanPhase, IsWanted, IsPlann
 use Rattle.rb_super_turn.specs.Report.{PlanReport, PlannedReport, planned, TurnReport, Report}
 use Rattle.rb_super_turn.specs.Script.{Turn, Script}
 use Rattle.rb_super_turn.specs.Turns.{update_of, reported, reported_plan, IsOutcome, IsClientReport, IsTurnReport, AreTurnReports, IsReportOf, after_turn}
-use Rattle.rb_super_scripts.proofs.OneReport.{one_turn}
+use Rattle.rb_super_scripts.proofs.OneReport.{CutsAreOne, one_turn}
 use Rattle.rb_super_turn.proofs.Reported.{updates_back}
 
 -- what stands beside an element of the second list
@@ -34,7 +33,7 @@ zipped_in R m (p ∷ xs) (q ∷ ys) zero n y e all at =
 zipped_in R m (p ∷ xs) (q ∷ ys) (suc i) n y e all at = zipped_in R (m + 1) xs ys i n y (omega arith) all.1 at
 
 -- the turn's report is one as the turns before it left things
-reported_at : AnswersAreOne → LeastCutIsOne → (s : Standing) (ts : List Turn) (rs : Report) (i : ℕ) (u : Standing) (t : Turn) (r : TurnReport)
+reported_at : AnswersAreOne → CutsAreOne → (s : Standing) (ts : List Turn) (rs : Report) (i : ℕ) (u : Standing) (t : Turn) (r : TurnReport)
     → AreTurnReports s ts rs → Leads s (take i ts) u → slice_get ts i ≡ Some t → slice_get rs i ≡ Some r → IsTurnReport u t r
 reported_at one cuts s [] rs i u t r all leads at is = cc
 reported_at one cuts s (x ∷ ts) [] i u t r all leads at is = absurd all
@@ -55,12 +54,12 @@ claimed t number next a = go a.plan
     go None = refl
     go (Some p) = ap (λ us. Some us) (updates_back t p.updates)
 
-shown : (t : Task) (reach : Option ℕ) (goal : Goal) (plan : Option SentPlan) → MatchOption plan (IsUnreachable (client_of (view_of t)) goal) (IsPlan t goal (messages_of t reach))
+shown : (t : Task) (reach : Option ℕ) (goal : Goal) (plan : Option SentPlan) → MatchOption plan (IsUnreachable (client_of (view_of t)) goal) (IsPlan t reach goal)
     → Shows (client_of (view_of t)) goal (option_map (λ (p : SentPlan). p.updates) plan)
 shown t reach goal None none = none
 shown t reach goal (Some p) is = is.least
 
-pub own_answer : AnswersAreOne → LeastCutIsOne → (script : Script) (turn client : ℕ) (labels : Labels) (claim : Option (List Update)) (s : Standing) (Accepted : Type 0)
+pub own_answer : AnswersAreOne → CutsAreOne → (script : Script) (turn client : ℕ) (labels : Labels) (claim : Option (List Update)) (s : Standing) (Accepted : Type 0)
     → IsPlanPhase script turn s
     → (IsExactAs s client labels claim → Accepted)
     → (report : Report) → IsReportOf script report → IsReported report turn client labels claim → Accepted

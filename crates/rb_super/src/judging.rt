@@ -18,7 +18,7 @@ ghost use Rattle.rb_super_turn.specs.Turns.{IsReportOf};
 use crate::run::run_turns;
 use crate::supervisor::Supervisor;
 use rb_base::{Gate, OpenGate};
-use rb_batch::laws::least_cut_is_one;
+use rb_batch::laws::{cut_apart_is_division, cut_apart_is_one, least_cut_is_one};
 use rb_cert::{Judgement, certify_par};
 use rb_plan_client::JobView;
 use rb_plan_types::Answer;
@@ -178,6 +178,8 @@ pub fn judge<R: Threads + Sync, A: Allocator + Copy + Send + Sync>(
 {
     answers_are_one();
     least_cut_is_one();
+    cut_apart_is_division();
+    cut_apart_is_one();
     let crew = Crew::new(rt, 0, &OpenGate);
     let mut relayer = plan_phase(&crew, alloc, script, turn)?;
     verdict_on(&crew, alloc, &mut relayer, client, answer)

@@ -7,7 +7,8 @@ ghost use Rattle.rb_core_model.specs.Forgetting.{floors_of, has_many_to_forget, 
 ghost use Rattle.rb_core_model.specs.Over.{firsts_of};
 ghost use Rattle.rb_core_model.specs.Snapshot.{from_nothing};
 ghost use Rattle.rb_core_model.specs.Standing.{goes_back};
-ghost use Rattle.rb_super_turn.specs.Turns.{before_plans, refusals_in, IsTurnReport, after_turn};
+ghost use Rattle.rb_super_turn.specs.Turns.{hosts_back, before_plans, refusals_in, IsTurnReport, after_turn};
+ghost use Rattle.rb_script_types.specs.declared.script.HostWindow.{HostWindow as WindowOf};
 ghost use Rattle.rb_super_turn.specs.Phases.{standing_in, HasLogRoom, IsLater, turn_heard, IsAllScanned, IsPlannable, AreReported};
 ghost use Rattle.rb_super_turn.specs.Views.{refused_view, client_report_view, turn_report_view};
 ghost use Rattle.rb_super_scripts.specs.AsEvents.{code_turn_as_events, IsTurnFor, most_events};
@@ -18,9 +19,9 @@ use crate::orders::{order_plans, order_scans};
 use rb_base::{Gate, Window};
 use rb_board::{Desk, open};
 use rb_core::Core;
-use rb_script_types::{Asked, Config, Observation, Turn};
+use rb_script_types::{Asked, Config, HostWindow, Observation, Turn};
 use rb_super_turn::{
-    ClientReport, Crew, RefusedEvent, Relayer, TurnReport, hear_all, no_tables, plan_all, scan_all,
+    ClientReport, Crew, Heard, Relayer, TurnReport, hear_all, no_tables, plan_all, scan_all,
     settle_turn,
 };
 use rb_super_worker::{Inbox, Team};
@@ -165,20 +166,23 @@ fn prepare<R: Threads + Sync + Wait, G: Gate + Send + Sync + Drop + 'static>(
     relayer: Relayer<Global, Head>,
     team: Team<G>,
     window: Window,
+    windows: &[HostWindow],
     goals: &[Asked],
     events: Vec<Observation>,
-) -> Result<(Relayer<Global, Head>, Team<G>, (bool, Vec<RefusedEvent>)), AllocError>
+) -> Result<(Relayer<Global, Head>, Team<G>, Heard), AllocError>
+    requires hosts { All (λ (w : WindowOf). w.host < length relayer.config.chains) windows.now }
     requires goals { All (λ (g : Asked). g.client < length relayer.config.clients) goals.now }
     requires events { All (IsReadObservation (length relayer.config.chains) (length relayer.config.clients) (length relayer.config.paths)) events.items }
-    requires room { HasLogRoom relayer (1 + length goals.now + length events.items + 2 * length relayer.config.paths) }
-    ensures back { IfOk result (λ r. r.2.0 ≡ goes_back (standing_in relayer).window window) }
-    ensures refused { IfOk result (λ r. map refused_view r.2.1.items ≡ refusals_in (standing_in relayer) (turn_heard window goals.now events.items)) }
-    ensures standing { IfOk result (λ r. standing_in r.0 ≡ before_plans (standing_in relayer) (turn_heard window goals.now events.items)) }
+    requires room { HasLogRoom relayer (1 + length windows.now + length goals.now + length events.items + 2 * length relayer.config.paths) }
+    ensures back { IfOk result (λ r. r.2.window_back ≡ goes_back (standing_in relayer).window window) }
+    ensures hosts { IfOk result (λ r. r.2.hosts_back.items ≡ hosts_back (standing_in relayer) windows.now) }
+    ensures refused { IfOk result (λ r. map refused_view r.2.refused.items ≡ refusals_in (standing_in relayer) (turn_heard window windows.now goals.now events.items)) }
+    ensures standing { IfOk result (λ r. standing_in r.0 ≡ before_plans (standing_in relayer) (turn_heard window windows.now goals.now events.items)) }
     ensures ready { IfOk result (λ r. IsPlannable r.0) }
-    ensures later { IfOk result (λ r. IsLater (1 + length goals.now + length events.items + 2 * length relayer.config.paths) relayer r.0) }
+    ensures later { IfOk result (λ r. IsLater (1 + length windows.now + length goals.now + length events.items + 2 * length relayer.config.paths) relayer r.0) }
 {
     let mut relayer = relayer;
-    let heard = hear_all(alloc, &mut relayer, window, goals, events);
+    let heard = hear_all(alloc, &mut relayer, window, windows, goals, events);
     let (relayer, team, heard) = or_end(crew.rt(), relayer, team, heard)?;
     let (mut relayer, mut found) = begin_scans(crew.rt(), alloc, relayer, team)?;
     let scanned = scan_all(crew, &mut relayer, &mut found);
@@ -279,6 +283,7 @@ impl<G: Gate + Send + Sync + Drop + 'static> ParallelSupervisor<G> {
     {
         let Turn {
             window,
+            windows,
             goals,
             events,
             settlements,
@@ -289,12 +294,13 @@ impl<G: Gate + Send + Sync + Drop + 'static> ParallelSupervisor<G> {
             relayer,
             team,
         } = self;
-        let (relayer, team, (window_back, refused)) = prepare(
+        let (relayer, team, heard) = prepare(
             crew,
             alloc,
             relayer,
             team,
             window,
+            windows.as_slice(),
             goals.as_slice(),
             events,
         )?;
@@ -302,8 +308,9 @@ impl<G: Gate + Send + Sync + Drop + 'static> ParallelSupervisor<G> {
         let settled = settle_turn(alloc, &mut relayer, settlements.as_slice(), taken);
         let (relayer, team, settlements) = or_end(crew.rt(), relayer, team, settled)?;
         let report = TurnReport {
-            window_back,
-            refused,
+            window_back: heard.window_back,
+            hosts_back: heard.hosts_back,
+            refused: heard.refused,
             clients,
             settlements,
         };

@@ -74,6 +74,7 @@ pub fn run_to_end<R: Threads + Sync, G: Gate + Sync, A: Allocator + Copy + Send 
     requires threads { threads ≤ 64 }
     requires alloc { Frees A.Allocator A.dealloc_token }
     ensures version { IfOk result (λ r. r.0.version ≡ script.config.version) }
+    ensures chains { IfOk result (λ r. r.0.chains.items ≡ script.config.chains.items) }
     ensures paths { IfOk result (λ r. r.0.paths.items ≡ map (λ (p : PathConfig). p.id) script.config.paths.items) }
     ensures turns { IfOk result (λ r. IsReportOf (as_events (script_view script)) (report_view r.0)) }
     ensures config { IfOk result (λ r. r.1.config ≡ config_view script.config) }
@@ -82,11 +83,13 @@ pub fn run_to_end<R: Threads + Sync, G: Gate + Sync, A: Allocator + Copy + Send 
     let crew = Crew::new(rt, threads, gate);
     let Script { config, turns } = script;
     let version = config.version;
+    let chains = Vec::from_slice(alloc, config.chains.as_slice())?;
     let paths = path_ids(alloc, config.paths.as_slice())?;
     let supervisor = Supervisor::new(alloc, config)?;
     let (turns, ended) = run_turns(&crew, alloc, supervisor, turns)?;
     let report = Report {
         version,
+        chains,
         paths,
         turns,
     };
@@ -104,6 +107,7 @@ pub fn run_script<R: Threads + Sync, G: Gate + Sync, A: Allocator + Copy + Send 
     requires script { IsReadScript (script_view script) }
     requires alloc { Frees A.Allocator A.dealloc_token }
     ensures version { IfOk result (λ report. report.version ≡ script.config.version) }
+    ensures chains { IfOk result (λ report. report.chains.items ≡ script.config.chains.items) }
     ensures paths { IfOk result (λ report. report.paths.items ≡ map (λ (p : PathConfig). p.id) script.config.paths.items) }
     ensures turns { IfOk result (λ report. IsReportOf (as_events (script_view script)) (report_view report)) }
 {
@@ -179,17 +183,20 @@ where
     requires desks { desks ≤ 64 }
     requires start { F.IsAlwaysCallable start }
     ensures version { IfOk result (λ report. report.version ≡ script.config.version) }
+    ensures chains { IfOk result (λ report. report.chains.items ≡ script.config.chains.items) }
     ensures paths { IfOk result (λ report. report.paths.items ≡ map (λ (p : PathConfig). p.id) script.config.paths.items) }
     ensures turns { IfOk result (λ report. IsReportOf (as_events (script_view script)) (report_view report)) }
 {
     let Script { config, turns } = script;
     let version = config.version;
+    let chains = Vec::from_slice(alloc, config.chains.as_slice())?;
     let paths = path_ids(alloc, config.paths.as_slice())?;
     let reports = Vec::with_capacity(alloc, turns.len())?;
     let team = ParallelSupervisor::new(crew.rt(), alloc, config, desks, start)?;
     let turns = turns_by_workers(crew, reports, team, turns)?;
     Ok(Report {
         version,
+        chains,
         paths,
         turns,
     })
@@ -213,6 +220,7 @@ pub fn run_by_workers<
     requires script { IsReadScript (script_view script) }
     requires workers { workers ≤ 64 }
     ensures version { IfOk result (λ report. report.version ≡ script.config.version) }
+    ensures chains { IfOk result (λ report. report.chains.items ≡ script.config.chains.items) }
     ensures paths { IfOk result (λ report. report.paths.items ≡ map (λ (p : PathConfig). p.id) script.config.paths.items) }
     ensures turns { IfOk result (λ report. IsReportOf (as_events (script_view script)) (report_view report)) }
 {

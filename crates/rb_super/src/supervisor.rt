@@ -13,7 +13,8 @@ ghost use Rattle.rb_core_model.specs.Seen.{event_view};
 ghost use Rattle.rb_core_model.specs.Snapshot.{followed_by, from_nothing};
 ghost use Rattle.rb_core_model.specs.Standing.{goes_back};
 ghost use Rattle.rb_super_turn.specs.Drafts.{AreDrafts};
-ghost use Rattle.rb_super_turn.specs.Turns.{before_plans, refusals_in, IsTurnReport, after_turn};
+ghost use Rattle.rb_super_turn.specs.Turns.{hosts_back, before_plans, refusals_in, IsTurnReport, after_turn};
+ghost use Rattle.rb_script_types.specs.declared.script.HostWindow.{HostWindow as WindowOf};
 ghost use Rattle.rb_super_turn.specs.Phases.{standing_in, HasLogRoom, IsLater, turn_heard, IsPlannable};
 ghost use Rattle.rb_super_turn.specs.Views.{refused_view, turn_report_view};
 ghost use Rattle.rb_super_scripts.specs.AsEvents.{code_turn_as_events, IsTurnFor, most_events};
@@ -22,10 +23,9 @@ use rb_base::{Gate, Window};
 use rb_core::Core;
 use rb_core_model::{CoreError, Event, Reply};
 use rb_plan_client::Draft;
-use rb_script_types::{Asked, Config, Observation, Turn};
+use rb_script_types::{Asked, Config, HostWindow, Observation, Turn};
 use rb_super_turn::{
-    Crew, Nothing, RefusedEvent, Relayer, TurnReport, drafts_of, hear_all, plan_all, scan_all,
-    settle_turn,
+    Crew, Heard, Nothing, Relayer, TurnReport, drafts_of, hear_all, plan_all, scan_all, settle_turn,
 };
 use std::alloc::{AllocError, Allocator, Global};
 use std::marker::Model;
@@ -54,21 +54,24 @@ pub(crate) fn prepare<R: Threads + Sync, G: Gate + Sync, A: Allocator + Copy>(
     alloc: A,
     relayer: &mut Relayer<A>,
     window: Window,
+    windows: &[HostWindow],
     goals: &[Asked],
     events: Vec<Observation<A>, A>,
-) -> Result<(bool, Vec<RefusedEvent, A>), AllocError>
+) -> Result<Heard<A>, AllocError>
+    requires hosts { All (λ (w : WindowOf). w.host < length relayer.old.config.chains) windows.now }
     requires goals { All (λ (g : Asked). g.client < length relayer.old.config.clients) goals.now }
     requires events { All (IsReadObservation (length relayer.old.config.chains) (length relayer.old.config.clients) (length relayer.old.config.paths)) events.items }
-    requires room { HasLogRoom relayer.old (1 + length goals.now + length events.items + 2 * length relayer.old.config.paths) }
-    ensures back { IfOk result (λ r. r.0 ≡ goes_back (standing_in relayer.old).window window) }
-    ensures refused { IfOk result (λ r. map refused_view r.1.items ≡ refusals_in (standing_in relayer.old) (turn_heard window goals.now events.items)) }
-    ensures standing { OnOk result (standing_in relayer.new ≡ before_plans (standing_in relayer.old) (turn_heard window goals.now events.items)) }
+    requires room { HasLogRoom relayer.old (1 + length windows.now + length goals.now + length events.items + 2 * length relayer.old.config.paths) }
+    ensures back { IfOk result (λ h. h.window_back ≡ goes_back (standing_in relayer.old).window window) }
+    ensures hosts { IfOk result (λ h. h.hosts_back.items ≡ hosts_back (standing_in relayer.old) windows.now) }
+    ensures refused { IfOk result (λ h. map refused_view h.refused.items ≡ refusals_in (standing_in relayer.old) (turn_heard window windows.now goals.now events.items)) }
+    ensures standing { OnOk result (standing_in relayer.new ≡ before_plans (standing_in relayer.old) (turn_heard window windows.now goals.now events.items)) }
     ensures ready { OnOk result (IsPlannable relayer.new) }
-    ensures later { OnOk result (IsLater (1 + length goals.now + length events.items + 2 * length relayer.old.config.paths) relayer.old relayer.new) }
+    ensures later { OnOk result (IsLater (1 + length windows.now + length goals.now + length events.items + 2 * length relayer.old.config.paths) relayer.old relayer.new) }
 {
-    let (window_back, refused) = hear_all(alloc, relayer, window, goals, events)?;
+    let heard = hear_all(alloc, relayer, window, windows, goals, events)?;
     scan_all(crew, relayer, &mut Nothing)?;
-    Ok((window_back, refused))
+    Ok(heard)
 }
 
 impl<A: Allocator + Copy> Supervisor<A> {
@@ -162,12 +165,21 @@ impl<A: Allocator + Copy> Supervisor<A> {
     {
         let Turn {
             window,
+            windows,
             goals,
             events,
             ..
         } = turn;
         let Supervisor { alloc, mut relayer } = self;
-        prepare(crew, alloc, &mut relayer, window, goals.as_slice(), events)?;
+        prepare(
+            crew,
+            alloc,
+            &mut relayer,
+            window,
+            windows.as_slice(),
+            goals.as_slice(),
+            events,
+        )?;
         Ok(relayer)
     }
 }
@@ -191,25 +203,28 @@ impl<A: Allocator + Copy + Send + Sync> Supervisor<A> {
     {
         let Turn {
             window,
+            windows,
             goals,
             events,
             settlements,
             taken,
         } = turn;
         let Supervisor { alloc, mut relayer } = self;
-        let (window_back, refused) = prepare(
+        let heard = prepare(
             crew,
             alloc,
             &mut relayer,
             window,
+            windows.as_slice(),
             goals.as_slice(),
             events,
         )?;
         let clients = plan_all(crew, alloc, &mut relayer, &mut Nothing)?;
         let settlements = settle_turn(alloc, &mut relayer, settlements.as_slice(), taken)?;
         let report = TurnReport {
-            window_back,
-            refused,
+            window_back: heard.window_back,
+            hosts_back: heard.hosts_back,
+            refused: heard.refused,
             clients,
             settlements,
         };

@@ -1,14 +1,16 @@
 -- Before a client is planned for, all parts of all paths are scanned.
-use Rattle.std.proofs.Common.{◌≡◌, ◌⊎◌, ℕ, zero, suc, ◌+◌, ◌<◌, ◌≤◌, Bool, true, false, if◌then◌else◌, List, [], ◌∷◌, ◌++◌, length, map, is_some, refl, inl, inr, arith}
+use Rattle.std.proofs.Common.{◌≡◌, ◌⊎◌, ℕ, zero, suc, ◌+◌, ◌<◌, ◌≤◌, Bool, true, false, if◌then◌else◌, List, [], ◌∷◌, ◌++◌, length, map, is_some, refl, ap, ◌∙◌, inl, inr, arith}
 use Rattle.std.specs.List.{flat_map, range_with_len, AllByRecursion}
 use Rattle.std.proofs.lemmas.Bool.{cases_eq}
 use Rattle.std.proofs.lemmas.List.Elements.{recursion_from_All}
+use Rattle.rb_base.specs.Window.{Span}
 use Rattle.rb_base.specs.declared.gate.Part.{Part}
 use Rattle.rb_base.specs.declared.gate.Part.TheVariants.{Packets, Channel}
 use Rattle.rb_script_types.specs.Config.{Config}
 use Rattle.rb_core_model.specs.Event.{Event, IsEvent}
 use Rattle.rb_core_model.specs.Standing.{Standing}
-use Rattle.rb_super_turn.specs.Agenda.{Item, enter, ask, observe, scan, plan, settle, take_open, takes, observations, both_parts, agenda}
+use Rattle.rb_script_types.specs.declared.script.HostWindow.{HostWindow as WindowOf}
+use Rattle.rb_super_turn.specs.Agenda.{Item, enter_host, enter, ask, observe, scan, plan, settle, take_open, takes, observations, both_parts, agenda}
 use Rattle.rb_script_types.specs.declared.script.Asked.{Asked as Question}
 use Rattle.rb_script_types.specs.declared.script.Settlement.{Settlement}
 use Rattle.rb_super_turn.specs.Script.{Turn, IsSeen, IsTurn}
@@ -25,6 +27,7 @@ Plus S path part p other = S p other ⊎ ((p ≡ path) × (other ≡ part))
 -- with so many paths: where a client is planned for, all is scanned, by what was scanned before and since
 abbrev pub Covers : ℕ → Scanning → List Item → Type 0
 Covers paths S [] = Unit {0}
+Covers paths S (enter_host x ∷ items) = Covers paths Nothing items
 Covers paths S (enter window ∷ items) = Covers paths Nothing items
 Covers paths S (ask q ∷ items) = Covers paths Nothing items
 Covers paths S (observe number event ∷ items) = Covers paths Nothing items
@@ -35,6 +38,7 @@ Covers paths S (take_open client ∷ items) = Covers paths Nothing items
 
 pub more : (paths : ℕ) (S T : Scanning) → ((p : ℕ) (part : Part) → S p part → T p part) → (items : List Item) → Covers paths S items → Covers paths T items
 more paths S T f [] c = c
+more paths S T f (enter_host x ∷ items) c = c
 more paths S T f (enter window ∷ items) c = c
 more paths S T f (ask q ∷ items) c = c
 more paths S T f (observe number event ∷ items) c = c
@@ -98,16 +102,22 @@ after_plans : (paths : ℕ) (clients : List ℕ) (S : Scanning) (items : List It
 after_plans paths [] S items all c = c
 after_plans paths (n ∷ clients) S items all c = (all, after_plans paths clients S items all c)
 
+-- windows of hosts, and then the window
+after_hosts : (paths : ℕ) (ws : List WindowOf) (S : Scanning) (window : Span) (items : List Item) → Covers paths Nothing items → Covers paths S (map enter_host ws ++ (enter window ∷ items))
+after_hosts paths [] S window items c = c
+after_hosts paths (w ∷ ws) S window items c = after_hosts paths ws Nothing window items c
+
 pub agenda_covers : (config : Config) (turn : Turn) (S : Scanning) → Covers (length config.paths) S (agenda config turn)
 agenda_covers config turn S =
     let n = length config.paths in
-    after_asks n turn.goals _ (after_observations n turn.events 0 _ (after_scans n (range_with_len 0 n) Nothing _
+    after_hosts n turn.windows S turn.window _ (after_asks n turn.goals _ (after_observations n turn.events 0 _ (after_scans n (range_with_len 0 n) Nothing _
     (after_plans n (range_with_len 0 (length config.clients)) (PlusAll Nothing (range_with_len 0 n)) (map settle turn.settlements ++ takes config turn)
-    (λ p part lt. within n 0 Nothing p part (omega arith) (omega arith)) (settling n turn.settlements (takes config turn) (PlusAll Nothing (range_with_len 0 n)) (taking_all n (range_with_len 0 (length config.clients)) turn.taken)))))
+    (λ p part lt. within n 0 Nothing p part (omega arith) (omega arith)) (settling n turn.settlements (takes config turn) (PlusAll Nothing (range_with_len 0 n)) (taking_all n (range_with_len 0 (length config.clients)) turn.taken))))))
 
 -- ---- what is named is there
 
 abbrev pub IsItem : Config → Item → Type 0
+IsItem c (enter_host x) = (x.host < length c.chains) × (x.window.from ≤ x.window.until)
 IsItem c (enter window) = window.from ≤ window.until
 IsItem c (ask q) = q.client < length c.clients
 IsItem c (observe number event) = IsSeen c event × IsEvent event
@@ -117,6 +127,11 @@ IsItem c (settle x) = x.client < length c.clients
 IsItem c (take_open client) = client < length c.clients
 
 module _ (c : Config) where
+  items_hosts : (ws : List WindowOf) (items : List Item) → AllByRecursion (λ (w : WindowOf). (w.host < length c.chains) × (w.window.from ≤ w.window.until)) ws → AllByRecursion (IsItem c) items
+      → AllByRecursion (IsItem c) (map enter_host ws ++ items)
+  items_hosts [] items all rest = rest
+  items_hosts (w ∷ ws) items all rest = (all.0, items_hosts ws items all.1 rest)
+
   items_asked : (goals : List Question) (items : List Item) → AllByRecursion (λ (g : Question). g.client < length c.clients) goals → AllByRecursion (IsItem c) items → AllByRecursion (IsItem c) (map ask goals ++ items)
   items_asked [] items all rest = rest
   items_asked (q ∷ goals) items all rest = (all.0, items_asked goals items all.1 rest)
@@ -148,7 +163,7 @@ module _ (c : Config) where
   items_if_taken false = tt
 
 pub agenda_items : (c : Config) (turn : Turn) → IsTurn c turn → AllByRecursion (IsItem c) (agenda c turn)
-agenda_items c turn is = (
+agenda_items c turn is = items_hosts c turn.windows _ (recursion_from_All _ turn.windows is.windows) (
   is.window,
   items_asked c turn.goals _ (recursion_from_All _ turn.goals is.goals)
       (items_observed c turn.events 0 _ (recursion_from_All _ turn.events is.events) (recursion_from_All _ turn.events is.right)
@@ -160,11 +175,13 @@ agenda_items c turn is = (
 
 abbrev pub Entered : Standing → List Item → Type 0
 Entered s [] = Unit {0}
+Entered s (enter_host x ∷ items) = Entered s items
 Entered s (enter window ∷ items) = Unit {0}
 Entered s (item ∷ items) = is_some s.window ≡ true
 
 pub entered : (s : Standing) (items : List Item) → is_some s.window ≡ true → Entered s items
 entered s [] is = tt
+entered s (enter_host x ∷ items) is = entered s items is
 entered s (enter window ∷ items) is = tt
 entered s (ask q ∷ items) is = is
 entered s (observe number event ∷ items) is = is
@@ -172,3 +189,20 @@ entered s (scan path part ∷ items) is = is
 entered s (plan client ∷ items) is = is
 entered s (settle x ∷ items) is = is
 entered s (take_open client ∷ items) is = is
+
+-- it stays so where the window does
+pub still_entered : (s t : Standing) (items : List Item) → t.window ≡ s.window → Entered s items → Entered t items
+still_entered s t [] e is = tt
+still_entered s t (enter_host x ∷ items) e is = still_entered s t items e is
+still_entered s t (enter window ∷ items) e is = tt
+still_entered s t (ask q ∷ items) e is = ap (λ o. is_some o) e ∙ is
+still_entered s t (observe number event ∷ items) e is = ap (λ o. is_some o) e ∙ is
+still_entered s t (scan path part ∷ items) e is = ap (λ o. is_some o) e ∙ is
+still_entered s t (plan client ∷ items) e is = ap (λ o. is_some o) e ∙ is
+still_entered s t (settle x ∷ items) e is = ap (λ o. is_some o) e ∙ is
+still_entered s t (take_open client ∷ items) e is = ap (λ o. is_some o) e ∙ is
+
+-- a turn's windows come first
+pub first_entered : (s : Standing) (ws : List WindowOf) (window : Span) (items : List Item) → Entered s (map enter_host ws ++ (enter window ∷ items))
+first_entered s [] window items = tt
+first_entered s (w ∷ ws) window items = first_entered s ws window items

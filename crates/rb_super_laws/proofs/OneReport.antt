@@ -1,15 +1,14 @@
 -- A script has at most one report.
 use Rattle.std.proofs.Common.{◌≡◌, List, [], ◌∷◌, refl, subst}
-use Rattle.rb_batch.specs.Laws.{LeastCutIsOne}
 use Rattle.rb_plan_types.specs.Laws.{AnswersAreOne}
 use Rattle.rb_core_model.specs.Standing.{Standing, opening_standing}
 use Rattle.rb_super_turn.specs.Report.{TurnReport, Report}
 use Rattle.rb_super_turn.specs.Script.{Turn}
 use Rattle.rb_super_turn.specs.Turns.{AreTurnReports, after_turn}
 use Rattle.rb_super_laws.specs.Laws.{ReportIsOne}
-use Rattle.rb_super_scripts.proofs.OneReport.{one_turn}
+use Rattle.rb_super_scripts.proofs.OneReport.{CutsAreOne, one_turn}
 
-module _ (one : AnswersAreOne) (cuts : LeastCutIsOne) where
+module _ (one : AnswersAreOne) (cuts : CutsAreOne) where
   one_run : (s : Standing) (ts : List Turn) (r q : Report) → AreTurnReports s ts r → AreTurnReports s ts q → r ≡ q
   one_run s [] [] [] a b = refl
   one_run s [] [] (q ∷ qs) a b = absurd b

@@ -2,7 +2,6 @@
 use Rattle.std.proofs.Common.{◌≡◌, ℕ, ◌<◌, ◌⊎◌, List, [], ◌∷◌, Option, Some, None, take, refl, sym, ap, ◌∙◌, subst, inl, inr, arith}
 use Rattle.std.proofs.lemmas.Bool.{cases_order}
 use Rattle.std.proofs.lemmas.Option.{same_Some}
-use Rattle.rb_batch.specs.Laws.{LeastCutIsOne}
 use Rattle.rb_cert.specs.declared.verdict.Reason.{Reason}
 use Rattle.rb_cert.specs.declared.verdict.Reason.TheVariants.{SourceLabel, LabelTooHigh, PlanNotAccepted, GoalMissed, PlanNotTight, NotTheTie, GoalLabelled}
 use Rattle.rb_cert.specs.declared.verdict.Judgement.{Judgement}
@@ -21,7 +20,7 @@ use Rattle.rb_super_laws.specs.Laws.{VerdictIsOne}
 use Rattle.rb_super_turn.specs.Report.{TurnReport}
 use Rattle.rb_super_turn.specs.Script.{Turn, Script}
 use Rattle.rb_super_turn.specs.Turns.{before_plans, after_turn}
-use Rattle.rb_super_scripts.proofs.OneReport.{one_turn}
+use Rattle.rb_super_scripts.proofs.OneReport.{CutsAreOne, one_turn}
 use Rattle.rb_super_scripts.proofs.Judged.{one_known, one_task, one_goal}
 
 -- ---- the order of reasons is total
@@ -96,7 +95,7 @@ one_for_goal view (Some goal) labels claim (Some v) (Some w) a b = ap (λ x. Som
 
 -- ---- where the client stands
 
-module _ (one : AnswersAreOne) (cuts : LeastCutIsOne) where
+module _ (one : AnswersAreOne) (cuts : CutsAreOne) where
   one_end : (s : Standing) (ts : List Turn) (a b : Standing) → Leads s ts a → Leads s ts b → a ≡ b
   one_end s [] a b p q = sym p ∙ q
   one_end s (t ∷ ts) a b p q =

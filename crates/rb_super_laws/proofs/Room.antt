@@ -9,7 +9,7 @@ use Rattle.rb_script_types.specs.Limits.{max_clients, max_paths}
 use Rattle.rb_script_types.specs.Script.{Turn as SeenTurn, Script as SeenScript, IsReadScript, entry_count}
 use Rattle.rb_core_model.specs.Event.{Event}
 use Rattle.rb_core_model.specs.Seen.{observed}
-use Rattle.rb_super_turn.specs.Agenda.{Item, ask, plan, settle, take_open, takes, observations, both_parts, agenda}
+use Rattle.rb_super_turn.specs.Agenda.{enter_host, enter, Item, ask, plan, settle, take_open, takes, observations, both_parts, agenda}
 use Rattle.rb_super_turn.specs.Script.{Turn}
 use Rattle.rb_super_scripts.specs.AsEvents.{as_events, turn_as_events}
 use Rattle.rb_super_laws.specs.Schedule.{appends_in, FitsLog}
@@ -28,7 +28,7 @@ length-takes c false = omega arith
 
 -- how much a turn has to do
 length-agenda : (c : Config) (t : Turn)
-    → length (agenda c t) ≤ length t.goals + length t.events + length t.settlements + (1 + (2 * length c.paths + 2 * length c.clients))
+    → length (agenda c t) ≤ length t.windows + length t.goals + length t.events + length t.settlements + (1 + (2 * length c.paths + 2 * length c.clients))
 length-agenda c t =
     let paths = range_with_len 0 (length c.paths) in
     let clients = range_with_len 0 (length c.clients) in
@@ -38,6 +38,8 @@ length-agenda c t =
     let seen : List Item = observations 0 t.events ++ scans in
     omega (
       arith,
+      length-append (map enter_host t.windows) (enter t.window ∷ (map ask t.goals ++ seen)),
+      length-map t.windows enter_host,
       length-append (map ask t.goals) seen,
       length-append (observations 0 t.events) scans,
       length-append (flat_map both_parts paths) plans,

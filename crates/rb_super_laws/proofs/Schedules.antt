@@ -24,18 +24,21 @@ use Rattle.rb_core_model.proofs.Drafted.{drafted}
 use Rattle.rb_core_model.proofs.Marks.{all_at}
 use Rattle.rb_core_model.proofs.Options.{none_from, some_from}
 use Rattle.rb_core_model.proofs.Owed.{append_all}
-use Rattle.rb_super_turn.specs.Agenda.{Item, enter, ask, observe, scan, plan, settle, take_open, agenda, Finishes, OrderGivesReport}
+use Rattle.rb_script_types.specs.declared.script.HostWindow.{HostWindow as WindowOf}
+use Rattle.rb_plan_client.specs.Task.{too_big_messages}
+use Rattle.rb_super_turn.specs.Agenda.{Item, enter_host, enter, ask, observe, scan, plan, settle, take_open, agenda, Finishes, OrderGivesReport}
 use Rattle.rb_super_turn.specs.Report.{held, ClientReport, SettlementReport, TurnReport, Report}
 use Rattle.rb_super_laws.specs.Schedule.{Progress, World, RightDraft, Step, acts, publishes, tells, learns, scans, plans, first_world, own_scan, appended, next, same_part, if_fits, fits_scan, fits_draft, with_client_report, draft_given, scan_taken, draft_taken, plan_done, settled_as, take_done, item_done, begun, due_done, acted, step, after_steps, appends_in, FitsLog, world_after, Schedules, OwnDraftsServe}
 use Rattle.rb_script_types.specs.declared.script.Asked.{Asked as Question}
 use Rattle.rb_script_types.specs.declared.script.Settlement.{Settlement}
 use Rattle.rb_super_turn.specs.Script.{Turn, Script, IsTurn, IsScript}
-use Rattle.rb_super_turn.specs.Turns.{refused_as, outcome_of, after_outcome, settlement_event, id_of, settlement_report, after_settlement, taking, IsTurnReport, after_turn, AreTurnReports}
-use Rattle.rb_super_laws.proofs.Covering.{Covers, Nothing, Plus, more, agenda_covers, IsItem, agenda_items, Entered, entered}
+use Rattle.rb_super_turn.specs.Turns.{window_event, refused_as, outcome_of, after_outcome, settlement_event, id_of, settlement_report, after_settlement, taking, IsTurnReport, after_turn, AreTurnReports}
+use Rattle.rb_super_laws.proofs.Covering.{Covers, Nothing, Plus, more, agenda_covers, IsItem, agenda_items, Entered, entered, still_entered, first_entered}
 use Rattle.rb_core_model.proofs.Accepted.{open_to, standing_of, front_of, scan_ok, now_scanned, still_scanned, draft_ok, plan_scanned, window_stays, window_entered}
+use Rattle.rb_super_turn.proofs.Order.{host_keeps}
 use Rattle.rb_super_turn.proofs.Reported.{changed_by, set_same, right_outcome, same_client}
 use Rattle.rb_super_turn.proofs.Takings.{taker}
-use Rattle.rb_super_turn.proofs.Sizes.{HasSizes, sizes_accepted, sizes_opening, seen_known, client_known, path_known, at_place}
+use Rattle.rb_super_turn.proofs.Sizes.{HasSizes, sizes_accepted, sizes_opening, seen_known, chain_known, client_known, path_known, at_place}
 
 -- ---- turns that are over
 
@@ -195,6 +198,18 @@ module _ (script : Script) where
       u.items.0 (standing_of w.core (Window window) same)
       (subst (λ b. Finishes u.start u.turn (standing_after w.core.standing (Window window)) (record r { window_back = b }) items) (sym back) u.finishes)
       (none_scanned (after w.core (Window window)) items u.covers) u.items.1 (entered (standing_after w.core.standing (Window window)) items (window_entered w.core.standing window))
+
+  enter_host_fine : (w : World) → IsFine w → (k : ℕ) (own : Option RightDraft) (r : TurnReport) (items : List Item) (x : WindowOf) → Due w (enter_host x) items r → IsFine (item_done w k own items r (enter_host x))
+  unfolding Due
+  enter_host_fine w fine k own r items x due =
+      let u = under_way w fine (enter_host x) items r due in
+      let e : Event = window_event x in
+      let same : refusal_of w.core e ≡ judged w.core.standing e =
+      open_to w.core e (chain_known script.config w.core x.host fine.is_core.sizes u.items.0.0) (has_room w fine (enter_host x) items r due) in
+      one_event w fine (enter_host x) items r due e (record r { hosts_back = r.hosts_back ++ (if is_some (refusal_of w.core e) then x.host ∷ [] else []) }) (standing_after w.core.standing e)
+      u.items.0.1 (standing_of w.core e same)
+      (subst (λ o. Finishes u.start u.turn (standing_after w.core.standing e) (record r { hosts_back = r.hosts_back ++ (if is_some o then x.host ∷ [] else []) }) items) (sym same) u.finishes)
+      (none_scanned (after w.core e) items u.covers) u.items.1 (still_entered w.core.standing (standing_after w.core.standing e) items (host_keeps w.core.standing x) u.windowed)
 
   ask_fine : (w : World) → IsFine w → (k : ℕ) (own : Option RightDraft) (r : TurnReport) (items : List Item) (q : Question) → Due w (ask q) items r → IsFine (item_done w k own items r (ask q))
   unfolding Due
@@ -357,7 +372,7 @@ module _ (script : Script) where
       (go c.0 c.1 window.0 window.1 c.0.batch refl)
     where
       by_draft : (c : ClientState) → slice_get w.core.standing.clients client ≡ Some c → (window : Span) → w.core.standing.window ≡ Some window → c.batch ≡ None → (o : Option Draft) → draft_taken w k own client ≡ o
-          → IsFine (option_map_or (λ d. next (appended w (Planned d)) items (with_client_report r c (outcome_of c d))) o w)
+          → IsFine (option_map_or (λ d. next (appended w (Planned d)) items (with_client_report r c (outcome_of c d) (too_big_messages d.job.task))) o w)
       by_draft c at window is_window e None taken = fine
       by_draft c at window is_window e (Some d) taken =
           let u = under_way w fine (plan client) items r due in
@@ -372,9 +387,15 @@ module _ (script : Script) where
           ap (λ (s : State). s.standing) next_core
           ∙ ap (λ n. with_client w.core.standing n (after_answer d.answer)) t.is_client
           ∙ ap (λ cs. record w.core.standing { clients = cs }) (changed_by (after_answer d.answer) (after_outcome (outcome_of c d)) w.core.standing.clients client c at (sym (same_client c d))) in
-          one_event w fine (plan client) items r due (Planned d) (with_client_report r c (outcome_of c d)) (with_client w.core.standing client (after_outcome (outcome_of c d))) t.is_draft stands
-          (u.finishes c (record { id = c.config.id; outcome = outcome_of c d }) at
-          (record { id = refl; window = window; is_window = is_window; outcome = right_outcome (task_in w.core.standing window client c) c d e task t.is_draft }))
+          one_event w fine (plan client) items r due (Planned d) (with_client_report r c (outcome_of c d) (too_big_messages d.job.task)) (with_client w.core.standing client (after_outcome (outcome_of c d))) t.is_draft stands
+          (u.finishes c (record { id = c.config.id; outcome = outcome_of c d; too_big = too_big_messages d.job.task }) at
+          (record {
+            id = refl;
+            window = window;
+            is_window = is_window;
+            outcome = right_outcome (task_in w.core.standing window client c) c d e task t.is_draft;
+            too_big = ap (λ u. too_big_messages u) task ∙ sym (ap (λ o. if is_some o then [] else too_big_messages (task_in w.core.standing window client c)) e);
+          }))
           (more (length script.config.paths) (IsScannedIn w.core) (IsScannedIn (after w.core (Planned d)))
           (λ p part is. ap (λ (s : State). is_scanned s p part) next_core ∙ plan_scanned w.core d p part ∙ is) items u.covers.1)
           u.items.1 (entered (with_client w.core.standing client (after_outcome (outcome_of c d))) items u.windowed)
@@ -383,16 +404,23 @@ module _ (script : Script) where
           → IsFine (plan_done w k own items r client c o)
       go c at window is_window (Some b) e =
           let u = under_way w fine (plan client) items r due in
-          let report : ClientReport = record { id = c.config.id; outcome = held b.number } in
+          let report : ClientReport = record { id = c.config.id; outcome = held b.number; too_big = [] } in
           let same : with_client w.core.standing client (after_outcome (held b.number)) ≡ w.core.standing =
           ap (λ cs. record w.core.standing { clients = cs }) (ap (λ o. option_map_or (λ x. set w.core.standing.clients client x) o w.core.standing.clients) at ∙ set_same w.core.standing.clients client c at) in
-          no_event w fine (plan client) items r due (with_client_report r c (held b.number))
-          (subst (λ s. Finishes u.start u.turn s (with_client_report r c (held b.number)) items) same
-          (u.finishes c report at (record { id = refl; window = window; is_window = is_window; outcome = ap (option_map (λ (x : OpenBatch). x.number)) e })))
+          no_event w fine (plan client) items r due (with_client_report r c (held b.number) [])
+          (subst (λ s. Finishes u.start u.turn s (with_client_report r c (held b.number) []) items) same
+          (u.finishes c report at (record {
+            id = refl;
+            window = window;
+            is_window = is_window;
+            outcome = ap (option_map (λ (x : OpenBatch). x.number)) e;
+            too_big = sym (ap (λ o. if is_some o then [] else too_big_messages (task_in w.core.standing window client c)) e);
+          })))
           u.covers.1 u.items.1 (entered w.core.standing items u.windowed)
       go c at window is_window None e = by_draft c at window is_window e (draft_taken w k own client) refl
 
   item_fine : (w : World) → IsFine w → (k : ℕ) (own : Option RightDraft) (r : TurnReport) (items : List Item) (item : Item) → Due w item items r → IsFine (item_done w k own items r item)
+  item_fine w fine k own r items (enter_host x) due = enter_host_fine w fine k own r items x due
   item_fine w fine k own r items (enter window) due = enter_fine w fine k own r items window due
   item_fine w fine k own r items (ask q) due = ask_fine w fine k own r items q due
   item_fine w fine k own r items (observe number e) due = observe_fine w fine k own r items number e due
@@ -421,7 +449,7 @@ module _ (script : Script) where
           finishes = order script.config t w.core.standing fine.is_core.sizes.clients;
           covers = agenda_covers script.config t (IsScannedIn w.core);
           items = agenda_items script.config t left.0;
-          windowed = tt;
+          windowed = first_entered w.core.standing t.windows t.window _;
         };
       }
 

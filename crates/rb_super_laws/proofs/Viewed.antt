@@ -13,7 +13,7 @@ use Rattle.rb_step.specs.Laws.{ViewsAreOrderly}
 use Rattle.rb_step.specs.View.{IsView}
 use Rattle.rb_plan_client.specs.Task.{Task, view_of}
 use Rattle.rb_core_model.specs.Config.{IsSetUp}
-use Rattle.rb_core_model.specs.Event.{Event, IsEvent, Window, Asked, SetSeen, HeaderSeen, StoredSeen, Sent, Received, AckWritten, Cleared, Closed, Scanned, Planned, Settled}
+use Rattle.rb_core_model.specs.Event.{Event, IsEvent, Window, HostWindow, Asked, SetSeen, HeaderSeen, StoredSeen, Sent, Received, AckWritten, Cleared, Closed, Scanned, Planned, Settled}
 use Rattle.rb_core_model.specs.Machine.{State, no_scans, opening, is_known, refusal_of}
 use Rattle.rb_core_model.specs.Standing.{ClientState, Standing, opening_standing, task_in, with_batch, judged, changed, standing_after}
 use Rattle.rb_core_model.specs.Steps.{IsFromOutside, JudgedByStanding}
@@ -22,10 +22,11 @@ use Rattle.rb_core_model.proofs.Marks.{all_at, all_take}
 use Rattle.rb_core_model.proofs.Sound.{IsSoundClient, IsSound, answer_sound, client_view_sound, opening_sound, step_sound}
 use Rattle.rb_super_turn.specs.Report.{Outcome, held, idle, planned, ClientReport, TurnReport}
 use Rattle.rb_super_turn.specs.Script.{Turn, Script, IsSeen, IsTurn, IsScript}
-use Rattle.rb_super_turn.specs.Turns.{after_window, after_question, opened, IsOutcome, after_outcome, IsClientReport, before_events, before_plans, after_reports, after_plans, settlement_event, after_settlement, taking, after_taking, takers, IsTurnReport, after_turn}
+use Rattle.rb_script_types.specs.declared.script.HostWindow.{HostWindow as WindowOf}
+use Rattle.rb_super_turn.specs.Turns.{after_window, window_event, after_host_window, after_question, opened, IsOutcome, after_outcome, IsClientReport, before_events, before_plans, after_reports, after_plans, settlement_event, after_settlement, taking, after_taking, takers, IsTurnReport, after_turn}
 use Rattle.rb_super_turn.proofs.Reported.{opened_back}
 use Rattle.rb_super_turn.proofs.Takings.{taker, row_below}
-use Rattle.rb_super_turn.proofs.Sizes.{HasSizes, sizes_opening, seen_known, client_known, at_place}
+use Rattle.rb_super_turn.proofs.Sizes.{HasSizes, sizes_opening, seen_known, chain_known, client_known, at_place}
 use Rattle.rb_super_scripts.specs.Judging.{Leads, IsPlanPhase, IsClientIn}
 use Rattle.rb_super_laws.specs.Laws.{PlannedViewsAreViews}
 
@@ -52,6 +53,7 @@ opening_fit config is sound =
 
 seen_outside : (config : Config) (e : Event) → IsSeen config e → IsFromOutside e
 seen_outside config (Window window) is = absurd is
+seen_outside config (HostWindow host window) is = absurd is
 seen_outside config (Asked client goal) is = absurd is
 seen_outside config (SetSeen chain x) is = tt
 seen_outside config (HeaderSeen chain header) is = tt
@@ -88,6 +90,13 @@ module _ (finds : FindsWhatWasAdded) (stays : StaysABook) (orderly : ViewsAreOrd
             paths = same.paths ∙ fit.paths;
           }
 
+  hosts_fit : (config : Config) (ws : List WindowOf) → AllByRecursion (λ (w : WindowOf). (w.host < length config.chains) × (w.window.from ≤ w.window.until)) ws → (s : Standing) → IsFit config s
+      → IsFit config (fold after_host_window s ws)
+  hosts_fit config [] all s fit = fit
+  hosts_fit config (w ∷ ws) all s fit =
+      hosts_fit config ws all.1 (after_host_window s w)
+      (event_fit config s (window_event w) all.0.1 tt (chain_known config (at_rest config s) w.host (sizes config s fit) all.0.0) fit)
+
   goals_fit : (config : Config) (qs : List Question) → AllByRecursion (λ (q : Question). q.client < length config.clients) qs → (s : Standing) → IsFit config s → IsFit config (fold after_question s qs)
   goals_fit config [] all s fit = fit
   goals_fit config (q ∷ qs) all s fit =
@@ -102,8 +111,10 @@ module _ (finds : FindsWhatWasAdded) (stays : StaysABook) (orderly : ViewsAreOrd
 
   before_fit : (config : Config) (s : Standing) (t : Turn) → IsTurn config t → IsFit config s → IsFit config (before_plans s t)
   before_fit config s t is fit =
-      let entered = event_fit config s (Window t.window) is.window tt refl fit in
-      let asked = goals_fit config t.goals (recursion_from_All (λ (q : Question). q.client < length config.clients) t.goals is.goals) (after_window s t.window) entered in
+      let h = fold after_host_window s t.windows in
+      let hosts = hosts_fit config t.windows (recursion_from_All (λ (w : WindowOf). (w.host < length config.chains) × (w.window.from ≤ w.window.until)) t.windows is.windows) s fit in
+      let entered = event_fit config h (Window t.window) is.window tt refl hosts in
+      let asked = goals_fit config t.goals (recursion_from_All (λ (q : Question). q.client < length config.clients) t.goals is.goals) (after_window h t.window) entered in
       events_fit config t.events (recursion_from_All (IsSeen config) t.events is.events) (recursion_from_All IsEvent t.events is.right) (before_events s t) asked
 
   row_sound : (s : Standing) (place : ℕ) (c : ClientState) (r : ClientReport) → IsSound s → IsSoundClient s.books c → IsClientReport s (place, c) r → IsSoundClient s.books (after_outcome r.outcome c)

@@ -6,6 +6,7 @@ use Rattle.rb_scan.specs.declared.path.Order.TheVariants.{Ordered}
 use Rattle.rb_base.specs.declared.gate.Part.TheVariants.{Packets}
 use Rattle.rb_step.specs.LightClient.{Client}
 use Rattle.rb_step.specs.View.{client_of}
+use Rattle.rb_plan_types.specs.ProofHeight.{IsProofHeight}
 use Rattle.rb_plan_client.specs.Draft.{Job, IsIdle}
 use Rattle.rb_core_model.specs.Event.{Sent}
 use Rattle.rb_core_model.specs.Examples.{a_config, a_client}
@@ -20,7 +21,7 @@ use Rattle.rb_super_turn.specs.Script.{Turn, Script}
 
 -- a packet is seen, and no client has stored anything
 abbrev pub a_turn : Turn
-a_turn = record { window = record { from = 100; until = 200 }; goals = []; events = Sent 0 4 8 None None ∷ Sent 0 4 8 None None ∷ []; settlements = []; taken = false }
+a_turn = record { window = record { from = 100; until = 200 }; windows = []; goals = []; events = Sent 0 4 (record { height = 8; time = None }) None None ∷ Sent 0 4 (record { height = 8; time = None }) None None ∷ []; settlements = []; taken = false }
 
 abbrev pub a_script : Script
 a_script = record { config = a_config Ordered; turns = a_turn ∷ [] }
@@ -37,11 +38,15 @@ no_reach : (t : Task) → t.stored ≡ [] → IsReach (client_of (view_of t)) No
 unfolding client_of
 no_reach t stored = record { reached = tt; greatest = λ h r. absurd (unreachable (client_of (view_of t)) h stored r) }
 
+no_proof : (t : Task) → t.stored ≡ [] → IsProofHeight (client_of (view_of t)) [] None
+unfolding client_of
+no_proof t stored = record { left = tt; greatest = λ h left. absurd (none_stored (client_of (view_of t)).stored h stored left.0) }
+
 pub idle_without_records : (t : Task) → t.stored ≡ [] → goal_of t None ≡ None → IsIdle t
 idle_without_records t stored goal = record { reach = None; is_reach = no_reach t stored; goal = goal }
 
-pub next_without_records : (t : Task) → t.stored ≡ [] → IsNext t [] (next_moment t None [])
-next_without_records t stored = record { reach = None; is_reach = no_reach t stored; is = refl }
+pub next_without_records : (t : Task) → t.stored ≡ [] → IsNext t [] (next_moment t None None [])
+next_without_records t stored = record { reach = None; is_reach = no_reach t stored; proof = None; is_proof = no_proof t stored; is = refl }
 
 abbrev pub no_task : Task
 no_task = record {
@@ -60,7 +65,7 @@ job_after steps client =
 
 abbrev pub idle_draft : (j : Job) → j.task.stored ≡ [] → goal_of j.task None ≡ None → RightDraft
 idle_draft j stored goal = record {
-  draft = record { job = j; answer = None; next = next_moment j.task None [] };
+  draft = record { job = j; answer = None; next = next_moment j.task None None [] };
   right = record { answer = idle_without_records j.task stored goal; next = next_without_records j.task stored };
 }
 
@@ -92,7 +97,7 @@ with_worker =
 
 -- the second sending is refused, and both clients are idle
 abbrev pub idle_client : ℕ → ClientReport
-idle_client name = record { id = name ∷ []; outcome = idle None }
+idle_client name = record { id = name ∷ []; outcome = idle None; too_big = [] }
 
 -- what a run reports in its first turn
 abbrev pub clients_in : List Step → Option (List ClientReport)

@@ -7,6 +7,7 @@ use Rattle.rb_base.specs.declared.gate.Part.{Part}
 use Rattle.rb_base.specs.declared.gate.Part.TheVariants.{Packets, Channel}
 use Rattle.rb_script_types.specs.Config.{Config}
 use Rattle.rb_plan_client.specs.Draft.{Draft, IsDraft}
+use Rattle.rb_plan_client.specs.Task.{Message, too_big_messages}
 use Rattle.rb_core_model.specs.Event.{Event, Window, Asked, Scanned, Planned}
 use Rattle.rb_core_model.specs.Scan.{Scan}
 use Rattle.rb_core_model.specs.Snapshot.{from_nothing}
@@ -14,10 +15,10 @@ use Rattle.rb_core_model.specs.Machine.{State, opening, is_scanned, is_job, clie
 use Rattle.rb_core_model.specs.Limits.{max_events}
 use Rattle.rb_core_model.specs.Standing.{OpenBatch, ClientState, opening_standing, path_view}
 use Rattle.rb_script_types.specs.declared.script.Settlement.{Settlement}
-use Rattle.rb_super_turn.specs.Agenda.{Item, enter, ask, observe, scan, plan, settle, take_open, agenda, empty_report}
+use Rattle.rb_super_turn.specs.Agenda.{Item, enter_host, enter, ask, observe, scan, plan, settle, take_open, agenda, empty_report}
 use Rattle.rb_super_turn.specs.Report.{Outcome, held, SettlementReport, TurnReport, Report}
 use Rattle.rb_super_turn.specs.Script.{Turn, Script, IsScript}
-use Rattle.rb_super_turn.specs.Turns.{refused_as, outcome_of, settlement_event, id_of, taking, AreTurnReports}
+use Rattle.rb_super_turn.specs.Turns.{window_event, refused_as, outcome_of, settlement_event, id_of, taking, AreTurnReports}
 
 -- a turn under way: what is still due, and its report so far
 pub record Progress : Type 0 where
@@ -109,8 +110,8 @@ fits_scan s path part f = (f.0 == path) && same_part f.1.part part && is_accepte
 abbrev pub fits_draft : State → ℕ → Draft → Bool
 fits_draft s client d = (d.job.client == client) && is_accepted s (Planned d)
 
-abbrev pub with_client_report : TurnReport → ClientState → Outcome → TurnReport
-with_client_report r c o = record r { clients = r.clients ++ record { id = c.config.id; outcome = o } ∷ [] }
+abbrev pub with_client_report : TurnReport → ClientState → Outcome → List Message → TurnReport
+with_client_report r c o ms = record r { clients = r.clients ++ record { id = c.config.id; outcome = o; too_big = ms } ∷ [] }
 
 abbrev pub draft_given : Option RightDraft → Option Draft
 draft_given given = option_map (λ (x : RightDraft). x.draft) given
@@ -130,9 +131,9 @@ scanned w k path part =
 
 -- a client with an open batch isn't planned for; for another one nothing is done until there is a draft
 abbrev pub plan_done : World → ℕ → Option RightDraft → List Item → TurnReport → ℕ → ClientState → Option OpenBatch → World
-plan_done w k own items r client c (Some b) = next w items (with_client_report r c (held b.number))
+plan_done w k own items r client c (Some b) = next w items (with_client_report r c (held b.number) [])
 plan_done w k own items r client c None =
-    option_map_or (λ d. next (appended w (Planned d)) items (with_client_report r c (outcome_of c d))) (draft_taken w k own client) w
+    option_map_or (λ d. next (appended w (Planned d)) items (with_client_report r c (outcome_of c d) (too_big_messages d.job.task))) (draft_taken w k own client) w
 
 -- what is reported of a settlement
 abbrev pub settled_as : State → Settlement → SettlementReport
@@ -144,6 +145,8 @@ take_done w items r x =
     next (option_map_or (λ y. appended w (settlement_event y)) x w) items (record r { settlements = r.settlements ++ option_to_list (option_map (settled_as w.core) x) })
 
 abbrev pub item_done : World → ℕ → Option RightDraft → List Item → TurnReport → Item → World
+item_done w k own items r (enter_host x) =
+    next (appended w (window_event x)) items (record r { hosts_back = r.hosts_back ++ (if is_some (refusal_of w.core (window_event x)) then x.host ∷ [] else []) })
 item_done w k own items r (enter window) = next (appended w (Window window)) items (record r { window_back = is_some (refusal_of w.core (Window window)) })
 item_done w k own items r (ask q) = next (appended w (Asked q.client q.goal)) items r
 item_done w k own items r (observe number event) = next (appended w event) items (record r { refused = r.refused ++ refused_as number (refusal_of w.core event) })

@@ -5,7 +5,7 @@ ghost use Rattle.rb_super_turn.specs.Accepted.{AcceptedDraftsAreReported};
 ghost use Rattle.rb_super_laws.specs.Laws.{PlannedViewsAreViews, ReportIsOne, VerdictIsOne};
 ghost use Rattle.rb_super_laws.specs.Schedule.{Schedules, OwnDraftsServe};
 
-use rb_batch::laws::least_cut_is_one;
+use rb_batch::laws::{cut_apart_is_division, cut_apart_is_one, least_cut_is_one};
 use rb_book::laws::{finds_what_was_added, stays_a_book};
 use rb_core_model::laws::judged_by_standing;
 use rb_plan_types::laws::answers_are_one;
@@ -17,6 +17,8 @@ pub fn report_is_one()
 {
     answers_are_one();
     least_cut_is_one();
+    cut_apart_is_division();
+    cut_apart_is_one();
 }
 
 /// An answer, right or not, that is made for a client in a turn of a script has at most one verdict:
@@ -26,6 +28,8 @@ pub fn verdict_is_one()
 {
     answers_are_one();
     least_cut_is_one();
+    cut_apart_is_division();
+    cut_apart_is_one();
 }
 
 /// What a client is planned by in a turn keeps what every view keeps, for every script whose windows,

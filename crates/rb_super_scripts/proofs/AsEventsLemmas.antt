@@ -39,6 +39,7 @@ module _ {A : Type 0} where
       → IsTurn c (code_turn_as_events t)
   turn c t is right = record {
     window = is.window;
+    windows = is.windows;
     goals = is.goals;
     once = is.once;
     events = All-map (IsSeen c) observed t.events.items (λ k d lt. seen c (get_or t.events.items k d) (is.events k d lt));

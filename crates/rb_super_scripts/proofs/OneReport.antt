@@ -1,5 +1,5 @@
 -- A turn has at most one report.
-use Rattle.std.proofs.Common.{◌≡◌, ℕ, ◌+◌, ◌-◌, ◌<◌, ◌≤◌, List, [], ◌∷◌, Option, Some, None, All, MatchOption, length, map, drop, get_or, refl, sym, ap, ◌∙◌, subst, inl, inr, arith}
+use Rattle.std.proofs.Common.{◌≡◌, ℕ, ◌+◌, ◌-◌, ◌<◌, ◌≤◌, Bool, true, false, List, [], ◌∷◌, ◌++◌, Option, Some, None, All, MatchOption, length, map, drop, get_or, refl, sym, ap, ◌∙◌, subst, inl, inr, arith}
 use Rattle.std.specs.List.{AllZip, enumerate_from}
 use Rattle.std.specs.Option.{option_map}
 use Rattle.std.proofs.lemmas.Bool.{cases_lt}
@@ -7,8 +7,8 @@ use Rattle.std.proofs.lemmas.List.{get_or-take, get_or-drop, length-take, length
 use Rattle.std.proofs.lemmas.List.Sums.{get_or-le-sum_by}
 use Rattle.std.proofs.lemmas.List.Elements.{All-head, All-tail}
 use Rattle.std.proofs.lemmas.Option.{none-some, same_Some}
-use Rattle.rb_batch.specs.Cut.{FollowOn, IsTransaction, IsLeastCut, IsFirstTooBig, run_of}
-use Rattle.rb_batch.specs.Laws.{LeastCutIsOne}
+use Rattle.rb_batch.specs.Cut.{FollowOn, IsTransaction, IsDivision, IsFirstTooBig, run_of}
+use Rattle.rb_batch.specs.Laws.{LeastCutIsOne, CutApartIsDivision, CutApartIsOne}
 use Rattle.rb_batch.specs.Limits.{TransactionLimits, IsTooBig}
 use Rattle.rb_batch.specs.declared.transaction.Transaction.{Transaction}
 use Rattle.rb_script_types.specs.declared.goal.Goal.{Goal}
@@ -18,14 +18,14 @@ use Rattle.rb_plan_types.specs.Least.{IsUnreachable}
 use Rattle.rb_plan_types.specs.ProofHeight.{IsProofHeight}
 use Rattle.rb_step.specs.LightClient.{Update, Client}
 use Rattle.rb_step.specs.View.{client_of}
-use Rattle.rb_plan_client.specs.Draft.{Batch, Sending, nothing, too_big, batched, Plan, Planned as Answer, IsBatch, IsSending, IsPlan, IsPlanned, IsIdle, planned_updates}
+use Rattle.rb_plan_client.specs.Draft.{Batch, Sending, nothing, too_big, batched, Plan, Planned as Answer, IsCut, IsBatch, IsSending, IsPlan, IsPlanned, IsIdle, planned_updates}
 use Rattle.rb_plan_client.specs.Reach.{IsReach}
 use Rattle.rb_core_model.specs.Standing.{OpenBatch, ClientState, Standing, task_in}
 use Rattle.rb_plan_client.specs.Next.{IsNext}
-use Rattle.rb_plan_client.specs.Task.{Task, Message, view_of, next_moment, goal_of, messages_of, gas_of, gases}
+use Rattle.rb_plan_client.specs.Task.{Task, Message, view_of, next_moment, goal_of, messages_of, is_apart, gas_of, gases}
 use Rattle.rb_super_turn.specs.Report.{Outcome, held, idle, planned, ClientReport, TurnReport}
 use Rattle.rb_super_turn.specs.Script.{Turn}
-use Rattle.rb_super_turn.specs.Turns.{reported, IsOutcome, IsClientReport, before_plans, after_plans, reports_of_all, IsTurnReport}
+use Rattle.rb_super_turn.specs.Turns.{told_too_big, reported, IsOutcome, IsClientReport, before_plans, after_plans, reports_of_all, IsTurnReport}
 use Rattle.rb_super_scripts.proofs.OneLabelling.{one_labelling}
 
 -- ---- no message of a division is too big alone
@@ -47,9 +47,23 @@ in_division limits messages first (t ∷ ts) i follow all from within big = elim
   | inr later ↦ in_division limits messages (first + t.count) ts i follow.1 (All-tail (IsTransaction limits messages) t ts all) later within big
 ]
 
-cut_or_too_big : (limits : TransactionLimits) (messages : List ℕ) (ts : List Transaction) (index : ℕ) → IsLeastCut limits messages ts → IsFirstTooBig limits messages index → ⊥
-cut_or_too_big limits messages ts index least big =
-    in_division limits messages 0 ts index least.division.whole least.division.transactions (omega arith) big.place big.too_big
+cut_or_too_big : (limits : TransactionLimits) (messages : List ℕ) (ts : List Transaction) (index : ℕ) → IsDivision limits messages ts → IsFirstTooBig limits messages index → ⊥
+cut_or_too_big limits messages ts index division big =
+    in_division limits messages 0 ts index division.whole division.transactions (omega arith) big.place big.too_big
+
+-- there is one cut at most, and it is a division
+pub record CutsAreOne : Type 0 where
+  pub least : LeastCutIsOne
+  pub division : CutApartIsDivision
+  pub apart : CutApartIsOne
+
+cut_division : CutsAreOne → (b : Bool) (limits : TransactionLimits) (us ms : List ℕ) (ts : List Transaction) → IsCut b limits us ms ts → IsDivision limits (us ++ ms) ts
+cut_division cuts true limits us ms ts is = cuts.division limits us ms ts is
+cut_division cuts false limits us ms ts is = is.division
+
+one_cut : CutsAreOne → (b : Bool) (limits : TransactionLimits) (us ms : List ℕ) (ts vs : List Transaction) → IsCut b limits us ms ts → IsCut b limits us ms vs → ts ≡ vs
+one_cut cuts true limits us ms ts vs x y = cuts.apart limits us ms ts vs x y
+one_cut cuts false limits us ms ts vs x y = cuts.least limits (us ++ ms) ts vs x y
 
 one_index : (limits : TransactionLimits) (messages : List ℕ) (i j : ℕ) → IsFirstTooBig limits messages i → IsFirstTooBig limits messages j → i ≡ j
 one_index limits messages i j a b = elim (cases_lt i j) [
@@ -65,49 +79,65 @@ one_reach client None (Some n) p q = absurd (p.greatest n q.reached)
 one_reach client (Some m) None p q = absurd (q.greatest m p.reached)
 one_reach client (Some m) (Some n) p q = ap (λ x. Some x) (omega (arith, q.greatest m p.reached, p.greatest n q.reached))
 
+-- so is the proof height
+one_proof : (client : Client) (us : List Update) (a b : Option ℕ) → IsProofHeight client us a → IsProofHeight client us b → a ≡ b
+one_proof client us None None p q = refl
+one_proof client us None (Some n) p q = absurd (p.greatest n q.left)
+one_proof client us (Some m) None p q = absurd (q.greatest m p.left)
+one_proof client us (Some m) (Some n) p q = ap (λ x. Some x) (omega (arith, q.greatest m p.left, p.greatest n q.left))
+
 length-gases : (t : Task) (us : List Update) (ms : List Message) → length (gases t us ms) ≡ length us + length ms
 length-gases t us ms = omega (arith, length-append (map (gas_of t) us) (map (λ (m : Message). m.gas) ms), length-map us (gas_of t), length-map ms (λ (m : Message). m.gas))
 
 -- how messages are sent goes by the messages alone
-moved : (t : Task) (p q : Plan) → p.updates ≡ q.updates → p.messages ≡ q.messages → (x : Sending) → IsSending t p x → IsSending t q x
-moved t p q us ms nothing h = (sym us ∙ h.0, sym ms ∙ h.1)
-moved t p q us ms (too_big index) h = subst (λ (y : List Update × List Message). IsFirstTooBig t.config.limits (gases t y.0 y.1) index) (λ i. (us i, ms i)) h
-moved t p q us ms (batched b) h = record {
+moved : (t : Task) (reach : Option ℕ) (p q : Plan) → p.updates ≡ q.updates → p.messages ≡ q.messages → (x : Sending) → IsSending t reach p x → IsSending t reach q x
+moved t reach p q us ms nothing h = (sym us ∙ h.0, sym ms ∙ h.1)
+moved t reach p q us ms (too_big index) h = subst (λ (y : List Update × List Message). IsFirstTooBig t.config.limits (gases t y.0 y.1) index) (λ i. (us i, ms i)) h
+moved t reach p q us ms (batched b) h = record {
   some = subst (λ (y : List Update × List Message). 0 < length y.0 + length y.1) (λ i. (us i, ms i)) h.some;
   proof = subst (λ (y : List Update). IsProofHeight (client_of (view_of t)) y (Some b.proof)) us h.proof;
-  transactions = subst (λ (y : List Update × List Message). IsLeastCut t.config.limits (gases t y.0 y.1) b.transactions) (λ i. (us i, ms i)) h.transactions;
+  transactions = subst (λ (y : List Update × List Message). IsCut (is_apart t reach) t.config.limits (map (gas_of t) y.0) (map (λ (m : Message). m.gas) y.1) b.transactions)
+      (λ i. (us i, ms i)) h.transactions;
 }
 
 -- unreachable, or the plan
 abbrev IsPlanOr : Task → Option ℕ → Goal → Option Plan → Type 0
-IsPlanOr t reach goal plan = MatchOption plan (IsUnreachable (client_of (view_of t)) goal) (IsPlan t goal (messages_of t reach))
+IsPlanOr t reach goal plan = MatchOption plan (IsUnreachable (client_of (view_of t)) goal) (IsPlan t reach goal)
 
-module _ (one : AnswersAreOne) (cuts : LeastCutIsOne) where
-  nothing_is_small : (t : Task) (p : Plan) (index : ℕ) → IsSending t p nothing → IsFirstTooBig t.config.limits (gases t p.updates p.messages) index → ⊥
-  nothing_is_small t p index empty big = omega (arith, big.place, length-gases t p.updates p.messages, ap length empty.0, ap length empty.1)
+module _ (one : AnswersAreOne) (cuts : CutsAreOne) where
+  nothing_is_small : (t : Task) (reach : Option ℕ) (p : Plan) (index : ℕ) → IsSending t reach p nothing → IsFirstTooBig t.config.limits (gases t p.updates p.messages) index → ⊥
+  nothing_is_small t reach p index empty big = omega (arith, big.place, length-gases t p.updates p.messages, ap length empty.0, ap length empty.1)
 
-  nothing_is_none : (t : Task) (p : Plan) (b : Batch) → IsSending t p nothing → IsBatch t p b → ⊥
-  nothing_is_none t p b empty batch = omega (arith, batch.some, ap length empty.0, ap length empty.1)
+  nothing_is_none : (t : Task) (reach : Option ℕ) (p : Plan) (b : Batch) → IsSending t reach p nothing → IsBatch t reach p b → ⊥
+  nothing_is_none t reach p b empty batch = omega (arith, batch.some, ap length empty.0, ap length empty.1)
 
-  one_sending : (t : Task) (p : Plan) (a b : Sending) → IsSending t p a → IsSending t p b → a ≡ b
-  one_sending t p nothing nothing x y = refl
-  one_sending t p nothing (too_big j) x y = absurd (nothing_is_small t p j x y)
-  one_sending t p nothing (batched b) x y = absurd (nothing_is_none t p b x y)
-  one_sending t p (too_big i) nothing x y = absurd (nothing_is_small t p i y x)
-  one_sending t p (too_big i) (too_big j) x y = ap (λ n. too_big n) (one_index t.config.limits (gases t p.updates p.messages) i j x y)
-  one_sending t p (too_big i) (batched b) x y = absurd (cut_or_too_big t.config.limits (gases t p.updates p.messages) b.transactions i y.transactions x)
-  one_sending t p (batched a) nothing x y = absurd (nothing_is_none t p a y x)
-  one_sending t p (batched a) (too_big j) x y = absurd (cut_or_too_big t.config.limits (gases t p.updates p.messages) a.transactions j x.transactions y)
-  one_sending t p (batched a) (batched b) x y =
+  batch_is_small : (t : Task) (reach : Option ℕ) (p : Plan) (b : Batch) (index : ℕ) → IsBatch t reach p b → IsFirstTooBig t.config.limits (gases t p.updates p.messages) index → ⊥
+  batch_is_small t reach p b index batch big =
+      cut_or_too_big t.config.limits (gases t p.updates p.messages) b.transactions index
+      (cut_division cuts (is_apart t reach) t.config.limits (map (gas_of t) p.updates) (map (λ (m : Message). m.gas) p.messages) b.transactions batch.transactions) big
+
+  one_sending : (t : Task) (reach : Option ℕ) (p : Plan) (a b : Sending) → IsSending t reach p a → IsSending t reach p b → a ≡ b
+  one_sending t reach p nothing nothing x y = refl
+  one_sending t reach p nothing (too_big j) x y = absurd (nothing_is_small t reach p j x y)
+  one_sending t reach p nothing (batched b) x y = absurd (nothing_is_none t reach p b x y)
+  one_sending t reach p (too_big i) nothing x y = absurd (nothing_is_small t reach p i y x)
+  one_sending t reach p (too_big i) (too_big j) x y = ap (λ n. too_big n) (one_index t.config.limits (gases t p.updates p.messages) i j x y)
+  one_sending t reach p (too_big i) (batched b) x y = absurd (batch_is_small t reach p b i y x)
+  one_sending t reach p (batched a) nothing x y = absurd (nothing_is_none t reach p a y x)
+  one_sending t reach p (batched a) (too_big j) x y = absurd (batch_is_small t reach p a j x y)
+  one_sending t reach p (batched a) (batched b) x y =
       let proofs : a.proof ≡ b.proof = omega (arith, y.proof.greatest a.proof x.proof.left, x.proof.greatest b.proof y.proof.left) in
-      let transactions = cuts t.config.limits (gases t p.updates p.messages) a.transactions b.transactions x.transactions y.transactions in
+      let transactions =
+      one_cut cuts (is_apart t reach) t.config.limits (map (gas_of t) p.updates) (map (λ (m : Message). m.gas) p.messages) a.transactions b.transactions x.transactions y.transactions in
       λ i. batched (record { proof = proofs i; transactions = transactions i })
 
-  one_plan : (t : Task) (reach : Option ℕ) (goal : Goal) (p q : Plan) → IsPlan t goal (messages_of t reach) p → IsPlan t goal (messages_of t reach) q → p ≡ q
+  one_plan : (t : Task) (reach : Option ℕ) (goal : Goal) (p q : Plan) → IsPlan t reach goal p → IsPlan t reach goal q → p ≡ q
   one_plan t reach goal p q a b =
       let updates : p.updates ≡ q.updates = one.least (view_of t) goal p.updates q.updates a.least b.least in
-      let messages : p.messages ≡ q.messages = a.messages ∙ sym b.messages in
-      let sending : p.sending ≡ q.sending = one_sending t q p.sending q.sending (moved t p q updates messages p.sending a.sending) b.sending in
+      let proof : a.proof ≡ b.proof =
+      one_proof (client_of (view_of t)) q.updates a.proof b.proof (subst (λ us. IsProofHeight (client_of (view_of t)) us a.proof) updates a.is_proof) b.is_proof in
+      let messages : p.messages ≡ q.messages = a.messages ∙ ap (messages_of t reach) proof ∙ sym b.messages in
+      let sending : p.sending ≡ q.sending = one_sending t reach q p.sending q.sending (moved t reach p q updates messages p.sending a.sending) b.sending in
       λ i. record { updates = updates i; messages = messages i; sending = sending i }
 
   one_or : (t : Task) (reach : Option ℕ) (goal : Goal) (p q : Option Plan) → IsPlanOr t reach goal p → IsPlanOr t reach goal q → p ≡ q
@@ -131,7 +161,10 @@ module _ (one : AnswersAreOne) (cuts : LeastCutIsOne) where
       none-some p.goal (sym a.goal ∙ ap (goal_of t) (one_reach (client_of (view_of t)) a.reach b.reach a.is_reach b.is_reach) ∙ b.goal)
 
   one_next : (t : Task) (us : List Update) (m n : Option ℕ) → IsNext t us m → IsNext t us n → m ≡ n
-  one_next t us m n a b = a.is ∙ ap (λ reach. next_moment t reach us) (one_reach (client_of (view_of t)) a.reach b.reach a.is_reach b.is_reach) ∙ sym b.is
+  one_next t us m n a b =
+      let reach = one_reach (client_of (view_of t)) a.reach b.reach a.is_reach b.is_reach in
+      let proof = one_proof (client_of (view_of t)) us a.proof b.proof a.is_proof b.is_proof in
+      a.is ∙ (λ i. next_moment t (reach i) (proof i) us) ∙ sym b.is
 
   held_or_free : (c : ClientState) (n : ℕ) → option_map (λ (b : OpenBatch). b.number) c.batch ≡ Some n → c.batch ≡ None → ⊥
   held_or_free c n e free = none-some n (sym (ap (option_map (λ (b : OpenBatch). b.number)) free) ∙ e)
@@ -158,7 +191,8 @@ module _ (one : AnswersAreOne) (cuts : LeastCutIsOne) where
       let id : r.id ≡ q.id = a.id ∙ sym b.id in
       let outcome : r.outcome ≡ q.outcome =
       one_outcome (task_in s b.window c.0 c.1) c.1 r.outcome q.outcome (subst (λ w. IsOutcome (task_in s w c.0 c.1) c.1 r.outcome) window a.outcome) b.outcome in
-      λ i. record { id = id i; outcome = outcome i }
+      let too_big : r.too_big ≡ q.too_big = a.too_big ∙ ap (λ w. told_too_big (task_in s w c.0 c.1) c.1) window ∙ sym b.too_big in
+      λ i. record { id = id i; outcome = outcome i; too_big = too_big i }
 
   one_row : (s : Standing) (cs : List (ℕ × ClientState)) (rs qs : List ClientReport) → AllZip (IsClientReport s) cs rs → AllZip (IsClientReport s) cs qs → rs ≡ qs
   one_row s [] [] [] a b = refl
@@ -174,9 +208,10 @@ module _ (one : AnswersAreOne) (cuts : LeastCutIsOne) where
   pub one_turn : (s : Standing) (t : Turn) (r q : TurnReport) → IsTurnReport s t r → IsTurnReport s t q → r ≡ q
   one_turn s t r q a b =
       let window = a.window ∙ sym b.window in
+      let hosts = a.hosts ∙ sym b.hosts in
       let refused = a.refused ∙ sym b.refused in
       let clients = one_row (before_plans s t) (enumerate_from 0 (before_plans s t).clients) r.clients q.clients a.clients b.clients in
       let settlements = a.settlements
-      ∙ ap (λ (rs : List ClientReport). reports_of_all t.settlements t.taken (after_plans s t (record { window_back = r.window_back; refused = r.refused; clients = rs; settlements = r.settlements }))) clients
+      ∙ ap (λ (rs : List ClientReport). reports_of_all t.settlements t.taken (after_plans s t (record { window_back = r.window_back; hosts_back = r.hosts_back; refused = r.refused; clients = rs; settlements = r.settlements }))) clients
       ∙ sym b.settlements in
-      λ i. record { window_back = window i; refused = refused i; clients = clients i; settlements = settlements i }
+      λ i. record { window_back = window i; hosts_back = hosts i; refused = refused i; clients = clients i; settlements = settlements i }

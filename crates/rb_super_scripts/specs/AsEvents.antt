@@ -7,7 +7,7 @@ use Rattle.rb_core_model.specs.Seen.{observed}
 use Rattle.rb_super_turn.specs.Script.{Turn, Script}
 
 abbrev pub turn_as_events : {A : Type 0} → SeenTurn A → Turn
-turn_as_events t = record { window = t.window; goals = t.goals; events = map observed t.events; settlements = t.settlements; taken = t.taken }
+turn_as_events t = record { window = t.window; windows = t.windows; goals = t.goals; events = map observed t.events; settlements = t.settlements; taken = t.taken }
 
 abbrev pub as_events : {A : Type 0} → SeenScript A → Script
 as_events s = record { config = s.config; turns = map turn_as_events s.turns }

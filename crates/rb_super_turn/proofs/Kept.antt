@@ -12,7 +12,7 @@ use Rattle.rb_script_types.specs.declared.config.ClientConfig.{ClientConfig}
 use Rattle.rb_script_types.specs.declared.refusal.Refusal.TheVariants.{UnknownObject}
 use Rattle.rb_core_model.specs.Config.{IsSetUp}
 use Rattle.rb_core.specs.Core.{Core, state_in, refusal_in}
-use Rattle.rb_core_model.specs.Event.{Event, Window, Asked, SetSeen, HeaderSeen, StoredSeen, Sent, Received, AckWritten, Cleared, Closed, Scanned, Planned, Settled}
+use Rattle.rb_core_model.specs.Event.{Event, Window, HostWindow, Asked, SetSeen, HeaderSeen, StoredSeen, Sent, Received, AckWritten, Cleared, Closed, Scanned, Planned, Settled}
 use Rattle.rb_core_model.specs.Machine.{State, accepted, is_known}
 use Rattle.rb_core_model.specs.Snapshot.{followed_by}
 use Rattle.rb_core_model.specs.Standing.{OpenBatch, ClientState, Standing, after_settled, book_at, changed, empty_book, open_batch, tracked}
@@ -58,6 +58,7 @@ tracked_is core client known =
 
 same_chain : (core : Core) (e : Event) → is_known (state_in core) e ≡ true → chain_by (standing_in core) e ≡ chain_of core.config e
 same_chain core (Window window) known = refl
+same_chain core (HostWindow host window) known = refl
 same_chain core (Asked client goal) known = refl
 same_chain core (SetSeen chain x) known = refl
 same_chain core (HeaderSeen chain header) known = refl
@@ -73,6 +74,7 @@ same_chain core (Settled client number done) known = refl
 
 there : (core : Core) (e : Event) (chain : ℕ) → IsSetUp core.config → is_known (state_in core) e ≡ true → chain_of core.config e ≡ Some chain → chain < length core.config.chains
 there core (Window window) chain up known is = absurd (none-some chain is)
+there core (HostWindow host window) chain up known is = absurd (none-some chain is)
 there core (Asked client goal) chain up known is = absurd (none-some chain is)
 there core (SetSeen other x) chain up known is = subst (λ n. n < length core.config.chains) (same_Some other chain is) (chain_within core other known)
 there core (HeaderSeen other header) chain up known is = subst (λ n. n < length core.config.chains) (same_Some other chain is) (chain_within core other known)
@@ -104,6 +106,7 @@ books_with books e o = option_map_or (λ chain. set books chain (with_addition e
 
 books_changed : (s : Standing) (e : Event) → (changed s e).books ≡ books_with s.books e (chain_by s e)
 books_changed s (Window window) = refl
+books_changed s (HostWindow host window) = refl
 books_changed s (Asked client goal) = refl
 books_changed s (SetSeen chain x) = refl
 books_changed s (HeaderSeen chain header) = refl

@@ -8,9 +8,10 @@ use Rattle.rb_core_model.specs.Event.{Event, Asked}
 use Rattle.rb_core_model.specs.Standing.{Standing, standing_after}
 use Rattle.rb_core_model.proofs.Accepted.{window_stays, window_entered}
 use Rattle.rb_script_types.specs.declared.script.Asked.{Asked as Question}
+use Rattle.rb_script_types.specs.declared.script.HostWindow.{HostWindow as WindowOf}
 use Rattle.rb_script_types.specs.declared.script.Settlement.{Settlement}
 use Rattle.rb_super_turn.specs.Report.{RefusedEvent}
-use Rattle.rb_super_turn.specs.Turns.{after_window, after_question, refusal_at, refusals, after_settlement, settlement_report, settlement_reports}
+use Rattle.rb_super_turn.specs.Turns.{after_window, after_host_window, after_question, refusal_at, refusals, after_settlement, settlement_report, settlement_reports}
 
 -- the first elements of a list, seen through a view, with one more
 pub seen_more : {X Y : Type 0} (view : X → Y) (xs : List X) (i : ℕ) (x : X) → i < length xs → x ≡ get_or xs i x → map view (take (i + 1) xs) ≡ map view (take i xs) ++ view x ∷ []
@@ -45,11 +46,14 @@ entered s window goals events =
 
 -- ---- a turn up to its plans
 
-pub prepared : (a b d e f : Standing) (window : Span) (goals : List Question) (events : List Event) → b ≡ after_window a window → d ≡ fold after_question b goals → e ≡ fold standing_after d events → f ≡ e
-    → f ≡ fold standing_after (fold after_question (after_window a window) goals) events
-prepared a b d e f window goals events one two three four =
-    four ∙ three ∙ ap (λ s. fold standing_after s events) (two ∙ ap (λ s. fold after_question s goals) one)
+pub prepared : (a h b d e f : Standing) (windows : List WindowOf) (window : Span) (goals : List Question) (events : List Event)
+    → h ≡ fold after_host_window a windows → b ≡ after_window h window → d ≡ fold after_question b goals → e ≡ fold standing_after d events → f ≡ e
+    → f ≡ fold standing_after (fold after_question (after_window (fold after_host_window a windows) window) goals) events
+prepared a h b d e f windows window goals events zero one two three four =
+    four ∙ three ∙ ap (λ s. fold standing_after s events) (two ∙ ap (λ s. fold after_question s goals) (one ∙ ap (λ s. after_window s window) zero))
 
-pub refused_in : (a b d : Standing) (window : Span) (goals : List Question) (events : List Event) (refused : List RefusedEvent) → b ≡ after_window a window → d ≡ fold after_question b goals → refused ≡ refusals 0 d events
-    → refused ≡ refusals 0 (fold after_question (after_window a window) goals) events
-refused_in a b d window goals events refused one two is = is ∙ ap (λ s. refusals 0 s events) (two ∙ ap (λ s. fold after_question s goals) one)
+pub refused_in : (a h b d : Standing) (windows : List WindowOf) (window : Span) (goals : List Question) (events : List Event) (refused : List RefusedEvent)
+    → h ≡ fold after_host_window a windows → b ≡ after_window h window → d ≡ fold after_question b goals → refused ≡ refusals 0 d events
+    → refused ≡ refusals 0 (fold after_question (after_window (fold after_host_window a windows) window) goals) events
+refused_in a h b d windows window goals events refused zero one two is =
+    is ∙ ap (λ s. refusals 0 s events) (two ∙ ap (λ s. fold after_question s goals) (one ∙ ap (λ s. after_window s window) zero))

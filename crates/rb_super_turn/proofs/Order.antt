@@ -1,18 +1,19 @@
 -- The supervisor's order gives the report of a turn.
-use Rattle.std.proofs.Common.{◌≡◌, ℕ, zero, suc, ◌+◌, Bool, true, false, if◌then◌else◌, List, [], ◌∷◌, ◌++◌, length, map, Some, set, refl, sym, ap, ◌∙◌, subst, arith, append_assoc, append-nil}
+use Rattle.std.proofs.Common.{◌≡◌, ℕ, zero, suc, ◌+◌, Bool, true, false, if◌then◌else◌, List, [], ◌∷◌, ◌++◌, is_some, length, map, Some, set, refl, sym, ap, ◌∙◌, subst, arith, append_assoc, append-nil}
 use Rattle.std.specs.List.{AllZip, slice_get, flat_map, fold, enumerate_from, range_with_len}
 use Rattle.std.specs.Option.{option_map, option_map_or, option_to_list}
 use Rattle.std.proofs.lemmas.List.{set_at, length-append}
 use Rattle.std.proofs.lemmas.Option.{same_Some}
 use Rattle.rb_core_model.specs.Event.{Event, Window, Asked}
-use Rattle.rb_core_model.specs.Standing.{ClientState, Standing, changed_at, goes_back, standing_after}
-use Rattle.rb_super_turn.specs.Agenda.{Item, ask, plan, settle, take_open, takes, observations, both_parts, empty_report, Finishes, OrderGivesReport}
+use Rattle.rb_core_model.specs.Standing.{ClientState, Standing, changed, changed_at, goes_back, judged, standing_after}
+use Rattle.rb_super_turn.specs.Agenda.{Item, enter_host, ask, plan, settle, take_open, takes, observations, both_parts, empty_report, Finishes, OrderGivesReport}
 use Rattle.rb_super_turn.specs.Report.{ClientReport, TurnReport}
 use Rattle.rb_script_types.specs.Config.{Config}
 use Rattle.rb_script_types.specs.declared.script.Asked.{Asked as Question}
+use Rattle.rb_script_types.specs.declared.script.HostWindow.{HostWindow as WindowOf}
 use Rattle.rb_script_types.specs.declared.script.Settlement.{Settlement}
 use Rattle.rb_super_turn.specs.Script.{Turn}
-use Rattle.rb_super_turn.specs.Turns.{after_window, after_question, refusal_at, refusals, before_events, before_plans, refusals_in, IsClientReport, after_outcome, after_reports, after_settlement, settlement_report, settlement_reports, taking, after_taking, taking_reports, takers}
+use Rattle.rb_super_turn.specs.Turns.{after_window, window_event, after_host_window, hosts_back, after_question, refusal_at, refusals, before_events, before_plans, refusals_in, IsClientReport, after_outcome, after_reports, after_settlement, settlement_report, settlement_reports, taking, after_taking, taking_reports, takers}
 use Rattle.rb_core_model.proofs.Lengths.{lengths_after, lengths_fold}
 
 -- ---- lists with one element more
@@ -42,7 +43,28 @@ length-reports [] rs = refl
 length-reports (c ∷ cs) [] = refl
 length-reports (c ∷ cs) (r ∷ rs) = ap (λ n. suc n) (length-reports cs rs)
 
+-- windows of hosts leave the common one
+pub host_keeps : (s : Standing) (w : WindowOf) → (after_host_window s w).window ≡ s.window
+host_keeps s w = go (is_some (judged s (window_event w)))
+  where
+    go : (b : Bool) → (if b then s else changed s (window_event w)).window ≡ s.window
+    go true = refl
+    go false = refl
+
+pub hosts_keep : (ws : List WindowOf) (s : Standing) → (fold after_host_window s ws).window ≡ s.window
+hosts_keep [] s = refl
+hosts_keep (w ∷ ws) s = hosts_keep ws (after_host_window s w) ∙ host_keeps s w
+
 module _ (start : Standing) (turn : Turn) where
+  hosts_all : (ws : List WindowOf) (s : Standing) (r : TurnReport) (items : List Item)
+      → Finishes start turn (fold after_host_window s ws) (record r { hosts_back = r.hosts_back ++ hosts_back s ws }) items → Finishes start turn s r (map enter_host ws ++ items)
+  hosts_all [] s r items h = subst (λ xs. Finishes start turn s (record r { hosts_back = xs }) items) (append-nil r.hosts_back) h
+  hosts_all (w ∷ ws) s r items h =
+      let here : List ℕ = if is_some (judged s (window_event w)) then w.host ∷ [] else [] in
+      hosts_all ws (after_host_window s w) (record r { hosts_back = r.hosts_back ++ here }) items
+      (subst (λ xs. Finishes start turn (fold after_host_window (after_host_window s w) ws) (record r { hosts_back = xs }) items)
+      (sym (append_assoc r.hosts_back here (hosts_back (after_host_window s w) ws))) h)
+
   -- ---- what is asked, what was seen, what is scanned, what is settled
   asks : (goals : List Question) (s : Standing) (r : TurnReport) (items : List Item) → Finishes start turn (fold after_question s goals) r items → Finishes start turn s r (map ask goals ++ items)
   asks [] s r items h = h
@@ -101,7 +123,7 @@ module _ (start : Standing) (turn : Turn) where
       let long_past : length (after_reports past rs) ≡ n = length-reports past rs ∙ at in
       let here = at_end (after_reports past rs) left c n long_past in
       let same : k ≡ c = same_Some k c (sym found ∙ here) in
-      let right : IsClientReport p (n, c) report = subst (λ x. IsClientReport p (n, x) report) same (record { id = is.id; window = is.window; is_window = is.is_window; outcome = is.outcome }) in
+      let right : IsClientReport p (n, c) report = subst (λ x. IsClientReport p (n, x) report) same (record { id = is.id; window = is.window; is_window = is.is_window; outcome = is.outcome; too_big = is.too_big }) in
       let f : ClientState → ClientState = after_outcome report.outcome in
       let clients : after_reports (past ++ c ∷ []) (rs ++ report ∷ []) ++ left ≡ changed_at f (after_reports past rs ++ c ∷ left) n =
       ap (λ cs. cs ++ left) (reports_push past rs c report long)
@@ -117,14 +139,17 @@ module _ (start : Standing) (turn : Turn) where
 
 pub order : OrderGivesReport
 order config turn s long =
+    let h = fold after_host_window s turn.windows in
     let e = before_events s turn in
     let p = before_plans s turn in
-    let asked = lengths_fold after_question (λ t q. lengths_after t (Asked q.client q.goal)) turn.goals (after_window s turn.window) in
+    let entered = lengths_fold after_host_window (λ t w. lengths_after t (window_event w)) turn.windows s in
+    let asked = lengths_fold after_question (λ t q. lengths_after t (Asked q.client q.goal)) turn.goals (after_window h turn.window) in
     let observed = lengths_fold standing_after lengths_after turn.events e in
-    let count : length p.clients ≡ length config.clients = observed.clients ∙ asked.clients ∙ (lengths_after s (Window turn.window)).clients ∙ long in
-    let r = record empty_report { window_back = goes_back s.window turn.window; refused = refusals_in s turn } in
+    let count : length p.clients ≡ length config.clients = observed.clients ∙ asked.clients ∙ (lengths_after h (Window turn.window)).clients ∙ entered.clients ∙ long in
+    let r = record empty_report { window_back = goes_back h.window turn.window; hosts_back = hosts_back s turn.windows; refused = refusals_in s turn } in
     let last : List Item = map settle turn.settlements ++ takes config turn in
-    asks s turn turn.goals (after_window s turn.window) _ _ (seen_all s turn turn.events 0 e _ _ (scanned_all s turn (range_with_len 0 (length config.paths)) p r _
+    hosts_all s turn turn.windows s empty_report _
+    (asks s turn turn.goals (after_window h turn.window) _ _ (seen_all s turn turn.events 0 e _ _ (scanned_all s turn (range_with_len 0 (length config.paths)) p r _
     (subst (λ n. Finishes s turn p r (map plan (range_with_len 0 n) ++ last)) count
     (planned_all s turn p r last (λ rs all.
     let u : Standing = record p { clients = after_reports p.clients rs } in
@@ -132,4 +157,4 @@ order config turn s long =
     let planned_count : length u.clients ≡ length config.clients = length-reports p.clients rs ∙ count in
     settled_all s turn turn.settlements u mine (takes config turn)
     (takes_all s turn config u (fold after_settlement u turn.settlements) (record mine { settlements = settlement_reports u turn.settlements }) planned_count
-    (record { window = refl; refused = refl; clients = all; settlements = refl }, refl))) p.clients [] [] 0 refl refl refl tt))))
+    (record { window = ap (λ o. goes_back o turn.window) (hosts_keep turn.windows s); hosts = refl; refused = refl; clients = all; settlements = refl }, refl))) p.clients [] [] 0 refl refl refl tt)))))

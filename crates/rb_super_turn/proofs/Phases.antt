@@ -1,21 +1,31 @@
 -- A turn, phase by phase, gives its report.
-use Rattle.std.proofs.Common.{◌≡◌, ℕ, ◌+◌, Bool, true, false, if◌then◌else◌, List, [], ◌∷◌, ◌++◌, length, map, refl, sym, ap, ◌∙◌, subst, append_assoc, append-nil, arith}
+use Rattle.std.proofs.Common.{◌≡◌, ℕ, ◌+◌, Bool, true, false, if◌then◌else◌, List, [], ◌∷◌, ◌++◌, is_some, length, map, refl, sym, ap, ◌∙◌, subst, append_assoc, append-nil, arith}
 use Rattle.std.specs.List.{flat_map, fold, range_with_len}
 use Rattle.std.specs.Option.{option_map, option_to_list}
 use Rattle.rb_core_model.specs.Event.{Event, Window, Asked}
-use Rattle.rb_core_model.specs.Standing.{Standing, goes_back, standing_after}
+use Rattle.rb_core_model.specs.Standing.{Standing, goes_back, judged, standing_after}
 use Rattle.rb_core_model.proofs.Lengths.{lengths_after, lengths_client, lengths_fold}
 use Rattle.rb_script_types.specs.Config.{Config}
 use Rattle.rb_script_types.specs.declared.script.Asked.{Asked as Question}
+use Rattle.rb_script_types.specs.declared.script.HostWindow.{HostWindow as WindowOf}
 use Rattle.rb_script_types.specs.declared.script.Settlement.{Settlement}
-use Rattle.rb_super_turn.specs.Agenda.{Item, ask, plan, settle, take_open, takes, observations, both_parts, Finishes}
+use Rattle.rb_super_turn.specs.Agenda.{Item, enter_host, ask, plan, settle, take_open, takes, observations, both_parts, empty_report, Finishes}
 use Rattle.rb_super_turn.specs.Report.{RefusedEvent, ClientReport, SettlementReport, TurnReport}
 use Rattle.rb_super_turn.specs.Script.{Turn}
-use Rattle.rb_super_turn.specs.Turns.{after_window, after_question, refusal_at, refusals, before_events, before_plans, refusals_in, after_settlement, settlement_report, settlement_reports, after_outcome, taking, after_taking, taking_reports, takers, after_all, reports_of_all, IsTurnReport, after_turn}
-use Rattle.rb_super_turn.proofs.Order.{order}
+use Rattle.rb_super_turn.specs.Turns.{after_window, window_event, after_host_window, hosts_back, after_question, refusal_at, refusals, before_events, before_plans, refusals_in, after_settlement, settlement_report, settlement_reports, after_outcome, taking, after_taking, taking_reports, takers, after_all, reports_of_all, IsTurnReport, after_turn}
+use Rattle.rb_super_turn.proofs.Order.{hosts_keep, order}
 use Rattle.rb_super_turn.specs.Phases.{IsReportedOf, AreReported}
 
 module _ (start : Standing) (turn : Turn) where
+  entered_all : (ws : List WindowOf) (s : Standing) (r : TurnReport) (items : List Item) → Finishes start turn s r (map enter_host ws ++ items)
+      → Finishes start turn (fold after_host_window s ws) (record r { hosts_back = r.hosts_back ++ hosts_back s ws }) items
+  entered_all [] s r items h = subst (λ xs. Finishes start turn s (record r { hosts_back = xs }) items) (sym (append-nil r.hosts_back)) h
+  entered_all (w ∷ ws) s r items h =
+      let here : List ℕ = if is_some (judged s (window_event w)) then w.host ∷ [] else [] in
+      subst (λ xs. Finishes start turn (fold after_host_window (after_host_window s w) ws) (record r { hosts_back = xs }) items)
+      (append_assoc r.hosts_back here (hosts_back (after_host_window s w) ws))
+      (entered_all ws (after_host_window s w) (record r { hosts_back = r.hosts_back ++ here }) items h)
+
   asked_all : (goals : List Question) (s : Standing) (r : TurnReport) (items : List Item) → Finishes start turn s r (map ask goals ++ items) → Finishes start turn (fold after_question s goals) r items
   asked_all [] s r items h = h
   asked_all (q ∷ goals) s r items h = asked_all goals (after_question s q) r items h
@@ -91,25 +101,30 @@ reported_long (report ∷ reports) client s t are =
 before_long : (s : Standing) (turn : Turn) → length (before_plans s turn).clients ≡ length s.clients
 before_long s turn =
     (lengths_fold standing_after lengths_after turn.events (before_events s turn)).clients
-    ∙ (lengths_fold after_question (λ t q. lengths_after t (Asked q.client q.goal)) turn.goals (after_window s turn.window)).clients
-    ∙ (lengths_after s (Window turn.window)).clients
+    ∙ (lengths_fold after_question (λ t q. lengths_after t (Asked q.client q.goal)) turn.goals (after_window (fold after_host_window s turn.windows) turn.window)).clients
+    ∙ (lengths_after (fold after_host_window s turn.windows) (Window turn.window)).clients
+    ∙ (lengths_fold after_host_window (λ t w. lengths_after t (window_event w)) turn.windows s).clients
 
 -- ---- the whole
 
-pub turn_reported : (c : Config) (turn : Turn) (s t u v : Standing) (back : Bool) (refused : List RefusedEvent) (clients : List ClientReport) (settlements : List SettlementReport)
+pub turn_reported : (c : Config) (turn : Turn) (s t u v : Standing) (back : Bool) (hosts : List ℕ) (refused : List RefusedEvent) (clients : List ClientReport) (settlements : List SettlementReport)
     → length s.clients ≡ length c.clients
     → back ≡ goes_back s.window turn.window
+    → hosts ≡ hosts_back s turn.windows
     → refused ≡ refusals_in s turn
     → t ≡ before_plans s turn
     → length clients ≡ length c.clients
     → AreReported t u 0 clients
     → settlements ≡ reports_of_all turn.settlements turn.taken u
     → v ≡ after_all turn.settlements turn.taken u
-    → let r : TurnReport = record { window_back = back; refused = refused; clients = clients; settlements = settlements }
+    → let r : TurnReport = record { window_back = back; hosts_back = hosts; refused = refused; clients = clients; settlements = settlements }
     in IsTurnReport s turn r × (v ≡ after_turn s turn r)
-turn_reported c turn s t u v back refused clients settlements long_s back_is refused_is t_is count are settlements_is v_is =
-    let first : TurnReport = record { window_back = goes_back s.window turn.window; refused = refusals_in s turn; clients = []; settlements = [] } in
-    let asked = asked_all s turn turn.goals (after_window s turn.window) (record first { refused = [] }) _ (order c turn s long_s) in
+turn_reported c turn s t u v back hosts refused clients settlements long_s back_is hosts_are refused_is t_is count are settlements_is v_is =
+    let h = fold after_host_window s turn.windows in
+    let first : TurnReport = record { window_back = goes_back h.window turn.window; hosts_back = hosts_back s turn.windows; refused = refusals_in s turn; clients = []; settlements = [] } in
+    let same_back : back ≡ goes_back h.window turn.window = back_is ∙ sym (ap (λ o. goes_back o turn.window) (hosts_keep turn.windows s)) in
+    let entered = entered_all s turn turn.windows s empty_report _ (order c turn s long_s) in
+    let asked = asked_all s turn turn.goals (after_window h turn.window) (record first { refused = [] }) _ entered in
     let seen = observed_all s turn turn.events 0 (before_events s turn) (record first { refused = [] }) _ asked in
     let scanned = scanned_all s turn (range_with_len 0 (length c.paths)) (before_plans s turn) first _ seen in
     let last = map settle turn.settlements ++ takes c turn in
@@ -120,6 +135,6 @@ turn_reported c turn s t u v back refused clients settlements long_s back_is ref
     let long : length u.clients ≡ length c.clients =
     reported_long clients 0 t u are ∙ ap (λ (x : Standing). length x.clients) t_is ∙ before_long s turn ∙ long_s in
     let whole = takes_all s turn c u (fold after_settlement u turn.settlements) (record mine { settlements = settlement_reports u turn.settlements }) long settled in
-    subst (λ (p : Standing × Bool × List RefusedEvent × List SettlementReport).
-    let r : TurnReport = record { window_back = p.1; refused = p.2; clients = clients; settlements = p.3 } in IsTurnReport s turn r × (p.0 ≡ after_turn s turn r))
-    (λ i. (sym v_is i, sym back_is i, sym refused_is i, sym settlements_is i)) whole
+    subst (λ (p : Standing × Bool × List ℕ × List RefusedEvent × List SettlementReport).
+    let r : TurnReport = record { window_back = p.1; hosts_back = p.2; refused = p.3; clients = clients; settlements = p.4 } in IsTurnReport s turn r × (p.0 ≡ after_turn s turn r))
+    (λ i. (sym v_is i, sym same_back i, sym hosts_are i, sym refused_is i, sym settlements_is i)) whole

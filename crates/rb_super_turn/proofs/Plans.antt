@@ -1,5 +1,5 @@
 -- What the supervisor plans for a client.
-use Rattle.std.proofs.Common.{◌≡◌, ℕ, ◌+◌, ◌<◌, not, [], Option, Some, None, is_some, length, map, get_or, set, refl, sym, ap, ◌∙◌, subst, arith}
+use Rattle.std.proofs.Common.{◌≡◌, ℕ, ◌+◌, ◌<◌, not, if◌then◌else◌, List, [], Option, Some, None, is_some, length, map, get_or, set, refl, sym, ap, ◌∙◌, subst, arith}
 use Rattle.std.specs.List.{slice_get}
 use Rattle.std.specs.Option.{option_map, option_map_or, option_and_then}
 use Rattle.std.proofs.lemmas.Bool.{ltb-true, not-false}
@@ -7,17 +7,17 @@ use Rattle.rb_core.specs.Core.{Core, state_in, refusal_in}
 use Rattle.rb_plan_client.specs.Draft.{Sending, nothing, too_big, batched, Plan, Planned as Answer, Job, Draft, IsDraft}
 use Rattle.rb_core_model.specs.Event.{Planned}
 use Rattle.rb_core_model.specs.Machine.{State, Reply, is_known, is_scanned, job_of, client_view, refusal_of, reply_for, reply_of, after}
-use Rattle.rb_core_model.specs.Standing.{OpenBatch, ClientState, Standing, batch_of_sending, batch_of, batch_opened, with_client, batch_open}
+use Rattle.rb_core_model.specs.Standing.{OpenBatch, ClientState, Standing, batch_of_sending, batch_of, batch_opened, task_in, with_client, batch_open}
 use Rattle.rb_script_types.specs.Config.{Config}
 use Rattle.rb_script_types.specs.declared.config.ClientConfig.{ClientConfig}
 use Rattle.rb_script_types.specs.declared.refusal.Refusal.TheVariants.{UnknownObject}
 use Rattle.rb_plan_types.specs.Order.{cost_of}
 use Rattle.rb_step.specs.View.{client_of}
-use Rattle.rb_plan_client.specs.Task.{Task, view_of}
+use Rattle.rb_plan_client.specs.Task.{Task, Message, view_of, too_big_messages}
 use Rattle.rb_core_model.proofs.Options.{mapped, chained, passes, some_from}
 use Rattle.rb_core_model.proofs.Steps.{present_drafts, of_the_moment}
 use Rattle.rb_super_turn.specs.Report.{Outcome, held, idle, planned}
-use Rattle.rb_super_turn.specs.Turns.{priced, numbered, reported_plan, reported, outcome_numbered, outcome_of, IsClientReport, after_outcome, id_of}
+use Rattle.rb_super_turn.specs.Turns.{priced, numbered, beyond_goal, reported_plan, reported, outcome_numbered, outcome_of, IsClientReport, after_outcome, id_of}
 use Rattle.rb_super_turn.proofs.Reported.{accepted_reported, set_same}
 use Rattle.rb_super_turn.proofs.Sizes.{at_place}
 use Rattle.rb_super_turn.specs.Phases.{standing_in, HasLogRoom, IsPlannable, IsReportedOf, IsOutcomeOf}
@@ -55,7 +55,7 @@ sent_as number p (too_big index) = refl
 sent_as number p (batched b) = refl
 
 numbered_as : (t : Task) (number : ℕ) (next : Option ℕ) (a : Answer) → reported t (number_of (reply_for (batch_of number (Some a)))) next a ≡ reported t number next a
-numbered_as t number next a = ap (λ plan. record { goal = a.goal; labels = a.labels; plan = plan; next = next }) (go a.plan)
+numbered_as t number next a = ap (λ plan. record { goal = a.goal; beyond = beyond_goal t a.goal; labels = a.labels; plan = plan; next = next }) (go a.plan)
   where
     go : (o : Option Plan) → option_map (reported_plan t (number_of (reply_for (option_and_then (λ (p : Plan). batch_of_sending number p p.sending) o)))) o ≡ option_map (reported_plan t number) o
     go None = refl
@@ -85,7 +85,7 @@ drafted_for s d ok =
 -- a draft that is accepted, whoever made it
 pub taken_reported : (old new : Core) (client : ℕ) (d : Draft) (reply : Reply) → d.job.client ≡ client → IsDraft d → refusal_in old (Planned d) ≡ None
     → reply ≡ reply_of (state_in old) (Planned d) → state_in new ≡ after (state_in old) (Planned d)
-    → IsOutcomeOf (standing_in old) (standing_in new) client (outcome_numbered (number_of reply) d)
+    → IsOutcomeOf (standing_in old) (standing_in new) client (outcome_numbered (number_of reply) d) (too_big_messages d.job.task)
 taken_reported old new client d reply place right ok reply_is state =
     let s = state_in old in
     let there = drafted_for s d ok in
@@ -93,10 +93,10 @@ taken_reported old new client d reply place right ok reply_is state =
     let at : slice_get s.standing.clients client ≡ Some known = ap (slice_get s.standing.clients) (sym place) ∙ there.1 in
     let law = accepted_reported s d known right ok there.1 in
     let outcome = outcome_is s known d reply there.1 reply_is in
-    let report : IsReportedOf (standing_in old) (standing_in new) client (record { id = known.config.id; outcome = outcome_numbered (number_of reply) d }) = record {
+    let report : IsReportedOf (standing_in old) (standing_in new) client (record { id = known.config.id; outcome = outcome_numbered (number_of reply) d; too_big = too_big_messages d.job.task }) = record {
       known = known;
       is_known = at;
-      right = subst (λ (p : ℕ × Outcome). IsClientReport s.standing (p.0, known) (record { id = known.config.id; outcome = p.1 })) (λ i. (place i, sym outcome i)) law.0;
+      right = subst (λ (p : ℕ × Outcome). IsClientReport s.standing (p.0, known) (record { id = known.config.id; outcome = p.1; too_big = too_big_messages d.job.task })) (λ i. (place i, sym outcome i)) law.0;
       after = ap (λ (t : State). t.standing) state ∙ law.1 ∙ (λ i. with_client s.standing (place i) (after_outcome (sym outcome i)));
     } in
     record { known = known; is_known = at; reported = report }
@@ -105,7 +105,7 @@ taken_reported old new client d reply place right ok reply_is state =
 pub draft_reported : (old new : Core) (client : ℕ) (d : Draft) (reply : Reply) → client < length old.config.clients → IsDraft d → HasLogRoom old 1 → IsPlannable old
     → batch_open (standing_in old) client ≡ None → client_view (state_in old) client ≡ Some d.job
     → reply ≡ reply_of (state_in old) (Planned d) → state_in new ≡ after (state_in old) (Planned d)
-    → IsOutcomeOf (standing_in old) (standing_in new) client (outcome_numbered (number_of reply) d)
+    → IsOutcomeOf (standing_in old) (standing_in new) client (outcome_numbered (number_of reply) d) (too_big_messages d.job.task)
 draft_reported old new client d reply lt right room ready none_open view reply_is state =
     taken_reported old new client d reply (client_of_view (state_in old) client d view) right (draft_accepted old client d lt room ready none_open view) reply_is state
 
@@ -133,7 +133,7 @@ ready_still old new ready config state = record {
 
 -- a client that is held
 pub held_reported : (core : Core) (client : ℕ) (c : ClientConfig) (b : OpenBatch) → client < length core.config.clients → c ≡ get_or core.config.clients client c → IsPlannable core
-    → Some b ≡ batch_open (standing_in core) client → IsReportedOf (standing_in core) (standing_in core) client (record { id = c.id; outcome = held b.number })
+    → Some b ≡ batch_open (standing_in core) client → IsReportedOf (standing_in core) (standing_in core) client (record { id = c.id; outcome = held b.number; too_big = [] })
 held_reported core client c b lt at ready is_open =
     let k = known_at core client lt in
     let w = some_from (standing_in core).window ready.window in
@@ -146,6 +146,7 @@ held_reported core client c b lt at ready is_open =
         window = w.0;
         is_window = w.1;
         outcome = ap (option_map (λ (x : OpenBatch). x.number)) batch;
+        too_big = sym (ap (λ o. if is_some o then [] else too_big_messages (task_in (standing_in core) w.0 client k.0)) batch);
       };
       after = sym (unchanged (standing_in core) client k.0 k.1);
     }
@@ -161,8 +162,8 @@ id_there core client c lt at =
     ap (λ o. option_map_or (λ (x : ClientState). x.config.id) o []) k.1 ∙ ap (λ (x : ClientConfig). x.id) (known_config core client c lt at k.0 k.1)
 
 -- a report of a client by its identifier in the configuration
-pub reported_by_id : (core : Core) (t : Standing) (client : ℕ) (c : ClientConfig) (o : Outcome) → client < length core.config.clients → c ≡ get_or core.config.clients client c
-    → IsOutcomeOf (standing_in core) t client o → IsReportedOf (standing_in core) t client (record { id = c.id; outcome = o })
-reported_by_id core t client c o lt at report =
-    subst (λ id. IsReportedOf (standing_in core) t client (record { id = id; outcome = o }))
+pub reported_by_id : (core : Core) (t : Standing) (client : ℕ) (c : ClientConfig) (o : Outcome) (ms : List Message) → client < length core.config.clients → c ≡ get_or core.config.clients client c
+    → IsOutcomeOf (standing_in core) t client o ms → IsReportedOf (standing_in core) t client (record { id = c.id; outcome = o; too_big = ms })
+reported_by_id core t client c o ms lt at report =
+    subst (λ id. IsReportedOf (standing_in core) t client (record { id = id; outcome = o; too_big = ms }))
     (ap (λ (x : ClientConfig). x.id) (known_config core client c lt at report.known report.is_known)) report.reported

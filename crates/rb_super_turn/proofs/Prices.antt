@@ -5,7 +5,7 @@ use Rattle.std.proofs.lemmas.List.{length-map}
 use Rattle.std.proofs.lemmas.List.Elements.{All-head, All-tail}
 use Rattle.std.proofs.lemmas.List.Sums.{sum_by-cons}
 use Rattle.rb_plan_client.specs.Draft.{Plan as SentPlan, Planned as Answer, Draft, IsPlan, IsPlanned, IsAnswer, IsDraft}
-use Rattle.rb_plan_client.specs.Task.{Task, Message, view_of, messages_of}
+use Rattle.rb_plan_client.specs.Task.{Task, Message, view_of}
 use Rattle.rb_plan_types.specs.declared.cost.Cost.{Cost}
 use Rattle.rb_script_types.specs.declared.goal.Goal.{Goal}
 use Rattle.rb_plan_types.specs.declared.labelling.Label.{Label}
@@ -91,7 +91,7 @@ total_is_small client labels goal us labelling exact least =
 pub plan_is_small : (t : Task) (a : Answer) → IsPlanned t a → IfSome a.plan (λ (p : SentPlan). total_fee (client_of (view_of t)) p.updates < 2 ^ 63)
 plan_is_small t a is = go a.plan is.plan
   where
-    go : (o : Option SentPlan) → MatchOption o (IsUnreachable (client_of (view_of t)) a.goal) (IsPlan t a.goal (messages_of t is.reach)) → IfSome o (λ (p : SentPlan). total_fee (client_of (view_of t)) p.updates < 2 ^ 63)
+    go : (o : Option SentPlan) → MatchOption o (IsUnreachable (client_of (view_of t)) a.goal) (IsPlan t is.reach a.goal) → IfSome o (λ (p : SentPlan). total_fee (client_of (view_of t)) p.updates < 2 ^ 63)
     go None right = tt
     go (Some p) right = total_is_small (client_of (view_of t)) a.labels a.goal p.updates is.labels is.exact right.least
 

@@ -9,7 +9,7 @@ use Rattle.rb_plan_client.specs.Next.{IsNext}
 use Rattle.rb_core_model.specs.Event.{Planned}
 use Rattle.rb_core_model.specs.Machine.{State, accepted, after}
 use Rattle.rb_core_model.specs.Standing.{ClientState, task_in, with_batch, batch_of_sending, batch_of, after_answer, changed_at}
-use Rattle.rb_plan_client.specs.Task.{Task}
+use Rattle.rb_plan_client.specs.Task.{Task, too_big_messages}
 use Rattle.rb_core_model.proofs.Drafted.{drafted}
 use Rattle.rb_super_turn.specs.Accepted.{AcceptedDraftsAreReported}
 use Rattle.rb_super_turn.specs.Report.{PlanReport as ReportedPlan, idle, planned}
@@ -73,12 +73,15 @@ accepted_reported s d c is ok at =
     let x = drafted s d ok in
     let known : x.known ≡ c = same_Some x.known c (sym x.is_known ∙ at) in
     let task : d.job.task ≡ task_in s.standing x.window d.job.client c = x.task ∙ ap (task_in s.standing x.window d.job.client) known in
+    let t = task_in s.standing x.window d.job.client c in
+    let none_open : c.batch ≡ None = ap (λ (k : ClientState). k.batch) (sym known) ∙ x.none_open in
     let next : after s (Planned d) ≡ accepted s (Planned d) = ap (λ o. if is_some o then s else accepted s (Planned d)) ok in (
       record {
         id = refl;
         window = x.window;
         is_window = x.is_window;
-        outcome = right_outcome (task_in s.standing x.window d.job.client c) c d (ap (λ (k : ClientState). k.batch) (sym known) ∙ x.none_open) task is;
+        outcome = right_outcome t c d none_open task is;
+        too_big = ap (λ u. too_big_messages u) task ∙ sym (ap (λ o. if is_some o then [] else too_big_messages t) none_open);
       },
       ap (λ (t : State). t.standing) next
           ∙ ap (λ cs. record s.standing { clients = cs }) (changed_by (after_answer d.answer) (after_outcome (outcome_of c d)) s.standing.clients d.job.client c at (sym (same_client c d))),

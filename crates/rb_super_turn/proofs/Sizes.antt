@@ -6,7 +6,7 @@ use Rattle.std.proofs.lemmas.List.{length-replicate, length-map}
 use Rattle.rb_script_types.specs.Config.{Config}
 use Rattle.rb_script_types.specs.declared.config.ClientConfig.{ClientConfig}
 use Rattle.rb_script_types.specs.declared.config.PathConfig.{PathConfig}
-use Rattle.rb_core_model.specs.Event.{Event, Window, Asked, SetSeen, HeaderSeen, StoredSeen, Sent, Received, AckWritten, Cleared, Closed, Scanned, Planned, Settled}
+use Rattle.rb_core_model.specs.Event.{Event, Window, HostWindow, Asked, SetSeen, HeaderSeen, StoredSeen, Sent, Received, AckWritten, Cleared, Closed, Scanned, Planned, Settled}
 use Rattle.rb_core_model.specs.Machine.{State, no_scans, begun, opening, is_known, refusal_beside, accepted}
 use Rattle.rb_core_model.specs.Snapshot.{Snapshot, nothing}
 use Rattle.rb_core_model.specs.Standing.{judged}
@@ -47,6 +47,7 @@ under n m k lt e = lt-ltb n k (subst (λ x. n < x) (sym e) lt)
 
 pub seen_known : (config : Config) (s : State) (e : Event) → HasSizes config s → IsSeen config e → (is_known s e ≡ true) × (refusal_beside s e ≡ judged s.standing e)
 seen_known config s (Window window) sizes is = absurd is
+seen_known config s (HostWindow host window) sizes is = absurd is
 seen_known config s (Asked client goal) sizes is = absurd is
 seen_known config s (SetSeen chain x) sizes is = (under chain _ _ is sizes.books, refl)
 seen_known config s (HeaderSeen chain header) sizes is = (under chain _ _ is sizes.books, refl)
@@ -59,6 +60,9 @@ seen_known config s (Closed path) sizes is = (under path _ _ is sizes.paths, ref
 seen_known config s (Scanned path scan) sizes is = absurd is
 seen_known config s (Planned d) sizes is = absurd is
 seen_known config s (Settled client number done) sizes is = absurd is
+
+pub chain_known : (config : Config) (s : State) (chain : ℕ) → HasSizes config s → chain < length config.chains → ltb chain (length s.standing.books) ≡ true
+chain_known config s chain sizes lt = under chain _ _ lt sizes.books
 
 pub client_known : (config : Config) (s : State) (client : ℕ) → HasSizes config s → client < length config.clients → ltb client (length s.standing.clients) ≡ true
 client_known config s client sizes lt = under client _ _ lt sizes.clients

@@ -97,6 +97,9 @@ heard core (seen.AckWritten path sequence block) is = (tt, below path _ _ is (si
 heard core (seen.Cleared path sequence) is = (tt, below path _ _ is (sizes_in core).paths)
 heard core (seen.Closed path) is = (tt, below path _ _ is (sizes_in core).paths)
 
+pub chain_there : (core : Core) (chain : ℕ) → chain < length core.config.chains → ltb chain (length (standing_in core).books) ≡ true
+chain_there core chain lt = below chain _ _ lt (sizes_in core).books
+
 pub client_there : (core : Core) (client : ℕ) → client < length core.config.clients → ltb client (length (standing_in core).clients) ≡ true
 client_there core client lt = below client _ _ lt (sizes_in core).clients
 

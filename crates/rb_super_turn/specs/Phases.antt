@@ -4,11 +4,13 @@ use Rattle.rb_base.specs.Window.{Span}
 use Rattle.rb_base.specs.declared.gate.Part.{Part}
 use Rattle.rb_script_types.specs.declared.observation.Observation.{Observation}
 use Rattle.rb_script_types.specs.declared.script.Asked.{Asked as Question}
+use Rattle.rb_script_types.specs.declared.script.HostWindow.{HostWindow}
 use Rattle.rb_core.specs.Core.{Core, state_in}
 use Rattle.rb_core_model.specs.Machine.{is_scanned}
 use Rattle.rb_core_model.specs.Limits.{max_events}
 use Rattle.rb_core_model.specs.Seen.{observed}
 use Rattle.rb_core_model.specs.Standing.{ClientState, Standing, with_client}
+use Rattle.rb_plan_client.specs.Task.{Message}
 use Rattle.rb_super_turn.specs.Report.{Outcome, ClientReport}
 use Rattle.rb_super_turn.specs.Script.{Turn}
 use Rattle.rb_super_turn.specs.Turns.{IsClientReport, after_outcome}
@@ -25,9 +27,9 @@ pub record IsLater (count : ℕ) (old new : Core) : Type 0 where
   pub config : new.config ≡ old.config
   pub front : (state_in new).front ≤ (state_in old).front + count
 
--- a turn that was heard up to its plans: its window, what is asked, and what was observed
-abbrev pub turn_heard : {A : Type 0} → Span → List Question → List (Observation A) → Turn
-turn_heard window goals observations = record { window = window; goals = goals; events = map observed observations; settlements = []; taken = false }
+-- a turn that was heard up to its plans: its windows, what is asked, and what was observed
+abbrev pub turn_heard : {A : Type 0} → Span → List HostWindow → List Question → List (Observation A) → Turn
+turn_heard window windows goals observations = record { window = window; windows = windows; goals = goals; events = map observed observations; settlements = []; taken = false }
 
 -- each part of each path has a valid scan
 abbrev pub IsAllScanned : Core → Type 0
@@ -49,11 +51,11 @@ pub record IsReportedOf (s t : Standing) (client : ℕ) (report : ClientReport) 
   pub right : IsClientReport s (client, known) report
   pub after : t ≡ with_client s client (after_outcome report.outcome)
 
--- the same of an outcome, under the identifier of the client that is known there
-pub record IsOutcomeOf (s t : Standing) (client : ℕ) (outcome : Outcome) : Type 0 where
+-- the same of an outcome and of the messages that are left out, under the identifier of the client that is known there
+pub record IsOutcomeOf (s t : Standing) (client : ℕ) (outcome : Outcome) (too_big : List Message) : Type 0 where
   pub known : ClientState
   pub is_known : slice_get s.clients client ≡ Some known
-  pub reported : IsReportedOf s t client (record { id = known.config.id; outcome = outcome })
+  pub reported : IsReportedOf s t client (record { id = known.config.id; outcome = outcome; too_big = too_big })
 
 -- The reports are one of each client from this one on, in their order. Each is right as those before it leave things, and all
 -- of them lead to how things stand then.

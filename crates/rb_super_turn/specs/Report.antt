@@ -36,9 +36,10 @@ pub record PlanReport : Type 0 where
   pub messages : List Message
   pub sending : SendingReport
 
--- a goal, the exact labelling, the plan, and the moment at which the client has a goal next
+-- a goal, what was asked for and is out of reach, if it is, the exact labelling, the plan, and the moment at which the client has a goal next
 pub record PlannedReport : Type 0 where
   pub goal : Goal
+  pub beyond : Option Goal
   pub labels : List Label
   pub plan : Option PlanReport
   pub next : Option ℕ
@@ -49,9 +50,11 @@ pub data Outcome : Type 0 where
   idle : Option ℕ → Outcome
   planned : PlannedReport → Outcome
 
+-- a client, what comes of it, and the messages that are left out since they are over the gas limit alone
 pub record ClientReport : Type 0 where
   pub id : List ℕ
   pub outcome : Outcome
+  pub too_big : List Message
 
 -- a settlement, its client by its identifier, and why it was refused, if it was
 pub record SettlementReport : Type 0 where
@@ -60,8 +63,10 @@ pub record SettlementReport : Type 0 where
   pub done : ℕ
   pub refusal : Option Refusal
 
+-- whether the window goes back, the hosts whose own windows do, the events that are refused, what comes of clients and of settlements
 pub record TurnReport : Type 0 where
   pub window_back : Bool
+  pub hosts_back : List ℕ
   pub refused : List RefusedEvent
   pub clients : List ClientReport
   pub settlements : List SettlementReport

@@ -1,5 +1,5 @@
 -- What a script's turns report (own choice, over what clients are to be sent as things stand).
-use Rattle.std.specs.Prelude.{◌≡◌, ℕ, ◌+◌, Bool, List, [], ◌∷◌, ◌++◌, length, map, fold, Option, Some, None, slice_get, if◌then◌else◌}
+use Rattle.std.specs.Prelude.{◌≡◌, ℕ, ◌+◌, Bool, List, [], ◌∷◌, ◌++◌, length, map, fold, Option, Some, None, is_some, nat_lt, slice_get, if◌then◌else◌}
 use Rattle.std.specs.List.{AllZip, enumerate_from, range_with_len}
 use Rattle.std.specs.Option.{option_map, option_map_or, option_and_then, option_to_list}
 use Rattle.rb_base.specs.Window.{Span}
@@ -9,12 +9,15 @@ use Rattle.rb_step.specs.Sent.{sent_at}
 use Rattle.rb_step.specs.View.{client_of}
 use Rattle.rb_plan_client.specs.Draft.{Plan as SentPlan, Planned as Answer, Sending as SentAs, nothing as sent_nothing, too_big as sent_too_big, batched as sent_batched, Draft, planned_updates, IsIdle, IsPlanned}
 use Rattle.rb_plan_client.specs.Next.{IsNext}
-use Rattle.rb_core_model.specs.Event.{Event, Window, Asked, Settled}
+use Rattle.rb_core_model.specs.Event.{Event, Window, HostWindow, Asked, Settled}
 use Rattle.rb_core_model.specs.Standing.{OpenBatch, ClientState, Standing, opening_standing, task_in, with_batch, goes_back, judged, standing_after, batch_open}
-use Rattle.rb_plan_client.specs.Task.{Task, view_of}
+use Rattle.rb_script_types.specs.declared.goal.Goal.{Goal}
+use Rattle.rb_script_types.specs.Goal.{height_in}
+use Rattle.rb_plan_client.specs.Task.{Task, Message, view_of, too_big_messages}
 use Rattle.rb_super_turn.specs.Report.{RefusedEvent, PricedUpdate, SendingReport, nothing, too_big, batched, PlanReport, PlannedReport, Outcome, held, idle, planned, ClientReport, SettlementReport, TurnReport, Report}
 use Rattle.rb_script_types.specs.declared.refusal.Refusal.{Refusal}
 use Rattle.rb_script_types.specs.declared.script.Asked.{Asked as Question}
+use Rattle.rb_script_types.specs.declared.script.HostWindow.{HostWindow as WindowOf}
 use Rattle.rb_script_types.specs.declared.script.Settlement.{Settlement}
 use Rattle.rb_super_turn.specs.Script.{Turn, Script}
 
@@ -22,6 +25,18 @@ use Rattle.rb_super_turn.specs.Script.{Turn, Script}
 
 abbrev pub after_window : Standing → Span → Standing
 after_window s window = standing_after s (Window window)
+
+-- a window of a host, and those of all hosts that have one of their own
+abbrev pub window_event : WindowOf → Event
+window_event w = HostWindow w.host w.window
+
+abbrev pub after_host_window : Standing → WindowOf → Standing
+after_host_window s w = standing_after s (window_event w)
+
+-- the hosts whose windows go back, in their order
+abbrev pub hosts_back : Standing → List WindowOf → List ℕ
+hosts_back s [] = []
+hosts_back s (w ∷ ws) = (if is_some (judged s (window_event w)) then w.host ∷ [] else []) ++ hosts_back (after_host_window s w) ws
 
 abbrev pub after_question : Standing → Question → Standing
 after_question s q = standing_after s (Asked q.client q.goal)
@@ -39,9 +54,9 @@ abbrev pub refusals : ℕ → Standing → List Event → List RefusedEvent
 refusals number s [] = []
 refusals number s (event ∷ events) = refusal_at number s event ++ refusals (number + 1) (standing_after s event) events
 
--- how things stand when a turn's events are taken in: its window was entered, and its questions were asked
+-- how things stand when a turn's events are taken in: its windows were entered, those of hosts first, and its questions were asked
 abbrev pub before_events : Standing → Turn → Standing
-before_events s turn = fold after_question (after_window s turn.window) turn.goals
+before_events s turn = fold after_question (after_window (fold after_host_window s turn.windows) turn.window) turn.goals
 
 -- how things stand when a turn's clients are planned
 abbrev pub before_plans : Standing → Turn → Standing
@@ -74,8 +89,12 @@ reported_plan t number p = record {
   sending = numbered number p.sending;
 }
 
+-- what was asked for, where it is higher than the goal: it is out of reach then
+abbrev pub beyond_goal : Task → Goal → Option Goal
+beyond_goal t goal = option_and_then (λ asked. if nat_lt (height_in goal) (height_in asked) then Some asked else None) t.asked
+
 abbrev pub reported : Task → ℕ → Option ℕ → Answer → PlannedReport
-reported t number next a = record { goal = a.goal; labels = a.labels; plan = option_map (reported_plan t number) a.plan; next = next }
+reported t number next a = record { goal = a.goal; beyond = beyond_goal t a.goal; labels = a.labels; plan = option_map (reported_plan t number) a.plan; next = next }
 
 -- what is reported of a draft whose batch has this number
 abbrev pub outcome_numbered : ℕ → Draft → Outcome
@@ -98,12 +117,17 @@ IsOutcome t c (held number) = option_map (λ (b : OpenBatch). b.number) c.batch 
 IsOutcome t c (idle next) = (c.batch ≡ None) × IsIdle t × IsNext t [] next
 IsOutcome t c (planned p) = (c.batch ≡ None) × IsPlanFor t (c.batches + 1) p
 
+-- the messages that are left out and told: none of a client that is held
+abbrev pub told_too_big : Task → ClientState → List Message
+told_too_big t c = if is_some c.batch then [] else too_big_messages t
+
 -- a client, with its place, as things stand
 pub record IsClientReport (s : Standing) (c : ℕ × ClientState) (r : ClientReport) : Type 0 where
   pub id : r.id ≡ c.1.config.id
   pub window : Span
   pub is_window : s.window ≡ Some window
   pub outcome : IsOutcome (task_in s window c.0 c.1) c.1 r.outcome
+  pub too_big : r.too_big ≡ told_too_big (task_in s window c.0 c.1) c.1
 
 -- ---- what the plans leave
 
@@ -183,6 +207,7 @@ reports_of_all xs taken s = settlement_reports s xs ++ taking_reports (fold afte
 
 pub record IsTurnReport (s : Standing) (turn : Turn) (r : TurnReport) : Type 0 where
   pub window : r.window_back ≡ goes_back s.window turn.window
+  pub hosts : r.hosts_back ≡ hosts_back s turn.windows
   pub refused : r.refused ≡ refusals_in s turn
   pub clients : AllZip (IsClientReport (before_plans s turn)) (enumerate_from 0 (before_plans s turn).clients) r.clients
   pub settlements : r.settlements ≡ reports_of_all turn.settlements turn.taken (after_plans s turn r)

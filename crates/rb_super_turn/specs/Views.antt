@@ -35,7 +35,7 @@ abbrev pub plan_view : {A : Type 0} → CodePlan A → PlanReport
 plan_view p = record { updates = map priced_view p.updates.items; total = p.total; messages = p.messages.items; sending = sending_view p.sending }
 
 abbrev pub planned_view : {A : Type 0} → CodePlanned A → PlannedReport
-planned_view p = record { goal = p.goal; labels = p.labelling; plan = option_map plan_view p.plan; next = p.next }
+planned_view p = record { goal = p.goal; beyond = p.beyond; labels = p.labelling; plan = option_map plan_view p.plan; next = p.next }
 
 abbrev pub outcome_view : {A : Type 0} → CodeOutcome A → Outcome
 outcome_view (outcome.Held number) = held number
@@ -43,7 +43,7 @@ outcome_view (outcome.Idle next) = idle next
 outcome_view (outcome.Planned p) = planned (planned_view p)
 
 abbrev pub client_report_view : {A : Type 0} → CodeClientReport A → ClientReport
-client_report_view c = record { id = c.id; outcome = outcome_view c.outcome }
+client_report_view c = record { id = c.id; outcome = outcome_view c.outcome; too_big = c.too_big.items }
 
 abbrev pub settlement_view : CodeSettlementReport → SettlementReport
 settlement_view x = record { id = x.id; batch = x.batch; done = x.done; refusal = x.refusal }
@@ -51,6 +51,7 @@ settlement_view x = record { id = x.id; batch = x.batch; done = x.done; refusal 
 abbrev pub turn_report_view : {A : Type 0} → CodeTurnReport A → TurnReport
 turn_report_view t = record {
   window_back = t.window_back;
+  hosts_back = t.hosts_back.items;
   refused = map refused_view t.refused.items;
   clients = map client_report_view t.clients.items;
   settlements = map settlement_view t.settlements.items;

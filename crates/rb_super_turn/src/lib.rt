@@ -20,7 +20,7 @@ mod taking;
 pub use crew::Crew;
 pub use found::{Found, Nothing};
 pub use machine::Machine;
-pub use observing::hear_all;
+pub use observing::{Heard, hear_all};
 pub use planning::{draft_of, drafts_of, plan_all, table_for, view_of};
 pub use relayer::Relayer;
 pub use report::{

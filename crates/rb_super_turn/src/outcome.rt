@@ -1,21 +1,23 @@
 //! What is reported of a draft.
-ghost use Rattle.std.specs.Prelude.{◌≡◌, ◌<◌, ◌^◌, length, map, sum_by, IfOk, IfSome};
+ghost use Rattle.std.specs.Prelude.{◌≡◌, ◌<◌, ◌^◌, length, map, nat_lt, sum_by, IfOk, IfSome};
 ghost use Rattle.std.specs.Option.{option_map, option_copied};
 ghost use Rattle.rb_plan_client.specs.Draft.{IsPlanned};
+ghost use Rattle.rb_script_types.specs.Goal.{height_in};
 ghost use Rattle.rb_core_model.specs.Replied.{reply_view};
 ghost use Rattle.rb_plan_client.specs.Sent.{sending_view as sent_view};
 ghost use Rattle.rb_step.specs.LightClient.{total_fee};
 ghost use Rattle.rb_step.specs.View.{client_of};
-ghost use Rattle.rb_plan_client.specs.Task.{view_of};
-ghost use Rattle.rb_super_turn.specs.Turns.{priced, numbered, reported_plan, reported, outcome_numbered};
+ghost use Rattle.rb_plan_client.specs.Task.{view_of, too_big_messages};
+ghost use Rattle.rb_super_turn.specs.Turns.{priced, numbered, beyond_goal, reported_plan, reported, outcome_numbered};
 ghost use Rattle.rb_super_turn.specs.Views.{priced_view, sending_view, plan_view, planned_view, outcome_view};
 ghost use Rattle.rb_super_turn.specs.Drafts.{number_of};
 
 use crate::report::{BatchReport, Outcome, PlanReport, PlannedReport, PricedUpdate, SendingReport};
 use rb_base::Moment;
 use rb_core_model::Reply;
-use rb_plan_client::{Draft, JobView};
+use rb_plan_client::{Draft, JobView, Message, too_big_messages};
 use rb_plan_types::{Cost, Update};
+use rb_script_types::Goal;
 use std::alloc::{AllocError, Allocator};
 
 /// Each update with its fee, and the votes that it carries.
@@ -110,6 +112,25 @@ fn plan_if<A: Allocator + Copy>(
     }
 }
 
+/// Whether a goal names a higher height than another.
+fn is_above(asked: &Goal, goal: Goal) -> bool
+    ensures { result ≡ nat_lt (height_in goal) (height_in asked.now) }
+{
+    goal.height() < asked.height()
+}
+
+/// What was asked for, where it is higher than the goal: it is out of reach then.
+fn beyond_goal<A: Allocator + Copy>(job: &JobView<A>, goal: Goal) -> Option<Goal>
+    ensures { result ≡ beyond_goal job.now.task goal }
+{
+    let asked = job.asked()?;
+    if is_above(&asked, goal) {
+        Some(asked)
+    } else {
+        None
+    }
+}
+
 /// What is reported of an answer that is right for the job.
 fn planned_of<A: Allocator + Copy>(
     alloc: A,
@@ -125,6 +146,7 @@ fn planned_of<A: Allocator + Copy>(
     let plan = plan_if(alloc, job, planned.plan(), number)?;
     Ok(PlannedReport {
         goal: planned.goal(),
+        beyond: beyond_goal(job, planned.goal()),
         labelling,
         plan,
         next,
@@ -141,8 +163,15 @@ fn number_of(reply: Reply) -> u64
     }
 }
 
+/// What came of a draft, and the messages that are left out since they are over the gas limit alone.
+#[derive(Drop)]
+pub(crate) struct Came<A: Allocator> {
+    pub(crate) outcome: Outcome<A>,
+    pub(crate) too_big: Vec<Message, A>,
+}
+
 /// What is reported of a draft, by what was replied to it.
-pub(crate) fn outcome_of<A: Allocator + Copy>(
+fn outcome_of<A: Allocator + Copy>(
     alloc: A,
     draft: &Draft<A>,
     reply: Reply,
@@ -157,4 +186,19 @@ pub(crate) fn outcome_of<A: Allocator + Copy>(
         }
         None => Ok(Outcome::Idle(draft.next())),
     }
+}
+
+/// The same with the messages that are left out.
+pub(crate) fn came_of<A: Allocator + Copy>(
+    alloc: A,
+    draft: &Draft<A>,
+    reply: Reply,
+) -> Result<Came<A>, AllocError>
+    ensures outcome { IfOk result (λ came. outcome_view came.outcome ≡ outcome_numbered (number_of (reply_view reply)) draft.now) }
+    ensures too_big { IfOk result (λ came. came.too_big.items ≡ too_big_messages draft.now.job.task) }
+{
+    Ok(Came {
+        outcome: outcome_of(alloc, draft, reply)?,
+        too_big: too_big_messages(alloc, draft.job())?,
+    })
 }

@@ -8,13 +8,13 @@ ghost use Rattle.rb_core_model.specs.Machine.{client_view};
 ghost use Rattle.rb_super_turn.specs.Drafts.{AreDrafts};
 ghost use Rattle.rb_super_turn.specs.Phases.{standing_in, HasLogRoom, IsLater, IsPlannable, IsReportedOf, IsOutcomeOf, AreReported};
 ghost use Rattle.rb_super_turn.specs.Views.{outcome_view, client_report_view};
-ghost use Rattle.rb_super_turn.specs.declared.report.Outcome as outcomes;
+ghost use Rattle.rb_super_turn.specs.declared.outcome.Came as cames;
 
 use crate::clients::config_of;
 use crate::crew::Crew;
 use crate::found::Found;
 use crate::machine::Machine;
-use crate::outcome::outcome_of;
+use crate::outcome::{Came, came_of};
 use crate::relayer::Relayer;
 use crate::report::{ClientReport, Outcome};
 use crate::taking::{note, offer};
@@ -120,10 +120,10 @@ fn plan_found<A: Allocator + Copy, M: Machine<A>, F: Found<A>>(
     relayer: &mut Relayer<A, M>,
     found: &mut F,
     client: usize,
-) -> Result<Option<Outcome<A>>, AllocError>
+) -> Result<Option<Came<A>>, AllocError>
     requires ready { IsPlannable relayer.old }
-    ensures report { IfOk result (λ found. (o : outcomes.Outcome A) → found ≡ Some o
-        → IsOutcomeOf (standing_in relayer.old) (standing_in relayer.new) client (outcome_view o)) }
+    ensures report { IfOk result (λ found. (came : cames.Came A) → found ≡ Some came
+        → IsOutcomeOf (standing_in relayer.old) (standing_in relayer.new) client (outcome_view came.outcome) came.too_big.items) }
     ensures nothing { IfOk result (λ found. found ≡ None → state_in relayer.new ≡ state_in relayer.old) }
     ensures ready { OnOk result (IsPlannable relayer.new) }
     ensures later { OnOk result (IsLater 1 relayer.old relayer.new) }
@@ -133,7 +133,7 @@ fn plan_found<A: Allocator + Copy, M: Machine<A>, F: Found<A>>(
     };
     let copy = draft.copy()?;
     match offer(relayer, Event::Planned(copy))? {
-        Some(reply) => Ok(Some(outcome_of(alloc, &draft, reply)?)),
+        Some(reply) => Ok(Some(came_of(alloc, &draft, reply)?)),
         None => Ok(None),
     }
 }
@@ -144,13 +144,13 @@ fn plan_here<R: Threads + Sync, G: Gate + Sync, A: Allocator + Copy + Send + Syn
     alloc: A,
     relayer: &mut Relayer<A, M>,
     client: usize,
-) -> Result<Outcome<A>, AllocError>
+) -> Result<Came<A>, AllocError>
     requires client { client < length relayer.old.config.clients }
     requires none_open { batch_open (standing_in relayer.old) client ≡ None }
     requires ready { IsPlannable relayer.old }
     requires room { HasLogRoom relayer.old 1 }
     requires alloc { Frees A.Allocator A.dealloc_token }
-    ensures report { IfOk result (λ o. IsOutcomeOf (standing_in relayer.old) (standing_in relayer.new) client (outcome_view o)) }
+    ensures report { IfOk result (λ came. IsOutcomeOf (standing_in relayer.old) (standing_in relayer.new) client (outcome_view came.outcome) came.too_big.items) }
     ensures ready { OnOk result (IsPlannable relayer.new) }
     ensures later { OnOk result (IsLater 1 relayer.old relayer.new) }
 {
@@ -158,8 +158,8 @@ fn plan_here<R: Threads + Sync, G: Gate + Sync, A: Allocator + Copy + Send + Syn
     let copy = draft.copy()?;
     let reply = note(relayer, Event::Planned(copy))?;
     crew.after(WorkItem::Taken(client));
-    let outcome = outcome_of(alloc, &draft, reply)?;
-    Ok(outcome)
+    let came = came_of(alloc, &draft, reply)?;
+    Ok(came)
 }
 
 /// Plans for a client that has no open batch: by what was found, or here.
@@ -175,18 +175,18 @@ fn plan_open<
     relayer: &mut Relayer<A, M>,
     found: &mut F,
     client: usize,
-) -> Result<Outcome<A>, AllocError>
+) -> Result<Came<A>, AllocError>
     requires client { client < length relayer.old.config.clients }
     requires none_open { batch_open (standing_in relayer.old) client ≡ None }
     requires ready { IsPlannable relayer.old }
     requires room { HasLogRoom relayer.old 1 }
     requires alloc { Frees A.Allocator A.dealloc_token }
-    ensures report { IfOk result (λ o. IsOutcomeOf (standing_in relayer.old) (standing_in relayer.new) client (outcome_view o)) }
+    ensures report { IfOk result (λ came. IsOutcomeOf (standing_in relayer.old) (standing_in relayer.new) client (outcome_view came.outcome) came.too_big.items) }
     ensures ready { OnOk result (IsPlannable relayer.new) }
     ensures later { OnOk result (IsLater 1 relayer.old relayer.new) }
 {
     match plan_found(alloc, relayer, found, client)? {
-        Some(outcome) => Ok(outcome),
+        Some(came) => Ok(came),
         None => plan_here(crew, alloc, relayer, client),
     }
 }
@@ -219,12 +219,15 @@ fn plan_client<
         return Ok(ClientReport {
             id: config.id,
             outcome,
+            too_big: Vec::new(alloc),
         });
     }
-    let outcome = plan_open(crew, alloc, relayer, found, client)?;
+    let came = plan_open(crew, alloc, relayer, found, client)?;
+    let Came { outcome, too_big } = came;
     Ok(ClientReport {
         id: config.id,
         outcome,
+        too_big,
     })
 }
 

@@ -1,5 +1,5 @@
 //! What a run reports.
-use rb_base::{ClientId, Height, Moment, PathId};
+use rb_base::{ChainId, ClientId, Height, Moment, PathId};
 use rb_batch::Transaction;
 use rb_plan_client::Message;
 use rb_plan_types::{Cost, Labelling, Update};
@@ -7,20 +7,22 @@ use rb_script_types::{Goal, Refusal, Version};
 use rb_step::SentVotes;
 use std::alloc::{Allocator, Global};
 
-/// The report of a run, turn by turn, with the script's version and the identifiers of the paths by their
-/// places.
+/// The report of a run, turn by turn, with the script's version and the identifiers of the chains and the paths by
+/// their places.
 #[derive(Drop)]
 pub struct Report<A: Allocator = Global> {
     pub version: Version,
+    pub chains: Vec<ChainId, A>,
     pub paths: Vec<PathId, A>,
     pub turns: Vec<TurnReport<A>, A>,
 }
 
-/// What came of a turn: whether its window was refused because it goes back, the events that were
-/// refused, in their order, what came of each client, in script order, and of each settlement.
+/// What came of a turn: whether its window was refused because it goes back, the hosts whose own windows were, by
+/// their places among the chains, the events that were refused, in their order, what came of each client, in script order, and of each settlement.
 #[derive(Drop)]
 pub struct TurnReport<A: Allocator = Global> {
     pub window_back: bool,
+    pub hosts_back: Vec<usize, A>,
     pub refused: Vec<RefusedEvent, A>,
     pub clients: Vec<ClientReport<A>, A>,
     pub settlements: Vec<SettlementReport, A>,
@@ -33,11 +35,13 @@ pub struct RefusedEvent {
     pub refusal: Refusal,
 }
 
-/// A client in a turn, by its identifier, and what came of it.
+/// A client in a turn, by its identifier, what came of it, and the messages that are left out since they are over
+/// the gas limit alone.
 #[derive(Drop)]
 pub struct ClientReport<A: Allocator = Global> {
     pub id: ClientId,
     pub outcome: Outcome<A>,
+    pub too_big: Vec<Message, A>,
 }
 
 /// What came of a client in a turn.
@@ -51,11 +55,12 @@ pub enum Outcome<A: Allocator = Global> {
     Planned(PlannedReport<A>),
 }
 
-/// A goal, the exact labelling, the plan, none where the goal can't be reached, and the moment at which the
-/// client has a goal next, by what is known and once the plan is taken.
+/// A goal, what was asked for and is out of reach, if it is, the exact labelling, the plan, none where the goal can't be
+/// reached, and the moment at which the client has a goal next, by what is known and once the plan is taken.
 #[derive(Drop)]
 pub struct PlannedReport<A: Allocator = Global> {
     pub goal: Goal,
+    pub beyond: Option<Goal>,
     pub labelling: Labelling<A>,
     pub plan: Option<PlanReport<A>>,
     pub next: Option<Moment>,

@@ -24,11 +24,12 @@ pub record WritesReport (bytes : List ℕ) (old new : Option (List ℕ)) : Type 
   pub script : Script Global
   pub report : Report
   pub planned : IsReportFor bytes script report
-  pub written : Appends old new (text script.config.version (path_ids script.config.paths) report)
+  pub written : Appends old new (text script.config.version script.config.chains (path_ids script.config.paths) report)
 
--- it is this report, of paths with these identifiers
-pub record WritesThisReport (bytes : List ℕ) (old new : Option (List ℕ)) (ids : List (List ℕ)) (report : Report) : Type 0 where
+-- it is this report, of chains and paths with these identifiers
+pub record WritesThisReport (bytes : List ℕ) (old new : Option (List ℕ)) (chain_ids ids : List (List ℕ)) (report : Report) : Type 0 where
   pub writes : WritesReport bytes old new
+  pub chains : chain_ids ≡ writes.script.config.chains
   pub paths : ids ≡ path_ids writes.script.config.paths
   pub this : writes.report ≡ report
 
@@ -37,4 +38,4 @@ pub record BeginsReport (bytes : List ℕ) (old new : Option (List ℕ)) : Type 
   pub script : Script Global
   pub report : Report
   pub planned : IsReportFor bytes script report
-  pub begun : AppendsBeginning old new (text script.config.version (path_ids script.config.paths) report)
+  pub begun : AppendsBeginning old new (text script.config.version script.config.chains (path_ids script.config.paths) report)

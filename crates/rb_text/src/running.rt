@@ -41,6 +41,7 @@ pub fn report_of<
     requires workers { workers ≤ 64 }
     ensures kept { relayed.IsScript (as_events (script_view script)) }
     ensures version { IfOk result (λ report. report.version ≡ script.config.version) }
+    ensures chains { IfOk result (λ report. report.chains.items ≡ script.config.chains.items) }
     ensures paths { IfOk result (λ report. report.paths.items ≡ map (λ (p : PathConfig). p.id) script.config.paths.items) }
     ensures turns { IfOk result (λ report. IsReportOf (as_events (script_view script)) (report_view report)) }
 {
@@ -68,6 +69,7 @@ fn report_by<
     requires threads { threads ≤ 64 }
     ensures kept { relayed.IsScript (as_events (script_view script)) }
     ensures version { IfOk result (λ report. report.version ≡ script.config.version) }
+    ensures chains { IfOk result (λ report. report.chains.items ≡ script.config.chains.items) }
     ensures paths { IfOk result (λ report. report.paths.items ≡ map (λ (p : PathConfig). p.id) script.config.paths.items) }
     ensures turns { IfOk result (λ report. IsReportOf (as_events (script_view script)) (report_view report)) }
 {
@@ -114,7 +116,7 @@ pub fn run_over<
     Ok(())
 }
 
-/// Does what `run_over` does, and answers the report that was written, with the identifiers of its paths.
+/// Does what `run_over` does, and answers the report that was written, with the identifiers of its chains and paths.
 pub fn report_over<
     R: Threads + Wait + Copy + Send + Sync + 'static,
     W: Sink,
@@ -129,7 +131,7 @@ pub fn report_over<
 ) -> Result<Report, RunError>
     requires works { W.is_broken writer.old ≡ false }
     requires workers { workers ≤ 64 }
-    ensures report { IfOk result (λ report. WritesThisReport bytes.now (W.taken writer.old) (W.taken writer.new) report.paths.items (report_view report)) }
+    ensures report { IfOk result (λ report. WritesThisReport bytes.now (W.taken writer.old) (W.taken writer.new) report.chains.items report.paths.items (report_view report)) }
     ensures fault { (f : CodeFault) → IsErrOf result (RunError.Fault f) → script_of bytes.now ≡ Err (fault_view f) }
     ensures nothing_written { (f : CodeFault) → IsErrOf result (RunError.Fault f) → writer.new ≡ writer.old }
     ensures device { IsErrOf result RunError.Device ↔ (W.is_broken writer.new ≡ true) }

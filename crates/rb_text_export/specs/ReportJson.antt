@@ -14,9 +14,9 @@ use Rattle.rb_script_types.specs.declared.goal.Goal.{Goal}
 use Rattle.rb_script_types.specs.declared.goal.Goal.TheVariants.{Exactly, AtLeast}
 use Rattle.rb_script_types.specs.declared.refusal.Refusal.{Refusal}
 use Rattle.rb_script_types.specs.declared.version.Version.{Version}
-use Rattle.rb_script_types.specs.declared.version.Version.TheVariants.{One, Two, Three}
+use Rattle.rb_script_types.specs.declared.version.Version.TheVariants.{One, Two, Three, Four}
 use Rattle.rb_step.specs.Sent.{SentVotes}
-use Rattle.rb_super_turn.specs.Report.{RefusedEvent, PricedUpdate, SendingReport, nothing, too_big, batched, PlanReport, Outcome, held, idle, planned, ClientReport, SettlementReport, TurnReport, Report}
+use Rattle.rb_super_turn.specs.Report.{RefusedEvent, PricedUpdate, SendingReport, nothing, too_big, batched, PlanReport, PlannedReport, Outcome, held, idle, planned, ClientReport, SettlementReport, TurnReport, Report}
 use Rattle.rb_text_export.specs.Json.{Json, number, boolean, string, array, object, ◌is◌, json_text}
 
 abbrev pub Member : Type 0
@@ -97,17 +97,36 @@ plan_members paths p =
 
 -- ---- clients
 
+-- what there is from version 4 on
+abbrev pub if_four : Version → List Member → List Member
+if_four One ms = []
+if_four Two ms = []
+if_four Three ms = []
+if_four Four ms = ms
+
 -- when a client has a goal next, from version 3 on
 abbrev pub next_members : Version → Option ℕ → List Member
 next_members One next = []
 next_members Two next = []
 next_members Three None = []
 next_members Three (Some moment) = codes "next" is string (moment_text moment) ∷ []
+next_members Four None = []
+next_members Four (Some moment) = codes "next" is string (moment_text moment) ∷ []
 
 -- what stands behind the labels: the plan, if there is one
 abbrev pub reached_members : Version → List (List ℕ) → Option ℕ → Option PlanReport → List Member
 reached_members version paths next None = []
 reached_members version paths next (Some p) = next_members version next ++ plan_members paths p
+
+-- what was asked for and is out of reach
+abbrev pub beyond_members : Option Goal → List Member
+beyond_members None = []
+beyond_members (Some goal) = codes "beyond" is goal_json goal ∷ []
+
+-- what stands behind the goal
+unfoldable pub labelled_members : Version → List (List ℕ) → PlannedReport → List Member
+labelled_members version paths p =
+    beyond_members p.beyond ++ codes "labels" is array (map label_json p.labels) ∷ reached_members version paths p.next p.plan
 
 abbrev pub planned_word : Option PlanReport → List ℕ
 planned_word None = codes "unreachable"
@@ -117,37 +136,58 @@ abbrev pub outcome_members : Version → List (List ℕ) → Outcome → List Me
 outcome_members version paths (held batch) = codes "outcome" is string (codes "held") ∷ codes "batch" is number batch ∷ []
 outcome_members version paths (idle next) = codes "outcome" is string (codes "idle") ∷ next_members version next
 outcome_members version paths (planned p) =
-    codes "outcome" is string (planned_word p.plan) ∷ codes "goal" is goal_json p.goal ∷ codes "labels" is array (map label_json p.labels)
-    ∷ reached_members version paths p.next p.plan
+    codes "outcome" is string (planned_word p.plan) ∷ codes "goal" is goal_json p.goal ∷ labelled_members version paths p
+
+-- the messages that are left out since they are over the gas limit alone; of a client that is held nothing is planned
+abbrev pub left_members : Version → List (List ℕ) → Outcome → List Message → List Member
+left_members version paths (held batch) left = []
+left_members version paths (idle next) left = if_four version (codes "left_out" is array (map (message_json paths) left) ∷ [])
+left_members version paths (planned p) left = if_four version (codes "left_out" is array (map (message_json paths) left) ∷ [])
+
+-- what came of a client, and what of its messages is left out
+unfoldable pub client_members : Version → List (List ℕ) → ClientReport → List Member
+client_members version paths c = outcome_members version paths c.outcome ++ left_members version paths c.outcome c.too_big
 
 abbrev pub client_json : Version → List (List ℕ) → ClientReport → Json
-client_json version paths c = object (codes "id" is string c.id ∷ outcome_members version paths c.outcome)
+client_json version paths c = object (codes "id" is string c.id ∷ client_members version paths c)
 
 -- ---- turns
 
-unfoldable pub turn_members : Version → List (List ℕ) → TurnReport → List Member
-turn_members version paths t =
+-- the hosts whose own windows go back, by their identifiers
+abbrev pub host_json : List (List ℕ) → ℕ → Json
+host_json chains host = string (slice_index_or chains host [])
+
+abbrev pub windows_members : Version → List (List ℕ) → List ℕ → List Member
+windows_members version chains hosts = if_four version (codes "windows_back" is array (map (host_json chains) hosts) ∷ [])
+
+-- what came of events, clients and settlements
+unfoldable pub came_members : Version → List (List ℕ) → TurnReport → List Member
+came_members version paths t =
     codes "refused" is array (map refused_json t.refused) ∷ codes "clients" is array (map (client_json version paths) t.clients)
     ∷ codes "settlements" is array (map settlement_json t.settlements) ∷ []
 
-abbrev pub turn_json : Version → List (List ℕ) → TurnReport → Json
-turn_json version paths t = object (codes "window_back" is boolean t.window_back ∷ turn_members version paths t)
+unfoldable pub turn_members : Version → List (List ℕ) → List (List ℕ) → TurnReport → List Member
+turn_members version chains paths t = windows_members version chains t.hosts_back ++ came_members version paths t
+
+-- with the identifiers of the chains and of the paths by their places
+abbrev pub turn_json : Version → List (List ℕ) → List (List ℕ) → TurnReport → Json
+turn_json version chains paths t = object (codes "window_back" is boolean t.window_back ∷ turn_members version chains paths t)
 
 -- the format of versions 1 and 2 is one
 abbrev pub format_of : Version → ℕ
 format_of One = 1
 format_of Two = 1
 format_of Three = 3
+format_of Four = 4
 
--- with the identifiers of the paths by their places
-abbrev pub report_json : Version → List (List ℕ) → Report → Json
-report_json version paths turns =
-    object (codes "ibcplan" is number (format_of version) ∷ codes "turns" is array (map (turn_json version paths) turns) ∷ [])
+abbrev pub report_json : Version → List (List ℕ) → List (List ℕ) → Report → Json
+report_json version chains paths turns =
+    object (codes "ibcplan" is number (format_of version) ∷ codes "turns" is array (map (turn_json version chains paths) turns) ∷ [])
 
 -- ---- lines
 
-abbrev pub turn_line : Version → List (List ℕ) → TurnReport → List ℕ
-turn_line version paths t = json_text (turn_json version paths t) ++ codes "\n"
+abbrev pub turn_line : Version → List (List ℕ) → List (List ℕ) → TurnReport → List ℕ
+turn_line version chains paths t = json_text (turn_json version chains paths t) ++ codes "\n"
 
-abbrev pub report_line : Version → List (List ℕ) → Report → List ℕ
-report_line version paths turns = json_text (report_json version paths turns) ++ codes "\n"
+abbrev pub report_line : Version → List (List ℕ) → List (List ℕ) → Report → List ℕ
+report_line version chains paths turns = json_text (report_json version chains paths turns) ++ codes "\n"

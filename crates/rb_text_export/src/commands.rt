@@ -4,37 +4,44 @@ use crate::words::push_word;
 use jiff::Timestamp;
 use rb_base::{Moment, Window};
 use rb_plan_types::Cost;
-use rb_script_types::{Config, Refusal, Script};
+use rb_script_types::{Config, HostWindow, Refusal, Script};
 use rb_super_turn::{
     ClientReport, Outcome, PlanReport, PricedUpdate, RefusedEvent, Report, SendingReport,
     TurnReport,
 };
 use std::alloc::{AllocError, Global};
 
-/// What commands say that a script's report doesn't: where its clients are hosted, and the windows
-/// of its turns.
+/// What commands say that a script's report doesn't: where its clients are hosted, the windows of its
+/// turns, and those of hosts in each turn.
 #[derive(Drop)]
 pub struct Setting {
     config: Config,
     windows: Vec<Window>,
+    host_windows: Vec<Vec<HostWindow>>,
 }
 
 impl Setting {
     /// That of a script.
     pub fn of(alloc: Global, script: &Script) -> Result<Setting, AllocError> {
         let mut windows = Vec::new(alloc);
+        let mut host_windows = Vec::new(alloc);
         for turn in &script.turns {
             windows.push(turn.window)?;
+            host_windows.push(Vec::from_slice(alloc, turn.windows.as_slice())?)?;
         }
         let config = script.config.copy()?;
-        Ok(Setting { config, windows })
+        Ok(Setting {
+            config,
+            windows,
+            host_windows,
+        })
     }
 }
 
 /// The commands for a report of the script with this setting, those of every turn or of the one with this
 /// number, from 1: for each turn a comment line that says in which window its updates are valid, which is
-/// the one in force, one for each of its events that is refused, and one for its window if that is; then for
-/// each client a comment line of what came of it, and after it a line for each update, in the order in
+/// the one in force, one for each host that has a window of its own, one for each window and each event that is
+/// refused; then for each client a comment line of what came of it, and after it a line for each update, in the order in
 /// which they are submitted, and lines for the packet messages of paths whose channels the script names; none
 /// where a message is over the gas limit alone. Of all packet messages the comment tells the number.
 pub fn commands_of(
@@ -45,12 +52,16 @@ pub fn commands_of(
 ) -> Result<String, AllocError> {
     let mut text = String::new(alloc);
     let mut in_force = None;
+    let mut of_hosts = windows_of_none(alloc, &setting.config)?;
     let mut number: u64 = 0;
-    for (turn, window) in report.turns.iter().zip(&setting.windows) {
+    let windows = setting.windows.iter().zip(&setting.host_windows);
+    for (turn, (window, host_windows)) in report.turns.iter().zip(windows) {
         number = number.saturating_add(1);
         in_force = window_in_force(in_force, turn, window);
+        enter_windows(of_hosts.as_mut_slice(), turn, host_windows.as_slice());
         if is_wanted(wanted, number) {
             push_window(&mut text, number, in_force.as_ref())?;
+            push_host_windows(&mut text, number, &setting.config, of_hosts.as_slice())?;
             push_turn(&mut text, number, &setting.config, turn)?;
         }
     }
@@ -60,6 +71,64 @@ pub fn commands_of(
 /// The window in force in a turn: its own, or the one before it where that is refused.
 fn window_in_force(before: Option<Window>, turn: &TurnReport, own: &Window) -> Option<Window> {
     if turn.window_back { before } else { Some(*own) }
+}
+
+/// No window for each chain, by its place.
+fn windows_of_none(alloc: Global, config: &Config) -> Result<Vec<Option<Window>>, AllocError> {
+    let mut windows = Vec::with_capacity(alloc, config.chains.len())?;
+    for _ in &config.chains {
+        windows.push(None)?;
+    }
+    Ok(windows)
+}
+
+/// Whether the window of a host is refused.
+fn is_refused(turn: &TurnReport, host: usize) -> bool {
+    turn.hosts_back.iter().any(|refused| *refused == host)
+}
+
+/// Enters the windows of hosts of a turn, but for those that are refused.
+fn enter_windows(of_hosts: &mut [Option<Window>], turn: &TurnReport, own: &[HostWindow]) {
+    for HostWindow { host, window } in own {
+        if is_refused(turn, *host) {
+            continue;
+        }
+        if let Some(in_force) = of_hosts.get_mut(*host) {
+            *in_force = Some(*window);
+        }
+    }
+}
+
+/// Adds in which windows updates are valid on hosts that have windows of their own.
+fn push_host_windows(
+    text: &mut String,
+    turn: u64,
+    config: &Config,
+    of_hosts: &[Option<Window>],
+) -> Result<(), AllocError> {
+    for (place, window) in of_hosts.iter().enumerate() {
+        if let Some(window) = window {
+            push_host_window(text, turn, chain_at(config, place), window)?;
+        }
+    }
+    Ok(())
+}
+
+fn push_host_window(
+    text: &mut String,
+    turn: u64,
+    host: &str,
+    window: &Window,
+) -> Result<(), AllocError> {
+    match (timestamp_of(window.from()), timestamp_of(window.until())) {
+        (Some(from), Some(until)) => {
+            writeln!(
+                text,
+                "# turn {turn} host {host}: valid from {from} until {until}"
+            )
+        }
+        _ => Ok(()),
+    }
 }
 
 /// Whether the commands of the turn with this number are wanted.
@@ -95,6 +164,9 @@ fn push_turn(
     config: &Config,
     turn: &TurnReport,
 ) -> Result<(), AllocError> {
+    for host in &turn.hosts_back {
+        push_refused_host(text, number, chain_at(config, *host))?;
+    }
     if turn.window_back {
         push_refused_window(text, number)?;
     }
@@ -106,6 +178,12 @@ fn push_refused_window(text: &mut String, turn: u64) -> Result<(), AllocError> {
     let number = Refusal::WindowBack.number();
     let name = Refusal::WindowBack.name();
     writeln!(text, "# turn {turn}: refused window {number} {name}")
+}
+
+fn push_refused_host(text: &mut String, turn: u64, host: &str) -> Result<(), AllocError> {
+    let number = Refusal::WindowBack.number();
+    let name = Refusal::WindowBack.name();
+    writeln!(text, "# turn {turn}: refused window {host} {number} {name}")
 }
 
 fn push_refusals(

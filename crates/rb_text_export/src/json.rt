@@ -6,10 +6,10 @@ ghost use Rattle.rb_step.specs.Sent.{sent_view};
 ghost use Rattle.rb_super_turn.specs.Report.{batched, planned as outcome_planned};
 ghost use Rattle.rb_super_turn.specs.Views.{refused_view, priced_view, batch_view, sending_view, plan_view, planned_view, outcome_view, client_report_view, settlement_view, turn_report_view, report_view};
 ghost use Rattle.rb_text_export.specs.Json.{array, json_text, more_text};
-ghost use Rattle.rb_text_export.specs.ReportJson.{address_json, byte_digits, client_json, format_of, goal_json, if_refused, kind_name, label_json, message_json, next_members, outcome_members, plan_members, planned_word, reached_members, refusal_members, refused_json, report_json, report_line, sending_members, settled_members, settlement_json, total_json, transaction_json, turn_json, turn_line, turn_members, update_json, votes_members};
+ghost use Rattle.rb_text_export.specs.ReportJson.{address_json, byte_digits, beyond_members, came_members, client_json, client_members, format_of, goal_json, host_json, if_refused, kind_name, label_json, labelled_members, left_members, message_json, next_members, outcome_members, plan_members, planned_word, reached_members, refusal_members, refused_json, report_json, report_line, sending_members, settled_members, settlement_json, total_json, transaction_json, turn_json, turn_line, turn_members, update_json, votes_members, windows_members};
 
-use crate::members::{push_boolean, push_comma, push_name, push_number, push_text};
-use rb_base::{Moment, PathId};
+use crate::members::{push_boolean, push_comma, push_name, push_number, push_string, push_text};
+use rb_base::{ChainId, Moment, PathId};
 use rb_batch::Transaction;
 use rb_moments::push_moment;
 use rb_plan_client::Message;
@@ -25,7 +25,7 @@ use std::alloc::{AllocError, Global};
 
 /// The report as one object of JSON, and a line feed.
 pub fn json_of(alloc: Global, report: &Report) -> Result<String, AllocError>
-    ensures json { IfOk result (λ text. string_bytes text ≡ report_line report.now.version report.now.paths.items (report_view report.now)) }
+    ensures json { IfOk result (λ text. string_bytes text ≡ report_line report.now.version report.now.chains.items report.now.paths.items (report_view report.now)) }
 {
     let mut text = String::new(alloc);
     push_report(&mut text, report)?;
@@ -34,17 +34,18 @@ pub fn json_of(alloc: Global, report: &Report) -> Result<String, AllocError>
 }
 
 /// The report of a turn as one object of JSON, as it stands in that of the script, and a line feed. The
-/// identifiers of the paths are by their places.
+/// identifiers of the chains and of the paths are by their places.
 pub fn json_of_turn(
     alloc: Global,
     version: Version,
+    chains: &[ChainId],
     paths: &[PathId],
     turn: &TurnReport,
 ) -> Result<String, AllocError>
-    ensures json { IfOk result (λ text. string_bytes text ≡ turn_line version paths.now (turn_report_view turn.now)) }
+    ensures json { IfOk result (λ text. string_bytes text ≡ turn_line version chains.now paths.now (turn_report_view turn.now)) }
 {
     let mut text = String::new(alloc);
-    push_turn(&mut text, version, paths, turn)?;
+    push_turn(&mut text, version, chains, paths, turn)?;
     text.push_str("\n")?;
     Ok(text)
 }
@@ -56,12 +57,13 @@ fn format_of(version: Version) -> u64
     match version {
         Version::One | Version::Two => 1,
         Version::Three => 3,
+        Version::Four => 4,
     }
 }
 
 fn push_report(text: &mut String, report: &Report) -> Result<(), AllocError>
     ensures { OnOk result (string_bytes text.new
-        ≡ string_bytes text.old ++ json_text (report_json report.now.version report.now.paths.items (report_view report.now))) }
+        ≡ string_bytes text.old ++ json_text (report_json report.now.version report.now.chains.items report.now.paths.items (report_view report.now))) }
 {
     let version = report.version;
     text.push_str("{")?;
@@ -70,6 +72,7 @@ fn push_report(text: &mut String, report: &Report) -> Result<(), AllocError>
     push_turns(
         text,
         version,
+        report.chains.as_slice(),
         report.paths.as_slice(),
         report.turns.as_slice(),
     )?;
@@ -79,16 +82,17 @@ fn push_report(text: &mut String, report: &Report) -> Result<(), AllocError>
 fn push_turns(
     text: &mut String,
     version: Version,
+    chains: &[ChainId],
     paths: &[PathId],
     turns: &[TurnReport],
 ) -> Result<(), AllocError>
     ensures { OnOk result (string_bytes text.new
-        ≡ string_bytes text.old ++ json_text (array (map (turn_json version paths.now) (map turn_report_view turns.now)))) }
+        ≡ string_bytes text.old ++ json_text (array (map (turn_json version chains.now paths.now) (map turn_report_view turns.now)))) }
 {
     text.push_str("[")?;
     for (place, turn) in turns.iter().enumerate() {
         push_comma(text, place > 0)?;
-        push_turn(text, version, paths, turn)?;
+        push_turn(text, version, chains, paths, turn)?;
     }
     text.push_str("]")
 }
@@ -96,26 +100,88 @@ fn push_turns(
 fn push_turn(
     text: &mut String,
     version: Version,
+    chains: &[ChainId],
     paths: &[PathId],
     turn: &TurnReport,
 ) -> Result<(), AllocError>
-    ensures { OnOk result (string_bytes text.new ≡ string_bytes text.old ++ json_text (turn_json version paths.now (turn_report_view turn.now))) }
+    ensures { OnOk result (string_bytes text.new ≡ string_bytes text.old ++ json_text (turn_json version chains.now paths.now (turn_report_view turn.now))) }
 {
     text.push_str("{")?;
     push_boolean(text, false, "window_back", turn.window_back)?;
-    push_turn_members(text, version, paths, turn)?;
+    push_turn_members(text, version, chains, paths, turn)?;
     text.push_str("}")
 }
 
-/// Adds what stands behind whether the window was refused.
-#[tactic(auto, unfolding(crate::specs::ReportJson::turn_members))]
+/// Adds what stands behind whether the turn's window was refused.
+#[tactic(auto, using(crate::proofs::Joined::more_append), unfolding(crate::specs::ReportJson::turn_members))]
 fn push_turn_members(
+    text: &mut String,
+    version: Version,
+    chains: &[ChainId],
+    paths: &[PathId],
+    turn: &TurnReport,
+) -> Result<(), AllocError>
+    ensures { OnOk result (string_bytes text.new
+        ≡ string_bytes text.old ++ more_text (turn_members version chains.now paths.now (turn_report_view turn.now))) }
+{
+    push_windows(text, version, chains, turn.hosts_back.as_slice())?;
+    push_came(text, version, paths, turn)
+}
+
+/// Adds the hosts whose own windows were refused, from version 4 on.
+fn push_windows(
+    text: &mut String,
+    version: Version,
+    chains: &[ChainId],
+    hosts: &[usize],
+) -> Result<(), AllocError>
+    ensures { OnOk result (string_bytes text.new ≡ string_bytes text.old ++ more_text (windows_members version chains.now hosts.now)) }
+{
+    match version {
+        Version::Four => {
+            push_name(text, true, "windows_back")?;
+            push_hosts(text, chains, hosts)
+        }
+        Version::One | Version::Two | Version::Three => Ok(()),
+    }
+}
+
+fn push_hosts(text: &mut String, chains: &[ChainId], hosts: &[usize]) -> Result<(), AllocError>
+    ensures { OnOk result (string_bytes text.new ≡ string_bytes text.old ++ json_text (array (map (host_json chains.now) hosts.now))) }
+{
+    text.push_str("[")?;
+    for (place, host) in hosts.iter().enumerate() {
+        push_comma(text, place > 0)?;
+        push_host(text, chains, *host)?;
+    }
+    text.push_str("]")
+}
+
+fn push_host(text: &mut String, chains: &[ChainId], host: usize) -> Result<(), AllocError>
+    ensures { OnOk result (string_bytes text.new ≡ string_bytes text.old ++ json_text (host_json chains.now host)) }
+{
+    push_string(text, chain_of(chains, host))
+}
+
+/// The identifier of the chain at a place.
+fn chain_of(chains: &[ChainId], chain: usize) -> &str
+    ensures { result.now ≡ slice_index_or chains.now chain [] }
+{
+    match chains.get(chain) {
+        Some(id) => id.as_str(),
+        None => "",
+    }
+}
+
+/// Adds what came of the events, the clients and the settlements.
+#[tactic(auto, unfolding(crate::specs::ReportJson::came_members))]
+fn push_came(
     text: &mut String,
     version: Version,
     paths: &[PathId],
     turn: &TurnReport,
 ) -> Result<(), AllocError>
-    ensures { OnOk result (string_bytes text.new ≡ string_bytes text.old ++ more_text (turn_members version paths.now (turn_report_view turn.now))) }
+    ensures { OnOk result (string_bytes text.new ≡ string_bytes text.old ++ more_text (came_members version paths.now (turn_report_view turn.now))) }
 {
     push_name(text, true, "refused")?;
     push_refusals(text, turn.refused.as_slice())?;
@@ -219,8 +285,49 @@ fn push_client(
 {
     text.push_str("{")?;
     push_text(text, false, "id", client.id.as_str())?;
-    push_outcome(text, version, paths, &client.outcome)?;
+    push_client_members(text, version, paths, client)?;
     text.push_str("}")
+}
+
+/// Adds what came of a client, and what of its messages is left out.
+#[tactic(auto, using(crate::proofs::Joined::more_append), unfolding(crate::specs::ReportJson::client_members))]
+fn push_client_members(
+    text: &mut String,
+    version: Version,
+    paths: &[PathId],
+    client: &ClientReport,
+) -> Result<(), AllocError>
+    ensures { OnOk result (string_bytes text.new ≡ string_bytes text.old ++ more_text (client_members version paths.now (client_report_view client.now))) }
+{
+    push_outcome(text, version, paths, &client.outcome)?;
+    push_left(
+        text,
+        version,
+        paths,
+        &client.outcome,
+        client.too_big.as_slice(),
+    )
+}
+
+/// Adds the messages that are left out since they are over the gas limit alone, from version 4 on; none of a client
+/// that is held.
+fn push_left(
+    text: &mut String,
+    version: Version,
+    paths: &[PathId],
+    outcome: &Outcome,
+    left: &[Message],
+) -> Result<(), AllocError>
+    ensures { OnOk result (string_bytes text.new
+        ≡ string_bytes text.old ++ more_text (left_members version paths.now (outcome_view outcome.now) left.now)) }
+{
+    match (version, outcome) {
+        (Version::Four, Outcome::Idle(_) | Outcome::Planned(_)) => {
+            push_name(text, true, "left_out")?;
+            push_messages(text, paths, left)
+        }
+        _ => Ok(()),
+    }
 }
 
 fn push_outcome(
@@ -249,7 +356,7 @@ fn push_next(text: &mut String, version: Version, next: Option<Moment>) -> Resul
     ensures { OnOk result (string_bytes text.new ≡ string_bytes text.old ++ more_text (next_members version next)) }
 {
     match (version, next) {
-        (Version::Three, Some(moment)) => {
+        (Version::Three | Version::Four, Some(moment)) => {
             push_name(text, true, "next")?;
             text.push_str("\"")?;
             push_moment(text, moment)?;
@@ -271,9 +378,36 @@ fn push_planned(
     push_text(text, true, "outcome", planned_word(&planned.plan))?;
     push_name(text, true, "goal")?;
     push_goal(text, planned.goal)?;
+    push_labelled(text, version, paths, planned)
+}
+
+/// Adds what stands behind the goal: what was asked for and is out of reach, the labels, and the plan, if there is one.
+#[tactic(auto, using(crate::proofs::Joined::more_append), unfolding(crate::specs::ReportJson::labelled_members))]
+fn push_labelled(
+    text: &mut String,
+    version: Version,
+    paths: &[PathId],
+    planned: &PlannedReport,
+) -> Result<(), AllocError>
+    ensures { OnOk result (string_bytes text.new ≡ string_bytes text.old ++ more_text (labelled_members version paths.now (planned_view planned.now))) }
+{
+    push_beyond(text, planned.beyond)?;
     push_name(text, true, "labels")?;
     push_labels(text, planned.labelling.labels())?;
     push_reached(text, version, paths, planned.next, &planned.plan)
+}
+
+/// Adds what was asked for and is out of reach.
+fn push_beyond(text: &mut String, beyond: Option<Goal>) -> Result<(), AllocError>
+    ensures { OnOk result (string_bytes text.new ≡ string_bytes text.old ++ more_text (beyond_members beyond)) }
+{
+    match beyond {
+        Some(goal) => {
+            push_name(text, true, "beyond")?;
+            push_goal(text, goal)
+        }
+        None => Ok(()),
+    }
 }
 
 /// The word that a report has for a client with a goal.

@@ -38,7 +38,8 @@ pub fn push_number(
     write!(text, "{number}")
 }
 
-fn push_string(text: &mut String, characters: &str) -> Result<(), AllocError>
+/// Adds a text as a string.
+pub(crate) fn push_string(text: &mut String, characters: &str) -> Result<(), AllocError>
     ensures { OnOk result (string_bytes text.new ≡ string_bytes text.old ++ string_text characters.now) }
 {
     text.push_str("\"")?;

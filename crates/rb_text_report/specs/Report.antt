@@ -14,7 +14,7 @@ use Rattle.rb_scan.specs.declared.message.Kind.TheVariants.{Receive, Acknowledge
 use Rattle.rb_plan_client.specs.Task.{Message}
 use Rattle.rb_step.specs.Sent.{SentVotes}
 use Rattle.rb_script_types.specs.declared.version.Version.{Version}
-use Rattle.rb_script_types.specs.declared.version.Version.TheVariants.{One, Two, Three}
+use Rattle.rb_script_types.specs.declared.version.Version.TheVariants.{One, Two, Three, Four}
 use Rattle.rb_moments.specs.Moments.{moment_text}
 use Rattle.rb_super_turn.specs.Report.{RefusedEvent, PricedUpdate, SendingReport, nothing, too_big, batched, PlanReport, Outcome, held, idle, planned, ClientReport, SettlementReport, TurnReport, Report}
 
@@ -22,6 +22,10 @@ use Rattle.rb_super_turn.specs.Report.{RefusedEvent, PricedUpdate, SendingReport
 
 abbrev pub window_line : List ℕ
 window_line = codes "refused window 806 WindowBack\n"
+
+-- the window of a host goes back, the host by its identifier
+unfoldable pub host_line : List (List ℕ) → ℕ → List ℕ
+host_line chains host = codes "refused window " ++ slice_index_or chains host [] ++ codes " 806 WindowBack\n"
 
 abbrev pub refused_line : RefusedEvent → List ℕ
 refused_line r =
@@ -36,6 +40,15 @@ idle_line id = codes "client " ++ id ++ codes " idle\n"
 abbrev pub goal_line : List ℕ → Goal → List ℕ
 goal_line id (AtLeast height) = codes "client " ++ id ++ codes " goal at_least " ++ decimal height ++ codes "\n"
 goal_line id (Exactly height) = codes "client " ++ id ++ codes " goal exactly " ++ decimal height ++ codes "\n"
+
+-- what was asked for and is out of reach
+abbrev pub beyond_line : Goal → List ℕ
+beyond_line (AtLeast height) = codes "beyond at_least " ++ decimal height ++ codes "\n"
+beyond_line (Exactly height) = codes "beyond exactly " ++ decimal height ++ codes "\n"
+
+abbrev pub beyond_text : Option Goal → List ℕ
+beyond_text None = []
+beyond_text (Some goal) = beyond_line goal
 
 abbrev pub label_line : Label → List ℕ
 label_line l = codes "label " ++ decimal l.height ++ codes " " ++ decimal l.cost.fee ++ codes " " ++ decimal l.cost.count ++ codes "\n"
@@ -66,6 +79,10 @@ abbrev pub message_line : List (List ℕ) → Message → List ℕ
 message_line paths m =
     kind_name m.packet.kind ++ codes " " ++ slice_index_or paths m.path [] ++ codes " " ++ decimal m.packet.sequence ++ codes "\n"
 
+-- a packet message that is left out since it is over the gas limit alone
+abbrev pub left_line : List (List ℕ) → Message → List ℕ
+left_line paths m = codes "toobig " ++ message_line paths m
+
 abbrev pub too_big_line : ℕ → List ℕ
 too_big_line index = codes "toobig " ++ decimal index ++ codes "\n"
 
@@ -83,6 +100,8 @@ next_text One next = []
 next_text Two next = []
 next_text Three None = []
 next_text Three (Some moment) = codes "next " ++ moment_text moment ++ codes "\n"
+next_text Four None = []
+next_text Four (Some moment) = codes "next " ++ moment_text moment ++ codes "\n"
 
 abbrev pub settled_line : List ℕ → ℕ → ℕ → List ℕ
 settled_line id batch done = codes "settled " ++ id ++ codes " " ++ decimal batch ++ codes " " ++ decimal done ++ codes "\n"
@@ -115,10 +134,10 @@ plan_text version paths next (Some p) =
 abbrev pub outcome_text : Version → List (List ℕ) → List ℕ → Outcome → List ℕ
 outcome_text version paths id (held batch) = held_line id batch
 outcome_text version paths id (idle next) = idle_line id ++ next_text version next
-outcome_text version paths id (planned p) = goal_line id p.goal ++ flat_map label_line p.labels ++ plan_text version paths p.next p.plan
+outcome_text version paths id (planned p) = goal_line id p.goal ++ beyond_text p.beyond ++ flat_map label_line p.labels ++ plan_text version paths p.next p.plan
 
 abbrev pub client_text : Version → List (List ℕ) → ClientReport → List ℕ
-client_text version paths c = outcome_text version paths c.id c.outcome
+client_text version paths c = outcome_text version paths c.id c.outcome ++ flat_map (left_line paths) c.too_big
 
 -- a settlement by its number in its turn, from 0
 abbrev pub settlement_text_by : ℕ → SettlementReport → Option Refusal → List ℕ
@@ -128,13 +147,18 @@ settlement_text_by number x (Some refusal) = refused_settle_line number refusal
 abbrev pub settlement_text : ℕ → SettlementReport → List ℕ
 settlement_text number x = settlement_text_by number x x.refusal
 
--- a turn and what became of its window
-abbrev pub head_text : ℕ → Bool → List ℕ
-head_text number window_back = codes "turn " ++ decimal number ++ codes "\n" ++ (if window_back then window_line else [])
+-- which windows go back: those of hosts, then the turn's
+abbrev pub windows_text : List (List ℕ) → List ℕ → Bool → List ℕ
+windows_text chains hosts_back window_back = flat_map (host_line chains) hosts_back ++ (if window_back then window_line else [])
 
-abbrev pub turn_text : Version → List (List ℕ) → ℕ → TurnReport → List ℕ
-turn_text version paths number t =
-    head_text number t.window_back ++ flat_map refused_line t.refused ++ flat_map (client_text version paths) t.clients
+-- a turn and what became of its windows
+abbrev pub head_text : List (List ℕ) → ℕ → List ℕ → Bool → List ℕ
+head_text chains number hosts_back window_back = codes "turn " ++ decimal number ++ codes "\n" ++ windows_text chains hosts_back window_back
+
+-- with the identifiers of the chains and of the paths by their places
+abbrev pub turn_text : Version → List (List ℕ) → List (List ℕ) → ℕ → TurnReport → List ℕ
+turn_text version chains paths number t =
+    head_text chains number t.hosts_back t.window_back ++ flat_map refused_line t.refused ++ flat_map (client_text version paths) t.clients
     ++ numbered_lines settlement_text 0 t.settlements
 
 -- the first line: the format of versions 1 and 2 is one
@@ -142,7 +166,8 @@ abbrev pub first_line : Version → List ℕ
 first_line One = codes "ibcplan 1\n"
 first_line Two = codes "ibcplan 1\n"
 first_line Three = codes "ibcplan 3\n"
+first_line Four = codes "ibcplan 4\n"
 
 -- the text of a report, its turns numbered from 1
-abbrev pub text : Version → List (List ℕ) → Report → List ℕ
-text version paths turns = first_line version ++ numbered_lines (turn_text version paths) 1 turns ++ codes "end\n"
+abbrev pub text : Version → List (List ℕ) → List (List ℕ) → Report → List ℕ
+text version chains paths turns = first_line version ++ numbered_lines (turn_text version chains paths) 1 turns ++ codes "end\n"

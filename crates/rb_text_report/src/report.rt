@@ -2,12 +2,12 @@
 ghost use Rattle.std.specs.Prelude.{◌≡◌, ◌++◌, [], map, slice_index_or, OnOk, string_bytes};
 ghost use Rattle.std.specs.List.{flat_map};
 ghost use Rattle.std.specs.Option.{option_map};
-ghost use Rattle.rb_super_turn.specs.Views.{refused_view, priced_view, sending_view, plan_view, planned_view, client_report_view, settlement_view, turn_report_view};
+ghost use Rattle.rb_super_turn.specs.Views.{refused_view, priced_view, sending_view, plan_view, planned_view, outcome_view, client_report_view, settlement_view, turn_report_view};
 ghost use Rattle.rb_step.specs.Sent.{sent_view};
 ghost use Rattle.rb_super_turn.specs.Report.{planned as outcome_planned};
-ghost use Rattle.rb_text_report.specs.Report.{refused_line, goal_line, label_line, update_line, votes_text, total_line, kind_name, message_line, batch_line, transaction_line, numbered_lines, sending_text, next_text, plan_text, outcome_text, client_text, settled_line, refusal_text, refused_settle_line, settlement_text, head_text, turn_text};
+ghost use Rattle.rb_text_report.specs.Report.{refused_line, goal_line, label_line, update_line, votes_text, total_line, kind_name, message_line, left_line, beyond_line, beyond_text, batch_line, transaction_line, numbered_lines, sending_text, next_text, plan_text, outcome_text, client_text, settled_line, refusal_text, refused_settle_line, settlement_text, host_line, windows_text, head_text, turn_text};
 
-use rb_base::{Height, Moment, PathId};
+use rb_base::{ChainId, Height, Moment, PathId};
 use rb_batch::Transaction;
 use rb_moments::push_moment;
 use rb_plan_client::Message;
@@ -45,6 +45,25 @@ fn push_goal(text: &mut String, id: &str, goal: Goal) -> Result<(), AllocError>
     match goal {
         Goal::AtLeast(height) => writeln!(text, "client {id} goal at_least {height}"),
         Goal::Exactly(height) => writeln!(text, "client {id} goal exactly {height}"),
+    }
+}
+
+fn push_asked(text: &mut String, goal: Goal) -> Result<(), AllocError>
+    ensures { OnOk result (string_bytes text.new ≡ string_bytes text.old ++ beyond_line goal) }
+{
+    match goal {
+        Goal::AtLeast(height) => writeln!(text, "beyond at_least {height}"),
+        Goal::Exactly(height) => writeln!(text, "beyond exactly {height}"),
+    }
+}
+
+/// Adds what was asked for and is out of reach.
+fn push_beyond(text: &mut String, beyond: Option<Goal>) -> Result<(), AllocError>
+    ensures { OnOk result (string_bytes text.new ≡ string_bytes text.old ++ beyond_text beyond) }
+{
+    match beyond {
+        Some(goal) => push_asked(text, goal),
+        None => Ok(()),
     }
 }
 
@@ -194,7 +213,7 @@ fn push_next(text: &mut String, version: Version, next: Option<Moment>) -> Resul
     ensures { OnOk result (string_bytes text.new ≡ string_bytes text.old ++ next_text version next) }
 {
     match (version, next) {
-        (Version::Three, Some(moment)) => {
+        (Version::Three | Version::Four, Some(moment)) => {
             text.push_str("next ")?;
             push_moment(text, moment)?;
             text.push_str("\n")
@@ -235,17 +254,29 @@ fn push_planned(
         ≡ string_bytes text.old ++ outcome_text version paths.now id.now (outcome_planned (planned_view planned.now))) }
 {
     push_goal(text, id, planned.goal)?;
+    push_beyond(text, planned.beyond)?;
     push_labels(text, planned.labelling.labels())?;
     push_plan(text, version, paths, planned.next, &planned.plan)
 }
 
-fn push_client(
+/// Adds the packet messages that are left out since they are over the gas limit alone.
+fn push_left(text: &mut String, paths: &[PathId], left: &[Message]) -> Result<(), AllocError>
+    ensures { OnOk result (string_bytes text.new ≡ string_bytes text.old ++ flat_map (left_line paths.now) left.now) }
+{
+    for message in left {
+        text.push_str("toobig ")?;
+        push_message(text, paths, message)?;
+    }
+    Ok(())
+}
+
+fn push_outcome(
     text: &mut String,
     version: Version,
     paths: &[PathId],
     client: &ClientReport,
 ) -> Result<(), AllocError>
-    ensures { OnOk result (string_bytes text.new ≡ string_bytes text.old ++ client_text version paths.now (client_report_view client.now)) }
+    ensures { OnOk result (string_bytes text.new ≡ string_bytes text.old ++ outcome_text version paths.now client.now.id (outcome_view client.now.outcome)) }
 {
     let id = client.id.as_str();
     match &client.outcome {
@@ -256,6 +287,18 @@ fn push_client(
         }
         Outcome::Planned(planned) => push_planned(text, version, paths, id, planned),
     }
+}
+
+fn push_client(
+    text: &mut String,
+    version: Version,
+    paths: &[PathId],
+    client: &ClientReport,
+) -> Result<(), AllocError>
+    ensures { OnOk result (string_bytes text.new ≡ string_bytes text.old ++ client_text version paths.now (client_report_view client.now)) }
+{
+    push_outcome(text, version, paths, client)?;
+    push_left(text, paths, client.too_big.as_slice())
 }
 
 fn push_clients(
@@ -326,27 +369,83 @@ fn push_settlements(text: &mut String, settlements: &[SettlementReport]) -> Resu
     Ok(())
 }
 
-fn push_head(text: &mut String, number: u64, window_back: bool) -> Result<(), AllocError>
-    ensures { OnOk result (string_bytes text.new ≡ string_bytes text.old ++ head_text number window_back) }
+/// The identifier of the chain at a place.
+fn chain_of(chains: &[ChainId], chain: usize) -> &str
+    ensures { result.now ≡ slice_index_or chains.now chain [] }
 {
-    writeln!(text, "turn {number}")?;
+    match chains.get(chain) {
+        Some(id) => id.as_str(),
+        None => "",
+    }
+}
+
+#[tactic(auto, unfolding(crate::specs::Report::host_line))]
+fn push_host(text: &mut String, chains: &[ChainId], host: usize) -> Result<(), AllocError>
+    ensures { OnOk result (string_bytes text.new ≡ string_bytes text.old ++ host_line chains.now host) }
+{
+    let id = chain_of(chains, host);
+    writeln!(text, "refused window {id} 806 WindowBack")
+}
+
+/// Adds the hosts whose windows go back.
+fn push_hosts(text: &mut String, chains: &[ChainId], hosts: &[usize]) -> Result<(), AllocError>
+    ensures { OnOk result (string_bytes text.new ≡ string_bytes text.old ++ flat_map (host_line chains.now) hosts.now) }
+{
+    for host in hosts {
+        push_host(text, chains, *host)?;
+    }
+    Ok(())
+}
+
+/// Adds which windows go back: those of hosts, then the turn's.
+fn push_windows(
+    text: &mut String,
+    chains: &[ChainId],
+    hosts_back: &[usize],
+    window_back: bool,
+) -> Result<(), AllocError>
+    ensures { OnOk result (string_bytes text.new ≡ string_bytes text.old ++ windows_text chains.now hosts_back.now window_back) }
+{
+    push_hosts(text, chains, hosts_back)?;
     if window_back {
         text.push_str("refused window 806 WindowBack\n")?;
     }
     Ok(())
 }
 
-/// Adds the lines of a turn, by its number from 1, with the identifiers of the paths by their places.
+fn push_head(
+    text: &mut String,
+    chains: &[ChainId],
+    number: u64,
+    hosts_back: &[usize],
+    window_back: bool,
+) -> Result<(), AllocError>
+    ensures { OnOk result (string_bytes text.new ≡ string_bytes text.old ++ head_text chains.now number hosts_back.now window_back) }
+{
+    writeln!(text, "turn {number}")?;
+    push_windows(text, chains, hosts_back, window_back)
+}
+
+/// Adds the lines of a turn, by its number from 1, with the identifiers of the chains and of the paths by their
+/// places.
 pub fn push_turn(
     text: &mut String,
     version: Version,
+    chains: &[ChainId],
     paths: &[PathId],
     number: u64,
     turn: &TurnReport,
 ) -> Result<(), AllocError>
-    ensures { OnOk result (string_bytes text.new ≡ string_bytes text.old ++ turn_text version paths.now number (turn_report_view turn.now)) }
+    ensures { OnOk result (string_bytes text.new
+        ≡ string_bytes text.old ++ turn_text version chains.now paths.now number (turn_report_view turn.now)) }
 {
-    push_head(text, number, turn.window_back)?;
+    push_head(
+        text,
+        chains,
+        number,
+        turn.hosts_back.as_slice(),
+        turn.window_back,
+    )?;
     push_refusals(text, turn.refused.as_slice())?;
     push_clients(text, version, paths, turn.clients.as_slice())?;
     push_settlements(text, turn.settlements.as_slice())

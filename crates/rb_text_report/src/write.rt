@@ -7,7 +7,7 @@ ghost use Rattle.rb_text_report.specs.Report.{text, first_line, turn_text, numbe
 ghost use Rattle.rb_text_report.specs.Written.{IsWriteError};
 
 use crate::report::push_turn;
-use rb_base::{Device, PathId, Sink, write_whole};
+use rb_base::{ChainId, Device, PathId, Sink, write_whole};
 use rb_script_toml::RunError;
 use rb_script_types::Version;
 use rb_super_turn::{Report, TurnReport};
@@ -27,25 +27,26 @@ pub fn put<W: Sink>(writer: &mut W, bytes: &[u8]) -> Result<(), RunError>
     }
 }
 
-/// Writes the lines of a turn, by its number from 1, with the identifiers of the paths by their
-/// places.
+/// Writes the lines of a turn, by its number from 1, with the identifiers of the chains and of the
+/// paths by their places.
 #[tactic(auto, using(crate::proofs::Beginnings::beginnings))]
 fn put_turn<W: Sink>(
     alloc: Global,
     version: Version,
+    chains: &[ChainId],
     paths: &[PathId],
     number: u64,
     turn: &TurnReport,
     writer: &mut W,
 ) -> Result<(), RunError>
     requires { W.is_broken writer.old ≡ false }
-    ensures written { OnOk result (Appends (W.taken writer.old) (W.taken writer.new) (turn_text version paths.now number (turn_report_view turn.now))) }
+    ensures written { OnOk result (Appends (W.taken writer.old) (W.taken writer.new) (turn_text version chains.now paths.now number (turn_report_view turn.now))) }
     ensures works { OnOk result (W.is_broken writer.new ≡ false) }
-    ensures begun { OnErr result (AppendsBeginning (W.taken writer.old) (W.taken writer.new) (turn_text version paths.now number (turn_report_view turn.now))) }
+    ensures begun { OnErr result (AppendsBeginning (W.taken writer.old) (W.taken writer.new) (turn_text version chains.now paths.now number (turn_report_view turn.now))) }
     ensures failed { IfErr result (λ e. IsWriteError e (W.is_broken writer.new)) }
 {
     let mut text = String::new(alloc);
-    push_turn(&mut text, version, paths, number, turn)?;
+    push_turn(&mut text, version, chains, paths, number, turn)?;
     put(writer, text.as_bytes())
 }
 
@@ -54,20 +55,21 @@ fn put_turn<W: Sink>(
 fn put_turns<W: Sink>(
     alloc: Global,
     version: Version,
+    chains: &[ChainId],
     paths: &[PathId],
     turns: &[TurnReport],
     writer: &mut W,
 ) -> Result<(), RunError>
     requires { W.is_broken writer.old ≡ false }
-    ensures written { OnOk result (Appends (W.taken writer.old) (W.taken writer.new) (numbered_lines (turn_text version paths.now) 1 (map turn_report_view turns.now))) }
+    ensures written { OnOk result (Appends (W.taken writer.old) (W.taken writer.new) (numbered_lines (turn_text version chains.now paths.now) 1 (map turn_report_view turns.now))) }
     ensures works { OnOk result (W.is_broken writer.new ≡ false) }
-    ensures begun { OnErr result (AppendsBeginning (W.taken writer.old) (W.taken writer.new) (numbered_lines (turn_text version paths.now) 1 (map turn_report_view turns.now))) }
+    ensures begun { OnErr result (AppendsBeginning (W.taken writer.old) (W.taken writer.new) (numbered_lines (turn_text version chains.now paths.now) 1 (map turn_report_view turns.now))) }
     ensures failed { IfErr result (λ e. IsWriteError e (W.is_broken writer.new)) }
 {
     let mut number = 0;
     for turn in turns {
         number += 1;
-        put_turn(alloc, version, paths, number, turn, writer)?;
+        put_turn(alloc, version, chains, paths, number, turn, writer)?;
     }
     Ok(())
 }
@@ -79,6 +81,7 @@ pub fn first_line(version: Version) -> &'static [u8]
     match version {
         Version::One | Version::Two => b"ibcplan 1\n",
         Version::Three => b"ibcplan 3\n",
+        Version::Four => b"ibcplan 4\n",
     }
 }
 
@@ -88,14 +91,15 @@ pub fn first_line(version: Version) -> &'static [u8]
 #[tactic(auto, using(crate::proofs::Beginnings::beginnings))]
 pub fn write_report<W: Sink>(alloc: Global, report: &Report, writer: &mut W) -> Result<(), RunError>
     requires { W.is_broken writer.old ≡ false }
-    ensures written { OnOk result (Appends (W.taken writer.old) (W.taken writer.new) (text report.now.version report.now.paths.items (report_view report.now))) }
+    ensures written { OnOk result (Appends (W.taken writer.old) (W.taken writer.new) (text report.now.version report.now.chains.items report.now.paths.items (report_view report.now))) }
     ensures works { OnOk result (W.is_broken writer.new ≡ false) }
-    ensures begun { OnErr result (AppendsBeginning (W.taken writer.old) (W.taken writer.new) (text report.now.version report.now.paths.items (report_view report.now))) }
+    ensures begun { OnErr result (AppendsBeginning (W.taken writer.old) (W.taken writer.new) (text report.now.version report.now.chains.items report.now.paths.items (report_view report.now))) }
     ensures failed { IfErr result (λ e. IsWriteError e (W.is_broken writer.new)) }
 {
+    let chains = report.chains.as_slice();
     let paths = report.paths.as_slice();
     let turns = report.turns.as_slice();
     put(writer, first_line(report.version))?;
-    put_turns(alloc, report.version, paths, turns, writer)?;
+    put_turns(alloc, report.version, chains, paths, turns, writer)?;
     put(writer, b"end\n")
 }

@@ -5,13 +5,13 @@ use Rattle.std.specs.Option.{option_map_or}
 use Rattle.std.proofs.lemmas.Bool.{false≢true, and_parts, and_from, cases_lt}
 use Rattle.std.proofs.lemmas.List.Elements.{recursion_from_All}
 use Rattle.std.proofs.lemmas.Option.{none-some, same_Some}
+use Rattle.rb_book.specs.Laws.{StaysABook}
 use Rattle.rb_scan.specs.Laws.{SettledIsNotOwed}
 use Rattle.rb_scan.specs.Owed.{ready}
 use Rattle.rb_scan.specs.declared.message.PacketMsg.{PacketMsg}
 use Rattle.rb_script_types.specs.declared.config.PathConfig.{PathConfig}
 use Rattle.rb_plan_waiting.specs.Laws.{SeenIsFewest}
-use Rattle.rb_plan_client.specs.Laws.{PressingGoes}
-use Rattle.rb_plan_client.specs.Task.{PathTask, Task, Message, message_on, ready_on, ready_messages, near_reach, press_moment, press_moments_on, first_press, presses}
+use Rattle.rb_plan_client.specs.Task.{PathTask, Task, Message, message_on, going_on, ready_on, ready_messages, near_reach, press_moment, press_moments_on, first_press, presses}
 use Rattle.rb_core_model.specs.Standing.{OpenBatch, ClientState, Standing, new_path, opening_standing}
 use Rattle.rb_core_model.proofs.Marks.{AllFound}
 use Rattle.rb_core_model.proofs.Options.{tested}
@@ -20,8 +20,10 @@ use Rattle.rb_super_turn.specs.Script.{Turn, IsTurn}
 use Rattle.rb_super_turn.specs.Turns.{IsOutcome, after_turn}
 use Rattle.rb_waiting_laws.specs.Fewest.{ClientTurn, AreTurnsOf, in_turn, MessageId, id_on, has_id, far_on, is_far, is_in_batch, is_ready, presses_on, is_pressing, far_ids, opens_batch, is_update, is_within_reach, UpdatesAreFewest}
 use Rattle.rb_waiting_laws.proofs.InTime.{outcome_of}
+use Rattle.rb_waiting_laws.proofs.Later.{empty_books}
 use Rattle.rb_waiting_laws.proofs.Members.{In, in_map, in_flat_map, from_map, from_flat_map, from_test, test_from, far_is_ready}
 use Rattle.rb_waiting_laws.proofs.Moments.{first_is}
+use Rattle.rb_waiting_laws.proofs.Pressing.{PressedGo}
 use Rattle.rb_waiting_laws.proofs.Sends.{has_id_from, gone_for_good}
 use Rattle.rb_waiting_laws.proofs.TurnByTurn.{HasPressed, sending_turns}
 
@@ -85,8 +87,8 @@ ready_within i k e =
     let p = from_test (λ (p : PathTask). list_any (has_id i p.path) (far_on k p)) k.task.paths far in
     let m = from_test (has_id i p.0.path) (far_on k p.0) p.2 in
     test_from (λ (m : Message). has_id i m.path m.packet) (ready_messages k.task k.reach) (message_on p.0 m.0)
-    (in_flat_map (ready_on k.reach) k.task.paths p.0 (message_on p.0 m.0) p.1
-    (in_map (message_on p.0) (ready p.0.owed p.0.order k.reach) m.0 (far_is_ready p.0.owed p.0.order (near_reach k.task) k.reach m.0 m.1)))
+    (in_flat_map (ready_on k.task k.reach) k.task.paths p.0 (message_on p.0 m.0) p.1
+    (in_map (message_on p.0) (ready (going_on k.task p.0) p.0.order k.reach) m.0 (far_is_ready (going_on k.task p.0) p.0.order (near_reach k.task) k.reach m.0 m.1)))
     m.2
 
 -- ---- the turns of a script
@@ -105,14 +107,14 @@ pub new_found : (cs : List PathConfig) → AllByRecursion AllFound (map new_path
 new_found [] = tt
 new_found (c ∷ cs) = (tt, new_found cs)
 
-pub fewest : SeenIsFewest → PressingGoes → SettledIsNotOwed → UpdatesAreFewest
-fewest seen goes law script report place ks choice is whole stays punctual =
+pub fewest : SeenIsFewest → PressedGo → StaysABook → SettledIsNotOwed → UpdatesAreFewest
+fewest seen goes stays_books law script report place ks choice is whole stays punctual =
     seen.fewest (length ks) _ _ choice
     (sending_turns is_ready is_pressing is_update far_ids ks
     (λ n k at update. has_pressed k (outcome_at place script.turns report ks opening is.turns n k at) update)
     (λ i before update after j k l no_later later at_before at_update at_after was updates again.
-    gone_for_good law goes script.config place i script.turns report ks opening (recursion_from_All (IsTurn script.config) script.turns is.is_script.turns) is.turns whole
-    (new_found script.config.paths) update after k l later at_update at_after updates
+    gone_for_good law stays_books goes script.config place i script.turns report ks opening (recursion_from_All (IsTurn script.config) script.turns is.is_script.turns) is.turns whole
+    (new_found script.config.paths) (empty_books script.config.limit (length script.config.chains) is.is_script.config.rules.limit) update after k l later at_update at_after updates
     (within i before update after j k l no_later later at_before at_update at_after was updates again) again))
     punctual
   where

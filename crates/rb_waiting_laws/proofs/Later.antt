@@ -1,11 +1,12 @@
 -- From turn to turn more is known: no packet goes, no mark of one, no record, and what is closed stays closed.
-use Rattle.std.proofs.Common.{◌≡◌, ℕ, zero, suc, ◌≤◌, Bool, true, false, cond, eqb, ltb, ◌&&◌, List, [], ◌∷◌, length, replicate, set, Option, Some, None, is_some, refl, sym, ap, ◌∙◌, subst, inl, inr, arith, if◌then◌else◌}
+use Rattle.std.proofs.Common.{◌≡◌, ℕ, zero, suc, ◌<◌, ◌≤◌, Bool, true, false, cond, eqb, ltb, ◌&&◌, List, [], ◌∷◌, length, replicate, set, Option, Some, None, is_some, refl, sym, ap, ◌∙◌, subst, inl, inr, arith, if◌then◌else◌}
 use Rattle.std.specs.List.{find, fold, insert, count_by, slice_get, AllByRecursion}
 use Rattle.std.specs.Option.{option_map, option_map_or, option_and_then}
 use Rattle.std.proofs.lemmas.Bool.{true≢false, cases_eq, cases_lt, eqb-true, ne_eqb, or_left}
 use Rattle.std.proofs.lemmas.List.{get_or-set_same, get_or-set_other, set_past}
 use Rattle.std.proofs.lemmas.List.Elements.{recursion_from_All}
 use Rattle.std.proofs.lemmas.Option.{none-some}
+use Rattle.rb_script_types.specs.declared.block.Block.{Block}
 use Rattle.rb_book.specs.Book.{Book, RecordAt, height_of, time_of, heights_and_times_of, record_at, header_at, set_of, is_below}
 use Rattle.rb_book.specs.Header.{Record, Header}
 use Rattle.rb_book.specs.Intake.{after_set, after_header, after_record, with_set, with_record, with_header}
@@ -25,9 +26,10 @@ use Rattle.rb_script_types.specs.Config.{Config}
 use Rattle.rb_script_types.specs.declared.refusal.Refusal.{Refusal}
 use Rattle.rb_script_types.specs.declared.refusal.Refusal.TheVariants.{OutOfOrder, Repeat}
 use Rattle.rb_script_types.specs.declared.script.Asked.{Asked as Question}
+use Rattle.rb_script_types.specs.declared.script.HostWindow.{HostWindow as WindowOf}
 use Rattle.rb_script_types.specs.declared.script.Settlement.{Settlement}
-use Rattle.rb_plan_client.specs.Task.{Message}
-use Rattle.rb_core_model.specs.Event.{Event, IsEvent, Window, Asked, Settled, Planned, SetSeen, HeaderSeen, StoredSeen, Sent, Received, AckWritten, Cleared, Closed, Scanned}
+use Rattle.rb_plan_client.specs.Task.{Task, Message}
+use Rattle.rb_core_model.specs.Event.{Event, IsEvent, Window, HostWindow, Asked, Settled, Planned, SetSeen, HeaderSeen, StoredSeen, Sent, Received, AckWritten, Cleared, Closed, Scanned}
 use Rattle.rb_core_model.specs.Refusal.{refused_if}
 use Rattle.rb_core_model.specs.Standing.{OpenBatch, ClientState, PathState, Standing, empty_book, book_at, tracked, view_of_path, judged, changed, changed_at, with_path, with_packet, with_mark, new_packet, marked, mark_of, open_batch, sent_refusal, written_refusal, settled_messages, after_message, after_messages, after_settled, standing_after}
 use Rattle.rb_core_model.proofs.Intake.{set_accepted, header_accepted, record_accepted}
@@ -35,9 +37,10 @@ use Rattle.rb_core_model.proofs.Marks.{has, AllFound, keeps_marked, keeps_packet
 use Rattle.rb_core_model.proofs.Open.{sent_new}
 use Rattle.rb_core_model.proofs.Options.{passes, get_changed_same, get_changed_other}
 use Rattle.rb_core_model.proofs.Owed.{found_sequence}
-use Rattle.rb_super_turn.specs.Report.{TurnReport}
+use Rattle.rb_super_turn.specs.Report.{ClientReport, TurnReport}
 use Rattle.rb_super_turn.specs.Script.{Turn, IsSeen, IsTurn}
-use Rattle.rb_super_turn.specs.Turns.{after_window, after_question, before_events, before_plans, after_plans, settlement_event, after_settlement, taking, after_taking, takers, after_turn}
+use Rattle.rb_super_turn.specs.Turns.{after_window, window_event, after_host_window, after_question, before_events, before_plans, after_plans, settlement_event, after_settlement, taking, after_taking, takers, after_turn}
+use Rattle.rb_waiting_laws.specs.InTime.{IsPlannedIn}
 use Rattle.rb_waiting_laws.proofs.Expired.{Extends}
 use Rattle.rb_waiting_laws.proofs.Members.{In, in_map, from_map}
 use Rattle.rb_waiting_laws.proofs.Packets.{GrownPacket, grown_self, grown_trans}
@@ -138,23 +141,27 @@ received_more : (block : ℕ) (q : Packet) → GrownPacket q (record q { receive
 received_more block q = record {
   sequence = refl;
   sent = refl;
+  sent_time = refl;
   timeout_height = refl;
   timeout_time = refl;
   received = λ e. refl;
   written = λ b e. e;
+  written_time = λ b e. refl;
   cleared = λ e. e;
   receive_settled = λ e. e;
   outcome_settled = λ e. e;
 }
 
-written_more : (block : ℕ) (q : Packet) → is_some q.written ≡ false → GrownPacket q (record q { written = Some block })
+written_more : (block : Block) (q : Packet) → is_some q.written ≡ false → GrownPacket q (record q { written = Some block.height; written_time = block.time })
 written_more block q none = record {
   sequence = refl;
   sent = refl;
+  sent_time = refl;
   timeout_height = refl;
   timeout_time = refl;
   received = λ e. e;
   written = λ b e. absurd (true≢false (sym (ap (λ (o : Option ℕ). is_some o) e) ∙ none));
+  written_time = λ b e. absurd (true≢false (sym (ap (λ (o : Option ℕ). is_some o) e) ∙ none));
   cleared = λ e. e;
   receive_settled = λ e. e;
   outcome_settled = λ e. e;
@@ -164,10 +171,12 @@ cleared_more : (q : Packet) → GrownPacket q (record q { cleared = true })
 cleared_more q = record {
   sequence = refl;
   sent = refl;
+  sent_time = refl;
   timeout_height = refl;
   timeout_time = refl;
   received = λ e. e;
   written = λ b e. e;
+  written_time = λ b e. refl;
   cleared = λ e. refl;
   receive_settled = λ e. e;
   outcome_settled = λ e. e;
@@ -177,10 +186,12 @@ outcome_more : (q : Packet) → GrownPacket q (record q { outcome_settled = true
 outcome_more q = record {
   sequence = refl;
   sent = refl;
+  sent_time = refl;
   timeout_height = refl;
   timeout_time = refl;
   received = λ e. e;
   written = λ b e. e;
+  written_time = λ b e. refl;
   cleared = λ e. e;
   receive_settled = λ e. e;
   outcome_settled = λ e. refl;
@@ -190,10 +201,12 @@ settled_more : (kind : Kind) (q : Packet) → GrownPacket q (mark_of kind q)
 settled_more Receive q = record {
   sequence = refl;
   sent = refl;
+  sent_time = refl;
   timeout_height = refl;
   timeout_time = refl;
   received = λ e. e;
   written = λ b e. e;
+  written_time = λ b e. refl;
   cleared = λ e. e;
   receive_settled = λ e. refl;
   outcome_settled = λ e. e;
@@ -283,6 +296,7 @@ one_book s t chain b paths books more is = record {
 module _ (stays : StaysABook) where
   changed_later : (s : Standing) (e : Event) → AreBooks s → IsEvent e → IsEarly e → judged s e ≡ None → Later s (changed s e)
   changed_later s (Window window) all right is ok = record { paths = paths_self s.paths; books = λ chain r h. h; found = λ all. all; are_books = λ all. all }
+  changed_later s (HostWindow host window) all right is ok = record { paths = paths_self s.paths; books = λ chain r h. h; found = λ all. all; are_books = λ all. all }
   changed_later s (Asked place goal) all right is ok = record { paths = paths_self s.paths; books = λ chain r h. h; found = λ all. all; are_books = λ all. all }
   changed_later s (SetSeen chain set) all right is ok =
       let b = book_at s.books chain in
@@ -304,17 +318,17 @@ module _ (stays : StaysABook) where
         (keeps_marked (λ q. record q { received = Some block }) sequence (λ q. refl) (same_settled _ (λ q. (refl, refl))) p).found,
       ))
   changed_later s (AckWritten path sequence block) all right is ok =
-      one_path s path (with_mark (λ q. record q { written = Some block }) sequence) (λ p at. (
-        grown_mark (λ q. record q { written = Some block }) (λ q. refl) sequence p (λ q e. written_more block q (unwritten p at q e)),
-        (keeps_marked (λ q. record q { written = Some block }) sequence (λ q. refl) (same_settled _ (λ q. (refl, refl))) p).found,
+      one_path s path (with_mark (λ q. record q { written = Some block.height; written_time = block.time }) sequence) (λ p at. (
+        grown_mark (λ q. record q { written = Some block.height; written_time = block.time }) (λ q. refl) sequence p (λ q e. written_more block q (unwritten p at q e)),
+        (keeps_marked (λ q. record q { written = Some block.height; written_time = block.time }) sequence (λ q. refl) (same_settled _ (λ q. (refl, refl))) p).found,
       ))
     where
       unwritten : (p : PathState) → slice_get s.paths path ≡ Some p → (q : Packet) → find (has sequence) p.packets ≡ Some q → is_some q.written ≡ false
       unwritten p at q e =
-          let here : written_refusal block (find (has sequence) p.packets) ≡ None =
-          ap (λ o. option_and_then (λ (v : Path). written_refusal block (packet_at v sequence)) (option_map (view_of_path s.books) o)) (sym at) ∙ ok in
-          let there : written_refusal block (Some q) ≡ None = ap (written_refusal block) (sym e) ∙ here in
-          (passes (is_some q.written) Repeat None (passes (option_map_or (λ (received : ℕ). ltb block received) q.received true) OutOfOrder (refused_if (is_some q.written) Repeat None) there).1).0
+          let here : written_refusal block.height (find (has sequence) p.packets) ≡ None =
+          ap (λ o. option_and_then (λ (v : Path). written_refusal block.height (packet_at v sequence)) (option_map (view_of_path s.books) o)) (sym at) ∙ ok in
+          let there : written_refusal block.height (Some q) ≡ None = ap (written_refusal block.height) (sym e) ∙ here in
+          (passes (is_some q.written) Repeat None (passes (option_map_or (λ (received : ℕ). ltb block.height received) q.received true) OutOfOrder (refused_if (is_some q.written) Repeat None) there).1).0
   changed_later s (Cleared path sequence) all right is ok =
       one_path s path (with_mark (λ q. record q { cleared = true }) sequence) (λ p at. (
         grown_mark (λ q. record q { cleared = true }) (λ q. refl) sequence p (λ q e. cleared_more q),
@@ -345,11 +359,20 @@ module _ (stays : StaysABook) where
       let one = early_later s e all right.0 (early config e are.0) in
       later_trans s (standing_after s e) (fold standing_after (standing_after s e) events) one (events_later config events (standing_after s e) (one.are_books all) right.1 are.1)
 
+  hosts_later : (config : Config) (ws : List WindowOf) (s : Standing) → AreBooks s → AllByRecursion (λ (w : WindowOf). (w.host < length config.chains) × (w.window.from ≤ w.window.until)) ws
+      → Later s (fold after_host_window s ws)
+  hosts_later config [] s all right = later_self s
+  hosts_later config (w ∷ ws) s all right =
+      let one = early_later s (window_event w) all right.0.1 tt in
+      later_trans s (after_host_window s w) (fold after_host_window (after_host_window s w) ws) one (hosts_later config ws (after_host_window s w) (one.are_books all) right.1)
+
   pub before_later : (config : Config) (s : Standing) (turn : Turn) → IsTurn config turn → AreBooks s → Later s (before_plans s turn)
   before_later config s turn is all =
-      let window = early_later s (Window turn.window) all is.window tt in
-      let goals = goals_later turn.goals (after_window s turn.window) (window.are_books all) in
-      let first = later_trans s (after_window s turn.window) (before_events s turn) window goals in
+      let entered = fold after_host_window s turn.windows in
+      let hosts = hosts_later config turn.windows s all (recursion_from_All (λ (w : WindowOf). (w.host < length config.chains) × (w.window.from ≤ w.window.until)) turn.windows is.windows) in
+      let window = early_later entered (Window turn.window) (hosts.are_books all) is.window tt in
+      let goals = goals_later turn.goals (after_window entered turn.window) (window.are_books (hosts.are_books all)) in
+      let first = later_trans s entered (before_events s turn) hosts (later_trans entered (after_window entered turn.window) (before_events s turn) window goals) in
       later_trans s (before_events s turn) (before_plans s turn) first
       (events_later config turn.events (before_events s turn) (first.are_books all) (recursion_from_All IsEvent turn.events is.right) (recursion_from_All (IsSeen config) turn.events is.events))
 
@@ -393,6 +416,13 @@ rest_later s turn r =
     let plans : Later (before_plans s turn) sent = record { paths = paths_self (before_plans s turn).paths; books = λ chain x h. h; found = λ all. all; are_books = λ all. all } in
     later_trans (before_plans s turn) sent (after_turn s turn r) plans
     (later_trans sent settled (after_turn s turn r) (settlements_later turn.settlements sent) (takings_later (takers sent turn.taken) settled))
+
+-- ---- what a turn plans for a client
+
+-- its book is one of them
+pub planned_book : (s : Standing) (turn : Turn) (r : TurnReport) (place : ℕ) (c : ClientState) (report : ClientReport) (t : Task) (reach : Option ℕ)
+    → IsPlannedIn s turn r place c report t reach → AreBooks (before_plans s turn) → IsBook t.book
+planned_book s turn r place c report t reach is all = subst IsBook (sym (ap (λ (t : Task). t.book) is.task)) (all c.config.tracks)
 
 -- ---- before the first event
 

@@ -7,7 +7,7 @@ use Rattle.std.proofs.lemmas.Option.{none-some}
 use Rattle.rb_base.specs.declared.gate.Part.{Part}
 use Rattle.rb_base.specs.declared.gate.Part.TheVariants.{Packets, Channel}
 use Rattle.rb_scan.specs.Laws.{SettledIsNotOwed}
-use Rattle.rb_scan.specs.Owed.{expires_for, floor_of, message_of, messages, owed_part, is_ready, is_near, ready_beyond}
+use Rattle.rb_scan.specs.Owed.{expires_for, since_for, timeout_for, floor_of, message_of, messages, owed_part, is_ready, is_near, ready_beyond}
 use Rattle.rb_scan.specs.Packet.{Packet}
 use Rattle.rb_scan.specs.Path.{Path}
 use Rattle.rb_scan.specs.declared.message.Kind.{Kind}
@@ -16,10 +16,10 @@ use Rattle.rb_scan.specs.declared.message.PacketMsg.{PacketMsg}
 use Rattle.rb_scan.specs.declared.path.Order.{Order}
 use Rattle.rb_core_model.specs.Config.{part_for}
 use Rattle.rb_core_model.specs.Standing.{PathState, Standing, view_of_path, owed_at, path_task, path_tasks}
-use Rattle.rb_plan_client.specs.Task.{PathTask, Message, message_on, ready_on}
+use Rattle.rb_plan_client.specs.Task.{going_on, Task, PathTask, Message, message_on, ready_on}
 use Rattle.rb_core_model.proofs.Marks.{all_at, all_weaker, part_of, is_settled, mark_in, mark_at, AllFound}
 use Rattle.rb_core_model.proofs.Options.{mapped}
-use Rattle.rb_core_model.proofs.Owed.{IsFound, append_all, owed_all, kept_all, ready_all}
+use Rattle.rb_core_model.proofs.Owed.{IsFound, append_all, owed_all, kept_all, ready_all, going_all}
 
 not_settled : SettledIsNotOwed → (records : List (ℕ × ℕ)) (kind : Kind) (q : Packet) (m : PacketMsg) → message_of records kind q ≡ Some m → is_settled (part_of kind) q ≡ false
 not_settled law records Receive q m e = elim (cases_Bool q.receive_settled) [ inl settled ↦ absurd (none-some m (sym ((law records q).0 settled).0 ∙ e)) | inr not_yet ↦ not_yet ]
@@ -28,7 +28,7 @@ not_settled law records Timeout q m e = elim (cases_Bool q.outcome_settled) [ in
 
 pub named_by : (records : List (ℕ × ℕ)) (kind : Kind) (q : Packet) (m : PacketMsg) → message_of records kind q ≡ Some m → (m.kind ≡ kind) × (m.sequence ≡ q.sequence)
 named_by records kind q m e =
-    let is = mapped (λ (floor : ℕ). record { kind = kind; sequence = q.sequence; floor = floor; expires = expires_for kind q }) (floor_of records kind q) m e in
+    let is = mapped (λ (floor : ℕ). record { kind = kind; sequence = q.sequence; floor = floor; expires = expires_for kind q; since = since_for kind q; timeout = timeout_for kind q }) (floor_of records kind q) m e in
     (sym (ap (λ (x : PacketMsg). x.kind) is.2), sym (ap (λ (x : PacketMsg). x.sequence) is.2))
 
 pub if_some : {X : Type 0} (P : X → Type 0) (o : Option X) → ((x : X) → o ≡ Some x → P x) → IfSome o P
@@ -91,12 +91,13 @@ far_all P ms order near None all = tt
 far_all P ms order near (Some reach) all = kept_all P (λ (p : ℕ × PacketMsg). is_ready order reach ms p.0 p.1 && not (is_near order near ms p.0 p.1)) 0 ms all
 
 -- so no message that goes is settled
-going_on : (ps : List PathState) (p : PathTask) (ms : List PacketMsg) → AllByRecursion (IsOwing ps p.path) ms → AllByRecursion (λ (m : Message). IsOwing ps m.path m.packet) (map (message_on p) ms)
-going_on ps p [] all = tt
-going_on ps p (m ∷ ms) all = (all.0, going_on ps p ms all.1)
+on_path : (ps : List PathState) (p : PathTask) (ms : List PacketMsg) → AllByRecursion (IsOwing ps p.path) ms → AllByRecursion (λ (m : Message). IsOwing ps m.path m.packet) (map (message_on p) ms)
+on_path ps p [] all = tt
+on_path ps p (m ∷ ms) all = (all.0, on_path ps p ms all.1)
 
-pub going : (ps : List PathState) (reach : Option ℕ) (tasks : List PathTask) → AllByRecursion (AreOwing ps) tasks → AllByRecursion (λ (m : Message). IsOwing ps m.path m.packet) (flat_map (ready_on reach) tasks)
-going ps reach [] all = tt
-going ps reach (p ∷ tasks) all =
-    append_all (λ (m : Message). IsOwing ps m.path m.packet) (ready_on reach p) (flat_map (ready_on reach) tasks)
-    (going_on ps p _ (ready_all (IsOwing ps p.path) p.owed p.order reach all.0)) (going ps reach tasks all.1)
+pub going : (t : Task) (ps : List PathState) (reach : Option ℕ) (tasks : List PathTask) → AllByRecursion (AreOwing ps) tasks
+    → AllByRecursion (λ (m : Message). IsOwing ps m.path m.packet) (flat_map (ready_on t reach) tasks)
+going t ps reach [] all = tt
+going t ps reach (p ∷ tasks) all =
+    append_all (λ (m : Message). IsOwing ps m.path m.packet) (ready_on t reach p) (flat_map (ready_on t reach) tasks)
+    (on_path ps p _ (ready_all (IsOwing ps p.path) (going_on t p) p.order reach (going_all (IsOwing ps p.path) t p all.0))) (going t ps reach tasks all.1)

@@ -15,10 +15,12 @@ use Rattle.rb_waiting_laws.proofs.Expired.{Rising, Extends, expired_stays, floor
 pub record GrownPacket (q u : Packet) : Type 0 where
   pub sequence : u.sequence ≡ q.sequence
   pub sent : u.sent ≡ q.sent
+  pub sent_time : u.sent_time ≡ q.sent_time
   pub timeout_height : u.timeout_height ≡ q.timeout_height
   pub timeout_time : u.timeout_time ≡ q.timeout_time
   pub received : is_some q.received ≡ true → is_some u.received ≡ true
   pub written : (block : ℕ) → q.written ≡ Some block → u.written ≡ Some block
+  pub written_time : (block : ℕ) → q.written ≡ Some block → u.written_time ≡ q.written_time
   pub cleared : q.cleared ≡ true → u.cleared ≡ true
   pub receive_settled : q.receive_settled ≡ true → u.receive_settled ≡ true
   pub outcome_settled : q.outcome_settled ≡ true → u.outcome_settled ≡ true
@@ -27,10 +29,12 @@ pub grown_self : (q : Packet) → GrownPacket q q
 grown_self q = record {
   sequence = refl;
   sent = refl;
+  sent_time = refl;
   timeout_height = refl;
   timeout_time = refl;
   received = λ e. e;
   written = λ block e. e;
+  written_time = λ block e. refl;
   cleared = λ e. e;
   receive_settled = λ e. e;
   outcome_settled = λ e. e;
@@ -40,10 +44,12 @@ pub grown_trans : (q u w : Packet) → GrownPacket q u → GrownPacket u w → G
 grown_trans q u w one two = record {
   sequence = two.sequence ∙ one.sequence;
   sent = two.sent ∙ one.sent;
+  sent_time = two.sent_time ∙ one.sent_time;
   timeout_height = two.timeout_height ∙ one.timeout_height;
   timeout_time = two.timeout_time ∙ one.timeout_time;
   received = λ e. two.received (one.received e);
   written = λ block e. two.written block (one.written block e);
+  written_time = λ block e. two.written_time block (one.written block e) ∙ one.written_time block e;
   cleared = λ e. two.cleared (one.cleared e);
   receive_settled = λ e. two.receive_settled (one.receive_settled e);
   outcome_settled = λ e. two.outcome_settled (one.outcome_settled e);

@@ -5,6 +5,8 @@ use Rattle.std.specs.Option.{option_map_or}
 use Rattle.std.proofs.lemmas.Bool.{and_parts, and_from, leb-true}
 use Rattle.std.proofs.lemmas.List.Elements.{recursion_from_All}
 use Rattle.std.proofs.lemmas.Option.{none-some, same_Some}
+use Rattle.rb_book.specs.Invariant.{IsBook}
+use Rattle.rb_book.specs.Laws.{StaysABook}
 use Rattle.rb_plan_client.specs.Task.{PathTask, Message, message_on, press_moment, presses}
 use Rattle.rb_plan_waiting.specs.Laws.{SeenIsFewest}
 use Rattle.rb_plan_waiting.specs.Seen.{is_pressed, SendsWherePressed}
@@ -19,6 +21,7 @@ use Rattle.rb_waiting_laws.specs.Fewest.{ClientTurn, AreTurnsOf, in_turn, Messag
 use Rattle.rb_waiting_laws.specs.InTime.{Presses, IsInBatchUnlessTooBig, GoesUnlessTooBig, IsPlannedIn, MessagesGoInTime}
 use Rattle.rb_waiting_laws.specs.Punctual.{HasTooBig, PlansTooBig, UpdatesKeepDeadlines}
 use Rattle.rb_waiting_laws.proofs.InTime.{pressing}
+use Rattle.rb_waiting_laws.proofs.Later.{AreBooks, before_later, rest_later, planned_book, empty_books}
 use Rattle.rb_waiting_laws.proofs.Members.{In, in_passing, all_in, contains_from, in_from, from_get, from_map, from_test}
 use Rattle.rb_waiting_laws.proofs.Taken.{AllAt, IsFree, before_free, after_free, none_at_first}
 
@@ -58,30 +61,31 @@ presses_at i k e =
       },
     )
 
-updates : MessagesGoInTime → (s : Standing) (turn : Turn) (r : TurnReport) (place : ℕ) (k : ClientTurn) → IsPlannedIn s turn r place k.client k.report k.task k.reach → IsFree k.client
+updates : MessagesGoInTime → (s : Standing) (turn : Turn) (r : TurnReport) (place : ℕ) (k : ClientTurn) → IsPlannedIn s turn r place k.client k.report k.task k.reach → IsBook k.task.book → IsFree k.client
     → (¬ PlansTooBig k.report.outcome) → (i : MessageId) → is_pressing i k ≡ true → is_update k ≡ true
-updates goes s turn r place k is free fits i e =
+updates goes s turn r place k is book free fits i e =
     let x = presses_at i k e in
-    let sent = goes s turn r place k.client k.report k.task k.reach x.0 x.1 is free.0 free.1 x.2 in
+    let sent = goes s turn r place k.client k.report k.task k.reach x.0 x.1 is (λ _. book) free.0 free.1 x.2 in
     and_from (not (is_some k.client.asked)) (presses k.task k.reach && opens_batch k.report.outcome) (ap (λ o. not (is_some o)) free.1)
     (and_from (presses k.task k.reach) (opens_batch k.report.outcome) (pressing k.task k.reach x.0 x.1 x.2) (opens (message_on x.0 x.1) k.report.outcome sent fits))
 
 -- ---- turn after turn
 
-updates_at : MessagesGoInTime → (config : Config) (place : ℕ) (turns : List Turn) (rs : List TurnReport) (ks : List ClientTurn) (s : Standing) → AllByRecursion (IsTurn config) turns
-    → AllByRecursion (λ (turn : Turn). (turn.taken ≡ true) × (turn.goals ≡ [])) turns → AreTurnsOf place s turns rs ks → AllAt IsFree s.clients
+updates_at : MessagesGoInTime → StaysABook → (config : Config) (place : ℕ) (turns : List Turn) (rs : List TurnReport) (ks : List ClientTurn) (s : Standing) → AllByRecursion (IsTurn config) turns
+    → AllByRecursion (λ (turn : Turn). (turn.taken ≡ true) × (turn.goals ≡ [])) turns → AreTurnsOf place s turns rs ks → AllAt IsFree s.clients → AreBooks s
     → (n : ℕ) (k : ClientTurn) → slice_get ks n ≡ Some k → (¬ PlansTooBig k.report.outcome) → (i : MessageId) → is_pressing i k ≡ true → is_update k ≡ true
-updates_at goes config place [] rs [] s right all are free n k at fits i e = absurd (none-some k at)
-updates_at goes config place [] rs (x ∷ ks) s right all are free n k at fits i e = absurd are
-updates_at goes config place (turn ∷ turns) [] ks s right all are free n k at fits i e = absurd are
-updates_at goes config place (turn ∷ turns) (r ∷ rs) [] s right all are free n k at fits i e = absurd are
-updates_at goes config place (turn ∷ turns) (r ∷ rs) (x ∷ ks) s right all are free zero k at fits i e =
+updates_at goes stays config place [] rs [] s right all are free books n k at fits i e = absurd (none-some k at)
+updates_at goes stays config place [] rs (x ∷ ks) s right all are free books n k at fits i e = absurd are
+updates_at goes stays config place (turn ∷ turns) [] ks s right all are free books n k at fits i e = absurd are
+updates_at goes stays config place (turn ∷ turns) (r ∷ rs) [] s right all are free books n k at fits i e = absurd are
+updates_at goes stays config place (turn ∷ turns) (r ∷ rs) (x ∷ ks) s right all are free books zero k at fits i e =
     let same : x ≡ k = same_Some x k at in
     ap is_update (sym same)
-    ∙ updates goes s turn r place x are.0 (before_free config s turn right.0 all.0.1 free place x.client are.0.is_client)
+    ∙ updates goes s turn r place x are.0 (planned_book s turn r place x.client x.report x.task x.reach are.0 ((before_later stays config s turn right.0 books).are_books books)) (before_free config s turn right.0 all.0.1 free place x.client are.0.is_client)
     (λ big. fits (subst (λ (y : ClientTurn). PlansTooBig y.report.outcome) same big)) i (ap (is_pressing i) same ∙ e)
-updates_at goes config place (turn ∷ turns) (r ∷ rs) (x ∷ ks) s right all are free (suc n) k at fits i e =
-    updates_at goes config place turns rs ks (after_turn s turn r) right.1 all.1 are.1 (after_free config s turn r right.0 all.0.0 all.0.1 free) n k at fits i e
+updates_at goes stays config place (turn ∷ turns) (r ∷ rs) (x ∷ ks) s right all are free books (suc n) k at fits i e =
+    updates_at goes stays config place turns rs ks (after_turn s turn r) right.1 all.1 are.1 (after_free config s turn r right.0 all.0.0 all.0.1 free)
+    ((rest_later s turn r).are_books ((before_later stays config s turn right.0 books).are_books books)) n k at fits i e
 
 -- ---- the numbers of turns
 
@@ -92,8 +96,8 @@ in_range first (suc count) (suc k) lt = inr (let same : (first + 1) + k ≡ firs
 
 -- ---- the law
 
-pub punctual : SeenIsFewest → MessagesGoInTime → UpdatesKeepDeadlines
-punctual seen goes script report place ks is all fits = seen.punctual (length ks) (all_seen ks) (update_turns ks) sends
+pub punctual : SeenIsFewest → MessagesGoInTime → StaysABook → UpdatesKeepDeadlines
+punctual seen goes stays script report place ks is all fits = seen.punctual (length ks) (all_seen ks) (update_turns ks) sends
   where
     sends : SendsWherePressed (length ks) (all_seen ks) (update_turns ks)
     sends turn within (n, s, inside, same, pressed) =
@@ -104,8 +108,8 @@ punctual seen goes script report place ks is all fits = seen.punctual (length ks
         let k = tested (is_pressing i.0) (slice_get ks turn) now in
         let fit : (¬ PlansTooBig k.0.report.outcome) =
         all_in (λ (x : ClientTurn). ¬ PlansTooBig x.report.outcome) ks k.0 (recursion_from_All (λ (x : ClientTurn). ¬ PlansTooBig x.report.outcome) ks fits) (from_get ks turn k.0 k.1) in
-        let update = updates_at goes script.config place script.turns report ks (opening_standing script.config) (recursion_from_All (IsTurn script.config) script.turns is.is_script.turns)
-        (recursion_from_All (λ (turn : Turn). (turn.taken ≡ true) × (turn.goals ≡ [])) script.turns all) is.turns (none_at_first script.config.clients) turn k.0 k.1 fit i.0 k.2 in
+        let update = updates_at goes stays script.config place script.turns report ks (opening_standing script.config) (recursion_from_All (IsTurn script.config) script.turns is.is_script.turns)
+        (recursion_from_All (λ (turn : Turn). (turn.taken ≡ true) × (turn.goals ≡ [])) script.turns all) is.turns (none_at_first script.config.clients) (empty_books script.config.limit (length script.config.chains) is.is_script.config.rules.limit) turn k.0 k.1 fit i.0 k.2 in
         contains_from (update_turns ks) turn
         (in_passing (in_turn ks is_update) (range_with_len 0 (length ks)) turn
         (let same : 0 + turn ≡ turn = omega arith in subst (In (range_with_len 0 (length ks))) same (in_range 0 (length ks) turn within))

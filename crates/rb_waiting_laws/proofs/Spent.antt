@@ -1,5 +1,5 @@
 -- A message that is in the client's open batch, or settled, stays so.
-use Rattle.std.proofs.Common.{◌≡◌, ◌⊎◌, ℕ, ◌+◌, ◌-◌, ◌≤◌, Bool, true, false, cond, eqb, List, [], ◌∷◌, length, take, Option, Some, None, is_some, refl, sym, ap, ◌∙◌, subst, inl, inr, arith, if◌then◌else◌}
+use Rattle.std.proofs.Common.{◌≡◌, ◌⊎◌, ℕ, zero, suc, ◌+◌, ◌-◌, ◌≤◌, Bool, true, false, cond, eqb, List, [], ◌∷◌, length, map, take, Option, Some, None, is_some, refl, sym, ap, ◌∙◌, subst, inl, inr, arith, if◌then◌else◌}
 use Rattle.std.specs.List.{find, fold, slice_get, sum_by, AllByRecursion}
 use Rattle.std.specs.Option.{option_map, option_map_or, option_and_then}
 use Rattle.std.proofs.lemmas.Bool.{cases_eq}
@@ -13,8 +13,9 @@ use Rattle.rb_script_types.specs.Config.{Config}
 use Rattle.rb_script_types.specs.declared.script.Settlement.{Settlement}
 use Rattle.rb_script_types.specs.declared.refusal.Refusal.{Refusal}
 use Rattle.rb_plan_client.specs.Task.{Message}
-use Rattle.rb_core_model.specs.Event.{Event, Window, Asked, Settled, Planned, SetSeen, HeaderSeen, StoredSeen, Sent, Received, AckWritten, Cleared, Closed, Scanned}
-use Rattle.rb_core_model.specs.Standing.{OpenBatch, ClientState, PathState, Standing, view_of_path, open_batch, batch_open, judged, changed, changed_at, with_path, with_height, with_packet, with_mark, new_packet, marked, mark_of, sent_refusal, settled_messages, after_message, after_messages, after_batch, after_settled, standing_after}
+use Rattle.rb_core_model.specs.Event.{Event, Window, HostWindow, Asked, Settled, Planned, SetSeen, HeaderSeen, StoredSeen, Sent, Received, AckWritten, Cleared, Closed, Scanned}
+use Rattle.rb_core_model.specs.Standing.{OpenBatch, ClientState, PathState, Standing, view_of_path, open_batch, batch_open, judged, changed, changed_at, with_path, with_height, with_packet, with_mark, new_packet, marked, mark_of, sent_refusal, settled_messages, after_message, after_messages, after_batch, after_settled, standing_after, in_host_window}
+use Rattle.rb_core_model.proofs.HostWindows.{batch_in_host}
 use Rattle.rb_core_model.proofs.Marks.{has, part_of, is_settled, mark_in, mark_at, AllFound, KeepsPath, keeps_marked, keeps_packet, KeepsPaths, keeps_all, keeps_changed, find_map, marked_sequence, mark_of_sequence, all_grow, all_marked, found_messages}
 use Rattle.rb_core_model.proofs.Open.{sent_new}
 use Rattle.rb_core_model.proofs.Options.{mapped, chained, get_changed_same, get_changed_other}
@@ -98,9 +99,17 @@ batch_stays f same cs place client b e =
       | inr other ↦ ap (option_and_then (λ (c : ClientState). c.batch)) (get_changed_other f cs place client other) ∙ e
     ]
 
+-- a change of all clients that leaves their batches
+batches_stay : (f : ClientState → ClientState) → ((c : ClientState) → (f c).batch ≡ c.batch) → (cs : List ClientState) (client : ℕ) (b : OpenBatch)
+    → option_and_then (λ (c : ClientState). c.batch) (slice_get cs client) ≡ Some b → option_and_then (λ (c : ClientState). c.batch) (slice_get (map f cs) client) ≡ Some b
+batches_stay f same [] client b e = e
+batches_stay f same (c ∷ cs) zero b e = same c ∙ e
+batches_stay f same (c ∷ cs) (suc client) b e = batches_stay f same cs client b e
+
 -- neither a plan nor a settlement
 abbrev pub IsEarly : Event → Type 0
 IsEarly (Window window) = Unit {0}
+IsEarly (HostWindow host window) = Unit {0}
 IsEarly (Asked client goal) = Unit {0}
 IsEarly (SetSeen chain set) = Unit {0}
 IsEarly (HeaderSeen chain header) = Unit {0}
@@ -116,6 +125,7 @@ IsEarly (Settled client number done) = ⊥
 
 pub early : (config : Config) (e : Event) → IsSeen config e → IsEarly e
 early config (Window window) is = tt
+early config (HostWindow host window) is = tt
 early config (Asked client goal) is = tt
 early config (SetSeen chain set) is = tt
 early config (HeaderSeen chain header) is = tt
@@ -136,6 +146,7 @@ same_settled f same Channel q = (same q).1
 module _ (client : ℕ) (i : MessageId) where
   changed_keeps : (s : Standing) (e : Event) → IsEarly e → judged s e ≡ None → Keeps client i s (changed s e)
   changed_keeps s (Window window) is ok = by_paths client i s _ (keeps_all s.paths) (λ b e. e)
+  changed_keeps s (HostWindow host window) is ok = by_paths client i s _ (keeps_all s.paths) (batches_stay (in_host_window host window) (batch_in_host host window) s.clients client)
   changed_keeps s (Asked place goal) is ok = by_paths client i s _ (keeps_all s.paths) (batch_stays (λ c. record c { asked = Some goal }) (λ c. refl) s.clients place client)
   changed_keeps s (SetSeen chain set) is ok = by_paths client i s _ (keeps_all s.paths) (λ b e. e)
   changed_keeps s (HeaderSeen chain header) is ok = by_paths client i s _ (keeps_all s.paths) (λ b e. e)
@@ -146,7 +157,7 @@ module _ (client : ℕ) (i : MessageId) where
   changed_keeps s (Received path sequence block) is ok =
       one_path client i s path (with_mark (λ q. record q { received = Some block }) sequence) (λ p. refl) (λ p at. keeps_marked (λ q. record q { received = Some block }) sequence (λ q. refl) (same_settled _ (λ q. (refl, refl))) p)
   changed_keeps s (AckWritten path sequence block) is ok =
-      one_path client i s path (with_mark (λ q. record q { written = Some block }) sequence) (λ p. refl) (λ p at. keeps_marked (λ q. record q { written = Some block }) sequence (λ q. refl) (same_settled _ (λ q. (refl, refl))) p)
+      one_path client i s path (with_mark (λ q. record q { written = Some block.height; written_time = block.time }) sequence) (λ p. refl) (λ p at. keeps_marked (λ q. record q { written = Some block.height; written_time = block.time }) sequence (λ q. refl) (same_settled _ (λ q. (refl, refl))) p)
   changed_keeps s (Cleared path sequence) is ok =
       one_path client i s path (with_mark (λ q. record q { cleared = true }) sequence) (λ p. refl) (λ p at. keeps_marked (λ q. record q { cleared = true }) sequence (λ q. refl) (same_settled _ (λ q. (refl, refl))) p)
   changed_keeps s (Closed path) is ok =
@@ -161,6 +172,9 @@ module _ (client : ℕ) (i : MessageId) where
       go : (o : Option Refusal) → judged s e ≡ o → Keeps client i s (if is_some o then s else changed s e)
       go None ok = changed_keeps s e is ok
       go (Some r) refused = keeps_self client i s
+
+  pub host_window_keeps : (s : Standing) (host : ℕ) (window : _) → Keeps client i s (standing_after s (HostWindow host window))
+  host_window_keeps s host window = early_keeps s (HostWindow host window) tt
 
   pub window_keeps : (s : Standing) (window : _) → Keeps client i s (standing_after s (Window window))
   window_keeps s window = early_keeps s (Window window) tt

@@ -1,10 +1,12 @@
 -- On UNORDERED paths what is ready before an update and after it goes with it, if the client can be brought as high as before.
 use Rattle.std.proofs.Common.{◌≡◌, ◌⊎◌, ℕ, zero, suc, ◌+◌, ◌<◌, ◌≤◌, Bool, true, false, cond, not, nat_le, List, [], ◌∷◌, length, map, All, Option, Some, None, IfSome, IsSomeAnd, refl, sym, ap, ◌∙◌, subst, inl, inr, arith}
 use Rattle.std.specs.List.{AllByRecursion, find, filter, filter_map, list_any, slice_get, cons_option, enumerate_from}
-use Rattle.std.specs.Option.{option_map, option_map_or}
+use Rattle.std.specs.Prelude.{unwrap_or}
+use Rattle.std.specs.Option.{option_map, option_map_or, option_or}
 use Rattle.std.proofs.lemmas.Bool.{cases_Bool, and_parts, le-leb, false≢true}
 use Rattle.std.proofs.lemmas.List.Elements.{recursion_from_All}
 use Rattle.std.proofs.lemmas.Option.{none-some, same_Some}
+use Rattle.rb_base.specs.Window.{Span}
 use Rattle.rb_base.specs.declared.gate.Part.{Part}
 use Rattle.rb_base.specs.declared.gate.Part.TheVariants.{Packets, Channel}
 use Rattle.rb_book.specs.Book.{Book, RecordAt, height_of, time_of, heights_and_times_of}
@@ -12,7 +14,8 @@ use Rattle.rb_book.specs.Invariant.{IsBook}
 use Rattle.rb_book.specs.Laws.{StaysABook}
 use Rattle.rb_book.proofs.Rising.{Up, Up-from_increasing}
 use Rattle.rb_scan.proofs.Within.{ready-within}
-use Rattle.rb_scan.specs.Owed.{expires_for, floor_of, message_of, messages, open_messages, owed_part, ready}
+use Rattle.rb_scan.specs.Going.{can_go}
+use Rattle.rb_scan.specs.Owed.{expires_for, since_for, timeout_for, floor_of, message_of, messages, open_messages, owed_part, ready}
 use Rattle.rb_scan.specs.Packet.{Packet}
 use Rattle.rb_scan.specs.Path.{Path}
 use Rattle.rb_scan.specs.declared.message.Kind.{Kind}
@@ -22,11 +25,14 @@ use Rattle.rb_scan.specs.declared.path.Order.{Order}
 use Rattle.rb_scan.specs.declared.path.Order.TheVariants.{Unordered}
 use Rattle.rb_script_types.specs.Config.{Config}
 use Rattle.rb_core_model.specs.Config.{part_for}
-use Rattle.rb_core_model.specs.Standing.{PathState, Standing, opening_standing, book_at, view_of_path, owed_at, path_task, path_tasks}
+use Rattle.rb_core_model.specs.Standing.{ClientState, PathState, Standing, opening_standing, book_at, view_of_path, owed_at, path_task, path_tasks}
 use Rattle.rb_core_model.proofs.Marks.{all_at, all_weaker, has, part_of, AllFound}
 use Rattle.rb_core_model.proofs.Options.{mapped, tested}
-use Rattle.rb_core_model.proofs.Owed.{IsFound, append_all, found_sequence, owed_all}
-use Rattle.rb_plan_client.specs.Task.{PathTask, Task, Message, message_on, ready_on, ready_messages, near_reach}
+use Rattle.rb_core_model.proofs.Owed.{IsFound, append_all, found_sequence, owed_all, going_all}
+use Rattle.rb_script_types.specs.declared.config.ClientConfig.{ClientConfig}
+use Rattle.rb_script_types.specs.declared.config.PathConfig.{PathConfig}
+use Rattle.rb_script_types.specs.declared.config.RefreshTo.TheVariants.{Newer}
+use Rattle.rb_plan_client.specs.Task.{PathTask, Task, Message, message_on, bars_of, going_on, ready_on, ready_messages, near_reach}
 use Rattle.rb_super_turn.specs.Report.{TurnReport}
 use Rattle.rb_super_turn.specs.Script.{Turn, IsTurn}
 use Rattle.rb_super_turn.specs.Turns.{before_plans, after_plans, after_turn}
@@ -35,10 +41,12 @@ use Rattle.rb_waiting_laws.specs.InTime.{IsPlannedIn}
 use Rattle.rb_waiting_laws.specs.Steady.{MessagesStayReady, TakenUpdatesAreFewest}
 use Rattle.rb_waiting_laws.proofs.Expired.{Rising}
 use Rattle.rb_waiting_laws.proofs.Fewest.{new_found}
+use Rattle.rb_waiting_laws.proofs.Going.{from_ready, goes_by_gain, in_going, can_before}
+use Rattle.rb_waiting_laws.proofs.Kept.{EndsLater, window_in, Kept, kept_trans, before_kept, rest_kept}
 use Rattle.rb_waiting_laws.proofs.Later.{GrownPath, known_at, AreBooks, Later, later_trans, before_later, rest_later, empty_books}
 use Rattle.rb_waiting_laws.proofs.Members.{In, in_places, all_in, from_get, in_map, in_left, in_right, in_flat_map, from_test, test_from, far_is_ready}
 use Rattle.rb_waiting_laws.proofs.Owing.{far_all, if_some, named_by}
-use Rattle.rb_waiting_laws.proofs.Packets.{backwards, between}
+use Rattle.rb_waiting_laws.proofs.Packets.{GrownPacket, backwards, between}
 use Rattle.rb_waiting_laws.proofs.Sends.{id_parts, has_id_from}
 use Rattle.rb_waiting_laws.proofs.Spent.{AreFound}
 
@@ -54,6 +62,7 @@ record IsOwed (s : Standing) (place path : ℕ) (m : PacketMsg) : Type 0 where
   packet : Packet
   is_packet : find (has m.sequence) state.packets ≡ Some packet
   floor : floor_of (known_at s.books state.config.destination) m.kind packet ≡ Some m.floor
+  timeout : timeout_for m.kind packet ≡ m.timeout
   of_part : part_of m.kind ≡ part
 
 abbrev AreOwed : Standing → ℕ → PathTask → Type 0
@@ -65,17 +74,19 @@ record IsOwedFor (v : Path) (part : Part) (m : PacketMsg) : Type 0 where
   packet : Packet
   is_packet : find (has m.sequence) v.packets ≡ Some packet
   floor : floor_of v.destination m.kind packet ≡ Some m.floor
+  timeout : timeout_for m.kind packet ≡ m.timeout
   of_part : part_of m.kind ≡ part
 
 module _ (v : Path) (all : AllByRecursion (IsFound v.packets) v.packets) where
   of_packet : v.closed ≡ false → (kind : Kind) (q : Packet) → IsFound v.packets q → IfSome (message_of v.destination kind q) (IsOwedFor v (part_of kind))
   of_packet open_now kind q found = if_some (IsOwedFor v (part_of kind)) (message_of v.destination kind q) (λ m e.
       let is = named_by v.destination kind q m e in
-      let floor = mapped (λ (floor : ℕ). record { kind = kind; sequence = q.sequence; floor = floor; expires = expires_for kind q }) (floor_of v.destination kind q) m e in
+      let floor = mapped (λ (floor : ℕ). record { kind = kind; sequence = q.sequence; floor = floor; expires = expires_for kind q; since = since_for kind q; timeout = timeout_for kind q }) (floor_of v.destination kind q) m e in
       record {
         open_now = open_now;
         packet = q;
         is_packet = ap (λ n. find (has n) v.packets) is.1 ∙ found;
+        timeout = ap (λ k. timeout_for k q) is.0 ∙ ap (λ (x : PacketMsg). x.timeout) floor.2;
         floor = ap (λ k. floor_of v.destination k q) is.0 ∙ floor.1 ∙ ap (λ (x : PacketMsg). Some x.floor) floor.2;
         of_part = ap part_of is.0;
       })
@@ -104,6 +115,7 @@ module _ (s : Standing) (found : AreFound s) (place : ℕ) where
         packet = is.packet;
         is_packet = is.is_packet;
         floor = is.floor;
+        timeout = is.timeout;
         of_part = is.of_part;
       })
       (owed_at s n part)
@@ -125,16 +137,16 @@ module _ (s : Standing) (found : AreFound s) (place : ℕ) where
   are_owed : AllByRecursion (AreOwed s place) (path_tasks (owed_at s) s.paths place)
   are_owed = all_owed 0 s.paths (λ k p e. let same : 0 + k ≡ k = omega arith in ap (slice_get s.paths) same ∙ e)
 
--- ---- the order of a task is that of its path
+-- ---- the order and the gas of a task are those of its path
 
 abbrev IsOrdered : Standing → PathTask → Type 0
-IsOrdered s p = (state : PathState) → slice_get s.paths p.path ≡ Some state → p.order ≡ state.config.order
+IsOrdered s p = (state : PathState) → slice_get s.paths p.path ≡ Some state → (p.order ≡ state.config.order) × (p.gas ≡ state.config.gas)
 
 module _ (s : Standing) (place : ℕ) where
   one_order : (n : ℕ) (p : PathState) → slice_get s.paths n ≡ Some p → (o : Option Part) (rest : List PathTask) → AllByRecursion (IsOrdered s) rest
       → AllByRecursion (IsOrdered s) (cons_option (option_map (λ part. record { path = n; order = p.config.order; gas = p.config.gas; waits = p.config.waits; owed = owed_at s n part }) o) rest)
   one_order n p at None rest all = all
-  one_order n p at (Some part) rest all = (λ state there. ap (λ (x : PathState). x.config.order) (same_Some p state (sym at ∙ there)), all)
+  one_order n p at (Some part) rest all = (λ state there. (let same = same_Some p state (sym at ∙ there) in (ap (λ (x : PathState). x.config.order) same, ap (λ (x : PathState). x.config.gas) same)), all)
 
   all_orders : (n : ℕ) (rest : List PathState) → ((k : ℕ) (p : PathState) → slice_get rest k ≡ Some p → slice_get s.paths (n + k) ≡ Some p)
       → AllByRecursion (IsOrdered s) (filter_map (path_task (owed_at s) place) (enumerate_from n rest))
@@ -195,11 +207,20 @@ in_part v Receive m h = h
 in_part v Acknowledge m h = in_left (messages v Acknowledge) (messages v Timeout) m h
 in_part v Timeout m h = in_right (messages v Acknowledge) (messages v Timeout) m h
 
+-- a packet's timeout stays
+same_timeout : (kind : Kind) (q w : Packet) → GrownPacket q w → timeout_for kind w ≡ timeout_for kind q
+same_timeout Receive q w more = more.timeout_time
+same_timeout Acknowledge q w more = refl
+same_timeout Timeout q w more = refl
+
 -- ---- three turns
 
 -- the client's task in a turn is that of a standing
 record Stands (place : ℕ) (k : ClientTurn) (s : Standing) : Type 0 where
   tasks : k.task.paths ≡ path_tasks (owed_at s) s.paths place
+  client : slice_get s.clients place ≡ Some k.client
+  config : k.task.config ≡ k.client.config
+  window : window_in s k.client ≡ Some k.task.window
   found : AreFound s
   books : AreBooks s
 
@@ -215,95 +236,116 @@ rising_known (k ∷ ks) up late = (above ks up.0 late.0, rising_known ks up.1 la
 rises : (b : Book) → IsBook b → Rising (heights_and_times_of b)
 rises b is = rising_known b.records (Up-from_increasing height_of b.records is.records.heights) (Up-from_increasing time_of b.records is.records.times)
 
-module _ (place : ℕ) (i : MessageId) (j k l : ClientTurn) (s t u : Standing) (before : Stands place j s) (now : Stands place k t) (after : Stands place l u) (later : Later s t) (last : Later t u) where
-  -- a message that only an update brings across is owed, and within reach
-  record Ready (x : ClientTurn) (y : Standing) : Type 0 where
-    path : PathTask
-    is_path : In x.task.paths path
-    message : PacketMsg
-    named : has_id i path.path message ≡ true
-    owed : IsOwed y place path.path message
-    within : IsSomeAnd x.reach (λ reach. message.floor ≤ reach)
+module _ (place : ℕ) (i : MessageId) (j k l : ClientTurn) (s t u : Standing) (before : Stands place j s) (now : Stands place k t) (after : Stands place l u) (later : Later s t) (last : Later t u)
+    (kept : Kept t u)
+  where
+    -- a message that only an update brings across is owed, and within reach
+    record Ready (x : ClientTurn) (y : Standing) : Type 0 where
+      path : PathTask
+      is_path : In x.task.paths path
+      message : PacketMsg
+      named : has_id i path.path message ≡ true
+      going : In (going_on x.task path) message
+      owed : IsOwed y place path.path message
+      within : IsSomeAnd x.reach (λ reach. message.floor ≤ reach)
 
-  far_ready : (x : ClientTurn) (y : Standing) → Stands place x y → is_far i x ≡ true → Ready x y
-  far_ready x y stands far =
-      let p = from_test (λ (p : PathTask). list_any (has_id i p.path) (far_on x p)) x.task.paths far in
-      let m = from_test (has_id i p.0.path) (far_on x p.0) p.2 in
-      let owed = subst (λ ps. AllByRecursion (AreOwed y place) ps) (sym stands.tasks) (are_owed y stands.found place) in
-      let mine = all_in (AreOwed y place) x.task.paths p.0 owed p.1 in
-      record {
-        path = p.0;
-        is_path = p.1;
-        message = m.0;
-        named = m.2;
-        owed = all_in (IsOwed y place p.0.path) (far_on x p.0) m.0 (far_all (IsOwed y place p.0.path) p.0.owed p.0.order (near_reach x.task) x.reach mine) m.1;
-        within = reached x.reach p.0 m.0 (far_is_ready p.0.owed p.0.order (near_reach x.task) x.reach m.0 m.1);
-      }
-    where
-      reached : (o : Option ℕ) (p : PathTask) (m : PacketMsg) → In (ready p.owed p.order o) m → IsSomeAnd o (λ reach. m.floor ≤ reach)
-      reached None p m h = absurd h
-      reached (Some reach) p m h = all_in (λ (x : PacketMsg). x.floor ≤ reach) (ready p.owed p.order (Some reach)) m (recursion_from_All (λ (x : PacketMsg). x.floor ≤ reach) (ready p.owed p.order (Some reach)) (ready-within p.owed p.order reach)) h
+    far_ready : (x : ClientTurn) (y : Standing) → Stands place x y → is_far i x ≡ true → Ready x y
+    far_ready x y stands far =
+        let p = from_test (λ (p : PathTask). list_any (has_id i p.path) (far_on x p)) x.task.paths far in
+        let m = from_test (has_id i p.0.path) (far_on x p.0) p.2 in
+        let owed = subst (λ ps. AllByRecursion (AreOwed y place) ps) (sym stands.tasks) (are_owed y stands.found place) in
+        let mine = all_in (AreOwed y place) x.task.paths p.0 owed p.1 in
+        record {
+          path = p.0;
+          is_path = p.1;
+          message = m.0;
+          named = m.2;
+          going = from_ready (going_on x.task p.0) p.0.order x.reach m.0 (far_is_ready (going_on x.task p.0) p.0.order (near_reach x.task) x.reach m.0 m.1);
+          owed = all_in (IsOwed y place p.0.path) (far_on x p.0) m.0 (far_all (IsOwed y place p.0.path) (going_on x.task p.0) p.0.order (near_reach x.task) x.reach (going_all (IsOwed y place p.0.path) x.task p.0 mine)) m.1;
+          within = reached x.reach (going_on x.task p.0) p.0.order m.0 (far_is_ready (going_on x.task p.0) p.0.order (near_reach x.task) x.reach m.0 m.1);
+        }
+      where
+        reached : (o : Option ℕ) (ms : List PacketMsg) (order : Order) (m : PacketMsg) → In (ready ms order o) m → IsSomeAnd o (λ reach. m.floor ≤ reach)
+        reached None ms order m h = absurd h
+        reached (Some reach) ms order m h = all_in (λ (x : PacketMsg). x.floor ≤ reach) (ready ms order (Some reach)) m (recursion_from_All (λ (x : PacketMsg). x.floor ≤ reach) (ready ms order (Some reach)) (ready-within ms order reach)) h
 
-  still : (holds : IfSome j.reach (λ a. IsSomeAnd k.reach (λ b. a ≤ b))) → All (λ (p : PathTask). p.order ≡ Unordered) j.task.paths → is_far i j ≡ true → is_far i l ≡ true → is_within_reach i k ≡ true
-  still holds unordered was again = go (far_ready j s before was) (far_ready l u after again)
-    where
-      go : Ready j s → Ready l u → is_within_reach i k ≡ true
-      go a c =
-          let is_a = id_parts i a.path.path a.message a.named in
-          let is_c = id_parts i c.path.path c.message c.named in
-          let same_path : c.path.path ≡ a.path.path = is_c.0 ∙ sym is_a.0 in
-          let same_kind : c.message.kind ≡ a.message.kind = is_c.1 ∙ sym is_a.1 in
-          let same_sequence : c.message.sequence ≡ a.message.sequence = is_c.2 ∙ sym is_a.2 in
-          let here = later.paths a.path.path a.owed.state a.owed.is_state in
-          let there = last.paths a.path.path here.0 here.1 in
-          let same_state : c.owed.state ≡ there.0 = same_Some c.owed.state there.0 (sym c.owed.is_state ∙ ap (slice_get u.paths) same_path ∙ there.1) in
-          let q = here.2.packets a.message.sequence a.owed.packet a.owed.is_packet in
-          let w = there.2.packets a.message.sequence q.0 q.1 in
-          let same_packet : c.owed.packet ≡ w.0 =
-          same_Some c.owed.packet w.0 (sym c.owed.is_packet ∙ ap (λ (x : PathState). find (has c.message.sequence) x.packets) same_state ∙ ap (λ n. find (has n) there.0.packets) same_sequence ∙ w.1) in
-          let chain = a.owed.state.config.destination in
-          let config_here : here.0.config ≡ a.owed.state.config = here.2.config in
-          let config_there : there.0.config ≡ a.owed.state.config = there.2.config ∙ config_here in
-          let floor_after : floor_of (known_at u.books chain) a.message.kind w.0 ≡ Some c.message.floor =
-          sym (λ e. floor_of (known_at u.books ((ap (λ (x : PathState). x.config.destination) same_state ∙ ap (λ x. x.destination) config_there) e)) (same_kind e) (same_packet e)) ∙ c.owed.floor in
-          let floor = between (known_at s.books chain) (known_at t.books chain) (known_at u.books chain) a.owed.packet q.0 w.0 q.2 w.2
-          (later.books chain) (last.books chain) (rises (book_at t.books chain) (now.books chain)) (rises (book_at u.books chain) (after.books chain))
-          a.message.kind a.message.floor c.message.floor a.owed.floor floor_after in
-          let m : PacketMsg = record { kind = a.message.kind; sequence = q.0.sequence; floor = floor.0; expires = expires_for a.message.kind q.0 } in
-          let made : message_of (known_at t.books here.0.config.destination) a.message.kind q.0 ≡ Some m =
-          ap (λ c. message_of (known_at t.books c.destination) a.message.kind q.0) config_here
-          ∙ ap (option_map (λ (floor : ℕ). record { kind = a.message.kind; sequence = q.0.sequence; floor = floor; expires = expires_for a.message.kind q.0 })) floor.1 in
-          let order_s : a.path.order ≡ a.owed.state.config.order =
-          all_in (IsOrdered s) j.task.paths a.path (subst (λ ps. AllByRecursion (IsOrdered s) ps) (sym before.tasks) (are_ordered s place)) a.is_path a.owed.state a.owed.is_state in
-          let plain : a.path.order ≡ Unordered = all_in (λ (p : PathTask). p.order ≡ Unordered) j.task.paths a.path (recursion_from_All (λ (p : PathTask). p.order ≡ Unordered) j.task.paths unordered) a.is_path in
-          let order_t : here.0.config.order ≡ Unordered = ap (λ x. x.order) config_here ∙ sym order_s ∙ plain in
-          let open_t : here.0.closed ≡ false = still_open here.0 there.0 there.2 (ap (λ (x : PathState). x.closed) (sym same_state) ∙ c.owed.open_now) in
-          let owed : In (owed_at t a.path.path (part_of a.message.kind)) m =
-          subst (λ o. In (option_map_or (λ v. owed_part v (part_of a.message.kind)) (option_map (view_of_path t.books) o) []) m) (sym here.1)
-          (in_part (view_of_path t.books here.0) a.message.kind m
-          (in_messages (view_of_path t.books here.0) a.message.kind q.0 m order_t open_t (in_found (has a.message.sequence) here.0.packets q.0 q.1) made)) in
-          let part : part_for here.0.config place ≡ Some (part_of a.message.kind) = ap (λ x. part_for x place) config_here ∙ a.owed.is_part ∙ ap (λ x. Some x) (sym a.owed.of_part) in
-          let task : PathTask = record { path = a.path.path; order = here.0.config.order; gas = here.0.config.gas; waits = here.0.config.waits; owed = owed_at t a.path.path (part_of a.message.kind) } in
-          let listed : In k.task.paths task =
-          subst (λ ps. In ps task) (sym now.tasks)
-          (in_filter_map (path_task (owed_at t) place) (enumerate_from 0 t.paths) (a.path.path, here.0) task
-          (let same : 0 + a.path.path ≡ a.path.path = omega arith in subst (λ n. In (enumerate_from 0 t.paths) (n, here.0)) same (in_places 0 t.paths a.path.path here.0 here.1))
-          (ap (option_map (λ part. record { path = a.path.path; order = here.0.config.order; gas = here.0.config.gas; waits = here.0.config.waits; owed = owed_at t a.path.path part })) part)) in
-          let ready_now : In (ready task.owed task.order k.reach) m = within_k j.reach k.reach m task order_t owed a.message.floor a.within holds floor.2 in
-          test_from (λ (x : Message). has_id i x.path x.packet) (ready_messages k.task k.reach) (message_on task m)
-          (in_flat_map (ready_on k.reach) k.task.paths task (message_on task m) listed (in_map (message_on task) (ready task.owed task.order k.reach) m ready_now))
-          (has_id_from i a.path.path m is_a.0 is_a.1 (q.2.sequence ∙ found_number ∙ is_a.2))
-        where
-          found_number : a.owed.packet.sequence ≡ a.message.sequence
-          found_number = found_sequence a.owed.state.packets a.message.sequence a.owed.packet a.owed.is_packet
+    -- what can go after the update can go with it
+    can_go_now : (c : Ready l u) (config : PathConfig) (p : PathTask) → p.gas ≡ config.gas → (m : PacketMsg) → c.message.kind ≡ m.kind → config.order ≡ Unordered → c.message.timeout ≡ m.timeout
+        → c.owed.state.config ≡ config → k.task.config.refresh_to ≡ Newer → can_go (bars_of k.task p) m ≡ true
+    can_go_now c config p gas m kind plain timeout same by_gain =
+        let mine = all_in (IsOrdered u) l.task.paths c.path (subst (λ ps. AllByRecursion (IsOrdered u) ps) (sym after.tasks) (are_ordered u place)) c.is_path c.owed.state c.owed.is_state in
+        let d = kept place k.client now.client in
+        let same_client : d.0 ≡ l.client = same_Some d.0 l.client (sym d.1 ∙ after.client) in
+        let same_config : l.task.config ≡ k.task.config = after.config ∙ ap (λ (x : ClientState). x.config) (sym same_client) ∙ d.2.config ∙ sym now.config in
+        let until : k.task.window.until ≤ l.task.window.until =
+        subst (λ o. EndsLater o (Some l.task.window)) now.window (subst (EndsLater (window_in t k.client)) (ap (window_in u) same_client ∙ after.window) d.2.window) in
+        can_before k.task l.task p c.path m c.message same_config (mine.1 ∙ ap (λ (x : PathConfig). x.gas) same ∙ sym gas) kind timeout until
+        (goes_by_gain l.task c.path c.message (mine.0 ∙ ap (λ (x : PathConfig). x.order) same ∙ plain) (ap (λ (x : ClientConfig). x.refresh_to) same_config ∙ by_gain) c.going)
 
-          still_open : (p r : PathState) → GrownPath p r → r.closed ≡ false → p.closed ≡ false
-          still_open p r grown open_now = backwards p.closed r.closed grown.closed open_now
+    still : (holds : IfSome j.reach (λ a. IsSomeAnd k.reach (λ b. a ≤ b))) → All (λ (p : PathTask). p.order ≡ Unordered) j.task.paths → is_far i j ≡ true → is_far i l ≡ true → is_within_reach i k ≡ true
+    still holds unordered was again = go (far_ready j s before was) (far_ready l u after again)
+      where
+        go : Ready j s → Ready l u → is_within_reach i k ≡ true
+        go a c =
+            let is_a = id_parts i a.path.path a.message a.named in
+            let is_c = id_parts i c.path.path c.message c.named in
+            let same_path : c.path.path ≡ a.path.path = is_c.0 ∙ sym is_a.0 in
+            let same_kind : c.message.kind ≡ a.message.kind = is_c.1 ∙ sym is_a.1 in
+            let same_sequence : c.message.sequence ≡ a.message.sequence = is_c.2 ∙ sym is_a.2 in
+            let here = later.paths a.path.path a.owed.state a.owed.is_state in
+            let there = last.paths a.path.path here.0 here.1 in
+            let same_state : c.owed.state ≡ there.0 = same_Some c.owed.state there.0 (sym c.owed.is_state ∙ ap (slice_get u.paths) same_path ∙ there.1) in
+            let q = here.2.packets a.message.sequence a.owed.packet a.owed.is_packet in
+            let w = there.2.packets a.message.sequence q.0 q.1 in
+            let same_packet : c.owed.packet ≡ w.0 =
+            same_Some c.owed.packet w.0 (sym c.owed.is_packet ∙ ap (λ (x : PathState). find (has c.message.sequence) x.packets) same_state ∙ ap (λ n. find (has n) there.0.packets) same_sequence ∙ w.1) in
+            let chain = a.owed.state.config.destination in
+            let config_here : here.0.config ≡ a.owed.state.config = here.2.config in
+            let config_there : there.0.config ≡ a.owed.state.config = there.2.config ∙ config_here in
+            let floor_after : floor_of (known_at u.books chain) a.message.kind w.0 ≡ Some c.message.floor =
+            sym (λ e. floor_of (known_at u.books ((ap (λ (x : PathState). x.config.destination) same_state ∙ ap (λ x. x.destination) config_there) e)) (same_kind e) (same_packet e)) ∙ c.owed.floor in
+            let floor = between (known_at s.books chain) (known_at t.books chain) (known_at u.books chain) a.owed.packet q.0 w.0 q.2 w.2
+            (later.books chain) (last.books chain) (rises (book_at t.books chain) (now.books chain)) (rises (book_at u.books chain) (after.books chain))
+            a.message.kind a.message.floor c.message.floor a.owed.floor floor_after in
+            let m : PacketMsg = record { kind = a.message.kind; sequence = q.0.sequence; floor = floor.0; expires = expires_for a.message.kind q.0; since = since_for a.message.kind q.0; timeout = timeout_for a.message.kind q.0 } in
+            let made : message_of (known_at t.books here.0.config.destination) a.message.kind q.0 ≡ Some m =
+            ap (λ c. message_of (known_at t.books c.destination) a.message.kind q.0) config_here
+            ∙ ap (option_map (λ (floor : ℕ). record { kind = a.message.kind; sequence = q.0.sequence; floor = floor; expires = expires_for a.message.kind q.0; since = since_for a.message.kind q.0; timeout = timeout_for a.message.kind q.0 })) floor.1 in
+            let order_s : a.path.order ≡ a.owed.state.config.order =
+            (all_in (IsOrdered s) j.task.paths a.path (subst (λ ps. AllByRecursion (IsOrdered s) ps) (sym before.tasks) (are_ordered s place)) a.is_path a.owed.state a.owed.is_state).0 in
+            let plain : a.path.order ≡ Unordered = all_in (λ (p : PathTask). p.order ≡ Unordered) j.task.paths a.path (recursion_from_All (λ (p : PathTask). p.order ≡ Unordered) j.task.paths unordered) a.is_path in
+            let order_t : here.0.config.order ≡ Unordered = ap (λ x. x.order) config_here ∙ sym order_s ∙ plain in
+            let open_t : here.0.closed ≡ false = still_open here.0 there.0 there.2 (ap (λ (x : PathState). x.closed) (sym same_state) ∙ c.owed.open_now) in
+            let owed : In (owed_at t a.path.path (part_of a.message.kind)) m =
+            subst (λ o. In (option_map_or (λ v. owed_part v (part_of a.message.kind)) (option_map (view_of_path t.books) o) []) m) (sym here.1)
+            (in_part (view_of_path t.books here.0) a.message.kind m
+            (in_messages (view_of_path t.books here.0) a.message.kind q.0 m order_t open_t (in_found (has a.message.sequence) here.0.packets q.0 q.1) made)) in
+            let part : part_for here.0.config place ≡ Some (part_of a.message.kind) = ap (λ x. part_for x place) config_here ∙ a.owed.is_part ∙ ap (λ x. Some x) (sym a.owed.of_part) in
+            let task : PathTask = record { path = a.path.path; order = here.0.config.order; gas = here.0.config.gas; waits = here.0.config.waits; owed = owed_at t a.path.path (part_of a.message.kind) } in
+            let listed : In k.task.paths task =
+            subst (λ ps. In ps task) (sym now.tasks)
+            (in_filter_map (path_task (owed_at t) place) (enumerate_from 0 t.paths) (a.path.path, here.0) task
+            (let same : 0 + a.path.path ≡ a.path.path = omega arith in subst (λ n. In (enumerate_from 0 t.paths) (n, here.0)) same (in_places 0 t.paths a.path.path here.0 here.1))
+            (ap (option_map (λ part. record { path = a.path.path; order = here.0.config.order; gas = here.0.config.gas; waits = here.0.config.waits; owed = owed_at t a.path.path part })) part)) in
+            let goes = in_going k.task task m order_t owed (λ by_gain. can_go_now c here.0.config task refl m same_kind order_t
+            (sym c.owed.timeout ∙ (λ e. timeout_for (same_kind e) (same_packet e)) ∙ same_timeout a.message.kind q.0 w.0 w.2)
+            (ap (λ (x : PathState). x.config) same_state ∙ there.2.config) by_gain) in
+            let ready_now : In (ready (going_on k.task task) task.order k.reach) m = within_k j.reach k.reach m (going_on k.task task) task.order order_t goes a.message.floor a.within holds floor.2 in
+            test_from (λ (x : Message). has_id i x.path x.packet) (ready_messages k.task k.reach) (message_on task m)
+            (in_flat_map (ready_on k.task k.reach) k.task.paths task (message_on task m) listed (in_map (message_on task) (ready (going_on k.task task) task.order k.reach) m ready_now))
+            (has_id_from i a.path.path m is_a.0 is_a.1 (q.2.sequence ∙ found_number ∙ is_a.2))
+          where
+            found_number : a.owed.packet.sequence ≡ a.message.sequence
+            found_number = found_sequence a.owed.state.packets a.message.sequence a.owed.packet a.owed.is_packet
 
-          within_k : (x y : Option ℕ) (m : PacketMsg) (p : PathTask) → p.order ≡ Unordered → In p.owed m → (f : ℕ) → IsSomeAnd x (λ reach. f ≤ reach) → IfSome x (λ a. IsSomeAnd y (λ b. a ≤ b)) → m.floor ≤ f → In (ready p.owed p.order y) m
-          within_k None y m p plain there f low holds less = absurd low
-          within_k (Some a) None m p plain there f low holds less = absurd holds
-          within_k (Some a) (Some b) m p plain there f low holds less = in_ready p.owed p.order b m plain there (omega (arith, low, holds, less))
+            still_open : (p r : PathState) → GrownPath p r → r.closed ≡ false → p.closed ≡ false
+            still_open p r grown open_now = backwards p.closed r.closed grown.closed open_now
+
+            within_k : (x y : Option ℕ) (m : PacketMsg) (ms : List PacketMsg) (order : Order) → order ≡ Unordered → In ms m → (f : ℕ) → IsSomeAnd x (λ reach. f ≤ reach) → IfSome x (λ a. IsSomeAnd y (λ b. a ≤ b)) → m.floor ≤ f
+                → In (ready ms order y) m
+            within_k None y m ms order plain there f low holds less = absurd low
+            within_k (Some a) None m ms order plain there f low holds less = absurd holds
+            within_k (Some a) (Some b) m ms order plain there f low holds less = in_ready ms order b m plain there (omega (arith, low, holds, less))
 
 -- ---- turn after turn
 
@@ -311,11 +353,13 @@ record One (place : ℕ) (k : ClientTurn) (s : Standing) : Type 0 where
   standing : Standing
   stands : Stands place k standing
   later : Later s standing
+  kept : Kept s standing
 
 record Two (place : ℕ) (k l : ClientTurn) (s : Standing) : Type 0 where
   first : Standing
   stands_first : Stands place k first
   later : Later s first
+  kept : Kept s first
   rest : One place l first
 
 record Three (place : ℕ) (j k l : ClientTurn) : Type 0 where
@@ -324,13 +368,29 @@ record Three (place : ℕ) (j k l : ClientTurn) : Type 0 where
   rest : Two place k l first
 
 module _ (stays : StaysABook) (config : Config) (place : ℕ) where
+  stands_of : (turn : Turn) (r : TurnReport) (s : Standing) (x : ClientTurn) → IsPlannedIn s turn r place x.client x.report x.task x.reach → AreFound (before_plans s turn) → AreBooks (before_plans s turn)
+      → Stands place x (before_plans s turn)
+  stands_of turn r s x is found books = record {
+    tasks = ap (λ (t : Task). t.paths) is.task;
+    client = is.is_client;
+    config = ap (λ (t : Task). t.config) is.task;
+    window = ap (option_or x.client.window) is.is_window ∙ own_or x.client.window is.window ∙ ap (λ (t : Task). Some t.window) (sym is.task);
+    found = found;
+    books = books;
+  }
+    where
+      own_or : (o : Option Span) (w : Span) → option_or o (Some w) ≡ Some (unwrap_or o w)
+      own_or None w = refl
+      own_or (Some v) w = refl
+
   here_stands : (turn : Turn) (r : TurnReport) (s : Standing) (x k : ClientTurn) → IsTurn config turn → IsPlannedIn s turn r place x.client x.report x.task x.reach → AreFound s → AreBooks s → x ≡ k → One place k s
   here_stands turn r s x k right is found books same =
       let later = before_later stays config s turn right books in
       record {
         standing = before_plans s turn;
-        stands = record { tasks = ap (λ (y : ClientTurn). y.task.paths) (sym same) ∙ ap (λ (t : Task). t.paths) is.task; found = later.found found; books = later.are_books books };
+        stands = subst (λ y. Stands place y (before_plans s turn)) same (stands_of turn r s x is (later.found found) (later.are_books books));
         later = later;
+        kept = before_kept s turn;
       }
 
   one_of_turns : (turns : List Turn) (rs : List TurnReport) (ks : List ClientTurn) (s : Standing) → AllByRecursion (IsTurn config) turns → AreTurnsOf place s turns rs ks → AreFound s → AreBooks s
@@ -344,7 +404,12 @@ module _ (stays : StaysABook) (config : Config) (place : ℕ) where
       let first = before_later stays config s turn right.0 books in
       let whole = later_trans s (before_plans s turn) (after_turn s turn r) first (rest_later s turn r) in
       let rest = one_of_turns turns rs ks (after_turn s turn r) right.1 are.1 (whole.found found) (whole.are_books books) n k at in
-      record { standing = rest.standing; stands = rest.stands; later = later_trans s (after_turn s turn r) rest.standing whole rest.later }
+      record {
+        standing = rest.standing;
+        stands = rest.stands;
+        later = later_trans s (after_turn s turn r) rest.standing whole rest.later;
+        kept = kept_trans s (after_turn s turn r) rest.standing (kept_trans s (before_plans s turn) (after_turn s turn r) (before_kept s turn) (rest_kept s turn r)) rest.kept;
+      }
 
   two_of_turns : (turns : List Turn) (rs : List TurnReport) (ks : List ClientTurn) (s : Standing) → AllByRecursion (IsTurn config) turns → AreTurnsOf place s turns rs ks → AreFound s → AreBooks s
       → (n o : ℕ) (k l : ClientTurn) → n < o → slice_get ks n ≡ Some k → slice_get ks o ≡ Some l → Two place k l s
@@ -360,15 +425,27 @@ module _ (stays : StaysABook) (config : Config) (place : ℕ) where
       let rest = one_of_turns turns rs ks (after_turn s turn r) right.1 are.1 (after.found (first.found found)) (after.are_books (first.are_books books)) o l next in
       record {
         first = before_plans s turn;
-        stands_first = record { tasks = ap (λ (y : ClientTurn). y.task.paths) (sym (same_Some x k at)) ∙ ap (λ (t : Task). t.paths) are.0.task; found = first.found found; books = first.are_books books };
+        stands_first = subst (λ y. Stands place y (before_plans s turn)) (same_Some x k at) (stands_of turn r s x are.0 (first.found found) (first.are_books books));
         later = first;
-        rest = record { standing = rest.standing; stands = rest.stands; later = later_trans (before_plans s turn) (after_turn s turn r) rest.standing after rest.later };
+        kept = before_kept s turn;
+        rest = record {
+          standing = rest.standing;
+          stands = rest.stands;
+          later = later_trans (before_plans s turn) (after_turn s turn r) rest.standing after rest.later;
+          kept = kept_trans (before_plans s turn) (after_turn s turn r) rest.standing (rest_kept s turn r) rest.kept;
+        };
       }
   two_of_turns (turn ∷ turns) (r ∷ rs) (x ∷ ks) s right are found books (suc n) (suc o) k l lt at next =
       let first = before_later stays config s turn right.0 books in
       let whole = later_trans s (before_plans s turn) (after_turn s turn r) first (rest_later s turn r) in
       let rest = two_of_turns turns rs ks (after_turn s turn r) right.1 are.1 (whole.found found) (whole.are_books books) n o k l (omega (arith, lt)) at next in
-      record { first = rest.first; stands_first = rest.stands_first; later = later_trans s (after_turn s turn r) rest.first whole rest.later; rest = rest.rest }
+      record {
+        first = rest.first;
+        stands_first = rest.stands_first;
+        later = later_trans s (after_turn s turn r) rest.first whole rest.later;
+        kept = kept_trans s (after_turn s turn r) rest.first (kept_trans s (before_plans s turn) (after_turn s turn r) (before_kept s turn) (rest_kept s turn r)) rest.kept;
+        rest = rest.rest;
+      }
 
   three_of_turns : (turns : List Turn) (rs : List TurnReport) (ks : List ClientTurn) (s : Standing) → AllByRecursion (IsTurn config) turns → AreTurnsOf place s turns rs ks → AreFound s → AreBooks s
       → (m n o : ℕ) (j k l : ClientTurn) → m < n → n < o → slice_get ks m ≡ Some j → slice_get ks n ≡ Some k → slice_get ks o ≡ Some l → Three place j k l
@@ -384,8 +461,14 @@ module _ (stays : StaysABook) (config : Config) (place : ℕ) where
       let rest = two_of_turns turns rs ks (after_turn s turn r) right.1 are.1 (after.found (first.found found)) (after.are_books (first.are_books books)) n o k l (omega (arith, two)) next last in
       record {
         first = before_plans s turn;
-        stands_first = record { tasks = ap (λ (y : ClientTurn). y.task.paths) (sym (same_Some x j at)) ∙ ap (λ (t : Task). t.paths) are.0.task; found = first.found found; books = first.are_books books };
-        rest = record { first = rest.first; stands_first = rest.stands_first; later = later_trans (before_plans s turn) (after_turn s turn r) rest.first after rest.later; rest = rest.rest };
+        stands_first = subst (λ y. Stands place y (before_plans s turn)) (same_Some x j at) (stands_of turn r s x are.0 (first.found found) (first.are_books books));
+        rest = record {
+          first = rest.first;
+          stands_first = rest.stands_first;
+          later = later_trans (before_plans s turn) (after_turn s turn r) rest.first after rest.later;
+          kept = kept_trans (before_plans s turn) (after_turn s turn r) rest.first (rest_kept s turn r) rest.kept;
+          rest = rest.rest;
+        };
       }
   three_of_turns (turn ∷ turns) (r ∷ rs) (x ∷ ks) s right are found books (suc m) (suc n) (suc o) j k l one two at next last =
       let first = before_later stays config s turn right.0 books in
@@ -402,7 +485,7 @@ stay_ready stays script report place ks is unordered holds i before update after
     let three = three_of_turns stays script.config place script.turns report ks opening (recursion_from_All (IsTurn script.config) script.turns is.is_script.turns) is.turns
     (new_found script.config.paths) (empty_books script.config.limit (length script.config.chains) is.is_script.config.rules.limit) before update after j.0 k.0 l.0 earlier later j.1 k.1 l.1 in
     ap (λ o. option_map_or (is_within_reach i) o false) k.1
-    ∙ still place i j.0 k.0 l.0 three.first three.rest.first three.rest.rest.standing three.stands_first three.rest.stands_first three.rest.rest.stands three.rest.later three.rest.rest.later
+    ∙ still place i j.0 k.0 l.0 three.first three.rest.first three.rest.rest.standing three.stands_first three.rest.stands_first three.rest.rest.stands three.rest.later three.rest.rest.later three.rest.rest.kept
     (holds before update j.0 k.0 earlier j.1 k.1 k.2)
     (all_in (λ (x : ClientTurn). All (λ (p : PathTask). p.order ≡ Unordered) x.task.paths) ks j.0 (recursion_from_All (λ (x : ClientTurn). All (λ (p : PathTask). p.order ≡ Unordered) x.task.paths) ks unordered) (from_get ks before j.0 j.1))
     (and_parts (is_far i j.0) (not (is_in_batch i j.0)) j.2).0 (and_parts (is_far i l.0) (not (is_in_batch i l.0)) l.2).0

@@ -6,20 +6,24 @@ use Rattle.std.proofs.lemmas.Bool.{cases_eq}
 use Rattle.std.proofs.lemmas.Bool.Decides.{nat_tests}
 use Rattle.std.proofs.lemmas.List.Elements.{recursion_from_All}
 use Rattle.std.proofs.lemmas.Option.{none-some, same_Some, slice_get_within}
+use Rattle.rb_book.specs.Laws.{StaysABook}
 use Rattle.rb_script_types.specs.Config.{Config}
 use Rattle.rb_script_types.specs.declared.config.ClientConfig.{ClientConfig}
 use Rattle.rb_script_types.specs.declared.refusal.Refusal.TheVariants.{OutOfOrder}
+use Rattle.rb_script_types.specs.declared.script.HostWindow.{HostWindow as WindowOf}
 use Rattle.rb_script_types.specs.declared.script.Settlement.{Settlement}
 use Rattle.rb_core_model.specs.Refusal.{refused_if}
-use Rattle.rb_core_model.specs.Event.{Event, Window, Asked, SetSeen, HeaderSeen, StoredSeen, Sent, Received, AckWritten, Cleared, Closed, Scanned, Planned, Settled}
-use Rattle.rb_core_model.specs.Standing.{OpenBatch, ClientState, Standing, opening_standing, new_client, with_batch, open_batch, settled_refusal, settled_refusal_of, judged, changed, changed_at, with_height, after_batch, after_settled, standing_after}
+use Rattle.rb_core_model.specs.Event.{Event, Window, HostWindow, Asked, SetSeen, HeaderSeen, StoredSeen, Sent, Received, AckWritten, Cleared, Closed, Scanned, Planned, Settled}
+use Rattle.rb_core_model.specs.Standing.{OpenBatch, ClientState, Standing, opening_standing, new_client, with_batch, open_batch, settled_refusal, settled_refusal_of, judged, changed, changed_at, with_height, after_batch, after_settled, standing_after, in_host_window}
+use Rattle.rb_core_model.proofs.HostWindows.{in_host_by, get_mapped}
 use Rattle.rb_core_model.proofs.Lengths.{length-changed_at}
 use Rattle.rb_core_model.proofs.Options.{get_changed, get_changed_same}
 use Rattle.rb_super_turn.specs.Report.{Outcome, held, idle, planned, ClientReport, TurnReport, Report}
 use Rattle.rb_super_turn.specs.Script.{Turn, IsSeen, IsTurn}
-use Rattle.rb_super_turn.specs.Turns.{after_window, after_question, before_plans, opened, after_outcome, after_reports, after_plans, settlement_event, after_settlement, taking, after_taking, takers, after_turn, AreTurnReports}
+use Rattle.rb_super_turn.specs.Turns.{after_window, window_event, after_host_window, after_question, before_plans, opened, after_outcome, after_reports, after_plans, settlement_event, after_settlement, taking, after_taking, takers, after_turn, AreTurnReports}
 use Rattle.rb_waiting_laws.specs.InTime.{MessagesGoInTime}
 use Rattle.rb_waiting_laws.specs.Taken.{AllSendInTime, TakenGoesInTime}
+use Rattle.rb_waiting_laws.proofs.Later.{AreBooks, before_later, rest_later, planned_book, empty_books}
 
 -- ---- what holds of the client at each place
 
@@ -52,6 +56,7 @@ none_at_first (x ∷ xs) (suc k) c at = none_at_first xs k c at
 
 abbrev IsQuiet : Event → Type 0
 IsQuiet (Window window) = Unit {0}
+IsQuiet (HostWindow host window) = Unit {0}
 IsQuiet (Asked client goal) = ⊥
 IsQuiet (Planned d) = ⊥
 IsQuiet (Settled client number done) = ⊥
@@ -67,6 +72,7 @@ IsQuiet (Scanned path scan) = Unit {0}
 
 quiet : (config : Config) (e : Event) → IsSeen config e → IsQuiet e
 quiet config (Window window) is = tt
+quiet config (HostWindow host window) is = tt
 quiet config (Asked client goal) is = is
 quiet config (SetSeen chain set) is = tt
 quiet config (HeaderSeen chain header) is = tt
@@ -82,6 +88,10 @@ quiet config (Settled client number done) is = is
 
 free_changed : (s : Standing) (e : Event) → IsQuiet e → AllAt IsFree s.clients → AllAt IsFree (changed s e).clients
 free_changed s (Window window) is all = all
+free_changed s (HostWindow host window) is all = λ k c at.
+    let was = get_mapped (in_host_window host window) s.clients k c at in
+    let free = all k was.0 was.1 in
+    subst IsFree was.2 (in_host_by IsFree host window was.0 free free)
 free_changed s (Asked client goal) is all = absurd is
 free_changed s (SetSeen chain set) is all = all
 free_changed s (HeaderSeen chain header) is all = all
@@ -108,11 +118,16 @@ free_events config [] seen s all = all
 free_events config (e ∷ events) seen s all =
     free_events config events seen.1 (standing_after s e) (free_after s e (quiet config e seen.0) all)
 
+free_hosts : (ws : List WindowOf) (s : Standing) → AllAt IsFree s.clients → AllAt IsFree (fold after_host_window s ws).clients
+free_hosts [] s all = all
+free_hosts (w ∷ ws) s all = free_hosts ws (after_host_window s w) (free_after s (window_event w) tt all)
+
 pub before_free : (config : Config) (s : Standing) (turn : Turn) → IsTurn config turn → turn.goals ≡ [] → AllAt IsFree s.clients → AllAt IsFree (before_plans s turn).clients
 before_free config s turn is none all =
-    let there : AllAt IsFree (fold standing_after (after_window s turn.window) turn.events).clients =
-    free_events config turn.events (recursion_from_All (IsSeen config) turn.events is.events) (after_window s turn.window) (free_after s (Window turn.window) tt all) in
-    subst (λ goals. AllAt IsFree (fold standing_after (fold after_question (after_window s turn.window) goals) turn.events).clients) (sym none) there
+    let entered = fold after_host_window s turn.windows in
+    let there : AllAt IsFree (fold standing_after (after_window entered turn.window) turn.events).clients =
+    free_events config turn.events (recursion_from_All (IsSeen config) turn.events is.events) (after_window entered turn.window) (free_after entered (Window turn.window) tt (free_hosts turn.windows s all)) in
+    subst (λ goals. AllAt IsFree (fold standing_after (fold after_question (after_window entered turn.window) goals) turn.events).clients) (sym none) there
 
 -- ---- plans answer what was asked for
 
@@ -266,20 +281,22 @@ after_free config s turn r is taken none free =
 
 -- ---- turn after turn
 
-in_turns : MessagesGoInTime → (config : Config) (turns : List Turn) (rs : Report) (s : Standing) → AllByRecursion (IsTurn config) turns
-    → AllByRecursion (λ (turn : Turn). (turn.taken ≡ true) × (turn.goals ≡ [])) turns → AllAt IsFree s.clients → AreTurnReports s turns rs → AllSendInTime s turns rs
-in_turns goes config [] rs s are all free reports = tt
-in_turns goes config (turn ∷ turns) [] s are all free reports = reports
-in_turns goes config (turn ∷ turns) (r ∷ rs) s are all free reports =
-    let before = before_free config s turn are.0 all.0.1 free in (
+in_turns : MessagesGoInTime → StaysABook → (config : Config) (turns : List Turn) (rs : Report) (s : Standing) → AllByRecursion (IsTurn config) turns
+    → AllByRecursion (λ (turn : Turn). (turn.taken ≡ true) × (turn.goals ≡ [])) turns → AllAt IsFree s.clients → AreBooks s → AreTurnReports s turns rs
+    → AllSendInTime s turns rs
+in_turns goes stays config [] rs s are all free books reports = tt
+in_turns goes stays config (turn ∷ turns) [] s are all free books reports = reports
+in_turns goes stays config (turn ∷ turns) (r ∷ rs) s are all free books reports =
+    let before = before_free config s turn are.0 all.0.1 free in
+    let known = (before_later stays config s turn are.0 books).are_books books in (
       λ place c report t reach p m is presses.
-          goes s turn r place c report t reach p m is (before place c is.is_client).0 (before place c is.is_client).1 presses,
-      in_turns goes config turns rs (after_turn s turn r) are.1 all.1 (after_free config s turn r are.0 all.0.0 all.0.1 free) reports.1,
+          goes s turn r place c report t reach p m is (λ _. planned_book s turn r place c report t reach is known) (before place c is.is_client).0 (before place c is.is_client).1 presses,
+      in_turns goes stays config turns rs (after_turn s turn r) are.1 all.1 (after_free config s turn r are.0 all.0.0 all.0.1 free) ((rest_later s turn r).are_books known) reports.1,
     )
 
-pub taken_in_time : MessagesGoInTime → TakenGoesInTime
-taken_in_time goes script report is all reports =
-    in_turns goes script.config script.turns report (opening_standing script.config)
+pub taken_in_time : MessagesGoInTime → StaysABook → TakenGoesInTime
+taken_in_time goes stays script report is all reports =
+    in_turns goes stays script.config script.turns report (opening_standing script.config)
     (recursion_from_All (IsTurn script.config) script.turns is.turns)
     (recursion_from_All (λ (turn : Turn). (turn.taken ≡ true) × (turn.goals ≡ [])) script.turns all)
-    (none_at_first script.config.clients) reports
+    (none_at_first script.config.clients) (empty_books script.config.limit (length script.config.chains) is.config.rules.limit) reports

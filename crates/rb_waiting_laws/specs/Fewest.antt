@@ -8,7 +8,7 @@ use Rattle.rb_scan.specs.declared.message.PacketMsg.{PacketMsg}
 use Rattle.rb_script_types.specs.declared.script.Settlement.{Settlement}
 use Rattle.rb_plan_waiting.specs.Seen.{Seen, message_of}
 use Rattle.rb_plan_waiting.specs.Waiting.{IsPunctual}
-use Rattle.rb_plan_client.specs.Task.{PathTask, Task, Message, ready_messages, near_reach, press_moment, presses}
+use Rattle.rb_plan_client.specs.Task.{PathTask, Task, Message, ready_messages, near_reach, press_moment, presses, going_on}
 use Rattle.rb_core_model.specs.Standing.{OpenBatch, ClientState, Standing, opening_standing, open_batch}
 use Rattle.rb_super_turn.specs.Report.{SendingReport, nothing, too_big, batched, PlanReport, Outcome, held, idle, planned, ClientReport, Report}
 use Rattle.rb_super_turn.specs.Script.{Turn, Script, IsScript}
@@ -60,7 +60,7 @@ has_id i path m = (path == i.path) && same_kind m.kind i.kind && (m.sequence == 
 
 -- the messages of a path that only an update brings across
 abbrev pub far_on : ClientTurn → PathTask → List PacketMsg
-far_on k p = ready_beyond p.owed p.order (near_reach k.task) k.reach
+far_on k p = ready_beyond (going_on k.task p) p.order (near_reach k.task) k.reach
 
 -- the message is one of them
 abbrev pub is_far : MessageId → ClientTurn → Bool

@@ -2,11 +2,13 @@
 use Rattle.std.specs.Prelude.{◌≡◌, ℕ, ◌≤◌, Option, Some, None, IsSomeAnd, slice_get}
 use Rattle.std.specs.List.{Contains}
 use Rattle.rb_base.specs.Window.{Span}
+use Rattle.rb_book.specs.Invariant.{IsBook}
 use Rattle.rb_scan.specs.Owed.{ready_beyond}
 use Rattle.rb_scan.specs.declared.message.PacketMsg.{PacketMsg}
+use Rattle.rb_script_types.specs.declared.config.RefreshTo.TheVariants.{Newer}
 use Rattle.rb_step.specs.View.{client_of}
 use Rattle.rb_plan_client.specs.Reach.{IsReach}
-use Rattle.rb_plan_client.specs.Task.{PathTask, Task, Message, view_of, message_on, near_reach, press_moment}
+use Rattle.rb_plan_client.specs.Task.{PathTask, Task, Message, view_of, going_on, message_on, near_reach, press_moment}
 use Rattle.rb_core_model.specs.Standing.{ClientState, Standing, task_in}
 use Rattle.rb_super_turn.specs.Report.{SendingReport, nothing, too_big, batched, PlanReport, Outcome, held, idle, planned, ClientReport, TurnReport}
 use Rattle.rb_super_turn.specs.Script.{Turn}
@@ -15,7 +17,7 @@ use Rattle.rb_super_turn.specs.Turns.{before_plans, IsTurnReport}
 -- a message of one of the client's paths that only an update brings across, and that presses by the end of the window
 pub record Presses (t : Task) (reach : Option ℕ) (p : PathTask) (m : PacketMsg) : Type 0 where
   pub path : Contains t.paths p
-  pub far : Contains (ready_beyond p.owed p.order (near_reach t) reach) m
+  pub far : Contains (ready_beyond (going_on t p) p.order (near_reach t) reach) m
   pub moment : ℕ
   pub from_then_on : press_moment t p.waits m ≡ Some moment
   pub by_the_end : moment ≤ t.window.until
@@ -41,8 +43,10 @@ pub record IsPlannedIn (s : Standing) (turn : Turn) (r : TurnReport) (place : �
   pub task : t ≡ task_in (before_plans s turn) window place c
   pub is_reach : IsReach (client_of (view_of t)) reach
 
--- a message that presses in a turn goes in it, unless its client has an open batch or was asked for a goal
+-- a message that presses in a turn goes in it, unless its client has an open batch or was asked for a goal; of a client that is refreshed by
+-- gain, if heights and times rise together in its book
 abbrev pub MessagesGoInTime : Type 0
 MessagesGoInTime =
     (s : Standing) (turn : Turn) (r : TurnReport) (place : ℕ) (c : ClientState) (report : ClientReport) (t : Task) (reach : Option ℕ) (p : PathTask) (m : PacketMsg)
-    → IsPlannedIn s turn r place c report t reach → c.batch ≡ None → c.asked ≡ None → Presses t reach p m → GoesUnlessTooBig (message_on p m) report.outcome
+    → IsPlannedIn s turn r place c report t reach → (t.config.refresh_to ≡ Newer → IsBook t.book) → c.batch ≡ None → c.asked ≡ None → Presses t reach p m
+    → GoesUnlessTooBig (message_on p m) report.outcome

@@ -4,3 +4,4 @@ pub mod Fewest
 pub mod Steady
 pub mod Punctual
 pub mod Updates
+pub mod Alive

@@ -1,4 +1,5 @@
 //! Laws of what goes in time, and of how few updates do, which hold by their proofs alone.
+ghost use Rattle.rb_waiting_laws.specs.Alive.{KeptAlive, TurnsFollowTheRule};
 ghost use Rattle.rb_waiting_laws.specs.Fewest.{UpdatesAreFewest};
 ghost use Rattle.rb_waiting_laws.specs.InTime.{MessagesGoInTime};
 ghost use Rattle.rb_waiting_laws.specs.Punctual.{UpdatesKeepDeadlines};
@@ -8,8 +9,10 @@ ghost use Rattle.rb_waiting_laws.specs.Updates.{PressingUpdates};
 
 use rb_book::laws::stays_a_book;
 use rb_plan_client::laws::pressing_goes;
+use rb_plan_refresh::laws::refresh_is_in_reach;
 use rb_plan_waiting::laws::seen_is_fewest;
-use rb_scan::laws::settled_is_not_owed;
+use rb_scan::laws::{all_go_along, settled_is_not_owed};
+use rb_super_laws::laws::planned_views_are_views;
 
 /// A message that presses in a turn is in the batch that the turn opens for its client, unless that client is
 /// held by an open batch or was asked for a goal, or nothing of its plan is sent because a message is over the
@@ -18,6 +21,8 @@ pub fn messages_go_in_time()
     ensures { MessagesGoInTime }
 {
     pressing_goes();
+    refresh_is_in_reach();
+    all_go_along();
 }
 
 /// In a script whose turns take all batches that are open, and ask for no goal, every message that presses is
@@ -26,6 +31,7 @@ pub fn taken_goes_in_time()
     ensures { TakenGoesInTime }
 {
     messages_go_in_time();
+    stays_a_book();
 }
 
 /// No choice of turns that sends every message before or when it presses, and not before it is ready, has fewer turns
@@ -36,6 +42,9 @@ pub fn updates_are_fewest()
 {
     seen_is_fewest();
     pressing_goes();
+    refresh_is_in_reach();
+    all_go_along();
+    stays_a_book();
     settled_is_not_owed();
 }
 
@@ -63,10 +72,34 @@ pub fn updates_keep_deadlines()
 {
     seen_is_fewest();
     messages_go_in_time();
+    stays_a_book();
 }
 
 /// Where a message presses and no goal was asked for, the plan has updates, if what is known of the client keeps what
 /// every view keeps (`rb_super_laws::planned_views_are_views`).
 pub fn pressing_updates()
     ensures { PressingUpdates }
-{}
+{
+    refresh_is_in_reach();
+}
+
+/// The turns of a client that is refreshed by gain follow the rule on refreshes, by what its turns report: so all laws of
+/// refreshes hold of them (`rb_plan_refresh::laws`).
+pub fn turns_follow_the_rule()
+    ensures { TurnsFollowTheRule }
+{
+    stays_a_book();
+    refresh_is_in_reach();
+    planned_views_are_views();
+}
+
+/// A client that is refreshed by gain never expires, if it is live in the first turn and can be kept in each turn after
+/// which it would expire: the next turn's window ends within a third of the trusting period, a header is in reach that lives
+/// beyond that end by more than a hundredth of the refresh age, no batch was open, no height was asked for exactly, and what
+/// the turn plans is stored by the next one.
+pub fn kept_alive()
+    ensures { KeptAlive }
+{
+    rb_plan_refresh::laws::kept_alive();
+    turns_follow_the_rule();
+}

@@ -82,6 +82,7 @@ fn sent_packet(seen: &Seen) -> Result<Packet, Fail> {
     Ok(Packet::new(
         number_of(seen.sequence)?,
         sent,
+        None,
         Height::new(seen.timeout_height),
         timeout_time,
     ))
@@ -100,7 +101,7 @@ fn with_written(packet: Packet, number: u64) -> Result<Packet, Fail> {
     if number == 0 {
         return Ok(packet);
     }
-    Ok(packet.with_written(block(number)?))
+    Ok(packet.with_written(block(number)?, None))
 }
 
 fn with_cleared(packet: Packet, is_cleared: bool) -> Packet {
@@ -155,7 +156,23 @@ fn expires_of(packets: &[Seen], message: Message) -> Result<Option<Moment>, Fail
     }
 }
 
-fn message_of(message: Message, expires: Option<Moment>) -> Result<PacketMsg, Fail> {
+/// The time from which on the destination takes no such message, of a receive alone.
+fn timeout_for(packets: &[Seen], message: Message) -> Result<Option<Moment>, Fail> {
+    let (kind, sequence, _) = message;
+    if kind != Kind::Receive {
+        return Ok(None);
+    }
+    match packets.iter().find(|seen| seen.sequence == sequence) {
+        Some(seen) => timeout_of(seen.timeout_seconds),
+        None => Ok(None),
+    }
+}
+
+fn message_of(
+    message: Message,
+    expires: Option<Moment>,
+    timeout: Option<Moment>,
+) -> Result<PacketMsg, Fail> {
     let (kind, sequence, floor) = message;
     let sequence = number_of(sequence)?;
     let floor = Height::new(floor).ok_or("floor")?;
@@ -164,6 +181,8 @@ fn message_of(message: Message, expires: Option<Moment>) -> Result<PacketMsg, Fa
         sequence,
         floor,
         expires,
+        since: None,
+        timeout,
     })
 }
 
@@ -176,7 +195,8 @@ fn messages_of(
     let mut list = Vec::new(alloc);
     for message in messages {
         let expires = expires_of(packets, *message)?;
-        list.push(message_of(*message, expires)?)?;
+        let timeout = timeout_for(packets, *message)?;
+        list.push(message_of(*message, expires, timeout)?)?;
     }
     Ok(list)
 }
@@ -687,7 +707,7 @@ fn knows_paths(rt: HostRuntime) -> Result<(), Fail> {
     let records = [record_of((9, 90))?, record_of((10, 90))?];
     assert!(rt; is_path(sequence, &[], &records[..1]));
     assert!(rt; !is_path(sequence, &[], &records));
-    let below = Packet::new(number_of(11)?, block(8)?, None, None);
+    let below = Packet::new(number_of(11)?, block(8)?, None, None, None);
     assert!(rt; !is_path(sequence, &[below], &[]));
     Ok(())
 }

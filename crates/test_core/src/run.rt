@@ -13,7 +13,9 @@ use rb_graph::Graph;
 use rb_plan_client::{Draft, JobView};
 use rb_plan_drafting::draft;
 use rb_scan::Sequence;
-use rb_script_types::{Asked, BlockHeight, Goal, Observation, Refusal, Settlement, is_config};
+use rb_script_types::{
+    Asked, Block, BlockHeight, Goal, Observation, Refusal, Settlement, is_config,
+};
 use std::alloc::{AllocError, Global};
 use std::mem;
 use std::process::Abort;
@@ -125,13 +127,19 @@ fn chain_observation(alloc: Global, deed: Deed) -> Option<Observation> {
     }
 }
 
+/// A block whose time isn't told.
+fn told_block(height: u64) -> Option<Block> {
+    let height = BlockHeight::new(height)?;
+    Some(Block { height, time: None })
+}
+
 /// An observation of a path.
 fn path_observation(deed: Deed) -> Option<Observation> {
     match deed {
         Deed::Sent(path, number, block, timeout) => Some(Observation::Sent {
             path,
             sequence: Sequence::new(number)?,
-            block: BlockHeight::new(block)?,
+            block: told_block(block)?,
             timeout_height: Height::new(timeout),
             timeout_time: None,
         }),
@@ -143,7 +151,7 @@ fn path_observation(deed: Deed) -> Option<Observation> {
         Deed::Written(path, number, block) => Some(Observation::AckWritten {
             path,
             sequence: Sequence::new(number)?,
-            block: BlockHeight::new(block)?,
+            block: told_block(block)?,
         }),
         Deed::Cleared(path, number) => Some(Observation::Cleared {
             path,

@@ -111,6 +111,7 @@ const LOG: &str = "window, set, header, header, sent, received, ack, cleared, cl
 fn word(entry: &Entry) -> &'static str {
     match entry {
         Entry::Window(_) => "window, ",
+        Entry::HostWindow(_) => "host window, ",
         Entry::Asked(_) => "asked, ",
         Entry::Observed(Observation::SetSeen { .. }) => "set, ",
         Entry::Observed(Observation::HeaderSeen { .. }) => "header, ",
@@ -316,6 +317,7 @@ fn drafts_in<R: Threads + Sync>(
     }
     let turn = Turn {
         window,
+        windows: Vec::new(alloc),
         goals: Vec::new(alloc),
         events: Vec::new(alloc),
         settlements: Vec::new(alloc),

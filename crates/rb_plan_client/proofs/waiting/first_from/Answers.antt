@@ -1,4 +1,4 @@
-use Rattle.std.proofs.Common.{◌≡◌, ap, ◌∙◌, nat_le, find, slice_get}
+use Rattle.std.proofs.Common.{ap, ◌∙◌, nat_le, find, slice_get}
 use Rattle.rb_book.specs.Book.{Book, height_of}
 use Rattle.rb_plan_client.proofs.Lowest.{lowest_from, lent_at}
 use Rattle.rb_plan_client.proofs.waiting.first_from.Goals as goal

@@ -6,4 +6,4 @@ pub returns-in-One : goal.returns-in-One
 returns-in-One c = elim c.in-One.is [ inl one ↦ rw one c.only.ensures | inr two ↦ rw two c.only.ensures ]
 
 pub returns-in-Three : goal.returns-in-Three
-returns-in-Three c = rw c.in-Three.is c.only-in-Three.ensures
+returns-in-Three c = elim c.in-Three.is [ inl three ↦ rw three c.only-in-Three.ensures | inr four ↦ rw four c.only-in-Three.ensures ]

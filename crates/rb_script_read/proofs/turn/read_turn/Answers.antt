@@ -11,7 +11,7 @@ pub read_events-requires : goal.read_events-requires
 read_events-requires c =
     let events = items_view c.in_ok-frame.frame.events.now in
     record {
-      ready = moved (λ p. AreReady p events c.args.ready.items) (child c.args.section.now.path.now (codes "event")) c.as_str-2.result.now
+      ready = moved (λ p. AreReady p events c.args.ready.items) (child c.args.section.now.path.now (codes "event")) c.as_str-3.result.now
           (grind (arith, common_steps))
           (ready_of-turn (section_view c.args.section.now) events c.args.ready.items c.requires.ready c.in_ok-frame.ensures.events);
     }

@@ -26,5 +26,5 @@ returns-clause-right g c = λ yes. record { standing = standing_in c.in_ok-relay
 
 pub returns-clause-accepts : goal.returns-clause-accepts
 returns-clause-accepts g c =
-    own_answer c.answers_are_one.ensures c.least_cut_is_one.ensures (as_events (script_view c.args.script)) c.args.turn c.args.client (labels_of c.args.answer.now) (claim_of c.args.answer.now)
+    own_answer c.answers_are_one.ensures (record { least = c.least_cut_is_one.ensures; division = c.cut_apart_is_division.ensures; apart = c.cut_apart_is_one.ensures }) (as_events (script_view c.args.script)) c.args.turn c.args.client (labels_of c.args.answer.now) (claim_of c.args.answer.now)
     (standing_in c.in_ok-relayer.relayer) _ c.in_ok-relayer.ensures.phase c.verdict_on.ensures.accepts

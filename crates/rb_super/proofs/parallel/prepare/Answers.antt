@@ -4,7 +4,7 @@ use Rattle.rb_core.specs.Core.{Core}
 use Rattle.rb_core_model.specs.Standing.{Standing, goes_back}
 use Rattle.rb_script_types.specs.Config.{Config}
 use Rattle.rb_super_turn.specs.Phases.{standing_in, HasLogRoom, IsLater, turn_heard, IsAllScanned, IsPlannable}
-use Rattle.rb_super_turn.specs.Turns.{before_plans, refusals_in}
+use Rattle.rb_super_turn.specs.Turns.{hosts_back, before_plans, refusals_in}
 use Rattle.rb_super_turn.specs.Views.{refused_view}
 use Rattle.rb_super.proofs.parallel.prepare.Goals as goal
 
@@ -13,18 +13,22 @@ scan_all-scanned-requires-clause-room g c = λ ks _.
     let core = c.args.relayer in
     let heard = c.hear_all-heard.new.relayer in
     let mid = c.in_ok-relayer-2.ensures ∙ c.in_ok-relayer.ensures.same in
-    let a = subst (λ r. OnOk r (IsLater (1 + length c.args.goals.now + length c.args.events.items) core heard)) c.in_ok-relayer.ensures.given c.hear_all-heard.ensures.later in
+    let a = subst (λ r. OnOk r (IsLater (1 + length c.args.windows.now + length c.args.goals.now + length c.args.events.items) core heard)) c.in_ok-relayer.ensures.given c.hear_all-heard.ensures.later in
     let paths = ap (λ (k : Config). length k.paths) a.config in
     let one = a.front in
     let room = c.requires.room in
     subst (λ (k : Core). HasLogRoom k (2 * length k.config.paths)) (sym mid) (omega arith)
 
 pub returns-clause-back : goal.returns-clause-back
-returns-clause-back g c = subst (λ r. IfOk r (λ x. x.0 ≡ goes_back (standing_in c.args.relayer).window c.args.window)) c.in_ok-relayer.ensures.given c.hear_all-heard.ensures.back
+returns-clause-back g c = subst (λ r. IfOk r (λ x. x.window_back ≡ goes_back (standing_in c.args.relayer).window c.args.window)) c.in_ok-relayer.ensures.given c.hear_all-heard.ensures.back
+
+pub returns-clause-hosts : goal.returns-clause-hosts
+returns-clause-hosts g c =
+    subst (λ r. IfOk r (λ x. x.hosts_back.items ≡ hosts_back (standing_in c.args.relayer) c.args.windows.now)) c.in_ok-relayer.ensures.given c.hear_all-heard.ensures.hosts
 
 pub returns-clause-refused : goal.returns-clause-refused
 returns-clause-refused g c =
-    subst (λ r. IfOk r (λ x. map refused_view x.1.items ≡ refusals_in (standing_in c.args.relayer) (turn_heard c.args.window c.args.goals.now c.args.events.items)))
+    subst (λ r. IfOk r (λ x. map refused_view x.refused.items ≡ refusals_in (standing_in c.args.relayer) (turn_heard c.args.window c.args.windows.now c.args.goals.now c.args.events.items)))
     c.in_ok-relayer.ensures.given c.hear_all-heard.ensures.refused
 
 pub returns-clause-standing : goal.returns-clause-standing
@@ -33,7 +37,7 @@ returns-clause-standing g c =
     ap standing_in c.in_ok-relayer-3.ensures.same
     ∙ subst (λ r. OnOk r (standing_in c.scan_all-scanned.new.relayer ≡ standing_in c.in_ok-relayer-2.relayer)) c.in_ok-relayer-3.ensures.given c.scan_all-scanned.ensures.standing
     ∙ ap standing_in mid
-    ∙ subst (λ r. OnOk r (standing_in c.hear_all-heard.new.relayer ≡ before_plans (standing_in c.args.relayer) (turn_heard c.args.window c.args.goals.now c.args.events.items)))
+    ∙ subst (λ r. OnOk r (standing_in c.hear_all-heard.new.relayer ≡ before_plans (standing_in c.args.relayer) (turn_heard c.args.window c.args.windows.now c.args.goals.now c.args.events.items)))
     c.in_ok-relayer.ensures.given c.hear_all-heard.ensures.standing
 
 pub returns-clause-ready : goal.returns-clause-ready
@@ -52,11 +56,11 @@ returns-clause-later g c =
     let heard = c.hear_all-heard.new.relayer in
     let scanned = c.scan_all-scanned.new.relayer in
     let mid = c.in_ok-relayer-2.ensures ∙ c.in_ok-relayer.ensures.same in
-    let a = subst (λ r. OnOk r (IsLater (1 + length c.args.goals.now + length c.args.events.items) core heard)) c.in_ok-relayer.ensures.given c.hear_all-heard.ensures.later in
+    let a = subst (λ r. OnOk r (IsLater (1 + length c.args.windows.now + length c.args.goals.now + length c.args.events.items) core heard)) c.in_ok-relayer.ensures.given c.hear_all-heard.ensures.later in
     let e2 = subst (λ r. OnOk r (IsLater (2 * length c.in_ok-relayer-2.relayer.config.paths) c.in_ok-relayer-2.relayer scanned)) c.in_ok-relayer-3.ensures.given c.scan_all-scanned.ensures.later in
     let e = subst (λ (k : Core). IsLater (2 * length k.config.paths) k scanned) mid e2 in
     let paths = ap (λ (k : Config). length k.paths) a.config in
     let one = a.front in
     let four = e.front in
-    subst (IsLater (1 + length c.args.goals.now + length c.args.events.items + 2 * length core.config.paths) core) (sym c.in_ok-relayer-3.ensures.same)
+    subst (IsLater (1 + length c.args.windows.now + length c.args.goals.now + length c.args.events.items + 2 * length core.config.paths) core) (sym c.in_ok-relayer-3.ensures.same)
     (record { config = e.config ∙ a.config; front = omega arith })

@@ -1,10 +1,12 @@
-use Rattle.std.proofs.Common.{◌≡◌, None, sym, ap, ◌∙◌, subst}
+use Rattle.std.proofs.Common.{◌≡◌, List, None, sym, ap, ◌∙◌, subst}
 use Rattle.rb_core.specs.Core.{Core, state_in, refusal_in}
 use Rattle.rb_plan_client.specs.Draft.{Draft}
+use Rattle.rb_plan_client.specs.Task.{Message}
 use Rattle.rb_core_model.specs.Event.{Planned}
 use Rattle.rb_core_model.specs.Machine.{reply_of, after}
 use Rattle.rb_core_model.specs.Replied.{reply_view}
 use Rattle.rb_super_turn.specs.Phases.{standing_in, IsLater, IsOutcomeOf}
+use Rattle.rb_super_turn.specs.Report.{Outcome}
 use Rattle.rb_super_turn.proofs.Plans.{draft_accepted, draft_reported, ready_after}
 use Rattle.rb_super_turn.proofs.planning.plan_here.Goals as goal
 
@@ -19,7 +21,8 @@ pub returns-clause-report : goal.returns-clause-report
 returns-clause-report g c =
     let core = c.args.relayer.now in
     let same = c.planned_for.ensures.same in
-    subst (IsOutcomeOf (standing_in core) (standing_in c.note.new.relayer) c.args.client) (sym c.in_ok-outcome.ensures)
+    let came = c.in_ok-came.ensures in
+    subst (λ (p : Outcome × List Message). IsOutcomeOf (standing_in core) (standing_in c.note.new.relayer) c.args.client p.0 p.1) (λ i. (sym came.outcome i, sym came.too_big i))
     (draft_reported core c.note.new.relayer c.args.client c.in_ok-draft.draft (reply_view c.in_ok-reply.reply) c.requires.client c.in_ok-draft.ensures.right c.requires.room c.requires.ready
     c.requires.none_open c.in_ok-draft.ensures.view
     (c.in_ok-reply.ensures.reply ∙ ap (λ (k : Core). reply_of (state_in k) (Planned c.in_ok-copy.copy)) same ∙ ap (λ (d : Draft). reply_of (state_in core) (Planned d)) c.in_ok-copy.ensures)

@@ -12,6 +12,7 @@ returns-clause-report g c = record {
     planned = record { read = c.in_ok-script.ensures.read; kept = c.report_by.ensures.kept; reported = c.in_ok-report.ensures.turns };
     written = search rules;
   };
+  chains = c.in_ok-report.ensures.chains;
   paths = c.in_ok-report.ensures.paths;
   this = refl;
 }

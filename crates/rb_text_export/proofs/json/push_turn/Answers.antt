@@ -9,5 +9,5 @@ pub returns : goal.returns
 returns c =
     closed_ok c.push_str-2.result (string_bytes c.args.text.now) (string_bytes c.push_str.new.self) (string_bytes c.push_boolean.new.text)
     (string_bytes c.push_turn_members.new.text) (string_bytes c.push_str-2.new.self) (name_text false (codes "window_back") ++ boolean_text c.args.turn.now.window_back)
-    (more_text (turn_members c.args.version c.args.paths.now (turn_report_view c.args.turn.now))) c.push_str-2.ensures.bytes c.in_ok-push_turn_members.ensures
+    (more_text (turn_members c.args.version c.args.chains.now c.args.paths.now (turn_report_view c.args.turn.now))) c.push_str-2.ensures.bytes c.in_ok-push_turn_members.ensures
     c.in_ok-push_boolean.ensures c.in_ok-push_str.ensures.bytes

@@ -14,11 +14,11 @@ returns-in_err-put_turn-clause-begun g c =
     let turns = c.args.turns.now in
     let i = c.loop-turn.turn-index in
     let done = c.loop-turn.invariant.parts.0 in
-    let line = turn_text c.args.version c.args.paths.now (c.loop-turn.number + 1) (turn_report_view c.turn-item.result) in
-    let rest = numbered_lines (turn_text c.args.version c.args.paths.now) (i + 1 + 1) (map turn_report_view (drop (i + 1) turns)) in
-    let next = numbered_more (turn_text c.args.version c.args.paths.now) turn_report_view turns i (c.loop-turn.number + 1) c.turn-item.result c.loop-turn-test.true
+    let line = turn_text c.args.version c.args.chains.now c.args.paths.now (c.loop-turn.number + 1) (turn_report_view c.turn-item.result) in
+    let rest = numbered_lines (turn_text c.args.version c.args.chains.now c.args.paths.now) (i + 1 + 1) (map turn_report_view (drop (i + 1) turns)) in
+    let next = numbered_more (turn_text c.args.version c.args.chains.now c.args.paths.now) turn_report_view turns i (c.loop-turn.number + 1) c.turn-item.result c.loop-turn-test.true
     (ap (λ n. n + 1) c.loop-turn.invariant.number) c.turn-item.is in
-    let whole : done ++ (line ++ rest) ≡ numbered_lines (turn_text c.args.version c.args.paths.now) 1 (map turn_report_view turns) = ap (λ bs. done ++ bs) (sym next) ∙ c.loop-turn.invariant.parts.1 in
+    let whole : done ++ (line ++ rest) ≡ numbered_lines (turn_text c.args.version c.args.chains.now c.args.paths.now) 1 (map turn_report_view turns) = ap (λ bs. done ++ bs) (sym next) ∙ c.loop-turn.invariant.parts.1 in
     on_err c.from_residual.result (subst (AppendsBeginning old new) whole
     (beginning-then old mid new done (line ++ rest) c.loop-turn.invariant.parts.2 (beginning-first mid new line rest c.in_err-put_turn.ensures.begun)))
 
@@ -30,11 +30,11 @@ loop-turn-preserved g c =
     let turns = c.args.turns.now in
     let i = c.loop-turn.turn-index in
     let done = c.loop-turn.invariant.parts.0 in
-    let line = turn_text c.args.version c.args.paths.now (c.loop-turn.number + 1) (turn_report_view c.turn-item.result) in
-    let rest = numbered_lines (turn_text c.args.version c.args.paths.now) (i + 1 + 1) (map turn_report_view (drop (i + 1) turns)) in
-    let next = numbered_more (turn_text c.args.version c.args.paths.now) turn_report_view turns i (c.loop-turn.number + 1) c.turn-item.result c.loop-turn-test.true
+    let line = turn_text c.args.version c.args.chains.now c.args.paths.now (c.loop-turn.number + 1) (turn_report_view c.turn-item.result) in
+    let rest = numbered_lines (turn_text c.args.version c.args.chains.now c.args.paths.now) (i + 1 + 1) (map turn_report_view (drop (i + 1) turns)) in
+    let next = numbered_more (turn_text c.args.version c.args.chains.now c.args.paths.now) turn_report_view turns i (c.loop-turn.number + 1) c.turn-item.result c.loop-turn-test.true
     (ap (λ n. n + 1) c.loop-turn.invariant.number) c.turn-item.is in
-    let whole : done ++ (line ++ rest) ≡ numbered_lines (turn_text c.args.version c.args.paths.now) 1 (map turn_report_view turns) = ap (λ bs. done ++ bs) (sym next) ∙ c.loop-turn.invariant.parts.1 in
+    let whole : done ++ (line ++ rest) ≡ numbered_lines (turn_text c.args.version c.args.chains.now c.args.paths.now) 1 (map turn_report_view turns) = ap (λ bs. done ++ bs) (sym next) ∙ c.loop-turn.invariant.parts.1 in
     record {
       works = c.in_ok-put_turn.ensures.works;
       number = ap (λ n. n + 1) c.loop-turn.invariant.number;

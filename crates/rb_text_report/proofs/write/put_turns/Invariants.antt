@@ -10,6 +10,6 @@ invariant-loop-turn g l = record {
   works : g.W.Sink.is_broken l.writer ≡ false;
   number : l.number ≡ l.turn-index;
   parts : (done : List ℕ)
-      × (done ++ numbered_lines (turn_text l.version l.paths) (l.turn-index + 1) (map turn_report_view (drop l.turn-index l.turns)) ≡ numbered_lines (turn_text l.version l.paths) 1 (map turn_report_view l.turns))
+      × (done ++ numbered_lines (turn_text l.version l.chains l.paths) (l.turn-index + 1) (map turn_report_view (drop l.turn-index l.turns)) ≡ numbered_lines (turn_text l.version l.chains l.paths) 1 (map turn_report_view l.turns))
       × Appends (g.W.Sink.taken l.fn.writer) (g.W.Sink.taken l.writer) done;
 }

@@ -19,6 +19,6 @@ returns g c =
     let items : c.retain.new.self.items ≡ filter high inside.stored.items = filter_same _ high _ (λ x b f' k. search rules) _ _ c.retain.ensures.filtered in
     record {
       client =
-          (λ i. record { config = inside.config; stored = items i; asked = inside.asked; batches = inside.batches; batch = inside.batch })
+          (λ i. record { config = inside.config; window = inside.window; stored = items i; asked = inside.asked; batches = inside.batches; batch = inside.batch })
           ∙ ap (λ (x : ClientWithRoom). record x.client { stored = filter high x.client.stored }) c.self.view_is;
     }

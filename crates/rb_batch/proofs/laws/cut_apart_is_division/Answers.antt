@@ -1,0 +1,5 @@
+use Rattle.rb_batch.proofs.Divisions.{apart_is_division}
+use Rattle.rb_batch.proofs.laws.cut_apart_is_division.Goals as goal
+
+pub returns : goal.returns
+returns c = apart_is_division

@@ -1,0 +1,7 @@
+use Rattle.std.proofs.Common.{◌≡◌, take}
+use Rattle.std.specs.List.{flat_map}
+use Rattle.rb_plan_client.specs.Task.{ready_on}
+use Rattle.rb_plan_client.proofs.leaving.ready_messages.Given as goal
+
+abbrev pub invariant-loop-path : goal.invariant-loop-path
+invariant-loop-path g l = l.messages.items ≡ flat_map (ready_on l.job.task l.reach) (take l.path-index l.path-items)

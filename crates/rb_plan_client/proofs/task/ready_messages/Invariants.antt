@@ -1,7 +1,0 @@
-use Rattle.std.proofs.Common.{◌≡◌, take}
-use Rattle.std.specs.List.{flat_map}
-use Rattle.rb_plan_client.specs.Task.{ready_on}
-use Rattle.rb_plan_client.proofs.task.ready_messages.Given as goal
-
-abbrev pub invariant-loop-path : goal.invariant-loop-path
-invariant-loop-path g l = l.messages.items ≡ flat_map (ready_on l.reach) (take l.path-index l.paths)

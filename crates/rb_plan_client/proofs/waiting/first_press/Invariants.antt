@@ -1,8 +1,0 @@
-use Rattle.std.proofs.Common.{◌≡◌, None, fold, take}
-use Rattle.std.specs.List.{flat_map}
-use Rattle.rb_scan.specs.Expiry.{lesser}
-use Rattle.rb_plan_client.specs.Task.{press_moments_on}
-use Rattle.rb_plan_client.proofs.waiting.first_press.Given as goal
-
-abbrev pub invariant-loop-path : goal.invariant-loop-path
-invariant-loop-path g l = l.first ≡ fold lesser None (flat_map (press_moments_on l.job.task l.reach) (take l.path-index l.path-items))
