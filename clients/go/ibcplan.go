@@ -22,9 +22,10 @@ type Report struct {
 	Clients []Health `json:"clients"`
 }
 
-// A Turn is the report of a turn.
+// A Turn is the report of a turn. WindowsBack has the hosts whose windows were refused, in version 4.
 type Turn struct {
 	WindowBack  bool           `json:"window_back"`
+	WindowsBack []string       `json:"windows_back"`
 	Refused     []RefusedEvent `json:"refused"`
 	Clients     []Client       `json:"clients"`
 	Settlements []Settlement   `json:"settlements"`
@@ -55,11 +56,13 @@ const (
 )
 
 // A Client is what a turn has for a client. By Outcome: Held has Batch; Idle has Next; Unreachable has Goal and Labels; Plan has
-// all. Of a plan Batch is 0 if nothing is to be sent.
+// all. Of a plan Batch is 0 if nothing is to be sent. In version 4 Beyond is what was asked for above the goal, and is out of
+// reach; LeftOut has the messages that stay, since they are over the gas limit alone.
 type Client struct {
 	ID           string        `json:"id"`
 	Outcome      string        `json:"outcome"`
 	Goal         Goal          `json:"goal"`
+	Beyond       *Goal         `json:"beyond"`
 	Labels       []Label       `json:"labels"`
 	Updates      []Update      `json:"updates"`
 	Total        Total         `json:"total"`
@@ -69,6 +72,7 @@ type Client struct {
 	Proof        uint64        `json:"proof"`
 	Transactions []Transaction `json:"transactions"`
 	Next         string        `json:"next"`
+	LeftOut      []Message     `json:"left_out"`
 }
 
 // A Goal is a wanted height: the one that isn't 0.
@@ -236,7 +240,7 @@ func (planner Planner) Plan(script string) (*Report, error) {
 	if err := json.Unmarshal(output, &report); err != nil {
 		return nil, err
 	}
-	if report.Format != 1 && report.Format != 3 {
+	if report.Format != 1 && report.Format != 3 && report.Format != 4 {
 		return nil, &Misused{fmt.Sprintf("reports of format %d are newer than this package", report.Format)}
 	}
 	return &report, nil

@@ -16,7 +16,7 @@ import threading
 from collections.abc import Mapping, Sequence
 from typing import Literal, NotRequired, Self, TypedDict, Union, cast
 
-FORMATS = (1, 3)  # of reports, that these types are for
+FORMATS = (1, 3, 4)  # of reports, that these types are for
 MOST_SAID = 1 << 16  # bytes of standard error that are remembered
 
 Data = Union[bool, int, str, Sequence["Data"], Mapping[str, "Data"]]
@@ -72,19 +72,23 @@ class Idle(TypedDict):
     id: str
     outcome: Literal["idle"]
     next: NotRequired[str]
+    left_out: NotRequired[list[Message]]  # over the gas limit alone, in version 4
 
 
 class Unreachable(TypedDict):
     id: str
     outcome: Literal["unreachable"]
     goal: Goal
+    beyond: NotRequired[Goal]  # asked for, and out of reach, in version 4
     labels: list[Label]
+    left_out: NotRequired[list[Message]]
 
 
 class Planned(TypedDict):
     id: str
     outcome: Literal["plan"]
     goal: Goal
+    beyond: NotRequired[Goal]
     labels: list[Label]
     updates: list[Update]
     total: Total
@@ -94,6 +98,7 @@ class Planned(TypedDict):
     proof: NotRequired[int]
     transactions: NotRequired[list[Transaction]]
     next: NotRequired[str]
+    left_out: NotRequired[list[Message]]
 
 
 Client = Held | Idle | Unreachable | Planned
@@ -115,6 +120,7 @@ class Settlement(TypedDict):
 
 class Turn(TypedDict):
     window_back: bool
+    windows_back: NotRequired[list[str]]  # hosts, in version 4
     refused: list[RefusedEvent]
     clients: list[Client]
     settlements: list[Settlement]

@@ -4,7 +4,7 @@ use crate::{Error, Fault, Json, Table, table};
 /// The report of a script.
 #[derive(Clone, Debug, PartialEq, Eq)]
 pub struct Report {
-    /// The format: 1 or 3.
+    /// The format: 1, 3 or 4.
     pub format: u64,
     /// The turns, in order.
     pub turns: Vec<Turn>,
@@ -17,6 +17,8 @@ pub struct Report {
 pub struct Turn {
     /// Whether the window was refused, since it goes back.
     pub window_back: bool,
+    /// The hosts whose windows were refused, in version 4.
+    pub windows_back: Vec<String>,
     /// The events that were refused.
     pub refused: Vec<RefusedEvent>,
     /// The clients, in the script's order.
@@ -63,6 +65,8 @@ pub struct Client {
     pub id: String,
     /// What it has.
     pub outcome: Outcome,
+    /// The packet messages that stay, since they are over the gas limit alone, in version 4.
+    pub left_out: Vec<Message>,
 }
 
 /// What a turn has for a client.
@@ -82,6 +86,8 @@ pub enum Outcome {
     Unreachable {
         /// The goal.
         goal: Goal,
+        /// What was asked for above it, and is out of reach, in version 4.
+        beyond: Option<Goal>,
         /// What can be reached.
         labels: Vec<Label>,
     },
@@ -114,6 +120,8 @@ pub struct Label {
 pub struct Plan {
     /// The goal.
     pub goal: Goal,
+    /// What was asked for above it, and is out of reach, in version 4.
+    pub beyond: Option<Goal>,
     /// What can be reached.
     pub labels: Vec<Label>,
     /// The updates, in the order of submission.
@@ -253,7 +261,7 @@ impl Report {
     pub(crate) fn read(text: &str) -> Result<Report, Error> {
         let value = Json::read(text)?;
         let format = value.number("ibcplan")?;
-        if format != 1 && format != 3 {
+        if ![1, 3, 4].contains(&format) {
             return Err(Error::Unreadable(format!("a report of format {format}")));
         }
         Ok(Report { format, turns: value.array("turns", Turn::of)?, clients: value.array("clients", Health::of)? })
@@ -264,6 +272,9 @@ impl Turn {
     fn of(value: &Json) -> Result<Turn, Error> {
         Ok(Turn {
             window_back: value.boolean("window_back")?,
+            windows_back: value
+                .if_has("windows_back", |value| value.array("windows_back", identifier))?
+                .unwrap_or_default(),
             refused: value.array("refused", |value| {
                 Ok(RefusedEvent { event: value.number("event")?, refusal: Refusal::of(value)? })
             })?,
@@ -283,6 +294,13 @@ impl Turn {
                 advice: String::new(),
             })),
         }
+    }
+}
+
+fn identifier(value: &Json) -> Result<String, Error> {
+    match value {
+        Json::Text(identifier) => Ok(identifier.clone()),
+        _ => Err(Error::Unreadable("an identifier is no text".to_owned())),
     }
 }
 
@@ -308,17 +326,22 @@ impl Client {
         let outcome = match value.text("outcome")?.as_str() {
             "held" => Outcome::Held { batch: value.number("batch")? },
             "idle" => Outcome::Idle { next: value.if_has("next", |value| value.text("next"))? },
-            "unreachable" => Outcome::Unreachable { goal: Goal::of(value)?, labels: value.array("labels", Label::of)? },
+            "unreachable" => Outcome::Unreachable {
+                goal: Goal::of(value, "goal")?,
+                beyond: value.if_has("beyond", |value| Goal::of(value, "beyond"))?,
+                labels: value.array("labels", Label::of)?,
+            },
             "plan" => Outcome::Plan(Plan::of(value)?),
             other => return Err(Error::Unreadable(format!("an outcome {other}"))),
         };
-        Ok(Client { id: value.text("id")?, outcome })
+        let left_out = value.if_has("left_out", |value| value.array("left_out", Message::of))?.unwrap_or_default();
+        Ok(Client { id: value.text("id")?, outcome, left_out })
     }
 }
 
 impl Goal {
-    fn of(client: &Json) -> Result<Goal, Error> {
-        let goal = client.at("goal")?;
+    fn of(client: &Json, key: &str) -> Result<Goal, Error> {
+        let goal = client.at(key)?;
         match goal.if_has("exactly", |goal| goal.number("exactly"))? {
             Some(height) => Ok(Goal::Exactly(height)),
             None => Ok(Goal::AtLeast(goal.number("at_least")?)),
@@ -336,7 +359,8 @@ impl Plan {
     fn of(value: &Json) -> Result<Plan, Error> {
         let total = value.at("total")?;
         Ok(Plan {
-            goal: Goal::of(value)?,
+            goal: Goal::of(value, "goal")?,
+            beyond: value.if_has("beyond", |value| Goal::of(value, "beyond"))?,
             labels: value.array("labels", Label::of)?,
             updates: value.array("updates", Update::of)?,
             total: Total { fee: total.number("fee")?, updates: total.number("updates")? },
