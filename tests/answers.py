@@ -420,9 +420,10 @@ def lacks(answers, events, pending):
             yield sequence, "receipt"
 
 
-def packet_events(folder, path):
+def packet_events(folder, path, chains):
     """The packets of a path, where answers tell of commitments those with one: of those that go to the counterparty, or else to the first sent one's
-    destination, the one of the lowest block by kind and sequence; no more than the first 4,096. Left out is a packet that lacks something, on an ordered path with
+    destination, the one of the lowest block by kind and sequence; no more than the first 4,096. A block that sent or acknowledged
+    one has its time, where a header of it is there. Left out is a packet that lacks something, on an ordered path with
     all behind it. At the end the path is closed, if it is ordered and one of them timed out."""
     answers, dest_revision = answers_in(folder / path["id"]), int(path["dest"].rsplit("-", 1)[1])
     found = [*events_in(answers)]
@@ -447,6 +448,9 @@ def packet_events(folder, path):
         event = {"kind": KINDS[kind], "path": path["id"], "seq": sequence}
         if KINDS[kind] != "cleared":
             event["height"] = height
+        writer = chains[{"sent": path["source"], "ack": path["dest"]}[KINDS[kind]]] if KINDS[kind] in ("sent", "ack") else None
+        if writer and height in writer.headers:
+            event["time"] = nanoseconds(writer.headers[height]["header"]["time"])
         if kind == "send_packet":
             revision, limit = map(int, values["packet_timeout_height"].split("-"))
             if revision > dest_revision or (revision, limit) == (0, 0):
@@ -483,7 +487,7 @@ def revision_of(state):
 
 def script_of(setup, folder, verified=False):
     """The script of a setup's text and of the answers, as TOML's values, its times in nanoseconds."""
-    script = tomllib.loads(setup) | {"version": 3}
+    script = tomllib.loads(setup) | {"version": 4}
     records, by_chain = [], {}
     for client in script.get("client", []):
         states = answers_in(folder / client["id"])
@@ -491,7 +495,6 @@ def script_of(setup, folder, verified=False):
         client.setdefault("period_ns", duration(given["trusting_period"]))
         client.setdefault("drift_ns", duration(given["max_clock_drift"]))
         client.setdefault("trust", [int(given["trust_level"][k]) for k in ("numerator", "denominator")])
-        client.setdefault("refresh_ns", 0)
         revision = int(client["of"].rsplit("-", 1)[1])
         stored = [s for a in states for s in a.get("consensus_states", []) if revision_of(s) >= revision]
         records += [(client, state) for state in sorted({height_of(state): state for state in stored}.values(), key=height_of)]
@@ -512,7 +515,7 @@ def script_of(setup, folder, verified=False):
                        "time": nanoseconds(inner["timestamp"]), "root": root_of(base64.b64decode(inner["root"]["hash"])),
                        "next": references[client["of"]].get(following, following)})
     for path in script.get("path", []):
-        events += packet_events(folder, path)
+        events += packet_events(folder, path, chains)
         path.setdefault("first", 1)
         path.setdefault("wait_ns", NO_WAITS)
         path["first"] = min(pending_of(folder, path) or [path["first"]])

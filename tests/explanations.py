@@ -147,8 +147,8 @@ def shapes(output):
 
 def expected_shapes(value):
     """The same, by the second planner."""
-    clients = [(turn["turn"], client) for turn in value["turns"] for client in turn["clients"]]
-    found = {"panels": [f"turn {number}, client {client['id']}: {explain.heading(client)}" for number, client in clients]}
+    clients, joins = [(turn["turn"], client) for turn in value["turns"] for client in turn["clients"]], value["ibcplan"] == reference.JOINING
+    found = {"panels": [f"turn {number}, client {client['id']}: {explain.heading(client, joins)}" for number, client in clients]}
     found |= {"updates": 0, "refused": 0, "others": 0, "within": True, "described": []}
     for number, client in clients:
         steps, direct = client.get("steps", []), client.get("direct")
@@ -158,7 +158,7 @@ def expected_shapes(value):
             found["refused" if direct["answer"] != "Success" else "others"] += 1
             found["others"] += min(len(client["bisection"]["updates"]), MOST_OTHERS) if client["bisection"] else 0
         alone = {"turn": number, "window_back": False, "refused": [], "clients": [client], "settlements": []}
-        found["described"].append(explain.text_of({"turns": [alone]}))
+        found["described"].append(explain.text_of({"ibcplan": value["ibcplan"], "turns": [alone]}))
     return found
 
 
@@ -179,7 +179,7 @@ def picture_cases():
 
 
 def random_texts(count, seed):
-    """Random scripts that are read, of versions 1 and 3."""
+    """Random scripts that are read, of versions 1, 3 and 4."""
     file = str(TOP / "tests" / "random")
     loader = importlib.machinery.SourceFileLoader("random_scripts", file)
     made = importlib.util.module_from_spec(importlib.util.spec_from_loader("random_scripts", loader))
@@ -188,6 +188,7 @@ def random_texts(count, seed):
     for number in range(count):
         text = made.some_waiting_script(chance) if number % 3 == 0 else made.some_script(chance, number % 3 == 1)
         text = made.in_version_three(chance, text) if number % 2 and "version = 1" in text else text
+        text = made.in_version_four(chance, text) if number % 4 == 3 and "version = 3" in text else text
         try:
             yield number, text.encode(), reference.read_script(text.encode())
         except reference.Fault:

@@ -298,13 +298,13 @@ def failure_runs(program, folder):
         done = subprocess.run([*program, "follow", str(path)], input=ended(documents), stdout=full, stderr=subprocess.PIPE, timeout=PATIENCE)
     wrong += check("a full device", (done.stderr.splitlines()[:1], done.returncode), ([b"device"], 4))
     window = b'from = "2025-03-01T12:00:00Z"\nuntil = "2025-03-01T12:00:00Z"\n'
-    for version, most in (1, 500), (3, 10_000):
+    for version, most in (1, 500), (3, 10_000), (4, 10_000):
         bad.write_bytes(b"version = %d\n" % version)
         done = run_in_pieces([*program, "follow", str(bad)], ended([window] * (most + 1)), 4096)
         turns = "".join(f"turn {number}\n{MARK}" for number in range(1, most + 1))
         wanted = f"ibcplan {version}\n{turns}fault 1017 TooManyObjects at -\n{MARK}end\n"
         wrong += check(f"{most + 1} turns in version {version}", (done.output, done.status, "begin anew" in done.error), (wanted, 0, True))
-    return 7, wrong
+    return 8, wrong
 
 
 def live_runs(program, folder):

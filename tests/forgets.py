@@ -8,7 +8,7 @@ import subprocess
 import sys
 import threading
 
-from follows import MARK, TOP, answers_of, check, ended, run_in_pieces
+from follows import MARK, TOP, answers_of, check, ended, followed, run_in_pieces
 from schema import read_json
 
 CHAINS = """version = %d
@@ -101,11 +101,16 @@ def check_told(what, done, wanted):
     return check(what, (done.output[begun:], done.error, done.status), (wanted[begun:], "", 0))
 
 
+def unrefreshed(version):
+    """A client's key so that it is never refreshed, in a version in which it is otherwise."""
+    return "refresh_ns = 0\n" if version == 4 else ""
+
+
 # ---- heights that expire
 
 def expiring_setup(version, has_dead_client):
     names = ["living", "dead"] if has_dead_client else ["living"]
-    return CHAINS % version + "".join(CLIENT % (name, "hub", "zone", 1000) for name in names)
+    return CHAINS % version + "".join(CLIENT % (name, "hub", "zone", 1000) + unrefreshed(version) for name in names)
 
 
 def expiring_turns(has_dead_client):
@@ -139,10 +144,10 @@ def height_runs(program, folder):
     )
     events = [a_set("zone", "late", f', ["{"a1" * 32}", 1]'), header("zone", 491, "early", "late", "CC")]
     last = turn_at(491, events, 'goal = [{ client = "living", at_least = 491 }]\n')
-    cases = ((3, False, ()), (3, False, ("--workers", "2")), (1, False, ()), (2, False, ()), (3, True, ()))
+    cases = ((3, False, ()), (3, False, ("--workers", "2")), (4, False, ()), (1, False, ()), (2, False, ()), (3, True, ()))
     for version, has_dead_client, words in cases:
         setup, turns = expiring_setup(version, has_dead_client), list(expiring_turns(has_dead_client))
-        forgets = version == 3 and not has_dead_client
+        forgets = version >= 3 and not has_dead_client
         accepted = [*turns, last] if forgets else [*turns, *(document for document, _ in late[:2]), last]
         head, answers, end = planned(program, setup, accepted)
         given = [*turns, *(document for document, _ in late), last] if forgets else accepted
@@ -221,6 +226,68 @@ def needed_runs(program, folder):
     return 10, wrong
 
 
+# ---- version 4: a halted host keeps what its clients have stored
+
+HALTED = {**dict.fromkeys(range(20, 25), 195), **dict.fromkeys(range(57, 65), 562)}  # by turn, the height in whose second the host's window stays
+BACK = 30  # the turn that gives the host a window before the one it has
+WINDOW_TURNS, FREED = 72, 65  # turns; the turn in which the host goes on
+STILL = 490  # a height that only the halted host's client needs
+
+
+def window_setup(order):
+    clients = ("on-zone", "zone", "hub"), ("on-hub", "hub", "zone")
+    return CHAINS % 4 + "".join(CLIENT % (*client, 1000) for client in clients) + PATH % (order, FIRST) + "wait_ns = [40_000_000_000, 60_000_000_000, 0]\n"
+
+
+def told_packets(order, turn):
+    """Two packets that a turn sends, and the outcomes of those of three turns before. Times of their blocks are told, of each fourth that of a block some
+    way above, later than the lowest header that proves it. On an UNORDERED path each fifth expires."""
+    block = 10 * turn - 6
+    for sequence in (FIRST + 2 * turn - 2, FIRST + 2 * turn - 1):
+        expiry = f', timeout_time = "{time_of(block + 25)}"' if order == "unordered" and sequence % 5 == 0 else ""
+        yield packet("sent", sequence, f', height = {block}, time = "{time_of(block + 5 * (sequence % 4 == 0))}"{expiry}')
+    for sequence in (FIRST + 2 * turn - 8, FIRST + 2 * turn - 7):
+        if sequence >= FIRST and (order == "ordered" or sequence % 5):
+            yield packet("received", sequence, f", height = {block}")
+            yield packet("ack", sequence, f', height = {block + 1}, time = "{time_of(block + 1)}"')
+
+
+def window_turns(order):
+    """Turns with ten headers of both chains each, of which clients trust a hundred. One host has windows of its own: it halts twice, once while the chains
+    forget; its window goes back once, which is refused. Clients are refreshed by gain and take what messages want; most batches are taken whole."""
+    for turn in range(1, WINDOW_TURNS + 1):
+        events = [a_set("hub", "only"), a_set("zone", "only")] if turn == 1 else []
+        events += [header(chain, height) for height in range(10 * turn - 9, 10 * turn + 1) for chain in ("hub", "zone")]
+        events += [stored("on-zone", 10), stored("on-hub", 10)] if turn == 1 else []
+        events += told_packets(order, turn)
+        events += [header("hub", STILL)] if turn == FREED else []
+        ends = time_of(HALTED.get(turn, 10 * turn) - 100 * (turn == BACK))
+        keys = f'window = [{{ host = "zone", from = "{ends}", until = "{ends}" }}]\n' if turn >= min(HALTED) else ""
+        keys += f'goal = [{{ client = "on-zone", at_least = {10 * turn - 2} }}]\n' if turn % 7 == 0 else ""
+        keys += "taken = true\n" if turn % 11 else ""
+        yield turn_at(10 * turn, events, keys)
+
+
+def window_runs(program, folder):
+    """Windows of hosts, and times of blocks: `follow` writes what `plan` does, and so does the reference planner. The client of a halted host keeps what is
+    live in its own window; of the other chain more was forgotten by then."""
+    path, wrong = folder / "setup.toml", 0
+    cases = ("unordered", ()), ("ordered", ()), ("unordered", ("--workers", "2"))
+    for order, words in cases:
+        what, setup, turns = f"windows of hosts {order, words}", window_setup(order), list(window_turns(order))
+        head, answers, end = planned(program, setup, turns)
+        wrong += check(f"{what}: a window that goes back, by `plan`", [place for place, answer in enumerate(answers, 1) if "WindowBack" in answer], [BACK])
+        late = turn_at(10 * WINDOW_TURNS, [header("hub", 2)])
+        wrong += check_told(what, told(program, path, setup, [*turns, late], words), head + "".join(answers) + FORGOTTEN % 0 + end)
+        early = [*turns[:FREED], turn_at(10 * FREED, [header("zone", STILL)])]
+        wrong += check_told(f"{what}: the other chain", told(program, path, setup, early, words), head + "".join(answers[:FREED]) + FORGOTTEN % 0 + end)
+        if not words:
+            reference = [sys.executable, str(TOP / "tests" / "reference" / "reference.py"), "plan", "-"]
+            done = subprocess.run(reference, input=script_of(setup, turns), stdout=subprocess.PIPE, check=True)
+            wrong += check(f"{what}: by the reference planner", followed(done.stdout.decode()), head + "".join(answers) + end)
+    return 3 * len(cases) + 2, wrong
+
+
 # ---- more heights, and more validator sets, than a light store holds
 
 def long_header(height, has_sets):
@@ -286,7 +353,8 @@ def expires(order, sequence):
 
 
 def packet_setup(version, order):
-    return CHAINS % version + CLIENT % ("on-zone", "zone", "hub", 1000) + CLIENT % ("on-hub", "hub", "zone", 1000) + PATH % (order, FIRST)
+    clients = ("on-zone", "zone", "hub"), ("on-hub", "hub", "zone")
+    return CHAINS % version + "".join(CLIENT % (*client, 1000) + unrefreshed(version) for client in clients) + PATH % (order, FIRST)
 
 
 def sequences_of(turn):
@@ -323,7 +391,7 @@ def packet_turns(version, order):
             events += outcomes(order, turn)
         events += [sent(order, turn, sequence) for sequence in sequences_of(turn)]
         settled = ", ".join(f'{{ client = "{client}", batch = {turn}, done = 1 }}' for client in ("on-zone", "on-hub"))
-        yield turn_at(10 * turn, events, "taken = true\n" if version == 3 else f"settle = [{settled}]\n")
+        yield turn_at(10 * turn, events, "taken = true\n" if version >= 3 else f"settle = [{settled}]\n")
 
 
 def shifted(answer, turns, batches):
@@ -380,14 +448,14 @@ def packet_runs(program, folder):
     """More packets of a path than it holds, all of which are over a turn later: `follow` goes on where `plan` says Full, and refuses events of packets
     that went. In version 2 it does as `plan`."""
     path, late, (last, answer), wrong = folder / "setup.toml", list(late_packets()), last_packets(), 0
-    cases = (3, "unordered", ()), (3, "ordered", ()), (3, "unordered", ("--workers", "2")), (2, "unordered", ())
+    cases = (3, "unordered", ()), (3, "ordered", ()), (3, "unordered", ("--workers", "2")), (4, "unordered", ()), (4, "ordered", ()), (2, "unordered", ())
     for version, order, words in cases:
         what, setup, turns = f"{PACKET_TURNS * SENDS} packets {version, order, words}", packet_setup(version, order), list(packet_turns(version, order))
         given = [*turns, *(document for document, _ in late), last]
         head, answers, end = planned(program, setup, given)
         full = first_full(answers)
         wrong += check(f"{what}: where `plan` says Full", full, 4096 // SENDS)
-        if version == 3:
+        if version >= 3:
             wrong += check(f"{what}: turns that are alike", free_answers(order, answers[:full - 6], full), answers[:full])
             answers = [*free_answers(order, answers[:full], PACKET_TURNS), *(FORGOTTEN % place for _, place in late), answer]
         wrong += check_told(what, told(program, path, setup, given, words), head + "".join(answers) + end)
@@ -457,7 +525,7 @@ def forget_runs(program, folder):
     """All runs of what is forgotten: how many there were, and how many weren't as they have to be."""
     signal.signal(signal.SIGPIPE, signal.SIG_IGN)
     runs = wrong = 0
-    for case in (height_runs, needed_runs, store_runs, packet_runs, front_runs, journal_runs):
+    for case in (height_runs, needed_runs, window_runs, store_runs, packet_runs, front_runs, journal_runs):
         more, bad = case(program, folder)
         runs, wrong = runs + more, wrong + bad
     return runs, wrong

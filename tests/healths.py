@@ -28,7 +28,7 @@ def expiries(text):
         stored = relayer.stored[client.id]
         if stored:
             height = max(stored)
-            found.append((client, (height, relayer.books[client.of].times[height] + client.period, relayer.window[1])))
+            found.append((client, (height, relayer.books[client.of].times[height] + client.period, relayer.window_of(client)[1])))
         else:
             found.append((client, None))
     return found

@@ -480,8 +480,8 @@ NOTICES = [
     (0, swapped(SETTING, SETTING + "period_ns = 1\n"), removed(), [EXPIRED % "all 2 stored consensus states have expired at the window's end"]),
     (0, swapped(SETTING, SETTING + "period_ns = 563_000_000_000\n"), removed(), []),  # record 80 is trusted until 12:17:55.8
     # record 80 is trusted to the window's end, and a nanosecond longer
-    (0, swapped(SETTING, SETTING + "period_ns = 57_196_761_877\n"), removed(), [EXPIRED % "all 2 stored consensus states have expired at the window's end"]),
-    (0, swapped(SETTING, SETTING + "period_ns = 57_196_761_878\n"), removed(), []),
+    (0, swapped(SETTING, SETTING + "period_ns = 57_196_761_877\n"), removed(), [EXPIRED % "all 2 stored consensus states have expired at the window's end", FRESH]),
+    (0, swapped(SETTING, SETTING + "period_ns = 57_196_761_878\n"), removed(), [FRESH]),
     (0, swapped(SETTING, SETTING + "period_ns = 1\n"), edited(STORED_FILE, gone("consensus_states[0]")), [EXPIRED % "its stored consensus state has expired at the window's end"]),
     (0, str, NO_RECORD, [EXPIRED % "it has stored no consensus state", LATEST % 80]),
     (0, swapped(FROM, "12:08:32Z"), removed(), [FUTURE % (80, 1)]),

@@ -11,8 +11,9 @@ import signal
 import subprocess
 import tempfile
 import time
+import tomllib
 
-from follows import EXAMPLES, MARK, PATIENCE, TOP, answers_of, check, ended, followed, parts_of, run_in_pieces, scripts
+from follows import EXAMPLES, MARK, PATIENCE, TOP, answers_of, check, ended, followed, parts_of, run_in_pieces, scripts, value_text
 
 END = b"# ---\n"
 
@@ -283,6 +284,59 @@ def refusal_runs(program, folder):
     return 17, wrong
 
 
+LONGEST = 1 << 24  # bytes of a text
+
+
+def short_text(value):
+    """A value in TOML, without a space."""
+    if isinstance(value, dict):
+        return "{%s}" % ",".join(f"{key}={short_text(item)}" for key, item in value.items())
+    return "[%s]" % ",".join(map(short_text, value)) if isinstance(value, list) else value_text(value)
+
+
+def long_turn(document):
+    """The turn as short as it goes, which is longer printed anew, with a zone in brackets behind its first time, which changes nothing, so that
+    it is a longest text."""
+    lines = "".join(f"{key}={short_text(value)}\n" for key, value in tomllib.loads(document.decode()).items())
+    text = b"# one\r\n\n# ---\n# |\n" + lines.encode()
+    return text.replace(b'Z"', b"Z[" + b"A" * (LONGEST - len(text) - 2) + b']"', 1)
+
+
+def long_runs(program, folder):
+    """Turns whose texts are longest: below `[[turn]]` a script has no room for them. They are answered and stored, and so are the turns behind."""
+    two, wrong, runs = Two(folder), 0, 0
+    for number, digests in (1, True), (3, True), (0, False):
+        documents = list(two.documents)
+        documents[number] = long_turn(documents[number])
+        two.journal.unlink(missing_ok=True)
+        if not digests:
+            run_in_pieces(words_of(program, two.setup, two.journal), b"", 4096)
+            begun = re.sub(rb"# [0-9a-f]{64}\n", b"", two.journal.read_bytes()).replace(b"# ibcplan journal 2\n", b"# ibcplan journal\n")
+            two.journal.write_bytes(begun)
+        done = run_in_pieces(words_of(program, two.setup, two.journal), ended(documents), 1 << 16)
+        wrong += check(f"a longest turn {number + 1}", (done.output, done.error, done.status), (followed(two.report), "", 0))
+        whole = two.journal.read_bytes()
+        lines = b"|" + documents[number].replace(b"\n", b"\n|") + b"\n"
+        wrong += check("its part has its lines behind bars", (ending(lines) if digests else lines + END) in whole, True)
+        again = run_in_pieces(words_of(program, None, two.journal), b"", 4096)
+        wrong += check("gone on from it", (again.output, again.status, two.journal.read_bytes() == whole), (followed(two.report), 0, True))
+        refused = planned(program, two.journal)
+        wrong += check("no script has it", (refused.stdout, refused.stderr.splitlines()[:1], refused.returncode), ("", ["fault 1030 InputTooBig at -"], 1))
+        start = whole.find(b"# ---\n|# one") + len(END)
+        two.journal.write_bytes(whole[:start + LONGEST // 2])
+        cut = run_in_pieces(words_of(program, None, two.journal), ended(documents[number:]), 1 << 16)
+        wrong += check("cut within it", (cut.output, "left out" in cut.error, cut.status), (followed(two.report), True, 0))
+        runs += 5
+        if digests:
+            flipped = bytearray(whole)
+            flipped[start + LONGEST // 2] ^= 1
+            two.journal.write_bytes(flipped)
+            found = run_in_pieces(words_of(program, None, two.journal), b"", 4096)
+            wrong += check("a bit of it flipped", (found.output, f"part at byte {start} " in found.error, found.status), ("", True, 2))
+            runs += 1
+    return runs, wrong
+
+
 def gone_runs(program, folder):
     """A reader that is gone: the turn is in the journal, and its answer comes first then."""
     two, wrong = Two(folder), 0
@@ -316,7 +370,7 @@ def journal_runs(program, folder):
     """All runs with a journal: how many there were, and how many weren't as they have to be."""
     signal.signal(signal.SIGPIPE, signal.SIG_IGN)
     runs = wrong = 0
-    for case in refusal_runs, gone_runs, full_runs, whole_runs, cut_runs, flip_runs, plain_runs, kill_runs, write_runs, client_runs:
+    for case in refusal_runs, long_runs, gone_runs, full_runs, whole_runs, cut_runs, flip_runs, plain_runs, kill_runs, write_runs, client_runs:
         more, bad = case(program, folder)
         runs, wrong = runs + more, wrong + bad
     return runs, wrong

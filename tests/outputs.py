@@ -55,14 +55,16 @@ def addresses_of(text):
 def value_of(script, report, addresses=()):
     """The value that the report of a script is as JSON, with the addresses of the votes that its updates carry."""
     addresses = iter(addresses)
-    turns, settlements = [], []
+    turns, settlements, joins = [], [], report.startswith("ibcplan 4\n")
     for line in report.splitlines()[1:-1]:
         kind, *words = line.split()
         if kind == "turn":
             settlements = script["turn"][len(turns)].get("settle", [])
-            turns.append({"window_back": False, "refused": [], "clients": [], "settlements": []})
+            turns.append({"window_back": False, "refused": [], "clients": [], "settlements": []} | ({"windows_back": []} if joins else {}))
         elif kind == "refused" and words[0] == "event":
             turns[-1]["refused"].append({"event": int(words[1]), "number": int(words[2]), "name": words[3]})
+        elif kind == "refused" and words[0] == "window" and len(words) == 4:  # with a host
+            turns[-1]["windows_back"].append(words[1])
         elif kind == "refused" and words[0] == "window":
             turns[-1]["window_back"] = True
         elif kind == "settled":
@@ -76,7 +78,11 @@ def value_of(script, report, addresses=()):
                 client |= {"outcome": "unreachable", "goal": {words[2]: int(words[3])}, "labels": []}
             elif words[1] == "held":
                 client["batch"] = int(words[2])
+            if joins and words[1] != "held":
+                client["left_out"] = []
             turns[-1]["clients"].append(client)
+        elif kind == "beyond":
+            client["beyond"] = {words[0]: int(words[1])}
         elif kind in KEYS:
             key, names = KEYS[kind]
             words, votes = (words[:5], words[5:]) if kind == "update" else (words, [])
@@ -92,6 +98,8 @@ def value_of(script, report, addresses=()):
             client |= {"outcome": "plan", "total": {"fee": fee, "updates": count}, "messages": []}
         elif kind in MESSAGES:
             client["messages"].append({"kind": kind, "path": words[0], "sequence": int(words[1])})
+        elif kind == "toobig" and len(words) == 3:
+            client["left_out"].append({"kind": words[0], "path": words[1], "sequence": int(words[2])})
         elif kind == "toobig":
             client["too_big"] = int(words[0])
         elif kind == "batch":
@@ -114,12 +122,16 @@ def word(identifier):
 
 def commands_of(script, value, wanted=None):
     """The commands for a report's value, of all turns or of one by its number."""
-    hosts, lines, window = {client["id"]: client["host"] for client in script.get("client", [])}, [], None
+    hosts, lines, window, windows = {client["id"]: client["host"] for client in script.get("client", [])}, [], None, {}
     for number, (turn, given) in enumerate(zip(value["turns"], script.get("turn", [])), 1):
         window = window if turn["window_back"] else given  # the one in force
+        windows |= {own["host"]: own for own in given.get("window", []) if own["host"] not in turn["windows_back"]}
         if wanted not in (None, number):
             continue
         lines.append(f"# turn {number}: valid from {window['from']} until {window['until']}")
+        own = [chain["id"] for chain in script.get("chain", []) if chain["id"] in windows]
+        lines += [f"# turn {number} host {host}: valid from {windows[host]['from']} until {windows[host]['until']}" for host in own]
+        lines += [f"# turn {number}: refused window {host} 806 WindowBack" for host in turn.get("windows_back", [])]
         lines += [f"# turn {number}: refused window 806 WindowBack"] if turn["window_back"] else []
         lines += [f"# turn {number}: refused event {r['event']} {r['number']} {r['name']}" for r in turn["refused"]]
         for client in turn["clients"]:

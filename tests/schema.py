@@ -86,10 +86,10 @@ def validator_runs() -> tuple[int, int]:
 # ---- values with a flaw
 
 OUTCOMES = ["held", "idle", "unreachable", "plan"]
-ALONE = {"next", "too_big", "vote", "with_height"}  # an object that lacks one of these may be another good one
+ALONE = {"next", "too_big", "vote", "with_height", "windows_back", "left_out", "beyond", "refresh", "stays"}  # an object that lacks one of these may be another good one
 FROM_ONE = {"height", "trusted", "at_least", "exactly", "sequence", "proof", "batch", "proved_from"}
 NAMES = {"id", "client", "chain"}
-WORDS = {"kind", "name", "answer", "reason"}
+WORDS = {"kind", "name", "answer", "reason", "stays"}
 TIMES = {"expires", "next"}
 OTHER_TYPES: dict[type, Callable[[object], list[object]]] = {
     bool: lambda part: [str(part).lower(), 1, None],
@@ -143,8 +143,10 @@ def other_texts(key: str | int, part: str) -> Iterator[object]:
         yield from (f"{part}s", part.swapcase())
     if key in TIMES:
         yield from (part.removesuffix("Z"), part.replace("T", " "), part.replace("Z", "+00:00"), part.replace("Z", ".0Z"))
-    if isinstance(key, int):  # the address of a vote
+    if isinstance(key, int) and len(part) == 40:  # the address of a vote
         yield from (part[1:], f"{part}0", f"g{part[1:]}")
+    elif isinstance(key, int):  # a host
+        yield from ("a b", "a" * 65, "\u00e9")
 
 
 def others(place: Place, part: object) -> Iterator[object]:
@@ -158,7 +160,7 @@ def others(place: Place, part: object) -> Iterator[object]:
     elif isinstance(part, str):
         yield from other_texts(key, part)
     elif isinstance(part, int) and key == "ibcplan":
-        yield from (0, 2, 4)
+        yield from (0, 2, 5)
     elif isinstance(part, int) and key in FROM_ONE:
         yield from (0, 2**63)
 

@@ -40,8 +40,8 @@ def get(path, file, chain="hub-4"):
     return f"get {chain} {path} {file}\n"
 
 
-def commit(height):
-    return get(f"/commit?height={height}", f"hub-4/commit-{height}.json")
+def commit(height, chain="hub-4"):
+    return get(f"/commit?height={height}", f"{chain}/commit-{height}.json", chain)
 
 
 def validators(height, page=1, size=100):
@@ -176,7 +176,7 @@ class OnceCase(Case):
 
 def want_path_cases(top):
     """What is asked for of a path, whose clients have what they need: its commitments, which of these packets weren't received and which acknowledgements were
-    written; and the transactions that sent, received and acknowledged them."""
+    written; the transactions that sent, received and acknowledged them; and, where messages may wait, the headers of the blocks since which they do."""
     hub, zone = LongChain("hub-4", "quiet", 100, 6), LongChain("zone-1", "quiet", 100, 6)
     goals = f'client = "{CLIENT}", exactly = 52 }}, {{ client = "{BACK}", exactly = 52'
     turn = setup_of(hub, "").removeprefix(HEAD) + f"goal = [{{ {goals} }}]\n"
@@ -184,6 +184,14 @@ def want_path_cases(top):
     sent, received = ("".join(done(what, sequence) for sequence in sequences) for what, sequences in (("sent", PACKETS), ("received", (5, 7, 6))))
     many = {sequence: (60, 0, 0) for sequence in range(1, 102)}
     both = parts(range(1, 101)) + parts([101], 2)
+    # packets of which some may wait: those with an even sequence have a timeout height
+    waiting = {5: (60, 70, 70), 8: (61, 0, 0), 7: (62, 71, 75), 9: (64, 0, 0), 11: (64, 0, 0), 13: (65, 0, 0)}
+    seen = commitments() + parts(waiting) + "".join(done("sent", sequence) for sequence in waiting)
+    whole = seen + done("received", 5) + done("received", 7) + done("written", 7)
+    sent_blocks, written_blocks = commit(64) + commit(65), commit(70, "zone-1") + commit(75, "zone-1")
+
+    def waits(*times):
+        return lambda text: text.replace("gas = [5, 5, 5]", f"gas = [5, 5, 5]\nwait_ns = {list(times)}")
     for number, (packets, page, edit, there, wanted, told) in enumerate((
         (PACKETS, 1000, str, "", commitments(), b""),
         (PACKETS, 2, str, commitments(), second, b""),
@@ -198,6 +206,13 @@ def want_path_cases(top):
         (many, 1000, str, commitments(), both + "".join(done("sent", sequence) for sequence in range(1, 31)), b""),
         (many, 1000, str, commitments() + both + "".join(done("sent", sequence) for sequence in range(1, 101)), done("sent", 101), b""),
         (PACKETS, 1000, lambda text: text.replace('counterparty_port = "transfer"\ncounterparty_channel = "channel-7"\n', ""), "", "", b""),
+        (waiting, 1000, waits(0, 0, 9), whole, "", b""),
+        (waiting, 1000, waits(9, 0, 0), whole, sent_blocks, b""),
+        (waiting, 1000, waits(0, 9, 0), whole, written_blocks, b""),
+        (waiting, 1000, waits(9, 9, 0), whole, written_blocks + sent_blocks, b""),
+        (waiting, 1000, waits(9, 9, 0), seen, done("received", 5) + done("received", 7) + sent_blocks, b""),
+        (waiting, 1000, lambda text: waits(9, 9, 0)(text).replace("gas = [5, 5, 5]", "gas = [5, 5, 5]\nfirst = 10"), whole, sent_blocks, b""),
+        (waiting, 1000, waits(9, 9, 0), whole + commit(64) + commit(75, "zone-1"), commit(70, "zone-1") + commit(65), b""),
     )):
         folder, setup = top / f"want-path-{number}", top / f"want-path-{number}.toml"
         setup.write_text(edit(HEAD + PATH + turn))
@@ -207,10 +222,14 @@ def want_path_cases(top):
             answers.write(folder / client / "client_state.json", Host(chain, {client: [52]}).answer(f"{GATEWAY}/client_states/{client}", {})[1])
             answers.write(folder / client / "consensus_states-1.json", Host(chain, {client: [52]}).answer(f"{GATEWAY}/consensus_states/{client}", {})[1])
         for line in there.splitlines():
-            _, _, path, file = line.split()
+            _, chain, path, file = line.split()
             address, _, words = path.partition("?")
             asked = nodes.urllib.parse.parse_qs(words)
-            answers.write(folder / file, (transfers.search(asked["query"][0]) if address == "/tx_search" else transfers.pending(address, asked))[1])
+            if address == "/commit":
+                answer = (hub if chain == "hub-4" else zone).answer(address, asked)
+            else:
+                answer = transfers.search(asked["query"][0]) if address == "/tx_search" else transfers.pending(address, asked)
+            answers.write(folder / file, answer[1])
         yield Case(f"want of a path {number}", ["want", str(setup), str(folder)], b"", wanted.encode(), told, 0)
     few, many_sent = parts(PACKETS).splitlines(True), "".join(done("sent", sequence) for sequence in range(1, 31))
     for number, names, chain, wanted in (
@@ -229,16 +248,16 @@ def want_path_cases(top):
         yield OnceCase(f"want of a path, {refused} refused", ["want", str(top / f"want-path-{number}.toml"), str(folder)], b"", wanted.encode(), told, 0)
 
 
-def packet_flaws(program, folder):
-    """What is wrong with a run of `examples/collect` for a setup with a path, and with `import`, `plan` and `commands` over what it saves: the plan is the
-    second planner's, and the commands name all pending packets that can be proved."""
+def collected_path(program, folder, packets, edit=str):
+    """What is wrong with a run of `examples/collect` for a setup with a path over which these packets go, its text, and the script that `import` makes of what it
+    saves."""
     folder.mkdir()
     hub, zone = LongChain("hub-4", "quiet", 100, 6), LongChain("zone-1", "quiet", 100, 6)
-    hub.transfers = zone.transfers = transfers = nodes.Transfers(PACKETS, 3)
+    hub.transfers = zone.transfers = transfers = nodes.Transfers(packets, 3)
     gateways = {"hub-4": Host(zone, {BACK: [40]}), "zone-1": Host(hub, {CLIENT: [40]})}
     for gateway in gateways.values():
         gateway.transfers = transfers
-    text = HEAD + PATH + setup_of(hub, "").removeprefix(HEAD) + "goal = []\n"
+    text = edit(HEAD + PATH + setup_of(hub, "").removeprefix(HEAD) + "goal = []\n")
     hosts = [host for chain in (hub, zone) for host in (chain, gateways[chain.name])]
     asked = [[] for _ in hosts]
     (folder / "setup.toml").write_text(text)
@@ -250,6 +269,30 @@ def packet_flaws(program, folder):
     flaws = [] if collecting.returncode == 0 else [f"status {collecting.returncode}: {collecting.stderr.decode()}"]
     flaws += [f"twice asked: {path}" for paths in asked for path in {path for path in paths if paths.count(path) > 1}]
     script = subprocess.run([program, "import", folder / "setup.toml", folder / "answers"], capture_output=True).stdout
+    return flaws, text, script
+
+
+def time_flaws(program, folder):
+    """What is wrong with the times of packets that wait, of which `want` asks for the blocks: each has that of its block, but one with a timeout height, which
+    doesn't wait; and none where nothing waits."""
+    folder.mkdir()
+    chain, packets = LongChain("hub-4", "quiet", 100, 6), {5: (60, 70, 70), 8: (61, 0, 0), 7: (62, 71, 75), 9: (64, 0, 0)}
+    found = []
+    for name, waits in ("none", "[0, 0, 9]"), ("both", "[9, 9, 0]"):
+        flaws, _, script = collected_path(program, folder / name, packets, lambda text: text.replace("gas = [5, 5, 5]", f"gas = [5, 5, 5]\nwait_ns = {waits}"))
+        found += [f"{name}: {flaw}" for flaw in flaws]
+        events = answers.with_numbers(tomllib.loads(script.decode()))["turn"][-1]["event"] if script else []
+        times = {(event["kind"], event["seq"]): event["time"] for event in events if event["kind"] in ("sent", "ack") and "time" in event}
+        blocks = {("sent", 9): 64, ("ack", 5): 70, ("ack", 7): 75} if name == "both" else {}
+        wanted = {event: answers.nanoseconds(chain.stamp(height)) for event, height in blocks.items()}
+        found += [] if times == wanted else [f"{name}: other times: {times}"]
+    return found
+
+
+def packet_flaws(program, folder):
+    """What is wrong with a run of `examples/collect` for a setup with a path, and with `import`, `plan` and `commands` over what it saves: the plan is the
+    second planner's, and the commands name all pending packets that can be proved."""
+    flaws, text, script = collected_path(program, folder, PACKETS)
     given = answers.with_numbers(tomllib.loads(script.decode()))
     flaws += [] if given == answers.script_of(text, folder / "answers") else ["import writes another script"]
     report = reference.report(reference.read_script(script)) if script else ""
@@ -368,12 +411,12 @@ def run_collects(program, top, is_told=False):
             print(f"== collect, {name}: {len(asked)} requests, {len(plan[1]) if plan else 'no'} updates", *flaws, sep="\n-- ")
         wrong += bool(flaws)
         shutil.rmtree(folder)
-    for name, flaws_of in ("a height refused", refusal_flaws), ("two clients of one chain", shared_flaws), ("a busy node", busy_flaws), ("packets", packet_flaws):
+    for name, flaws_of in ("a height refused", refusal_flaws), ("two clients of one chain", shared_flaws), ("a busy node", busy_flaws), ("packets", packet_flaws), ("times", time_flaws):
         flaws = flaws_of(program, top / f"collect, {name}")
         if is_told or flaws:
             print(f"== collect, {name}", *flaws, sep="\n-- ")
         wrong += bool(flaws)
-    return len(COLLECTS) + 4, wrong
+    return len(COLLECTS) + 5, wrong
 
 
 if __name__ == "__main__":  # tests/wants.py PROGRAM

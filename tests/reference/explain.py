@@ -83,12 +83,12 @@ def fewest_of(view, goal):
         sums = [after(t, h) for t in trusted if t in labels]
         if sums and h not in labels:
             labels[h] = min(sums)
-    met = [(labels[h], h) for h in labels if reference.wants(goal, h)]
+    met = [(labels[h], view.turn * h) for h in labels if reference.wants(goal, h)]
     if not met:
         return None
-    h, updates = min(met)[1], []
+    h, updates = view.turn * min(met)[1], []
     while h not in view.live:
-        t = min(t for t in view.steps[h] if t in labels and after(t, h) == labels[h])
+        t = min((t for t in view.steps[h] if t in labels and after(t, h) == labels[h]), key=lambda t: view.turn * t)
         updates.insert(0, (t, h))
         h = t
     return list_of(view, updates)
@@ -120,14 +120,43 @@ def owed_to(relayer, client):
                 yield kind, name, seq, floor
 
 
+def stays_of(relayer, client):
+    """Why messages that are owed can't go, by kind, path and sequence."""
+    stays, barred = {}, set()
+    for kind, path, seq, _ in owed_to(relayer, client):
+        if relayer.joins and relayer.is_too_big(client, path, kind):
+            stays[kind, path, seq] = "too_big"
+        elif not relayer.can_go(client, path)(kind, seq):
+            stays[kind, path, seq] = "late"
+        elif (kind, path) in barred:
+            stays[kind, path, seq] = "behind"
+        if (kind, path, seq) in stays and relayer.channels[path].path.order == "ordered":
+            barred.add((kind, path))
+    return stays
+
+
 def waits_of(relayer, client, reach, sent):
-    """Those that aren't sent, with the moment from which on those that are ready wait for no other."""
-    ready = relayer.ready(client, reach)
+    """Those that aren't sent, with the moment from which on those that are ready wait for no other, or why they can't go."""
+    ready, stays = relayer.ready(client, reach), stays_of(relayer, client)
     for message in owed_to(relayer, client):
         kind, path, seq, floor = message
         if (kind, path, seq) not in sent:
             until = max(0, relayer.press(client, message)) if message in ready else None
-            yield {"kind": kind, "path": path, "sequence": seq, "proved_from": floor, "until_ns": until}
+            why = {"stays": stays[kind, path, seq]} if (kind, path, seq) in stays else {}
+            yield {"kind": kind, "path": path, "sequence": seq, "proved_from": floor, "until_ns": until} | why
+
+
+def age_of(relayer, client):
+    """Whether the newest stored state would be refreshed by its age alone; and whether it is urgent, where a client is refreshed by gain."""
+    due, until = relayer.due(client), relayer.window_of(client)[1]
+    urgent = relayer.joins and due is not None and due - client.refresh + client.period - client.period // 3 <= until
+    return due is not None and due <= until or urgent, urgent
+
+
+def refresh_of(relayer, client, view, reach):
+    """The refresh that is needed, or that waits for a newer header, of a live client that is refreshed by gain."""
+    height, (is_aged, is_urgent) = relayer.gain(client, reach), age_of(relayer, client)
+    return {"refresh": {"urgent": is_urgent, "height": height}} if relayer.joins and view.live and (height is not None or is_aged) else {}
 
 
 def idle_reason(relayer, client, view, reach):
@@ -135,17 +164,18 @@ def idle_reason(relayer, client, view, reach):
         return "nothing_live"
     if relayer.ready(client, reach):
         return "messages_wait"
-    if any(owed_to(relayer, client)):
-        return "nothing_proved"
-    due = relayer.due(client)
-    return "nothing_young" if due is not None and due <= relayer.window[1] else "nothing_due"
+    owed = [message[:3] for message in owed_to(relayer, client)]
+    if owed:
+        return "nothing_goes" if all(message in stays_of(relayer, client) for message in owed) else "nothing_proved"
+    return "nothing_young" if age_of(relayer, client)[0] else "nothing_due"
 
 
 def client_value(relayer, client):
     """What is told of a client; its plan is made meanwhile."""
     view = relayer.view(client)
-    view.window = relayer.window
-    is_held, goal = client.id in relayer.open, relayer.goal(client, view)[0]
+    view.window = relayer.window_of(client)
+    asked = relayer.asked.get(client.id)
+    is_held, goal = client.id in relayer.open, relayer.joined(client, view) if relayer.joins else relayer.goal(client, view)[0]
     labels = reference.labels_of(view)
     reach = max(labels, default=None)
     is_reach_told = not is_held and (goal is not None or any(owed_to(relayer, client)))
@@ -154,15 +184,18 @@ def client_value(relayer, client):
         "stored": [{"height": h, "expiry_ns": view.book.records[h][0] + client.period} for h in sorted(relayer.stored[client.id])],
         "charges": list(client.fee), "asked": client.id in relayer.asked, "reach": reach if is_reach_told else None, "waits": [],
     }
+    refresh = refresh_of(relayer, client, view, reach)
     lines = [line.split() for line in relayer.plan(client)]
     sent = {(kind, path, int(seq)) for kind, path, seq in (words for words in lines if words[0] in reference.KINDS)}
     if is_held:
         return value | {"outcome": "held", "batch": int(lines[0][3])}
-    value["waits"] = list(waits_of(relayer, client, reach, sent)) if not is_held else []
+    value = value | {"waits": list(waits_of(relayer, client, reach, sent))} | refresh
     if goal is None:
         found = [words[1] for words in lines if words[0] == "next"]
         return value | {"outcome": "idle", "reason": idle_reason(relayer, client, view, reach)} | ({"next": found[0]} if found else {})
     value["goal"] = {goal[0]: goal[1]}
+    if relayer.joins and asked and goal[1] < asked[1]:
+        value["beyond"] = {asked[0]: asked[1]}
     if ["unreachable"] in lines:
         wanted = next((h for h in sorted(view.book.headers) if reference.wants(goal, h)), None)
         tried = [] if wanted is None else [t for t in itertools.chain(sorted(labels, reverse=True), sorted(set(relayer.stored[client.id]) - view.live, reverse=True)) if t < wanted]
@@ -181,7 +214,7 @@ def client_value(relayer, client):
 def sends_of(lines):
     """What is sent, by a report's lines."""
     for words in lines:
-        if words[0] == "toobig":
+        if words[0] == "toobig" and len(words) == 2:
             return {"too_big": int(words[1])}
         if words[0] == "batch":
             sent = [{"kind": kind, "path": path, "sequence": int(seq)} for kind, path, seq in (other for other in lines if other[0] in reference.KINDS)]
@@ -208,7 +241,12 @@ def refused_value(relayer, event, place, number):
 
 def heard(relayer, turn):
     """Takes in a turn's window, goals and events; whether the window is refused, and the refused events."""
-    window_back, refused = False, []
+    window_back, hosts_back, refused = False, [], []
+    for host, window in turn.windows.items():
+        try:
+            relayer.enter_host(host, *window)
+        except reference.Refused:
+            hosts_back.append(host)
     try:
         relayer.enter(turn.begin, turn.end)
     except reference.Refused:
@@ -219,7 +257,7 @@ def heard(relayer, turn):
             relayer.see(*event)
         except reference.Refused as refusal:
             refused.append(refused_value(relayer, event, place, refusal.args[0]))
-    return {"window_back": window_back, "refused": refused}
+    return {"window_back": window_back} | ({"windows_back": hosts_back} if relayer.joins else {}) | {"refused": refused}
 
 
 def value_of(script):
@@ -330,22 +368,37 @@ def told_list(what, told):
     return f"  {what}: {number}, fee {told['fee']}" + (f" ({route(told['updates'])})" if 0 < number <= 12 else "")
 
 
+STAYS = {"too_big": "over the gas limit alone", "late": "timing out by the end of the window", "behind": "behind one that can't go"}
 IDLE = {
     "messages_wait": "packet messages wait for others to go with them",
     "nothing_proved": "packet messages are owed, and no height that proves one of them can be reached",
+    "nothing_goes": "packet messages are owed, and none of them can go",
     "nothing_young": "a refresh is due, and no header is young enough",
     "nothing_due": "nothing is due",
 }
 
 
-def heading(client):
+def heading(client, joins):
     if client["outcome"] == "held":
         return f"held by batch {client['batch']}"
     if client["outcome"] == "idle":
         dead = "all stored consensus states have expired" if client["stored"] else "no consensus state is stored"
+        if joins and client["reason"] == "nothing_young":
+            return "idle: a refresh waits for a newer header"
         return f"idle: {IDLE.get(client['reason'], dead)}"
     (kind, height), = client["goal"].items()
     return ("at least " if kind == "at_least" else "") + f"height {height} is wanted" + (": unreachable" if client["outcome"] == "unreachable" else "")
+
+
+def needs_lines(client):
+    """What a client goes by in version 4: its host's window, what was asked for out of reach, and its refresh."""
+    yield f"  window: {reference.stamp(client['from_ns'])} to {time_by(client['until_ns'], client['from_ns'])}"
+    for kind, height in client.get("beyond", {}).items():
+        yield f"  asked for: {'at least ' if kind == 'at_least' else ''}height {height}, which is out of reach"
+    if "refresh" in client:
+        height = client["refresh"]["height"]
+        needs = "waits for a newer header" if height is None else f"at least height {height}"
+        yield f"  refresh: {'urgent' if client['refresh']['urgent'] else 'due'}, {needs}"
 
 
 def stored_line(client):
@@ -402,15 +455,23 @@ def unreachable_lines(client):
         yield f"    a header between {client['tried'][0]['trusted']} and {client['wanted']} may help: no known one does"
 
 
-def waiting_lines(client):
+def waiting_lines(client, joins):
     key = lambda m: (m["kind"], m["path"], m["sequence"])
     ready = [m for m in client["waits"] if m["until_ns"] is not None]
-    unproved = [m for m in client["waits"] if m["until_ns"] is None]
+    unproved = [m for m in client["waits"] if m["until_ns"] is None and "stays" not in m]
     if ready:
         until = f"until {time_by(min(m['until_ns'] for m in ready), client['until_ns'])}"
-        yield f"  waits: {messages(map(key, ready))} " + ("for a turn in which no height is asked for" if client["asked"] else until)
+        if joins and "exactly" in client.get("goal", {}):
+            until = "for a turn in which no height is asked for exactly"
+        elif not joins and client["asked"]:
+            until = "for a turn in which no height is asked for"
+        yield f"  waits: {messages(map(key, ready))} {until}"
     if unproved:
         yield f"  waits: {messages(map(key, unproved))} for a height from {min(m['proved_from'] for m in unproved)} on"
+    for why, words in STAYS.items():
+        staying = [key(m) for m in client["waits"] if m.get("stays") == why]
+        if staying:
+            yield f"  stays: {messages(staying)}, {words}"
     if "next" in client:
         yield f"  next: {time_by(moment_of(client['next']), client['until_ns'])}"
 
@@ -455,22 +516,24 @@ def clash(refused):
 
 def text_of(value):
     """What `explain` says."""
-    lines = []
+    lines, joins = [], value["ibcplan"] == reference.JOINING
     for turn in value["turns"]:
         head = f"turn {turn['turn']}"
-        if turn["window_back"]:
-            lines.append(f"{head}: its window is refused, 806 WindowBack: it begins or ends before the one in force, which stays")
+        for whose in [f"the window of {host}" for host in turn.get("windows_back", [])] + ["its window"] * turn["window_back"]:
+            lines.append(f"{head}: {whose} is refused, 806 WindowBack: it begins or ends before the one in force, which stays")
         for refused in turn["refused"]:
             lines.append(f"{head}, event {refused['event']} (from 0): refused, {refused['number']} {refused['name']}: {subject(refused)}; {clash(refused)}")
         for client in turn["clients"]:
-            lines.append(f"{head}, client {client['id']}: {heading(client)}")
+            lines.append(f"{head}, client {client['id']}: {heading(client, joins)}")
+            if joins and client["outcome"] != "held":
+                lines += needs_lines(client)
             if client["outcome"] in ("plan", "unreachable"):
                 lines.append(stored_line(client))
             if client["outcome"] == "plan":
                 lines += plan_lines(client)
             elif client["outcome"] == "unreachable":
                 lines += unreachable_lines(client)
-            lines += waiting_lines(client)
+            lines += waiting_lines(client, joins)
         for refused in turn["settlements"]:
             why = "it was settled before" if refused["name"] == "Repeat" else "it isn't the open one, or has fewer transactions"
             lines.append(f"{head}, settlement {refused['settlement']} (from 0): refused, {refused['number']} {refused['name']}: batch {refused['batch']} of {refused['client']}; {why}")

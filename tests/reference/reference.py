@@ -14,6 +14,8 @@ headers; where more than EXHAUSTIVE heights can be stored, heights are labelled 
 is made, the second is made too, and a difference ends the program with an error.
 
 In scripts of version WAITING and later messages may wait for one another, and a refresh goes as high as can be reached.
+From version JOINING on a client's goal is joined of all that it needs, it is refreshed by gain, messages that can't go are
+left out, hosts may have windows of their own, and of equally cheap lists the one of the higher heights is taken.
 """
 import heapq
 import sys
@@ -24,6 +26,7 @@ from scripts import FAULTS, LAST_MOMENT, Fault, need, read_certificate, read_scr
 
 EXHAUSTIVE = 11
 WAITING = 3
+JOINING = 4
 KINDS = "recv", "ack", "timeout"
 MAX_SETS, MAX_ADDRESSES, MAX_PACKETS = 1024, 65_536, 4096
 NAMES = FAULTS | {
@@ -165,8 +168,9 @@ def sent_votes(book, client, t, h):
 class View:
     """A client in a window: the steps that are accepted at every moment of it, and their fees."""
 
-    def __init__(self, book, client, stored, begin, end):
+    def __init__(self, book, client, stored, begin, end, higher):
         self.book, self.client, self.end = book, client, end
+        self.turn = -1 if higher else 1  # of equally cheap lists that of the higher heights, or of the lower ones
         self.sent = {}  # how many votes are sent for a step
         self.live = {h for h in stored if book.records[h][0] + client.period > end}
         # acceptance can only begin later and end sooner as moments go by, so both ends of the window tell
@@ -223,13 +227,14 @@ def all_lists(view, goal):
         for h in stored:
             labels[h] = min(labels.get(h, (fee, count)), (fee, count))
         if least is None and any(wants(goal, h) for h in stored):
-            least = [(t, h) for h, t in reversed(backwards)]
+            least = [(view.turn * t, view.turn * h) for h, t in reversed(backwards)]
         for h, trusted in view.steps.items():
             if h in stored:
                 continue  # storing a height again stores nothing new: dropping that update gives a list before this one
             for t in trusted:
                 if t in stored:
-                    heapq.heappush(queue, (fee + view.fee(t, h), count + 1, ((h, t),) + backwards, stored | {h}))
+                    step = view.turn * h, view.turn * t
+                    heapq.heappush(queue, (fee + view.fee(t, h), count + 1, (step,) + backwards, stored | {h}))
     return labels, least
 
 
@@ -246,13 +251,14 @@ def labels_of(view):
 def by_labels(view, goal):
     """The same as of all lists by the labels, and a walk back."""
     labels = labels_of(view)
-    reached = [(labels[h], h) for h in labels if wants(goal, h)]
+    reached = [(labels[h], view.turn * h) for h in labels if wants(goal, h)]
     if not reached:
         return labels, None
-    _, h = min(reached)
+    h = view.turn * min(reached)[1]
     updates = []
     while h not in view.live:
-        t = min(t for t in view.steps[h] if t in labels and (labels[t][0] + view.fee(t, h), labels[t][1] + 1) == labels[h])
+        tight = [t for t in view.steps[h] if t in labels and (labels[t][0] + view.fee(t, h), labels[t][1] + 1) == labels[h]]
+        t = min(tight, key=lambda t: view.turn * t)
         updates.insert(0, (t, h))
         h = t
     return labels, updates
@@ -288,15 +294,24 @@ def least_cut(gas, limit):
     return runs, None
 
 
+def least_cut_apart(gas, updates, limit):
+    """The runs of so many updates, and behind them those of the other messages."""
+    front, big = least_cut(gas[:updates], limit)
+    if front is None:
+        return None, big
+    back, big = least_cut(gas[updates:], limit)
+    return (None, updates + big) if back is None else (front + [(updates + first, count) for first, count in back], None)
+
+
 # ---- packets
 
 
 class Packet:
     """A packet as it was sent, where it was seen, and what of its messages was taken."""
 
-    def __init__(self, block, timeout_height, timeout_time):
-        self.block, self.timeout_height, self.timeout_time = block, timeout_height, timeout_time
-        self.received = self.written = None
+    def __init__(self, block, time, timeout_height, timeout_time):
+        self.block, self.time, self.timeout_height, self.timeout_time = block, time, timeout_height, timeout_time
+        self.received = self.written = self.written_time = None
         self.seen_cleared = self.receive_settled = self.end_settled = False
 
     def is_finished(self):
@@ -321,14 +336,14 @@ class Channel:
     def __init__(self, path):
         self.path, self.packets, self.closed = path, {}, False
 
-    def sent(self, seq, block, timeout_height, timeout_time):
+    def sent(self, seq, block, time, timeout_height, timeout_time):
         if seq < self.path.first:
             raise Refused(805)
         if seq in self.packets:
             raise Refused(804)
         if len(self.packets) >= MAX_PACKETS:
             raise Refused(406)
-        self.packets[seq] = Packet(block, timeout_height, timeout_time)
+        self.packets[seq] = Packet(block, time, timeout_height, timeout_time)
 
     def known(self, seq):
         if seq not in self.packets:
@@ -343,13 +358,13 @@ class Channel:
             raise Refused(804)
         packet.received = block
 
-    def ack(self, seq, block):
+    def ack(self, seq, block, time):
         packet = self.known(seq)
         if packet.received is None or block < packet.received:
             raise Refused(805)
         if packet.written is not None:
             raise Refused(804)
-        packet.written = block
+        packet.written, packet.written_time = block, time
 
     def cleared(self, seq):
         packet = self.known(seq)
@@ -405,10 +420,16 @@ class Channel:
             table["timeout"] = {first: table["timeout"][first]} if first in table["timeout"] else {}
         return [(kind, seq, table[kind][seq]) for kind in KINDS for seq in sorted(table[kind])]
 
-    def ready(self, times, reach):
-        """The owed messages that a greatest labelled height lets go out; in a run of an ordered path none after one that has to wait."""
-        found, waiting = [], set()
+    def ready(self, times, reach, can):
+        """The owed messages that can go and that a greatest labelled height lets go out; in a run of an ordered path none after one
+        that has to wait or can't go."""
+        found, waiting, barred = [], set(), set()
         for kind, seq, floor in self.owed(times):
+            if not can(kind, seq):
+                barred.add(kind)
+                continue
+            if self.path.order == "ordered" and kind in barred:
+                continue
             if reach is None or floor > reach:
                 waiting.add(kind)
             elif self.path.order == "unordered" or kind not in waiting:
@@ -443,7 +464,8 @@ class Relayer:
         self.books = {chain: Book(script.limit) for chain in script.chains}
         self.stored = {client: set() for client in script.clients}
         self.channels = {name: Channel(path) for name, path in script.paths.items()}
-        self.window, self.asked = None, {}
+        self.window, self.windows, self.asked = None, {}, {}  # the common window, and those of hosts
+        self.joins = script.version >= JOINING
         self.batches = {client: 0 for client in script.clients}  # how many were opened
         self.open = {}  # the open batch of a client
 
@@ -453,6 +475,16 @@ class Relayer:
         if self.window and (begin < self.window[0] or end < self.window[1]):
             raise Refused(806)
         self.window = begin, end
+
+    def enter_host(self, host, begin, end):
+        """A window of the clients on a host."""
+        before = self.windows.get(host, self.window)
+        if before and any(client.host == host for client in self.script.clients.values()) and (begin < before[0] or end < before[1]):
+            raise Refused(806)
+        self.windows[host] = begin, end
+
+    def window_of(self, client):
+        return self.windows.get(client.host, self.window)
 
     def see(self, kind, name, *rest):
         if kind == "set":
@@ -484,13 +516,37 @@ class Relayer:
     # what is planned
 
     def view(self, client):
-        return View(self.books[client.of], client, self.stored[client.id], *self.window)
+        return View(self.books[client.of], client, self.stored[client.id], *self.window_of(client), self.joins)
+
+    def is_too_big(self, client, name, kind):
+        """Whether a message is over the gas limit alone."""
+        most_gas, _, own = client.limits
+        return self.channels[name].path.gas[KINDS.index(kind)] + own > most_gas
+
+    def can_go(self, client, name):
+        """Which messages of a path can go: by kind and sequence."""
+        def can(kind, seq):
+            late = self.channels[name].packets[seq].timeout_time
+            is_late = kind == "recv" and late and late <= self.window_of(client)[1]
+            return not self.joins or not (self.is_too_big(client, name, kind) or is_late)
+
+        return can
+
+    def too_big(self, client):
+        """The lines of the messages that are left out since they are over the gas limit alone."""
+        lines = []
+        for name, channel in self.channels.items():
+            for kind, seq, _ in channel.owed(self.books[channel.path.dest].times):
+                if (channel.path.forward if kind == "recv" else channel.path.back) == client.id:
+                    if self.joins and self.is_too_big(client, name, kind):
+                        lines.append(f"toobig {kind} {name} {seq}")
+        return lines
 
     def ready(self, client, reach):
         """The client's ready messages, path by path: kind, path, sequence and floor."""
         found = []
         for name, channel in self.channels.items():
-            for kind, seq, floor in channel.ready(self.books[channel.path.dest].times, reach):
+            for kind, seq, floor in channel.ready(self.books[channel.path.dest].times, reach, self.can_go(client, name)):
                 if (channel.path.forward if kind == "recv" else channel.path.back) == client.id:
                     found.append((kind, name, seq, floor))
         return found
@@ -499,6 +555,27 @@ class Relayer:
         """The time at which the client's newest record is due for a refresh, if it ever is, once some updates are taken."""
         heights = self.stored[client.id] | {h for _, h in updates}
         return self.books[client.of].times[max(heights)] + client.refresh if client.refresh and heights else None
+
+    @staticmethod
+    def urgent_gain(client):
+        """An urgent refresh makes the client newer by more than this."""
+        return min(client.refresh, client.period) // 100
+
+    def gain(self, client, reach):
+        """The height that a refresh by gain has to reach, if one is needed: where the newest record has the refresh age, and the greatest in
+        reach is newer by more than half of it, the lowest that is newer by the whole of it, or that greatest one, and no more than that age
+        older than this; from two thirds of the trusting period on the greatest in reach, if it is newer by more than a hundredth."""
+        times = self.books[client.of].times
+        if not client.refresh or not self.stored[client.id] or reach is None:
+            return None
+        newest, until = times[max(self.stored[client.id])], self.window_of(client)[1]
+        if newest + client.period - client.period // 3 <= until:
+            needed = times[reach] if newest + self.urgent_gain(client) < times[reach] else None
+        elif newest + client.refresh <= until and newest + client.refresh // 2 < times[reach]:
+            needed = max(min(newest + client.refresh, times[reach]), times[reach] - client.refresh)
+        else:
+            needed = None
+        return None if needed is None else min(h for h in times if times[h] >= needed)
 
     def refresh(self, client, reach):
         """The height that a refresh has to reach, if it is time for one and there is such a height."""
@@ -515,7 +592,9 @@ class Relayer:
         wait, packet = channel.path.waits[KINDS.index(kind)], channel.packets[seq]
         if not wait or (kind == "recv" and packet.timeout_height):
             return 0
-        since = times[min(h for h in times if h >= floor)]
+        told = {"recv": packet.time, "ack": packet.written_time, "timeout": None}[kind]
+        lowest = times[min(h for h in times if h >= floor)]
+        since = lowest if told is None else min(told, lowest)
         if kind == "recv" and packet.timeout_time:
             return min(since + wait, packet.timeout_time - wait)
         return since + wait
@@ -528,7 +607,7 @@ class Relayer:
     def going(self, client, view, reach):
         """The messages that go where no height was asked for: all that are ready, or the near ones if none of the others presses."""
         near, far = self.near_and_far(client, view, reach)
-        is_pressed = any(self.press(client, message) <= self.window[1] for message in far)
+        is_pressed = any(self.press(client, message) <= self.window_of(client)[1] for message in far)
         return self.ready(client, reach) if is_pressed else near
 
     def goal(self, client, view):
@@ -541,6 +620,35 @@ class Relayer:
             return ("at_least", max(floor for *_, floor in going)), [message[:3] for message in going]
         height = self.refresh(client, reach)
         return (("at_least", height) if height else None), []
+
+    def joined(self, client, view):
+        """The client's goal, if it has one: exactly the height that was asked for so and is in reach; else at least the greatest that
+        anything needs; else what was asked for out of reach."""
+        asked, reach = self.asked.get(client.id), max(labels_of(view), default=None)
+        is_in_reach = asked is not None and reach is not None and asked[1] <= reach
+        if is_in_reach and asked[0] == "exactly":
+            return asked
+        needs = [floor for *_, floor in self.going(client, view, reach)] + ([asked[1]] if is_in_reach else [])
+        height = self.gain(client, reach)
+        needs += [height] if height is not None else []
+        return ("at_least", max(needs)) if needs else asked
+
+    def next_joined(self, client, view, updates):
+        """The line on when a goal arises next, once these updates and all that they prove are taken."""
+        reach, times = max(labels_of(view), default=None), self.books[client.of].times
+        proof = max(view.live | {h for _, h in updates}, default=None)
+        sent = self.ready(client, proof)
+        moments = [self.press(client, message) for message in self.ready(client, reach) if message not in sent]
+        heights = self.stored[client.id] | {h for _, h in updates}
+        if client.refresh and heights and reach is not None:
+            newest = times[max(heights)]
+            urgent = client.period - client.period // 3
+            if newest + client.refresh // 2 < times[reach]:
+                moments.append(newest + min(client.refresh, urgent))
+            elif newest + self.urgent_gain(client) < times[reach]:
+                moments.append(newest + urgent)
+        moments = [max(moment, self.window_of(client)[1]) for moment in moments if moment <= LAST_MOMENT]
+        return [f"next {stamp(min(moments))}"] if moments else []
 
     def next_lines(self, client, view, updates):
         """The line on when a goal arises next, as far as is known once these updates are taken."""
@@ -555,6 +663,11 @@ class Relayer:
     def take_in(self, turn):
         """A turn's window, goals and observations; the lines of those that are refused."""
         lines = []
+        for host, window in turn.windows.items():
+            try:
+                self.enter_host(host, *window)
+            except Refused as refusal:
+                lines.append(refused_line(f"window {host}", refusal))
         try:
             self.enter(turn.begin, turn.end)
         except Refused as refusal:
@@ -567,14 +680,14 @@ class Relayer:
                 lines.append(refused_line(f"event {i}", refusal))
         return lines
 
-    def send(self, client, view, updates, messages):
+    def send(self, client, view, updates, messages, apart):
         """Opens the batch of these, if there is one; the lines on it."""
         script = self.script
         gas = [view.gas(t, h) for t, h in updates]
         gas += [script.paths[path].gas[KINDS.index(kind)] for kind, path, _ in messages]
         if not gas:
             return []
-        runs, big = least_cut(gas, client.limits)
+        runs, big = least_cut_apart(gas, len(updates), client.limits) if apart else least_cut(gas, client.limits)
         if runs is None:
             return [f"toobig {big}"]
         sent = [("update", h) for _, h in updates] + messages
@@ -591,6 +704,8 @@ class Relayer:
         if client.id in self.open:
             return [f"client {client.id} held {self.open[client.id].number}"]
         view = self.view(client)
+        if self.joins:
+            return self.plan_joined(client, view)
         goal, messages = self.goal(client, view)
         self.asked.pop(client.id, None)
         if goal is None:
@@ -604,7 +719,26 @@ class Relayer:
         lines.append(f"total {sum(view.fee(t, h) for t, h in updates)} updates {len(updates)}")
         lines += [f"{kind} {path} {seq}" for kind, path, seq in messages]
         after = self.next_lines(client, view, updates)
-        return lines + self.send(client, view, updates, messages) + after
+        return lines + self.send(client, view, updates, messages, False) + after
+
+    def plan_joined(self, client, view):
+        """A client's lines where its goal is joined of all that it needs."""
+        goal, asked, left = self.joined(client, view), self.asked.pop(client.id, None), self.too_big(client)
+        if goal is None:
+            return [f"client {client.id} idle", *self.next_joined(client, view, []), *left]
+        labels, updates = plan(view, goal)
+        lines = [f"client {client.id} goal {goal[0]} {goal[1]}"]
+        lines += [f"beyond {asked[0]} {asked[1]}"] if asked and goal[1] < asked[1] else []
+        lines += [f"label {h} {labels[h][0]} {labels[h][1]}" for h in sorted(labels)]
+        if updates is None:
+            return lines + ["unreachable", *left]
+        lines += [view.update_line(t, h) for t, h in updates]
+        lines.append(f"total {sum(view.fee(t, h) for t, h in updates)} updates {len(updates)}")
+        messages = [message[:3] for message in self.ready(client, max(view.live | {h for _, h in updates}))]
+        lines += [f"{kind} {path} {seq}" for kind, path, seq in messages]
+        after = self.next_joined(client, view, updates)
+        apart = self.gain(client, max(labels_of(view), default=None)) is not None
+        return lines + self.send(client, view, updates, messages, apart) + after + left
 
     def settle_all(self, settlements):
         lines = []
@@ -655,7 +789,7 @@ def planned(script, place):
     found = {}
     for client in script.clients.values():
         view = relayer.view(client)
-        goal, _ = relayer.goal(client, view)
+        goal = relayer.joined(client, view) if relayer.joins else relayer.goal(client, view)[0]
         if goal and client.id not in relayer.open:
             found[client.id] = goal, view
     return found
@@ -711,11 +845,11 @@ def first_reason(view, goal, answer, updates, labels):
     if not updates:
         return None
     last = len(updates) - 1
-    if any(wants(goal, h) and (label, h) < ((total, last + 1), updates[last][1]) for h, label in labels.items()):
+    if any(wants(goal, h) and (label, view.turn * h) < ((total, last + 1), view.turn * updates[last][1]) for h, label in labels.items()):
         return 605, last
     for i in reversed(range(len(updates))):
         t, h = updates[i]
-        if any(s < t and s in labels and step(s, h) == labels[h] for s in view.steps[h]):
+        if any(view.turn * s < view.turn * t and s in labels and step(s, h) == labels[h] for s in view.steps[h]):
             return 605, i
     return None
 

@@ -9,7 +9,7 @@ from datetime import datetime, timezone
 MAX_NUMBER = 2**63 - 1
 LAST_MOMENT = 10**20
 MAX_BYTES = 16_777_216
-MAX_MARKS = 800_000
+MAX_MARKS = 7_200_000
 # comments and strings of TOML
 ASIDE = re.compile(
     rb"#[^\n]*"
@@ -18,7 +18,7 @@ ASIDE = re.compile(
 MAX_POWER = 1152921504606846975
 MAX_MEMBERS = 10_000
 MAX_CHAINS, MAX_CLIENTS, MAX_PATHS, MAX_TURNS, MAX_ENTRIES = 64, 256, 256, 500, 200_000
-MAX_RECORDS = {1: 1024, 2: 4096, 3: 4096}  # by version
+MAX_RECORDS = {1: 1024, 2: 4096, 3: 4096, 4: 4096}  # by version
 MAX_SETS = 1024
 MAX_WORK, MAX_SPACE = 2**30, 3 * 2**24
 FAULTS = {
@@ -37,7 +37,8 @@ TURNING = {chr(c) for c in (0x61C, 0x200E, 0x200F, *range(0x202A, 0x202F), *rang
 # the version; how many records a book has; by id, in their order, what clients of a chain share, the clients and the paths; and the turns
 Script = namedtuple("Script", "version limit chains clients paths turns")
 Path = namedtuple("Path", "id source dest order first forward back gas waits")  # how long a receive, an acknowledgement, a timeout may wait
-Turn = namedtuple("Turn", "begin end asked events settlements taken")  # the asked goals by client; whether all open batches are taken
+# the windows of hosts and the asked goals of clients, by these; whether all open batches are taken
+Turn = namedtuple("Turn", "begin end windows asked events settlements taken")
 
 
 class Fault(Exception):
@@ -289,11 +290,14 @@ def fits(value):
     return not isinstance(value, int) or -(2**63) <= value < 2**63
 
 
+def marks(plain):
+    return 8 * sum(map(plain.count, (b"{", b"[", b"."))) + plain.count(b"=")
+
+
 def parse(source):
     need(len(source) <= MAX_BYTES, 1030, "-")
-    if sum(map(source.count, (b"{", b"[", b"."))) > MAX_MARKS:
-        plain = ASIDE.sub(b"", source)
-        need(sum(map(plain.count, (b"{", b"[", b"."))) <= MAX_MARKS, 1034, "-")
+    if marks(source) > MAX_MARKS:
+        need(marks(ASIDE.sub(b"", source)) <= MAX_MARKS, 1034, "-")
     try:
         document = tomllib.loads(source.decode())
     except (UnicodeDecodeError, tomllib.TOMLDecodeError):
@@ -328,12 +332,14 @@ def read_client(value, path, version, chains, clients):
     client.id = table.read("id", new_identifier(clients))
     client.host = table.read("host", reference(chains))
     client.of = table.read("of", reference(chains))
-    shared = {"refresh_ns": 0, "trust": (1, 3)} | chains[client.of]
+    shared = {"trust": (1, 3)} | chains[client.of]
 
     def term(key):
         return table.read(key, TERMS[key], *(shared[k] for k in [key] if k in shared))
 
-    client.period, client.drift, client.refresh = term("period_ns"), term("drift_ns"), term("refresh_ns")
+    client.period, client.drift = term("period_ns"), term("drift_ns")
+    shared.setdefault("refresh_ns", client.period // 3 if version > 3 else 0)
+    client.refresh = term("refresh_ns")
     client.fee, client.gas = term("fee"), term("gas")
     client.limits = table.read("limits", limits)
     client.trust = term("trust")
@@ -447,21 +453,23 @@ def read_stored(table, clients, names):
 
 
 def read_packet(table, kind, paths):
-    """(kind, path) and as the kind has them the sequence, the block, the height and the time where it expires (0 is never)"""
+    """(kind, path) and as the kind has them the sequence, the block, its time, the height and the time where it expires (0 is never)"""
     event = [kind, table.read("path", reference(paths))]
     if kind != "closed":
         event.append(table.read("seq", sequence))
     if kind in ("sent", "received", "ack"):
         event.append(table.read("height", block))
+    if kind in ("sent", "ack"):
+        event.append(table.read("time", moment, None))
     if kind == "sent":
         event += [table.read("timeout_height", number(0, MAX_NUMBER), 0), table.read("timeout_time", moment, 0)]
     return tuple(event)
 
 
-def read_event(value, path, chains, clients, paths, names):
+def read_event(value, path, version, chains, clients, paths, names):
     typed(value, dict, path)
     kind = Section({k: v for k, v in value.items() if k == "kind"}, path, ["kind"]).read("kind", kind_of)
-    table = Section(value, path, KINDS[kind])
+    table = Section(value, path, KINDS[kind] + ["time"] * (version > 3 and kind in ("sent", "ack")))
     if kind == "set":
         return read_set(table, chains, names)
     if kind == "header":
@@ -480,6 +488,15 @@ def read_goal(value, path, clients, asked):
     asked[client] = ("exactly", exact) if least is None else ("at_least", least)
 
 
+def read_window(value, path, chains, windows):
+    """A window of a host, beside those before it in the turn."""
+    table = Section(value, path, "host from until".split())
+    host, begin, end = table.read("host", reference(chains)), table.read("from", moment), table.read("until", moment)
+    need(host not in windows, 1008, path)
+    need(begin <= end, 1023, path)
+    windows[host] = begin, end
+
+
 def read_settlement(value, path, clients):
     """(client, batch, so many of its transactions)"""
     table = Section(value, path, "client batch done".split())
@@ -488,21 +505,23 @@ def read_settlement(value, path, clients):
 
 
 def read_turn(value, path, version, setup, names, room):
-    """A turn, and the room for goals, events and settlements that it leaves."""
+    """A turn, and the room for windows of hosts, goals, events and settlements that it leaves."""
     chains, clients, paths = setup
-    table = Section(value, path, "from until goal event settle".split() + ["taken"] * (version > 2))
+    table = Section(value, path, "from until goal event settle".split() + ["taken"] * (version > 2) + ["window"] * (version > 3))
     begin, end = table.read("from", moment), table.read("until", moment)
-    goals, events, settlements = (table.read(key, array(None), []) for key in ("goal", "event", "settle"))
+    own, goals, events, settlements = (table.read(key, array(None), []) for key in ("window", "goal", "event", "settle"))
     taken = table.read("taken", yes_or_no, False)
-    room -= len(goals) + len(events) + len(settlements)
+    room -= len(own) + len(goals) + len(events) + len(settlements)
     need(room >= 0, 1018, path)
     need(begin <= end, 1023, path)
-    asked = {}
+    windows, asked = {}, {}
+    for k, entry in enumerate(own):
+        read_window(entry, f"{path}.window[{k}]", chains, windows)
     for k, entry in enumerate(goals):
         read_goal(entry, f"{path}.goal[{k}]", clients, asked)
-    seen = [read_event(entry, f"{path}.event[{k}]", chains, clients, paths, names) for k, entry in enumerate(events)]
+    seen = [read_event(entry, f"{path}.event[{k}]", version, chains, clients, paths, names) for k, entry in enumerate(events)]
     settled = [read_settlement(entry, f"{path}.settle[{k}]", clients) for k, entry in enumerate(settlements)]
-    return Turn(begin, end, asked, seen, settled, taken), room
+    return Turn(begin, end, windows, asked, seen, settled, taken), room
 
 
 def refuse_too_much(limit, chains, clients, paths, turns):
