@@ -21,7 +21,7 @@ impl Engine {
         let mut process = Command::new(program).args(["follow", setup]).stdin(Stdio::piped()).stdout(Stdio::piped()).spawn()?;
         let (turns, answers) = (process.stdin.take().unwrap(), process.stdout.take().unwrap());
         let mut engine = Engine { process, turns, answers: BufReader::new(answers) };
-        engine.answers.read_line(&mut String::new())?; // "ibcplan 1" or "ibcplan 3"
+        engine.answers.read_line(&mut String::new())?; // "ibcplan 1", "ibcplan 3" or "ibcplan 4"
         Ok(engine)
     }
 
