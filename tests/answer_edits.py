@@ -1,6 +1,7 @@
 """Changes of a folder of answers and of a setup's text, which tests of `import` make: answers that are spoiled in one place, that are lacking, that come on other pages."""
 import hashlib
 import json
+import random
 import shutil
 
 import answers
@@ -128,6 +129,14 @@ def swapped(old, new):
         before, _, after = text.rpartition(old)
         return before + new + after
     return mend
+
+
+def seen_alone(height):
+    """Saves the header of a block of hub-4 whose validators are in no answer."""
+    def change(folder):
+        chain = answers.Chain(random.Random(height), "hub-4", 80)
+        answers.write(folder / "hub-4" / f"commit-{height}.json", chain.commit(height))
+    return change
 
 
 def saved(*txs):

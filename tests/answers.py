@@ -354,6 +354,7 @@ class Told:
         self.unsigned = sorted(height for height, members in own.items() if members is not None and not is_signed(
             self.headers[height]["commit"]["signatures"], members, self.verdicts.get(height), verified))
         rest = sorted(own.keys() - {*self.bare, *self.unsigned})[-4096:]
+        self.times = {height: nanoseconds(self.headers[height]["header"]["time"]) for height in (*rest, *self.bare)}
         self.headers = {height: self.headers[height] for height in rest}
 
 
@@ -423,7 +424,7 @@ def lacks(answers, events, pending):
 def packet_events(folder, path, chains):
     """The packets of a path, where answers tell of commitments those with one: of those that go to the counterparty, or else to the first sent one's
     destination, the one of the lowest block by kind and sequence; no more than the first 4,096. A block that sent or acknowledged
-    one has its time, where a header of it is there. Left out is a packet that lacks something, on an ordered path with
+    one has its time, where a header of it is there, with or without its set. Left out is a packet that lacks something, on an ordered path with
     all behind it. At the end the path is closed, if it is ordered and one of them timed out."""
     answers, dest_revision = answers_in(folder / path["id"]), int(path["dest"].rsplit("-", 1)[1])
     found = [*events_in(answers)]
@@ -449,8 +450,8 @@ def packet_events(folder, path, chains):
         if KINDS[kind] != "cleared":
             event["height"] = height
         writer = chains[{"sent": path["source"], "ack": path["dest"]}[KINDS[kind]]] if KINDS[kind] in ("sent", "ack") else None
-        if writer and height in writer.headers:
-            event["time"] = nanoseconds(writer.headers[height]["header"]["time"])
+        if writer and height in writer.times:
+            event["time"] = writer.times[height]
         if kind == "send_packet":
             revision, limit = map(int, values["packet_timeout_height"].split("-"))
             if revision > dest_revision or (revision, limit) == (0, 0):
@@ -520,9 +521,15 @@ def script_of(setup, folder, verified=False):
         path.setdefault("wait_ns", NO_WAITS)
         path["first"] = min(pending_of(folder, path) or [path["first"]])
     for turn in script["turn"]:
-        turn["from"], turn["until"] = nanoseconds(turn["from"]), nanoseconds(turn["until"])
+        put_numbers(turn)
     script["turn"][-1]["event"] = events
     return script
+
+
+def put_numbers(turn):
+    """Puts the times of a turn's windows in nanoseconds."""
+    for window in (turn, *turn.get("window", [])):
+        window["from"], window["until"] = nanoseconds(window["from"]), nanoseconds(window["until"])
 
 
 def with_numbers(script):
@@ -530,7 +537,7 @@ def with_numbers(script):
     for path in script.get("path", []):
         path.setdefault("wait_ns", NO_WAITS)
     for turn in script["turn"]:
-        turn["from"], turn["until"] = nanoseconds(turn["from"]), nanoseconds(turn["until"])
+        put_numbers(turn)
         for event in turn.get("event", []):
             for key in ("time", "timeout_time"):
                 if key in event:

@@ -15,7 +15,7 @@ from datetime import timedelta
 import answers
 from answer_edits import (CLEARED_FILE, COMMIT, COMMIT_FILE, CONSENSUS, FIRST, FORWARDED, HEADER, LATER, OTHER, OURS, PACKET, PAGE_FILE, RECEIVED_FILE,
                           SENT_FILE, SIGNATURE, SIGNED, STATE, STATE_FILE, STORED_FILE, TX, VERDICTS, earlier, earlier_with, edited, hashed, in_turn, judged,
-                          many, moved, packet_txs, padded, paged, pending, removed, removed_folder, saved, sent_until, swapped, upgraded, votes_for, written)
+                          many, moved, packet_txs, padded, paged, pending, removed, removed_folder, saved, seen_alone, sent_until, swapped, upgraded, votes_for, written)
 from json_paths import at, gone, put
 from program import TOP, Case, ToldCase
 
@@ -498,6 +498,8 @@ NOTICES = [
     (1, str, in_turn(*(moved(file, file.replace(".", "-again."), copy=True) for file in (SENT_FILE, RECEIVED_FILE, CLEARED_FILE))), []),
     (1, str, saved(*packet_txs(OURS, (57, "recv_packet", 2), (57, "write_acknowledgement", 2), (58, "acknowledge_packet", 2), (59, "timeout_packet", 1))), []),
     (1, str, saved(*packet_txs(OURS, (34, "write_acknowledgement", 2), (33, "recv_packet", 2))), []),
+    # the block that sent packet 3 has its time, though no step can use its header
+    (1, str, seen_alone(33), []),
     # packets of another chain whose channel has the name of the source's
     (1, str, saved(*packet_txs(OTHER, (20, "recv_packet", 2), (36, "recv_packet", 3), (36, "write_acknowledgement", 3), (37, "recv_packet", 900))), []),
     (1, NAMED, saved(*packet_txs(OTHER, (20, "recv_packet", 2), (36, "recv_packet", 3), (37, "recv_packet", 900)), *packet_txs(("channel-4", "channel-7"), (38, "recv_packet", 4))), []),

@@ -36,6 +36,13 @@ def setup_of(chain, goal):
     return f'{HEAD}[[turn]]\nfrom = "{begin}"\nuntil = "{end}"\n' + (f'goal = [{{ client = "{CLIENT}", {goal} }}]\n' if goal else "")
 
 
+def hosted(text, host):
+    """The setup whose window is the one that its turn gives this host; the common one comes years later."""
+    before, turn = text.split("[[turn]]\n")
+    own = ", ".join(turn.splitlines()[:2])
+    return f'{before}[[turn]]\n{turn.replace("2026-", "2036-")}window = [{{ host = "{host}", {own} }}]\n'
+
+
 def get(path, file, chain="hub-4"):
     return f"get {chain} {path} {file}\n"
 
@@ -97,6 +104,9 @@ def want_cases(top):
         path = top / f"want-{number}.toml"
         path.write_text(setup_of(chain, goal))
         yield Case(f"want {number}", ["want", str(path), str(folder)], b"", wanted.encode(), told, 0)
+    for host, told in ("zone-1", b""), ("hub-4", f"end {CLIENT}: nothing goes on from 52: 99 refused (Expired)\n".encode()):
+        text = hosted(setup_of(chain, "at_least = 60"), host)
+        yield Case(f"want in the window of {host}", ["want", "-", str(top / "want-9")], text.encode(), b"", told, 0)
     yield Case("want of no setup", ["want", "-", str(top)], b"version = 2\n", b"", b"fault 1005 BadVersion at version\n", 1)
     setup.write_text(setup_of(chain, ""))
     folder = top / "want-refused"

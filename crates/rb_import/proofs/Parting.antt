@@ -6,11 +6,13 @@ use Rattle.std.proofs.lemmas.Bool.{cases_lt, eq-eqb, true≢false}
 use Rattle.std.proofs.lemmas.List.Elements.{All-contains, All-contains_itself, All-filter, All-head, All-tail, All-weaker}
 use Rattle.std.proofs.lemmas.List.Folds.{list_any-from_Any}
 use Rattle.std.proofs.lemmas.Option.{same_Some, slice_get_read, slice_get_within}
+use Rattle.rb_base.specs.Window.{Span}
 use Rattle.rb_valset.specs.Validator.{Member}
 use Rattle.rb_valset.specs.ValidatorSet.{set_hash}
 use Rattle.rb_import_setup.specs.declared.setup.ClientSetup.{ClientSetup}
 use Rattle.rb_import_setup.specs.declared.setup.Setup.{Setup}
 use Rattle.rb_import_setup.specs.declared.setup.TurnSetup.{TurnSetup}
+use Rattle.rb_import_setup.specs.Windows.{window_of}
 use Rattle.rb_import_check.specs.declared.chain.Commit.{Commit}
 use Rattle.rb_import_check.specs.declared.chain.SeenChain.{SeenChain}
 use Rattle.rb_import_check.specs.declared.client.SeenClient.{SeenClient}
@@ -52,7 +54,7 @@ unfoldable pub ServesBefore : ℕ → Setup → Seen → ℕ → SeenChain → K
 ServesBefore n setup seen place chain whole places =
     (number : ℕ) → (c : ClientSetup) → (client : SeenClient) → (records : Vec Stored Global) → (turn : TurnSetup) → number < n
     → slice_get setup.clients.items number ≡ Some c → c.tracks ≡ place → slice_get seen.clients.items number ≡ Some client → slice_get seen.records.items number ≡ Some records
-    → last_turn setup ≡ Some turn → Serves (judging_of client turn.window) (is_charged c) chain whole records.items places
+    → last_turn setup ≡ Some turn → Serves (judging_of client (window_of setup number turn.window)) (is_charged c) chain whole records.items places
 
 pub clients_none : (setup : Setup) (seen : Seen) (place : ℕ) (chain : SeenChain) (whole : KeptSets) (places : List ℕ) → ServesBefore 0 setup seen place chain whole places
 unfolding ServesBefore
@@ -69,20 +71,21 @@ clients_more setup seen place chain whole n c judging stored xs ys small is (its
     here : slice_get setup.clients.items n ≡ Some c
     here = slice_get_read setup.clients.items (length setup.clients.items) n c refl small is
 
-    by : (number < n) ⊎ (n ≤ number) → Serves (judging_of client turn.window) (is_charged other) chain whole records.items ys
+    by : (number < n) ⊎ (n ≤ number) → Serves (judging_of client (window_of setup number turn.window)) (is_charged other) chain whole records.items ys
     by (inl earlier) =
-        serves_on (judging_of client turn.window) (is_charged other) chain whole records.items xs ys (λ p kept w. stay p w) (before number other client records turn earlier at tracks there written last)
+        serves_on (judging_of client (window_of setup number turn.window)) (is_charged other) chain whole records.items xs ys (λ p kept w. stay p w) (before number other client records turn earlier at tracks there written last)
     by (inr later) =
         let same : number ≡ n = omega (arith, low, later) in
         let same_c : c ≡ other = same_Some c other (sym here ∙ ap (slice_get setup.clients.items) (sym same) ∙ at) in
         let same_client : its_client ≡ client = same_Some its_client client (sym its_at ∙ ap (slice_get seen.clients.items) (sym same) ∙ there) in
         let same_records : its_records ≡ records = same_Some its_records records (sym its_written ∙ ap (slice_get seen.records.items) (sym same) ∙ written) in
-        let same_turn : its_turn ≡ turn = same_Some its_turn turn (sym its_last ∙ last) in
-        subst (λ (x : ClientSetup). Serves (judging_of client turn.window) (is_charged x) chain whole records.items ys) same_c
-        (subst (λ (x : SeenClient). Serves (judging_of x turn.window) (is_charged c) chain whole records.items ys) same_client
-        (subst (λ (x : TurnSetup). Serves (judging_of its_client x.window) (is_charged c) chain whole records.items ys) same_turn
-        (subst (λ (x : Vec Stored Global). Serves (judging_of its_client its_turn.window) (is_charged c) chain whole x.items ys) same_records
-        (subst (λ (x : List Stored). Serves (judging_of its_client its_turn.window) (is_charged c) chain whole x ys) has
+        let same_window : window_of setup n its_turn.window ≡ window_of setup number turn.window =
+        ap (λ (t : TurnSetup). window_of setup n t.window) (same_Some its_turn turn (sym its_last ∙ last)) ∙ ap (λ k. window_of setup k turn.window) (sym same) in
+        subst (λ (x : ClientSetup). Serves (judging_of client (window_of setup number turn.window)) (is_charged x) chain whole records.items ys) same_c
+        (subst (λ (x : SeenClient). Serves (judging_of x (window_of setup number turn.window)) (is_charged c) chain whole records.items ys) same_client
+        (subst (λ (w : Span). Serves (judging_of its_client w) (is_charged c) chain whole records.items ys) same_window
+        (subst (λ (x : Vec Stored Global). Serves (judging_of its_client (window_of setup n its_turn.window)) (is_charged c) chain whole x.items ys) same_records
+        (subst (λ (x : List Stored). Serves (judging_of its_client (window_of setup n its_turn.window)) (is_charged c) chain whole x ys) has
         (subst (λ (x : Judging). Serves x (is_charged c) chain whole stored ys) judges serves)))))
 
 -- one that tracks another
@@ -94,7 +97,7 @@ clients_same setup seen place chain whole n c places small is other before numbe
     here : slice_get setup.clients.items n ≡ Some c
     here = slice_get_read setup.clients.items (length setup.clients.items) n c refl small is
 
-    by : (number < n) ⊎ (n ≤ number) → Serves (judging_of client turn.window) (is_charged x) chain whole records.items places
+    by : (number < n) ⊎ (n ≤ number) → Serves (judging_of client (window_of setup number turn.window)) (is_charged x) chain whole records.items places
     by (inl earlier) = before number x client records turn earlier at tracks there written last
     by (inr later) =
         let same : number ≡ n = omega (arith, low, later) in
@@ -152,7 +155,7 @@ judged_all setup seen place n whole_list before number c at tracks = before numb
 whole_is : (setup : Setup) (seen : Seen) (place : ℕ) (whole : KeptSets) (chain : SeenChain) (places : List ℕ) → places ≡ whole.places.items → Need setup seen place whole chain places
 unfolding ServesClients HaveOwn
 whole_is setup seen place whole chain places is =
-    subst (Need setup seen place whole chain) (sym is) (own, λ number c client records turn at tracks there written last. serves_whole (judging_of client turn.window) (is_charged c) chain whole records.items)
+    subst (Need setup seen place whole chain) (sym is) (own, λ number c client records turn at tracks there written last. serves_whole (judging_of client (window_of setup number turn.window)) (is_charged c) chain whole records.items)
   where
     own : HaveOwn chain whole whole.places.items
     own = λ k d small p own written. written.0
@@ -211,7 +214,7 @@ serves_part : (setup : Setup) (seen : Seen) (place : ℕ) (chain : SeenChain) (p
     → ServesClients setup seen place chain whole part.places.items
 unfolding ServesClients
 serves_part setup seen place chain places whole part its serves number c client records turn at tracks there written last =
-    serves_on (judging_of client turn.window) (is_charged c) chain whole records.items places part.places.items (λ p kept w. in_part places whole part its p kept w)
+    serves_on (judging_of client (window_of setup number turn.window)) (is_charged c) chain whole records.items places part.places.items (λ p kept w. in_part places whole part its p kept w)
     (serves number c client records turn at tracks there written last)
 
 -- where all sets are needed, the part has all

@@ -7,7 +7,7 @@ use Rattle.std.specs.Ordering.{is_eq, is_lt, nat_cmp, ordering_then}
 use Rattle.std.specs.declared.cmp.Ordering.{Ordering}
 use Rattle.std.specs.declared.cmp.Ordering.TheVariants.{Less, Equal, Greater}
 use Rattle.std.proofs.lemmas.Bool.{cases_lt, true≢false}
-use Rattle.std.proofs.lemmas.Cmp.{nat_cmp_total, on_total, then_total}
+use Rattle.std.proofs.lemmas.Cmp.{back_total, nat_cmp_total, on_total, then_total}
 use Rattle.std.proofs.lemmas.List.{get_or-take, length-take-le, take_all}
 use Rattle.std.proofs.lemmas.List.Elements.{All-append, All-contains, All-more, All-nil, All-weaker, Contains-append_left, Contains-push}
 use Rattle.std.proofs.lemmas.List.MinMax.{ranks_by}
@@ -109,7 +109,7 @@ later Equal r e h = h
 later Greater r e h = absurd (true≢false (sym (ap is_eq e)))
 
 total : (is_charged : Bool) → IsTotalOrder (start_cmp is_charged)
-total is_charged = then_total (on_total (λ (s : Start). weight_of s is_charged) nat_cmp_total) (on_total (λ (s : Start). s.height) nat_cmp_total)
+total is_charged = then_total (on_total (λ (s : Start). weight_of s is_charged) nat_cmp_total) (back_total (on_total (λ (s : Start). s.height) nat_cmp_total))
 
 nat_tied : (m n : ℕ) → m ≡ n → nat_cmp m n ≡ Equal
 nat_tied m n same = grind (arith, same)
@@ -118,13 +118,13 @@ no_worse : (is_charged : Bool) (s t : Start) → is_lt (start_cmp is_charged t s
 no_worse is_charged s t not_less = by (cases_lt (weight_of s is_charged) (weight_of t is_charged))
   where
     low : weight_of s is_charged ≤ weight_of t is_charged
-    low = ge_from_not_lt (weight_of t is_charged) (weight_of s is_charged) (earlier (nat_cmp (weight_of t is_charged) (weight_of s is_charged)) (nat_cmp t.height s.height) not_less)
+    low = ge_from_not_lt (weight_of t is_charged) (weight_of s is_charged) (earlier (nat_cmp (weight_of t is_charged) (weight_of s is_charged)) (nat_cmp s.height t.height) not_less)
 
     by : (weight_of s is_charged < weight_of t is_charged) ⊎ (weight_of t is_charged ≤ weight_of s is_charged) → IsNoWorse is_charged s t
     by (inl less) = inl less
     by (inr more) =
         let same : weight_of s is_charged ≡ weight_of t is_charged = omega (arith, low, more) in
-        inr (same, ge_from_not_lt t.height s.height (later (nat_cmp (weight_of t is_charged) (weight_of s is_charged)) (nat_cmp t.height s.height) (nat_tied _ _ (sym same)) not_less))
+        inr (same, ge_from_not_lt s.height t.height (later (nat_cmp (weight_of t is_charged) (weight_of s is_charged)) (nat_cmp s.height t.height) (nat_tied _ _ (sym same)) not_less))
 
 -- the first from which the client accepts the header is no worse than another
 pub first_is_best : (judging : Judging) (sets : List SeenSet) (target : Target) (is_charged : Bool) (starts : List Start) (first s : Start) → IsSorted (start_cmp is_charged) starts

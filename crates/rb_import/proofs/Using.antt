@@ -11,6 +11,7 @@ use Rattle.rb_valset.specs.Validator.{Member}
 use Rattle.rb_book.specs.Header.{Header}
 use Rattle.rb_import_setup.specs.declared.setup.ClientSetup.{ClientSetup}
 use Rattle.rb_import_setup.specs.declared.setup.Setup.{Setup}
+use Rattle.rb_import_setup.specs.Windows.{window_of}
 use Rattle.rb_import_check.specs.declared.chain.Commit.{Commit}
 use Rattle.rb_import_check.specs.declared.chain.SeenChain.{SeenChain}
 use Rattle.rb_import_check.specs.declared.client.SeenClient.{SeenClient}
@@ -153,8 +154,8 @@ client_needed setup seen place chain kept n c judging stored xs ys small is trac
     here : slice_get setup.clients.items n ≡ Some c
     here = slice_get_read setup.clients.items (length setup.clients.items) n c refl small is
 
-    its : (p : ℕ) → IsUsed judging (is_charged c) chain kept stored p → IsUsed (judging_of client turn.window) (is_charged c) chain kept records.items p
-    its p w = subst (λ (l : List Stored). IsUsed (judging_of client turn.window) (is_charged c) chain kept l p) has (subst (λ (j : Judging). IsUsed j (is_charged c) chain kept stored p) judges w)
+    its : (p : ℕ) → IsUsed judging (is_charged c) chain kept stored p → IsUsed (judging_of client (window_of setup n turn.window)) (is_charged c) chain kept records.items p
+    its p w = subst (λ (l : List Stored). IsUsed (judging_of client (window_of setup n turn.window)) (is_charged c) chain kept l p) has (subst (λ (j : Judging). IsUsed j (is_charged c) chain kept stored p) judges w)
 
 -- a client of the chain that can't be judged
 pub not_judged : (setup : Setup) (seen : Seen) (place n : ℕ) (c : ClientSetup) (P : Type 0) → n < length setup.clients.items → c ≡ get_or setup.clients.items n c → c.tracks ≡ place → (IsJudged setup seen n → ⊥) → AreJudged setup seen place → P

@@ -8,6 +8,7 @@ use Rattle.rb_valset.specs.Validator.{Member}
 use Rattle.rb_book.specs.Book.{RecordAt}
 use Rattle.rb_import_setup.specs.declared.setup.Setup.{Setup}
 use Rattle.rb_import_setup.specs.declared.setup.TurnSetup.{TurnSetup}
+use Rattle.rb_import_setup.specs.Windows.{window_of}
 use Rattle.rb_import_check.specs.declared.chain.Commit.{Commit}
 use Rattle.rb_import_check.specs.declared.chain.SeenChain.{SeenChain}
 use Rattle.rb_import_check.specs.declared.client.Stored.{Stored}
@@ -25,9 +26,9 @@ use Rattle.rb_import.specs.Parts.{Agree, AreNeeded, IsRecordOf, IsStoredIn, Serv
 
 -- ---- starts
 
--- by how many members are charged, then by height
+-- by how many members are charged, then from the greatest height down
 abbrev pub start_cmp : Bool → Start → Start → Ordering
-start_cmp is_charged s t = ordering_then (nat_cmp (weight_of s is_charged) (weight_of t is_charged)) (nat_cmp s.height t.height)
+start_cmp is_charged s t = ordering_then (nat_cmp (weight_of s is_charged) (weight_of t is_charged)) (nat_cmp t.height s.height)
 
 -- of these starts the first from which the client accepts the header
 unfoldable pub IsFirst : Judging → List SeenSet → Target → List Start → Start → Type 0
@@ -140,11 +141,11 @@ is_one_of places p = list_any (λ q. q == p) places
 abbrev pub IsPartAt : List ℕ → KeptSets → KeptSets → Type 0
 IsPartAt places whole part = (part.places.items ≡ filter (is_one_of places) whole.places.items) × (part.left_out ≡ whole.left_out)
 
--- so the client at a number judges headers in the last turn, and these are its written records
+-- so the client at a number judges headers in its window in the last turn, and these are its written records
 abbrev pub IsCase : Setup → Seen → ℕ → Judging → List Stored → Type 0
 IsCase setup seen number judging stored =
     (client : SeenClient) × (records : Vec Stored Global) × (turn : TurnSetup) × (slice_get seen.clients.items number ≡ Some client) × (slice_get seen.records.items number ≡ Some records)
-    × (last_turn setup ≡ Some turn) × (judging ≡ judging_of client turn.window) × (stored ≡ records.items)
+    × (last_turn setup ≡ Some turn) × (judging ≡ judging_of client (window_of setup number turn.window)) × (stored ≡ records.items)
 
 -- if a header's own set is written, its place is one of these
 unfoldable pub HaveOwn : SeenChain → KeptSets → List ℕ → Type 0

@@ -6,6 +6,7 @@ use Rattle.rb_book.specs.Book.{RecordAt}
 use Rattle.rb_import_setup.specs.declared.setup.ClientSetup.{ClientSetup}
 use Rattle.rb_import_setup.specs.declared.setup.Setup.{Setup}
 use Rattle.rb_import_setup.specs.declared.setup.TurnSetup.{TurnSetup}
+use Rattle.rb_import_setup.specs.Windows.{window_of}
 use Rattle.rb_import_check.specs.declared.chain.Commit.{Commit}
 use Rattle.rb_import_check.specs.declared.chain.SeenChain.{SeenChain}
 use Rattle.rb_import_check.specs.declared.client.SeenClient.{SeenClient}
@@ -31,7 +32,7 @@ unfoldable pub ServesClients : Setup → Seen → ℕ → SeenChain → KeptSets
 ServesClients setup seen place chain whole places =
     (number : ℕ) → (c : ClientSetup) → (client : SeenClient) → (records : Vec Stored Global) → (turn : TurnSetup)
     → slice_get setup.clients.items number ≡ Some c → c.tracks ≡ place → slice_get seen.clients.items number ≡ Some client → slice_get seen.records.items number ≡ Some records
-    → last_turn setup ≡ Some turn → Serves (judging_of client turn.window) (is_charged c) chain whole records.items places
+    → last_turn setup ≡ Some turn → Serves (judging_of client (window_of setup number turn.window)) (is_charged c) chain whole records.items places
 
 -- ---- and no others
 
@@ -41,7 +42,7 @@ IsNeeded setup seen place chain whole p =
     Any (λ (c : Commit). IsPlaceOf chain.sets.sets.items c.header.now.set p) chain.commits.items
     ⊎ ((number : ℕ) × (c : ClientSetup) × (client : SeenClient) × (records : Vec Stored Global) × (turn : TurnSetup)
     × (slice_get setup.clients.items number ≡ Some c) × (c.tracks ≡ place) × (slice_get seen.clients.items number ≡ Some client) × (slice_get seen.records.items number ≡ Some records)
-    × (last_turn setup ≡ Some turn) × IsUsed (judging_of client turn.window) (is_charged c) chain whole records.items p)
+    × (last_turn setup ≡ Some turn) × IsUsed (judging_of client (window_of setup number turn.window)) (is_charged c) chain whole records.items p)
 
 -- this is one of the records that a client has stored, with its height
 abbrev pub IsStoredIn : List Stored → RecordAt → Type 0

@@ -23,10 +23,10 @@ is_charged client = nat_lt (charge_of client.terms.fees 0 0) (charge_of client.t
 abbrev pub weight_of : Start → Bool → ℕ
 weight_of start is_charged = if is_charged then start.size else 0
 
--- an update from the first start costs no more than one to the same header from the other; if it costs as much, the first is no higher
+-- an update from the first start costs no more than one to the same header from the other; if it costs as much, the first is no lower
 abbrev pub IsNoWorse : Bool → Start → Start → Type 0
 IsNoWorse is_charged s other =
-    (weight_of s is_charged < weight_of other is_charged) ⊎ ((weight_of s is_charged ≡ weight_of other is_charged) × (s.height ≤ other.height))
+    (weight_of s is_charged < weight_of other is_charged) ⊎ ((weight_of s is_charged ≡ weight_of other is_charged) × (other.height ≤ s.height))
 
 -- an update from the first start has no more validators than one to the header of the other and one from there
 abbrev pub Outdoes : Start → Start → Type 0

@@ -133,7 +133,8 @@ fn case_of<'s, 'a>(setup: &Setup, seen: &'s Seen<'a>, number: usize) -> Option<C
     let turn = setup.turns.last()?;
     let client = seen.clients.get(number)?;
     let records = seen.records.get(number)?;
-    let judging = Judging::of(client, turn.window)?;
+    let window = setup.window_of(number, turn.window);
+    let judging = Judging::of(client, window)?;
     let stored = records.as_slice();
     Some(Case { judging, stored })
 }

@@ -11,6 +11,7 @@ use rb_import_check::{Commit, SeenChain, SeenSet, Stored};
 use rb_import_merge::KeptSets;
 use rb_valset::ValidatorSet;
 use std::alloc::{AllocError, Global};
+use std::cmp::Reverse;
 
 /// The headers of a chain whose own set is written, with these sets of it.
 pub fn targets_of(
@@ -102,7 +103,7 @@ pub fn own_places(alloc: Global, targets: &[Target]) -> Result<Vec<usize>, Alloc
 }
 
 /// The starts of a client from the records that it has stored, with the cheapest updates first. Where validators cost
-/// something, the start with the smaller set comes first; of two equal ones the lower.
+/// something, the start with the smaller set comes first; of two equal ones the higher.
 pub fn stored_starts(
     alloc: Global,
     chain: &SeenChain<'_>,
@@ -147,13 +148,13 @@ fn add_start(start: Option<Start>, starts: &mut Vec<Start>) -> Result<(), AllocE
     Ok(())
 }
 
-/// Starts with the cheapest updates first, and of equal ones with the lowest height first.
+/// Starts with the cheapest updates first, and of equal ones with the greatest height first, as version 4 breaks ties.
 fn in_order(starts: Vec<Start>, is_charged: bool) -> Result<Vec<Start>, AllocError>
     ensures same { IfOk result (λ sorted. IsPermutation starts.items sorted.items) }
     ensures order { IfOk result (λ sorted. IsSorted (start_cmp is_charged) sorted.items) }
 {
     let mut sorted = starts;
-    sorted.sort_by_key(|start: &Start| (weight_of(start, is_charged), start.height))?;
+    sorted.sort_by_key(|start: &Start| (weight_of(start, is_charged), Reverse(start.height)))?;
     Ok(sorted)
 }
 

@@ -51,16 +51,21 @@ pub struct SeenChain<'a> {
     pub unsigned: Vec<Commit<'a>>,
     pub sets: SeenSets<'a>,
     ghost rising: { IsStrictlyIncreasing (map (λ c. c.header.now.height) commits.items) },
+    ghost bare_rising: { IsStrictlyIncreasing (map (λ c. c.header.now.height) bare.items) },
 }
 
 impl SeenChain<'_> {
     ghost use Rattle.rb_import_check.specs.Chains.{block_time};
 
-    /// The time of the block at a height, where a header of it was seen.
+    /// The time of the block at a height, where a header of it was seen, with or without its set.
+    #[tactic(auto, using(crate::proofs::Finds::find_in_both))]
     pub fn block_time(&self, height: Height) -> Option<Moment>
-        ensures { result ≡ block_time self.now.commits.items height }
+        ensures { result ≡ block_time (self.now.commits.items ++ self.now.bare.items) height }
     {
-        let commit = commit_of(self.commits.as_slice(), height)?;
+        let commit = match commit_of(self.commits.as_slice(), height) {
+            Some(commit) => commit,
+            None => commit_of(self.bare.as_slice(), height)?,
+        };
         Some(commit.header.time)
     }
 }

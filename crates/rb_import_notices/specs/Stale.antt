@@ -7,6 +7,7 @@ use Rattle.rb_plan_refresh.specs.Refresh.{needed_time}
 use Rattle.rb_import_setup.specs.declared.setup.ClientSetup.{ClientSetup}
 use Rattle.rb_import_setup.specs.declared.setup.Setup.{Setup}
 use Rattle.rb_import_setup.specs.declared.setup.TurnSetup.{TurnSetup}
+use Rattle.rb_import_setup.specs.Windows.{window_of}
 use Rattle.rb_import_check.specs.declared.chain.Commit.{Commit}
 use Rattle.rb_import_check.specs.declared.chain.SeenChain.{SeenChain}
 use Rattle.rb_import_check.specs.declared.client.SeenClient.{SeenClient}
@@ -30,7 +31,7 @@ AreStale terms w commits records =
     (0 < terms.refresh)
     × IsSomeAnd (slice_get records (length records - 1)) (λ (s : Stored). (s.state.now.time + terms.refresh ≤ w.until) × NoneServes terms w s.state.now.time commits)
 
--- the client at a place tracks a chain of the setup, it is due for a refresh in the last turn's window, and none of the chain's headers serves for it
+-- the client at a place tracks a chain of the setup, it is due for a refresh in its window in the last turn, and none of the chain's headers serves for it
 abbrev pub LacksFresh : Setup → Seen → ℕ → ClientSetup → Type 0
 LacksFresh setup seen place c =
     (c.tracks < length setup.chains.items)
@@ -38,7 +39,7 @@ LacksFresh setup seen place c =
     IsSomeAnd (slice_get seen.chains.items c.tracks) (λ (chain : SeenChain).
     IsSomeAnd (slice_get seen.clients.items place) (λ (client : SeenClient).
     IsSomeAnd (slice_get seen.records.items place) (λ (records : Vec Stored Global).
-    AreStale (terms_of c client) turn.window chain.commits.items records.items))))
+    AreStale (terms_of c client) (window_of setup place turn.window) chain.commits.items records.items))))
 
 -- it is told of this client, and of the chain that it tracks
 abbrev pub SaysFresh : Setup → ClientSetup → NothingFresh → Type 0

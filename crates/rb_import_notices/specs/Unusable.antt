@@ -9,6 +9,7 @@ use Rattle.rb_script_types.specs.Goal.{Wants}
 use Rattle.rb_import_setup.specs.declared.setup.ClientSetup.{ClientSetup}
 use Rattle.rb_import_setup.specs.declared.setup.Setup.{Setup}
 use Rattle.rb_import_setup.specs.declared.setup.TurnSetup.{TurnSetup}
+use Rattle.rb_import_setup.specs.Windows.{window_of}
 use Rattle.rb_import_check.specs.declared.chain.Commit.{Commit}
 use Rattle.rb_import_check.specs.declared.chain.SeenChain.{SeenChain}
 use Rattle.rb_import_check.specs.declared.client.SeenClient.{SeenClient}
@@ -48,13 +49,13 @@ last_goals setup = goals_in (last_turn setup)
 
 -- ---- clients whose records have expired
 
--- all written records of the client at a place have expired at the end of the last turn's window
+-- all written records of the client at a place have expired at the end of its window in the last turn
 abbrev pub HaveExpired : Setup → Seen → ℕ → Type 0
 HaveExpired setup seen place =
     IsSomeAnd (last_turn setup) (λ (turn : TurnSetup).
     IsSomeAnd (slice_get seen.clients.items place) (λ (client : SeenClient).
     IsSomeAnd (slice_get seen.records.items place) (λ (records : Vec Stored Global).
-    All (IsExpired client.period turn.window) records.items)))
+    All (IsExpired client.period (window_of setup place turn.window)) records.items)))
 
 -- it is told of this client, and of how many written records it has
 abbrev pub SaysUntrusted : Seen → ℕ → ClientSetup → NothingTrusted → Type 0
@@ -67,12 +68,12 @@ TellUntrusted setup seen notices = AreNotices (λ place c. HaveExpired setup see
 
 -- ---- clients with headers from the future
 
--- this holds of the clock drift of the client at a place, of the last turn's window, and of the headers of the chain that the client tracks
+-- this holds of the clock drift of the client at a place, of its window in the last turn, and of the headers of the chain that the client tracks
 abbrev pub HoldsOfHeaders : Setup → Seen → ℕ → ClientSetup → (ℕ → Span → List Commit → Type 0) → Type 0
 HoldsOfHeaders setup seen place c Holds =
     IsSomeAnd (last_turn setup) (λ (turn : TurnSetup).
     IsSomeAnd (slice_get seen.clients.items place) (λ (client : SeenClient).
-    IsSomeAnd (slice_get seen.chains.items c.tracks) (λ (chain : SeenChain). Holds client.drift turn.window chain.commits.items)))
+    IsSomeAnd (slice_get seen.chains.items c.tracks) (λ (chain : SeenChain). Holds client.drift (window_of setup place turn.window) chain.commits.items)))
 
 -- so many headers are from the future, and this is the lowest height of one
 abbrev pub AreAhead : ℕ → ℕ → ℕ → Span → List Commit → Type 0

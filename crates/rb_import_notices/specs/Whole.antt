@@ -34,7 +34,7 @@ TellExcess setup seen n =
     TellExcessHeaders setup seen n.too_many_headers.items × TellExcessSets setup seen n.too_many_sets.items × TellExcessRecords setup seen n.too_many.items
     × TellExcessPackets setup seen n.too_many_packets.items
 
--- they tell what can't be used in the last turn's window: expired records, headers from the future, goals that nothing meets, refreshes for which nothing is young enough
+-- they tell what can't be used in the windows of the last turn: expired records, headers from the future, goals that nothing meets, refreshes for which nothing is young enough
 abbrev pub TellUnusable : Setup → Seen → Notices → Type 0
 TellUnusable setup seen n =
     TellUntrusted setup seen n.untrusted.items × TellFuture setup seen n.future.items × TellGoals setup seen n.goals.items × TellFresh setup seen n.stale.items

@@ -34,7 +34,7 @@ impl fmt::Display for NothingFresh<'_> {
     }
 }
 
-/// The clients that are due for a refresh by the end of the last turn's window, for which no header serves.
+/// The clients that are due for a refresh by the end of their window in the last turn, for which no header serves.
 pub fn nothing_fresh<'a>(
     alloc: Global,
     setup: &'a Setup,
@@ -65,9 +65,10 @@ fn stale_at<'a>(
     let chain = seen.chains.get(client.tracks)?;
     let own = seen.clients.get(place)?;
     let records = seen.records.get(place)?;
+    let window = setup.window_of(place, turn.window);
     if !are_stale(
         terms_of(client, own),
-        &turn.window,
+        &window,
         chain.commits.as_slice(),
         records.as_slice(),
     ) {

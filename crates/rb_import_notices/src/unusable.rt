@@ -1,4 +1,4 @@
-//! Notices of what can't be used in the last turn's window: expired records, headers from the future, and goals for
+//! Notices of what can't be used in the windows of the last turn: expired records, headers from the future, and goals for
 //! which there is no header.
 ghost use Rattle.std.specs.Prelude.{◌≡◌, ◌↔◌, ◌+◌, ◌<◌, ◌≤◌, length, nat_le, count_by, All, Any, IsTrue, IfNone, IfOk, IfSome, MatchOption};
 ghost use Rattle.std.specs.Fmt.{WritesOnOk};
@@ -120,7 +120,7 @@ fn which_height(is_exact: bool) -> &'static str
     }
 }
 
-/// The clients none of whose records is trusted to the end of the last turn's window.
+/// The clients none of whose records is trusted to the end of their window in the last turn.
 pub fn nothing_trusted<'a>(
     alloc: Global,
     setup: &'a Setup,
@@ -137,7 +137,7 @@ pub fn nothing_trusted<'a>(
     Ok(found)
 }
 
-/// The client at a place, where none of its records is trusted to the end of the last turn's window.
+/// The client at a place, where none of its records is trusted to the end of its window in the last turn.
 fn untrusted_at<'a>(
     setup: &Setup,
     seen: &Seen<'_>,
@@ -149,7 +149,8 @@ fn untrusted_at<'a>(
     let turn = setup.turns.last()?;
     let judging = seen.clients.get(place)?;
     let records = seen.records.get(place)?;
-    if !have_expired(judging, records.as_slice(), &turn.window) {
+    let window = setup.window_of(place, turn.window);
+    if !have_expired(judging, records.as_slice(), &window) {
         return None;
     }
     Some(NothingTrusted {
@@ -175,7 +176,7 @@ fn has_expired(period: Period, stored: &Stored<'_>, window: &Window) -> bool
     stored.state.time.nanoseconds() + u128::from(period.nanoseconds()) <= last
 }
 
-/// The clients with headers that they take for such from the future at the beginning of the last turn's window.
+/// The clients with headers that they take for such from the future at the beginning of their window in the last turn.
 pub fn future_headers<'a>(
     alloc: Global,
     setup: &'a Setup,
@@ -205,11 +206,12 @@ fn future_at<'a>(
     let id = setup.chains.get(client.tracks)?;
     let judging = seen.clients.get(place)?;
     let chain = seen.chains.get(client.tracks)?;
-    let lowest = lowest_ahead(judging.drift, chain, &turn.window)?;
+    let window = setup.window_of(place, turn.window);
+    let lowest = lowest_ahead(judging.drift, chain, &window)?;
     Some(FutureHeaders {
         client: client.id.as_str(),
         chain: id.as_str(),
-        count: count_ahead(judging.drift, chain.commits.as_slice(), &turn.window),
+        count: count_ahead(judging.drift, chain.commits.as_slice(), &window),
         lowest,
     })
 }

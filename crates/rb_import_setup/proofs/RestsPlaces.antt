@@ -51,11 +51,12 @@ path-left chains clients stays id p stay placed =
       back = within stays p.config.back parts.1;
     }
 
-turn-left : (stays : List Bool) (t : TurnSetup) → IsPlacedTurn (staying stays) (left_turn stays t)
-turn-left stays t =
+turn-left : (chains clients : ℕ) (stays : List Bool) (t : TurnSetup) → IsTurnOf chains clients t → IsPlacedTurn chains (staying stays) (left_turn stays t)
+turn-left chains clients stays t placed =
     let OfGoal : Asked → Bool = λ g. stays_at stays g.client in
     let OfSettlement : Settlement → Bool = λ s. stays_at stays s.client in
     record {
+      windows = placed.windows;
       goals = All-map (λ (g : Asked). g.client < staying stays) (λ (g : Asked). record g { client = new_place stays g.client }) (filter OfGoal t.goals.items)
           (λ k d lt. within stays (get_or (filter OfGoal t.goals.items) k d).client (filter_passes OfGoal t.goals.items k d lt));
       settlements = All-map (λ (s : Settlement). s.client < staying stays) (λ (s : Settlement). record s { client = new_place stays s.client }) (filter OfSettlement t.settlements.items)
@@ -69,7 +70,7 @@ pub left_places : (chains chains' : List (List ℕ)) (id : List ℕ) (clients cl
 left_places chains chains' id clients clients' paths paths' turns turns' stays same_chains which same_clients same_paths same_turns placed =
     let test = client_stays chains id in
     let OnPath : Path → Type 0 = λ p. IsPathOf (length chains) (staying stays) p.config in
-    let InTurn : Turn → Type 0 = IsPlacedTurn (staying stays) in
+    let InTurn : Turn → Type 0 = IsPlacedTurn (length chains) (staying stays) in
     let many : staying stays ≡ length clients' = ap staying which ∙ count-map test clients ∙ sym (length-filter test clients) ∙ sym (ap length same_clients) in
     let left = filter (path_stays stays id) paths in
     let on_paths : All OnPath (map path_view paths') =
@@ -77,9 +78,9 @@ left_places chains chains' id clients clients' paths paths' turns turns' stays s
     (λ k d lt. path-left (length chains) (length clients) stays id (get_or left k d) (filter_passes (path_stays stays id) paths k d lt)
     (All-filter (path_stays stays id) (λ p. IsPathOf (length chains) (length clients) p.config) paths placed.each_path k d lt))) in
     let in_turns : All InTurn (map turn_view turns') =
-    All-same InTurn (map turn_view turns') (map (left_turn stays) turns) same_turns (All-map InTurn (left_turn stays) turns (λ k d lt. turn-left stays (get_or turns k d))) in
+    All-same InTurn (map turn_view turns') (map (left_turn stays) turns) same_turns (All-map InTurn (left_turn stays) turns (λ k d lt. turn-left (length chains) (length clients) stays (get_or turns k d) (placed.each_turn k d lt))) in
     subst (λ n. ArePlaces n clients' paths' turns') (sym (ap length same_chains)) (record {
       each_client = All-same (IsClientOf (length chains)) clients' (filter test clients) same_clients (All-filter test (IsClientOf (length chains)) clients placed.each_client);
       each_path = subst (λ n. All (λ (p : PathSetup). IsPathOf (length chains) n p.config) paths') many (all-views OnPath path_view paths' on_paths);
-      each_turn = subst (λ n. All (IsTurnOf n) turns') many (λ k d lt. turn-view (staying stays) (get_or turns' k d) (all-views InTurn turn_view turns' in_turns k d lt));
+      each_turn = subst (λ n. All (IsTurnOf (length chains) n) turns') many (λ k d lt. turn-view (length chains) (staying stays) (get_or turns' k d) (all-views InTurn turn_view turns' in_turns k d lt));
     })

@@ -17,8 +17,9 @@ pub record IsPathOf (chains clients : ℕ) (p : PathConfig) : Type 0 where
   pub forward : p.forward < clients
   pub back : p.back < clients
 
--- the clients of a turn's goals and settlements are among so many
-pub record IsTurnOf (clients : ℕ) (t : TurnSetup) : Type 0 where
+-- the hosts of a turn's windows are among so many chains, and the clients of its goals and settlements among so many
+pub record IsTurnOf (chains clients : ℕ) (t : TurnSetup) : Type 0 where
+  pub windows : All (λ w. w.host < chains) t.windows.items
   pub goals : All (λ g. g.client < clients) t.goals.items
   pub settlements : All (λ s. s.client < clients) t.settlements.items
 
@@ -26,4 +27,4 @@ pub record IsTurnOf (clients : ℕ) (t : TurnSetup) : Type 0 where
 pub record ArePlaces (chains : ℕ) (clients : List ClientSetup) (paths : List PathSetup) (turns : List TurnSetup) : Type 0 where
   pub each_client : All (IsClientOf chains) clients
   pub each_path : All (λ p. IsPathOf chains (length clients) p.config) paths
-  pub each_turn : All (IsTurnOf (length clients)) turns
+  pub each_turn : All (IsTurnOf chains (length clients)) turns

@@ -47,6 +47,7 @@ left_goals clients goals = map (λ (g : Asked). record g { client = new_place cl
 abbrev pub left_settlements : List Bool → List Settlement → List Settlement
 left_settlements clients settlements = map (λ (s : Settlement). record s { client = new_place clients s.client }) (filter (λ (s : Settlement). stays_at clients s.client) settlements)
 
--- a turn, with the goals and settlements of clients that stay
+-- a turn, with its windows, and with the goals and settlements of clients that stay
 abbrev pub left_turn : List Bool → TurnSetup → Turn
-left_turn clients t = record { window = t.window; goals = left_goals clients t.goals.items; settlements = left_settlements clients t.settlements.items }
+left_turn clients t =
+    record { window = t.window; windows = t.windows.items; goals = left_goals clients t.goals.items; settlements = left_settlements clients t.settlements.items }

@@ -63,7 +63,7 @@ setup s = do
   let chains = chain_ids shared
   clients ← elements (client chains) (codes "client") [] t.clients
   paths ← elements (path chains clients) (codes "path") [] t.paths
-  turns ← elements (turn clients) (codes "turn") [] t.turns
+  turns ← elements (turn chains clients) (codes "turn") [] t.turns
   Ok (record { chains = chains; clients = clients; paths = paths; turns = turns })
 
 -- the setup of a text, or its first fault

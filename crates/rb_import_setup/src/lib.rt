@@ -9,6 +9,7 @@ mod reading;
 mod rest;
 mod setup;
 mod turn;
+mod window;
 
 pub use reading::read_setup;
 pub use rest::{Rest, rest_without};

@@ -70,7 +70,7 @@ fn read_document(alloc: Global, table: &Table) -> Result<Setup, RunError>
     let chains = ids_of(alloc, &chains)?;
     let clients = read_clients(alloc, tables.clients, &chains)?;
     let paths = read_paths(alloc, tables.paths, &chains, &clients)?;
-    let turns = read_turns(alloc, tables.turns, &clients)?;
+    let turns = read_turns(alloc, tables.turns, &chains, &clients)?;
     Ok(Setup {
         chains: chains.into_vec(),
         clients: clients.into_vec(),

@@ -19,7 +19,7 @@ pub struct Rest {
 
 /// The setup without the client and the path of an identifier, and without the clients that track the chain of
 /// it. With a client go the paths that it serves, and the goals and settlements that name it. All chains
-/// stay. `AllocError` comes where a growth is refused.
+/// and all windows stay. `AllocError` comes where a growth is refused.
 pub fn rest_without(alloc: Global, setup: &Setup, id: &str) -> Result<Rest, AllocError>
     ensures which_clients { IfOk result (λ rest. rest.clients.items ≡ map (client_stays setup.now.chains.items id.now) setup.now.clients.items) }
     ensures which_paths { IfOk result (λ rest. rest.paths.items ≡ map (path_stays rest.clients.items id.now) setup.now.paths.items) }
@@ -188,7 +188,7 @@ fn copied(alloc: Global, text: &Option<String>) -> Result<Option<String>, AllocE
     }
 }
 
-/// The turns, with the goals and settlements of clients that stay.
+/// The turns, with their windows, and with the goals and settlements of clients that stay.
 #[tactic(auto, using(crate::proofs::RestsLemmas::leaving))]
 fn left_turns(
     alloc: Global,
@@ -205,7 +205,7 @@ fn left_turns(
     Ok(left)
 }
 
-/// A turn, with the goals and settlements of clients that stay.
+/// A turn, with its windows, and with the goals and settlements of clients that stay.
 fn left_turn(alloc: Global, clients: &[bool], turn: &TurnSetup) -> Result<TurnSetup, AllocError>
     ensures { IfOk result (λ left. turn_view left ≡ left_turn clients.now turn.now) }
 {
@@ -213,6 +213,7 @@ fn left_turn(alloc: Global, clients: &[bool], turn: &TurnSetup) -> Result<TurnSe
     let settlements = left_settlements(alloc, clients, turn.settlements.as_slice())?;
     Ok(TurnSetup {
         window: turn.window,
+        windows: Vec::from_slice(alloc, turn.windows.as_slice())?,
         goals,
         settlements,
     })

@@ -5,7 +5,7 @@ ghost use Rattle.rb_import_setup.specs.Clients.{client_ends};
 
 use rb_base::{ChainId, ClientId, Period, Window};
 use rb_script_config::{Client, ClientTerms, Drift, Named};
-use rb_script_types::{Asked, PathConfig, Settlement};
+use rb_script_types::{Asked, HostWindow, PathConfig, Settlement};
 
 /// The chains, clients and paths of a script, and its turns, of which there is at least one. Chains
 /// and clients are named by their places, each of which is the place of one.
@@ -81,6 +81,7 @@ impl Named for PathSetup {
 #[derive(Drop)]
 pub struct TurnSetup {
     pub window: Window,
+    pub windows: Vec<HostWindow>,
     pub goals: Vec<Asked>,
     pub settlements: Vec<Settlement>,
 }

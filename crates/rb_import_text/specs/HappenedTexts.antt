@@ -103,7 +103,7 @@ writer_of path kinds.TimedOut = None
 
 -- the time of a block of the chain at a place, where a header of it was seen
 abbrev pub time_at : Seen → ℕ → ℕ → Option ℕ
-time_at seen place height = option_and_then (λ (c : SeenChain). block_time c.commits.items height) (slice_get seen.chains.items place)
+time_at seen place height = option_and_then (λ (c : SeenChain). block_time (c.commits.items ++ c.bare.items) height) (slice_get seen.chains.items place)
 
 -- the time of the block that an event stands in
 unfoldable pub made_at : Seen → PathConfig → PacketEvent → Option ℕ

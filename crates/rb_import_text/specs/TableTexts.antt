@@ -11,6 +11,7 @@ use Rattle.rb_script_types.specs.declared.config.PathConfig.{PathConfig}
 use Rattle.rb_script_types.specs.declared.goal.Goal.{Goal}
 use Rattle.rb_script_types.specs.declared.goal.Goal.TheVariants as goals
 use Rattle.rb_script_types.specs.declared.script.Asked.{Asked}
+use Rattle.rb_script_types.specs.declared.script.HostWindow.{HostWindow}
 use Rattle.rb_script_types.specs.declared.script.Settlement.{Settlement}
 use Rattle.rb_import_setup.specs.declared.setup.ClientSetup.{ClientSetup}
 use Rattle.rb_import_setup.specs.declared.setup.PathSetup.{PathSetup}
@@ -150,6 +151,29 @@ from_line turn = codes "\n[[turn]]\nfrom = \"" ++ moment_text turn.window.from
 abbrev pub until_line : TurnSetup → List ℕ
 until_line turn = codes "\"\nuntil = \"" ++ moment_text turn.window.until ++ codes "\"\n"
 
+unfoldable pub turn_start : TurnSetup → List ℕ
+turn_start turn = from_line turn ++ until_line turn
+
+abbrev pub host_key : List ℕ → List ℕ
+host_key host = codes "  { host = \"" ++ host ++ codes "\", from = \""
+
+unfoldable pub window_from : Setup → HostWindow → List ℕ
+window_from setup w = host_key (chain_name setup w.host) ++ moment_text w.window.from
+
+abbrev pub window_until : HostWindow → List ℕ
+window_until w = codes "\", until = \"" ++ moment_text w.window.until ++ codes "\" },\n"
+
+unfoldable pub window_line : Setup → HostWindow → List ℕ
+window_line setup w = window_from setup w ++ window_until w
+
+unfoldable pub given_text : Setup → List HostWindow → List ℕ
+given_text setup windows = codes "window = [\n" ++ flat_map (window_line setup) windows ++ codes "]\n"
+
+-- the windows of hosts, where the turn gives some
+abbrev pub windows_text : Setup → List HostWindow → List ℕ
+windows_text setup [] = []
+windows_text setup (w ∷ others) = given_text setup (w ∷ others)
+
 abbrev pub client_key : List ℕ → List ℕ
 client_key client = codes "  { client = \"" ++ client ++ codes "\""
 
@@ -164,7 +188,7 @@ unfoldable pub goals_text : Setup → List Asked → List ℕ
 goals_text setup asked = codes "goal = [\n" ++ flat_map (goal_line setup) asked ++ codes "]\n"
 
 unfoldable pub turn_head : Setup → TurnSetup → List ℕ
-turn_head setup turn = from_line turn ++ until_line turn ++ goals_text setup turn.goals.items
+turn_head setup turn = turn_start turn ++ windows_text setup turn.windows.items ++ goals_text setup turn.goals.items
 
 -- which transactions of a batch were taken
 abbrev pub taken_part : Settlement → List ℕ

@@ -3,7 +3,7 @@ ghost use Rattle.std.specs.Prelude.{◌≡◌, ◌<◌, ◌++◌, [], All, lengt
 ghost use Rattle.std.specs.List.{enumerate_from};
 ghost use Rattle.rb_import_setup.specs.Places.{IsClientOf, IsPathOf, IsTurnOf};
 ghost use Rattle.rb_import_text.specs.Texts.{channel_lines, counterparty_lines, end_lines, ends_lines, waits_line};
-ghost use Rattle.rb_import_text.specs.TableTexts.{chain_line, chain_name, chains_text, client_at, client_head, client_key, client_name, client_start, client_table, client_terms, client_times, clients_text, costs_text, fees_line, from_line, gas_line, goal_line, goals_text, last_events, limits_line, name_line, number_line, objects_text, order_lines, order_word, path_at, path_end, path_head, path_start, path_table, path_terms, paths_text, refresh_line, settled_text, settlement_line, settlements_text, tables_text, three_line, trust_line, turn_head, turn_text, turns_text, until_line, wanted_part};
+ghost use Rattle.rb_import_text.specs.TableTexts.{chain_line, chain_name, chains_text, client_at, client_head, client_key, client_name, client_start, client_table, client_terms, client_times, clients_text, costs_text, fees_line, from_line, gas_line, given_text, goal_line, goals_text, host_key, last_events, limits_line, name_line, number_line, objects_text, order_lines, order_word, path_at, path_end, path_head, path_start, path_table, path_terms, paths_text, refresh_line, settled_text, settlement_line, settlements_text, tables_text, three_line, trust_line, turn_head, turn_start, turn_text, turns_text, until_line, wanted_part, window_from, window_line, window_until, windows_text};
 
 use crate::happened::push_events;
 use rb_base::{ChainId, FeeTable};
@@ -13,7 +13,9 @@ use rb_import_setup::{ClientSetup, PathSetup, Setup, TurnSetup};
 use rb_moments::push_moment;
 use rb_scan::{Kind, Order};
 use rb_script_config::ClientTerms;
-use rb_script_types::{Asked, Channel, ChannelEnd, Goal, PathConfig, Settlement, Waits};
+use rb_script_types::{
+    Asked, Channel, ChannelEnd, Goal, HostWindow, PathConfig, Settlement, Waits,
+};
 use std::alloc::AllocError;
 
 /// Adds the tables of a script.
@@ -425,7 +427,7 @@ fn push_waits(text: &mut String, waits: Waits) -> Result<(), AllocError>
     writeln!(text, "wait_ns = [{receive}, {acknowledge}, {timeout}]")
 }
 
-/// Adds the turn at a place: its window and its goals, where it is the last one what was seen, and which batches were taken.
+/// Adds the turn at a place: its windows and its goals, where it is the last one what was seen, and which batches were taken.
 #[tactic(auto, using(crate::proofs::Added::added), unfolding(crate::specs::TableTexts::turn_text))]
 fn push_turn(
     text: &mut String,
@@ -434,7 +436,7 @@ fn push_turn(
     place: usize,
     turn: &TurnSetup,
 ) -> Result<(), AllocError>
-    requires turn { IsTurnOf (length setup.now.clients.items) turn.now }
+    requires turn { IsTurnOf (length setup.now.chains.items) (length setup.now.clients.items) turn.now }
     requires place { place < length setup.now.turns.items }
     ensures { OnOk result (string_bytes text.new ≡ string_bytes text.old ++ turn_text setup.now seen.now (place, turn.now)) }
 {
@@ -445,12 +447,20 @@ fn push_turn(
 
 #[tactic(auto, using(crate::proofs::Added::added), unfolding(crate::specs::TableTexts::turn_head))]
 fn push_turn_head(text: &mut String, setup: &Setup, turn: &TurnSetup) -> Result<(), AllocError>
-    requires { IsTurnOf (length setup.now.clients.items) turn.now }
+    requires { IsTurnOf (length setup.now.chains.items) (length setup.now.clients.items) turn.now }
     ensures { OnOk result (string_bytes text.new ≡ string_bytes text.old ++ turn_head setup.now turn.now) }
 {
-    push_from(text, turn)?;
-    push_until(text, turn)?;
+    push_turn_start(text, turn)?;
+    push_windows(text, setup, turn.windows.as_slice())?;
     push_goals(text, setup, turn.goals.as_slice())
+}
+
+#[tactic(auto, using(crate::proofs::Added::added), unfolding(crate::specs::TableTexts::turn_start))]
+fn push_turn_start(text: &mut String, turn: &TurnSetup) -> Result<(), AllocError>
+    ensures { OnOk result (string_bytes text.new ≡ string_bytes text.old ++ turn_start turn.now) }
+{
+    push_from(text, turn)?;
+    push_until(text, turn)
 }
 
 #[tactic(auto, using(crate::proofs::Added::added))]
@@ -468,6 +478,77 @@ fn push_until(text: &mut String, turn: &TurnSetup) -> Result<(), AllocError>
     text.push_str("\"\nuntil = \"")?;
     push_moment(text, turn.window.until())?;
     text.push_str("\"\n")
+}
+
+/// Adds the windows of hosts, where there are some.
+fn push_windows(text: &mut String, setup: &Setup, windows: &[HostWindow]) -> Result<(), AllocError>
+    requires { All (λ w. w.host < length setup.now.chains.items) windows.now }
+    ensures { OnOk result (string_bytes text.new ≡ string_bytes text.old ++ windows_text setup.now windows.now) }
+{
+    if windows.is_empty() {
+        Ok(())
+    } else {
+        push_given(text, setup, windows)
+    }
+}
+
+fn push_given(text: &mut String, setup: &Setup, windows: &[HostWindow]) -> Result<(), AllocError>
+    requires { All (λ w. w.host < length setup.now.chains.items) windows.now }
+    ensures { OnOk result (string_bytes text.new ≡ string_bytes text.old ++ given_text setup.now windows.now) }
+{
+    text.push_str("window = [\n")?;
+    push_window_lines(text, setup, windows)?;
+    text.push_str("]\n")?;
+    Ok(())
+}
+
+#[tactic(auto, using(crate::proofs::Added::added))]
+fn push_window_lines(
+    text: &mut String,
+    setup: &Setup,
+    windows: &[HostWindow],
+) -> Result<(), AllocError>
+    requires { All (λ w. w.host < length setup.now.chains.items) windows.now }
+    ensures { OnOk result (string_bytes text.new ≡ string_bytes text.old ++ flat_map (window_line setup.now) windows.now) }
+{
+    for window in windows {
+        push_window(text, setup, window)?;
+    }
+    Ok(())
+}
+
+#[tactic(auto, using(crate::proofs::Added::added), unfolding(crate::specs::TableTexts::window_line))]
+fn push_window(text: &mut String, setup: &Setup, window: &HostWindow) -> Result<(), AllocError>
+    requires { window.now.host < length setup.now.chains.items }
+    ensures { OnOk result (string_bytes text.new ≡ string_bytes text.old ++ window_line setup.now window.now) }
+{
+    push_window_from(text, setup, window)?;
+    push_window_until(text, window)
+}
+
+#[tactic(auto, using(crate::proofs::Added::added), unfolding(crate::specs::TableTexts::window_from))]
+fn push_window_from(text: &mut String, setup: &Setup, window: &HostWindow) -> Result<(), AllocError>
+    requires { window.now.host < length setup.now.chains.items }
+    ensures { OnOk result (string_bytes text.new ≡ string_bytes text.old ++ window_from setup.now window.now) }
+{
+    push_host_key(text, chain_at(setup, window.host))?;
+    push_moment(text, window.window.from())
+}
+
+/// Adds the beginning of an inline table of a host.
+fn push_host_key(text: &mut String, host: &str) -> Result<(), AllocError>
+    ensures { OnOk result (string_bytes text.new ≡ string_bytes text.old ++ host_key host.now) }
+{
+    write!(text, "  {{ host = \"{host}\", from = \"")
+}
+
+#[tactic(auto, using(crate::proofs::Added::added))]
+fn push_window_until(text: &mut String, window: &HostWindow) -> Result<(), AllocError>
+    ensures { OnOk result (string_bytes text.new ≡ string_bytes text.old ++ window_until window.now) }
+{
+    text.push_str("\", until = \"")?;
+    push_moment(text, window.window.until())?;
+    text.push_str("\" },\n")
 }
 
 #[tactic(auto, using(crate::proofs::Added::added), unfolding(crate::specs::TableTexts::goals_text))]

@@ -21,7 +21,7 @@ use Rattle.rb_want_search.specs.declared.judge.Judgement.{Judgement}
 use Rattle.rb_want_search.specs.declared.judge.Judgement.TheVariants.{Accepted, Refused, Never, Gone, Unknown}
 use Rattle.rb_want.specs.declared.judged.Steps.{Steps}
 use Rattle.rb_want.specs.Clients.{IsHeaderAt}
-use Rattle.rb_want.specs.Judgements.{AreByRule, IsExpiring, LacksStep, LacksTrust}
+use Rattle.rb_want.specs.Judgements.{AreByRule, IsExpiring, IsRefusal, LacksStep, LacksTrust}
 use Rattle.rb_want.specs.Waiting.{HasNoRecord, HasSet}
 use Rattle.rb_want.specs.Steps.{HoldsWithin, IsRecordAt, IsVerdictOn, header_of, record_of}
 
@@ -58,10 +58,10 @@ never s trusted height v (step, at, rule, (moment, inside, holds)) (inr unknown)
 
 -- a judgement that calls a step accepted only where the verdict is success, and refused only where it isn't
 pub by_rule : (s : Steps) (trusted height : ℕ) (v : Verdict) (j : Judgement)
-    → IsVerdictOn s trusted height v → (j ≡ Accepted → v ≡ Success) → (j ≡ Refused → ¬ (v ≡ Success))
+    → IsVerdictOn s trusted height v → (j ≡ Accepted → v ≡ Success) → (j ≡ Refused → IsRefusal v)
     → (j ≡ Never → (v ≡ Invalid Expired) ⊎ (v ≡ Invalid TrustedSetUnknown)) → (j ≢ Gone) × (j ≢ Unknown) → AreByRule s trusted height j
 by_rule s trusted height v Accepted is accepted refused last decided = (is.0, is.1, is.2.0 (accepted refl))
-by_rule s trusted height v Refused is accepted refused last decided = (is.0, is.1, λ accepts. refused refl (is.2.1 accepts))
+by_rule s trusted height v Refused is accepted refused last decided = (v, is, refused refl)
 by_rule s trusted height v Never is accepted refused last decided = never s trusted height v is (last refl)
 by_rule s trusted height v Gone is accepted refused last decided = absurd (decided.0 refl)
 by_rule s trusted height v Unknown is accepted refused last decided = absurd (decided.1 refl)

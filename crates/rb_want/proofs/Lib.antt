@@ -12,3 +12,4 @@ pub mod Starting
 pub mod Taking
 pub mod Waiting
 pub mod Zipped
+pub mod Tracked

@@ -11,7 +11,7 @@ use Rattle.rb_want_requests.specs.Answered.{is_commit_of}
 use Rattle.rb_want_requests.specs.declared.request.Query.{Query}
 use Rattle.rb_want_requests.specs.declared.request.Query.TheVariants as queries
 use Rattle.rb_want.specs.Clients.{IsHeaderAt, next_page}
-use Rattle.rb_want.specs.Judgements.{LacksHeader, LacksSet, LacksTrust}
+use Rattle.rb_want.specs.Judgements.{LacksHeader, LacksSet, LacksTrust, MayBeSigned, MayBeTrusted, MayHaveSet}
 use Rattle.rb_want.specs.Steps.{IsRecordAt}
 use Rattle.rb_want.specs.Waiting.{HasSet, WaitsForHeader, WaitsForNext, WaitsForSet, is_height, page_asked}
 use Rattle.rb_want.specs.declared.judged.Steps.{Steps}
@@ -83,6 +83,17 @@ pub untrusted : (s : Steps) (trusted height : ℕ) (r : Record) (hash : List ℕ
     → LacksSet s hash height → LacksTrust s trusted
 untrusted s trusted height r hash stored named after lacks =
     inr (r, stored, subst (λ n. LacksSet s r.next n) after (subst (λ h. LacksSet s h height) named lacks))
+
+-- a record whose set may be had
+pub trusted_yet : (s : Steps) (trusted height : ℕ) (r : Record) (hash : List ℕ) → IsRecordAt s trusted r → hash ≡ r.next → height ≡ trusted + 1
+    → MayHaveSet s hash height → MayBeTrusted s trusted
+trusted_yet s trusted height r hash stored named after may =
+    (r, stored, subst (λ n. MayHaveSet s r.next n) after (subst (λ h. MayHaveSet s h height) named may))
+
+-- a header whose set may be had
+pub signed_yet : (s : Steps) (height n : ℕ) (h : SignedHeader) → IsHeaderAt s.chain.now.folder.now.contents.items height h → n ≡ height
+    → MayHaveSet s h.set n → MayBeSigned s height
+signed_yet s height n h there same may = inl (h, there, subst (λ m. MayHaveSet s h.set m) same may)
 
 -- a header whose set isn't given
 pub headless : (s : Steps) (height n : ℕ) (h : SignedHeader) → IsHeaderAt s.chain.now.folder.now.contents.items height h → n ≡ height

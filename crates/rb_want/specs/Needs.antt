@@ -17,6 +17,7 @@ use Rattle.rb_import_setup.specs.declared.setup.ClientSetup.{ClientSetup}
 use Rattle.rb_import_setup.specs.declared.setup.Setup.{Setup}
 use Rattle.rb_import_setup.specs.declared.setup.TrustSetup.{TrustSetup}
 use Rattle.rb_import_setup.specs.declared.setup.TurnSetup.{TurnSetup}
+use Rattle.rb_import_setup.specs.Windows.{window_of}
 use Rattle.rb_script_types.specs.declared.goal.Goal.{Goal}
 use Rattle.rb_script_types.specs.declared.goal.Goal.TheVariants as goals
 use Rattle.rb_script_types.specs.declared.script.Asked.{Asked}
@@ -277,15 +278,24 @@ tracking_of c =
 abbrev pub AreStoredBy : Tracking → List ConsensusState → Type 0
 AreStoredBy t stored = (revision : ℕ) × IsRevision t.tracks revision × IsPermutation (stored_in revision t.own.contents.items) stored
 
-abbrev pub tracking_with : ℕ → ClientSetup → Option TurnSetup → Option (List ℕ) → Option (List ℕ) → Option Folder → Option Folder → Option Tracking
-tracking_with place c (Some turn) (Some host) (Some tracks) (Some own) (Some chain) =
-    Some (record { place = place; setup = c; host = host; tracks = tracks; goal = goal_at place turn.goals.items; window = turn.window; own = own; chain = chain })
-tracking_with place c _ _ _ _ _ = None
+abbrev pub tracking_with : Setup → ℕ → ClientSetup → Option TurnSetup → Option (List ℕ) → Option (List ℕ) → Option Folder → Option Folder → Option Tracking
+tracking_with setup place c (Some turn) (Some host) (Some tracks) (Some own) (Some chain) =
+    Some (record {
+      place = place;
+      setup = c;
+      host = host;
+      tracks = tracks;
+      goal = goal_at place turn.goals.items;
+      window = window_of setup place turn.window;
+      own = own;
+      chain = chain;
+    })
+tracking_with setup place c _ _ _ _ _ = None
 
--- the client at a place, in the last turn of the setup, with its folder and that of the chain that it tracks, where they are there
+-- the client at a place, in the last turn of the setup and in its window there, with its folder and that of the chain that it tracks, where they are there
 unfoldable pub tracking_at : Setup → List Folder → List Folder → ℕ × ClientSetup → Option Tracking
 tracking_at setup own chains c =
-    tracking_with c.0 c.1 (slice_get setup.turns.items (length setup.turns.items - 1)) (slice_get setup.chains.items c.1.host)
+    tracking_with setup c.0 c.1 (slice_get setup.turns.items (length setup.turns.items - 1)) (slice_get setup.chains.items c.1.host)
     (slice_get setup.chains.items c.1.tracks) (slice_get own c.0) (slice_get chains c.1.tracks)
 
 -- the case is that of the client at a place, over these folders; there is none where one of these isn't there

@@ -60,6 +60,7 @@ pub fn case_of<'b, 'a>(
         return Ok(None);
     };
     let revision = revision_of(tracks.as_str());
+    let window = setup.window_of(place, turn.window);
     Ok(Some(Case {
         alloc,
         setup: client,
@@ -67,7 +68,7 @@ pub fn case_of<'b, 'a>(
         host: *host,
         tracks: *tracks,
         goal: goal_of(turn.goals.as_slice(), place),
-        window: turn.window,
+        window,
         answers: ClientAnswers::of(alloc, folder, revision)?,
         chain,
     }))

@@ -1,11 +1,11 @@
 //! Steps of a client, judged by the answers that are there.
-ghost use Rattle.std.specs.Prelude.{◌≡◌, ◌≢◌, ◌⊎◌, ◌↔◌, ◌++◌, false, List, All, IfNone, IfOk, IfSome, OnOk, Some, map};
+ghost use Rattle.std.specs.Prelude.{◌≡◌, ◌≢◌, ◌⊎◌, ◌↔◌, ◌++◌, false, true, List, All, IfNone, IfOk, IfSome, OnOk, Some, map};
 ghost use Rattle.std.specs.List.Sorted.{IsNonDecreasingBy};
 ghost use Rattle.std.specs.Option.{option_to_list};
 ghost use Rattle.rb_book.specs.Header.{IsSignedBy, Names};
 ghost use Rattle.rb_step.specs.StepRule.{AcceptsWithin, step_of};
 ghost use Rattle.rb_want_requests.specs.declared.request.Query.{Query};
-ghost use Rattle.rb_want.specs.Judgements.{AreByRule, IsSaidOf, LacksHeader, LacksSet, LacksTrust};
+ghost use Rattle.rb_want.specs.Judgements.{AreByRule, IsRefusal, IsSaidOf, LacksHeader, LacksSet, LacksTrust, MayBeSigned, MayBeTrusted, MayHaveSet};
 ghost use Rattle.rb_want.specs.Steps.{HoldsWithin, IsRecordAt, IsStoredAt, IsVerdictOn, header_of, record_of, record_of_state, vote_of};
 ghost use Rattle.rb_want.specs.Waiting.{HasNoRecord, WaitsFor, WaitsForHeader, WaitsForNext, WaitsForSet, page_asked};
 
@@ -41,7 +41,7 @@ impl Judge for Steps<'_, '_> {
 /// What a verdict of the step rule says of a step, and of others from its trusted height.
 fn judgement_of(verdict: Verdict) -> Judgement
     ensures accepted { result ≡ Judgement.Accepted → verdict ≡ Verdict.Success }
-    ensures refused { result ≡ Judgement.Refused → ¬ (verdict ≡ Verdict.Success) }
+    ensures refused { result ≡ Judgement.Refused → IsRefusal verdict }
     ensures never { result ≡ Judgement.Never → (verdict ≡ Verdict.Invalid Reason.Expired) ⊎ (verdict ≡ Verdict.Invalid Reason.TrustedSetUnknown) }
     ensures decided { (result ≢ Judgement.Gone) × (result ≢ Judgement.Unknown) }
 {
@@ -119,7 +119,8 @@ impl<'b, 'a> Steps<'b, 'a> {
 
     /// Whether the record of a height is there, and the set that it names is there or may still come.
     fn may_be_trusted(&self, trusted: Height) -> Result<bool, AllocError>
-        ensures { IfOk result (λ answer. answer ≡ false → LacksTrust self.now trusted) }
+        ensures lacks { IfOk result (λ answer. answer ≡ false → LacksTrust self.now trusted) }
+        ensures may { IfOk result (λ answer. answer ≡ true → MayBeTrusted self.now trusted) }
     {
         let Some(record) = self.record_at(trusted) else {
             return Ok(false);
@@ -129,7 +130,8 @@ impl<'b, 'a> Steps<'b, 'a> {
 
     /// Whether the header of a height and its set are there or may still come.
     fn may_come(&self, height: Height) -> Result<bool, AllocError>
-        ensures { IfOk result (λ answer. answer ≡ false → LacksHeader self.now height) }
+        ensures lacks { IfOk result (λ answer. answer ≡ false → LacksHeader self.now height) }
+        ensures may { IfOk result (λ answer. answer ≡ true → MayBeSigned self.now height) }
     {
         let Some(signed) = self.chain.header_at(height) else {
             return self.chain.is_open(self.alloc, Query::Commit(height));
@@ -139,7 +141,8 @@ impl<'b, 'a> Steps<'b, 'a> {
 
     /// Whether the set of this hash is there, or the validators of a height may still come.
     fn may_have_set(&self, hash: &[u8; 32], height: u64) -> Result<bool, AllocError>
-        ensures { IfOk result (λ answer. answer ≡ false → LacksSet self.now hash.now height) }
+        ensures lacks { IfOk result (λ answer. answer ≡ false → LacksSet self.now hash.now height) }
+        ensures may { IfOk result (λ answer. answer ≡ true → MayHaveSet self.now hash.now height) }
     {
         if self.chain.has_set(hash) {
             return Ok(true);

@@ -1,6 +1,7 @@
-use Rattle.std.proofs.Common.{arith, rules}
+use Rattle.std.proofs.Common.{arith, rules, ap, ◌∙◌}
 use Rattle.std.proofs.lemmas.Grind.{common_steps}
 use Rattle.std.proofs.lemmas.Option.{gets}
+use Rattle.rb_import.specs.Steps.{judging_of}
 use Rattle.rb_import.proofs.needed.case_of.Goals as goal
 
 pub returns-clause-case : goal.returns-clause-case
@@ -11,7 +12,7 @@ returns-clause-case c = (
   grind (arith, common_steps, gets),
   grind (arith, common_steps, gets),
   search rules,
-  c.in_ok-judging.ensures.judging,
+  c.in_ok-judging.ensures.judging ∙ ap (judging_of c.in_ok-client.client.now) c.window_of-window.ensures,
   search rules,
 )
 

@@ -6,5 +6,5 @@ use Rattle.rb_import.proofs.starts.in_order.Goals as goal
 
 pub returns-clause-order : goal.returns-clause-order
 returns-clause-order c =
-    c.in_ok-sort_by_key.ensures.sorted (λ (s : Start). (weight_of s c.args.is_charged, s.height))
-    (always_returns_same _ (λ a r. r ≡ (weight_of a.0.now c.args.is_charged, a.0.now.height)) _ (λ a r q k. search rules))
+    c.in_ok-sort_by_key.ensures.sorted (λ (s : Start). (weight_of s c.args.is_charged, record { 0 = s.height }))
+    (always_returns_same _ (λ a r. r ≡ (weight_of a.0.now c.args.is_charged, record { 0 = a.0.now.height })) _ (λ a r q k. search rules))

@@ -2,6 +2,8 @@ use Rattle.std.proofs.Common.{◌≡◌, Some, arith, rules, subst}
 use Rattle.std.specs.Prelude.{slice_get}
 use Rattle.std.proofs.lemmas.Grind.{common_steps}
 use Rattle.std.proofs.lemmas.Option.{gets}
+use Rattle.rb_base.specs.Window.{Span}
+use Rattle.rb_import_setup.specs.Windows.{window_of}
 use Rattle.rb_import_notices.specs.declared.stale.NothingFresh.{NothingFresh}
 use Rattle.rb_import_notices.specs.Stale.{AreStale, terms_of}
 use Rattle.rb_import_notices.specs.Unusable.{last_turn}
@@ -20,10 +22,12 @@ returns c =
     let tracked : slice_get c.args.seen.now.chains.items c.args.client.now.tracks ≡ Some chain = grind (arith, common_steps, gets) in
     let own : slice_get c.args.seen.now.clients.items c.args.place ≡ Some client = grind (arith, common_steps, gets) in
     let stored : slice_get c.args.seen.now.records.items c.args.place ≡ Some records = grind (arith, common_steps, gets) in
-    let stale : AreStale terms turn.window chain.commits.items records.items =
-    subst (λ t. AreStale t turn.window chain.commits.items records.items) c.terms_of.ensures
-    (subst (λ l. AreStale c.terms_of.result turn.window l records.items) c.as_slice.ensures.value
-    (subst (λ l. AreStale c.terms_of.result turn.window c.as_slice.result.now l) c.as_slice-2.ensures.value (c.are_stale.ensures.0 (search rules)))) in
+    let window = window_of c.args.setup.now c.args.place turn.window in
+    let stale : AreStale terms window chain.commits.items records.items =
+    subst (λ t. AreStale t window chain.commits.items records.items) c.terms_of.ensures
+    (subst (λ (w : Span). AreStale c.terms_of.result w chain.commits.items records.items) c.window_of-window.ensures
+    (subst (λ l. AreStale c.terms_of.result c.window_of-window.result l records.items) c.as_slice.ensures.value
+    (subst (λ l. AreStale c.terms_of.result c.window_of-window.result c.as_slice.result.now l) c.as_slice-2.ensures.value (c.are_stale.ensures.0 (search rules))))) in
     let notice : NothingFresh = record { client = c.as_str.result; chain = c.as_str-2.result } in
     fresh_here c.args.setup.now c.args.seen.now c.args.place c.args.client.now turn chain client records c.in_ok-id.id.now notice
     last tracked own stored named stale (search rules) (search rules)
