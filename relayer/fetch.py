@@ -1,0 +1,150 @@
+"""Fetches what `want` asks for. A source that gives what can't be is left for another one."""
+import functools
+import pathlib
+
+from relayer.answers import HEADERS, AnswerFolder, write_whole
+from relayer.config import Config
+from relayer.node import Kind, Refused
+from relayer.planner import Planner, Request
+from relayer.sources import Sources, Standing, Unavailable, standing_in
+from relayer.values import Fields, fields_in
+from relayer.verify import Doubt, Verifier
+from relayer.words import Log
+
+PASSES = 80  # calls of `want` for a setup
+MOST_PAGES = 60  # of a query
+GATEWAY_QUERIES = {"client_state", "consensus_states", "commitments", "unreceived", "acknowledgements"}
+PAGED = {"consensus_states", "commitments"}
+
+
+class Fetcher:
+    """Fetches into a folder of answers, in one round."""
+
+    def __init__(self, planner: Planner, sources: Sources, folder: AnswerFolder, config: Config, log: Log) -> None:
+        self.planner, self.sources, self.folder, self.log, self.window_nanos = planner, sources, folder, log, config.window_nanos
+        self.verifier = Verifier(folder, log) if config.is_verified else None
+        self.standings: dict[str, Standing] = {}
+        self.down: set[tuple[str, Kind]] = set()
+        self.refused: set[str] = set()  # requests, as FOLDER/NAME
+        self.floors: dict[str, int] = {}  # of clients: the latest height that an answer on one has to have
+
+    def begin_round(self, chains: list[str]) -> None:
+        self.down.clear()
+        self.refused.clear()
+        self.standings.clear()
+        self.stand(chains)
+        for chain in chains:
+            self.check(chain)
+
+    # ---- where chains stand
+
+    def stand(self, chains: list[str]) -> None:
+        """Asks where chains stand; the fetch goes by these answers."""
+        best = self.sources.best_standings(chains)
+        for chain in chains:
+            if chain not in best:
+                self.standings.pop(chain, None)
+                self.down.add((chain, Kind.NODE))
+                continue
+            self.standings[chain], answer = best[chain]
+            if not self.has_young_header(chain):
+                self.folder.save(f"{chain}/status", answer)
+
+    def has_young_header(self, chain: str) -> bool:
+        """Whether the header is there that an earlier standing leads to, and that standing is hardly older than this one: then it leads the fetch again."""
+        file = self.folder.file(f"{chain}/status")
+        before = standing_in(fields_in(file.read_bytes())) if file.exists() else None
+        if before is None or before.chain != chain or not self.folder.file(f"{chain}/commit-{before.height - 1}.json").exists():
+            return False
+        return 0 <= self.standings[chain].nanos - before.nanos <= self.window_nanos
+
+    def check_standing(self, chain: str) -> None:
+        """Leaves a node whose own latest height has no header, and asks another one where the chain stands."""
+        standing = self.standings.get(chain)
+        if standing is None or f"{chain}/commit-{standing.height - 1}" not in self.refused:
+            return
+        self.folder.drop_all(chain, "*.refused")
+        self.refused = {other for other in self.refused if not other.startswith(f"{chain}/")}
+        source = self.folder.drop(f"{chain}/status")
+        if source is not None:
+            self.sources.fail(source, "no node gives the header below its latest height")
+        self.stand([chain])
+
+    def leave_headers(self, chain: str) -> None:
+        """Drops a chain's headers, and where it stood, if there is another node, which is asked first from now on."""
+        if self.sources.prefer_another(chain, Kind.NODE):
+            self.folder.drop(f"{chain}/status")
+            self.folder.drop_all(chain, HEADERS)
+
+    # ---- answers
+
+    def fetch(self, setup: pathlib.Path) -> dict[str, str]:
+        """Asks until `want` asks for no more, or for nothing that a source is left for; why no more is asked for clients and paths."""
+        for _ in range(PASSES):
+            wanted, ends = self.planner.want(setup, self.folder.folder)
+            requests = [request for request in wanted if (request.chain, kind_of(request)) not in self.down]
+            if not requests:
+                break
+            for request in requests:
+                if self.folder.file(request.file).exists():
+                    self.doubt(Doubt(request.file, "it doesn't hold what was asked for"))
+            self.take(requests)
+        return ends
+
+    def take(self, requests: list[Request]) -> None:
+        """Fetches in two steps what one call of `want` asks for: consensus states come after the client's state, validators after the header of their
+        height, since those of before may do."""
+        later = [request for request in requests if request.kind in ("consensus_states", "validators")]
+        self.sources.together([functools.partial(self.answer, request) for request in requests if request not in later])
+        headers = {(request.folder, request.number) for request in requests if request.kind == "commit"}
+        known = {chain for chain, _ in headers if any(self.folder.file(chain).glob("validators-*.json"))}
+        self.sources.together([functools.partial(self.answer, request) for request in later if not self.folder.file(request.file).exists()
+                               and not (request.kind == "validators" and request.folder in known and (request.folder, request.number) in headers)])
+        for chain in dict.fromkeys(request.folder for request in requests if request.kind in ("commit", "validators")):
+            self.check(chain)
+            self.check_standing(chain)
+
+    def answer(self, request: Request) -> None:
+        """Fetches and saves the answer to a request."""
+        try:
+            if request.kind in PAGED and request.number > MOST_PAGES:
+                raise Refused("more pages than a query may have")
+            found = self.sources.ask(request.chain, kind_of(request), request.path)
+            while request.kind == "client_state" and latest_in(found.fields) < self.floors.get(request.folder, 0):
+                self.sources.fail(found.source, f"it is behind: {request.folder} was updated since")
+                found = self.sources.ask(request.chain, kind_of(request), request.path)
+        except Refused as refused:
+            self.refused.add(f"{request.folder}/{request.name}")
+            write_whole(self.folder.file(f"{request.folder}/{request.name}.refused"), str(refused).encode())
+            self.log.info("request refused", chain=request.chain, path=request.path, words=str(refused))
+        except Unavailable:
+            self.down.add((request.chain, kind_of(request)))
+        else:
+            if request.kind == "client_state":
+                self.folder.drop_old_pages(request.folder, found)
+            self.folder.save(request.file, found)
+
+    # ---- doubts
+
+    def check(self, chain: str) -> None:
+        """Verifies new commits of a chain; what can't be is dropped with its source."""
+        for doubt in self.verifier.check(chain) if self.verifier else []:
+            self.doubt(doubt)
+
+    def doubt(self, doubt: Doubt) -> None:
+        """Drops a file that can't be, with the validators of its height, and leaves its source."""
+        source = self.folder.drop(doubt.file)
+        chain, _, name = doubt.file.partition("/")
+        if name.startswith("commit-"):
+            self.folder.drop_all(chain, f"validators-{name.removeprefix('commit-').removesuffix('.json')}-*.json")
+        if source is not None:
+            self.sources.fail(source, f"{doubt.file}: {doubt.why}")
+
+
+def latest_in(state: Fields) -> int:
+    """The latest height that the answer on a client's state tells."""
+    return state.object("client_state").object("latest_height").number("revision_height") or 0
+
+
+def kind_of(request: Request) -> Kind:
+    return Kind.GATEWAY if request.kind in GATEWAY_QUERIES else Kind.NODE

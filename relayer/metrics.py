@@ -1,0 +1,79 @@
+"""Metrics for Prometheus, at /metrics of a port on loopback."""
+import http.server
+import threading
+
+HELP = {
+    "ibcplan_client_expires_timestamp_seconds": "When a client expires if it isn't updated.",
+    "ibcplan_client_next_timestamp_seconds": "When something is due for a client next.",
+    "ibcplan_relayer_updates_total": "Updates of a client that were included.",
+    "ibcplan_relayer_fees_total": "Fees of these updates by the plans, in the unit of the configuration.",
+    "ibcplan_relayer_transactions_total": "Transactions to a host by what became of them.",
+    "ibcplan_relayer_clients": "Clients by what the last round came to for them.",
+    "ibcplan_relayer_requests_total": "Requests to a source.",
+    "ibcplan_relayer_source_failures": "Failures of a source in a row.",
+    "ibcplan_relayer_chain_height": "The latest height of a chain by its nodes.",
+    "ibcplan_relayer_rounds_total": "Rounds that were made.",
+    "ibcplan_relayer_round_seconds": "Seconds of the last round.",
+    "ibcplan_relayer_open_transactions": "Transactions whose inclusion is open.",
+}
+Values = dict[tuple[tuple[str, str], ...], float]
+
+
+class Metrics:
+    """Values by name and labels."""
+
+    def __init__(self) -> None:
+        self.values: dict[str, Values] = {}
+        self.lock = threading.Lock()
+
+    def put(self, name: str, value: float, **labels: str) -> None:
+        with self.lock:
+            self.values.setdefault(name, {})[tuple(labels.items())] = value
+
+    def add(self, name: str, value: float, **labels: str) -> None:
+        with self.lock:
+            of_name, key = self.values.setdefault(name, {}), tuple(labels.items())
+            of_name[key] = of_name.get(key, 0) + value
+
+    def forget(self, name: str) -> None:
+        with self.lock:
+            self.values.pop(name, None)
+
+    def text(self) -> str:
+        """The text that Prometheus reads."""
+        with self.lock:
+            return "".join(of_name(name, values) for name, values in sorted(self.values.items()))
+
+
+def of_name(name: str, values: Values) -> str:
+    lines = [f"# HELP {name} {HELP[name]}", f"# TYPE {name} {'counter' if name.endswith('_total') else 'gauge'}"]
+    for labels, value in values.items():
+        inner = ",".join(f'{key}="{escaped(text)}"' for key, text in labels)
+        lines.append(f"{name}{{{inner}}} {value:.15g}" if inner else f"{name} {value:.15g}")
+    return "\n".join(lines) + "\n"
+
+
+def escaped(text: str) -> str:
+    return text.replace("\\", "\\\\").replace('"', '\\"').replace("\n", "\\n")
+
+
+def serve(metrics: Metrics, port: int) -> http.server.ThreadingHTTPServer:
+    """A server of metrics on loopback, which answers in a thread of its own; port 0 takes any that is free."""
+    class Handler(http.server.BaseHTTPRequestHandler):
+        timeout = 10
+
+        def do_GET(self) -> None:
+            body = metrics.text().encode() if self.path == "/metrics" else b""
+            self.send_response(200 if self.path == "/metrics" else 404)
+            self.send_header("Content-Type", "text/plain; version=0.0.4")
+            self.send_header("Content-Length", str(len(body)))
+            self.end_headers()
+            self.wfile.write(body)
+
+        def log_message(self, *_: object) -> None:
+            pass
+
+    server = http.server.ThreadingHTTPServer(("127.0.0.1", port), Handler)
+    server.daemon_threads = True
+    threading.Thread(target=server.serve_forever, daemon=True).start()
+    return server

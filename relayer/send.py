@@ -1,0 +1,267 @@
+"""Makes, signs and broadcasts transactions by the chains' programs, and asks whether they were included. Hosts don't wait for one another."""
+import base64
+import binascii
+import dataclasses
+import enum
+import hashlib
+import json
+import pathlib
+import subprocess
+import threading
+from collections.abc import Callable
+
+from relayer.answers import write_whole
+from relayer.clock import Clock
+from relayer.config import Chain, Client, Config, Sender
+from relayer.node import Kind, Refused, SourceFailure
+from relayer.sources import Sources, Standing, Unavailable
+from relayer.state import Included, Open, State
+from relayer.values import Fields, fields_in
+from relayer.words import Fault, Log, shown
+
+SECONDS = 60  # that a call of a chain's program may take
+IN_CACHE = 19  # cosmos-sdk's code of a transaction that is in the mempool already
+INDEX_BLOCKS = 2  # by which a node's index of transactions may be behind
+
+
+class Ending(enum.Enum):
+    """What became of a transaction."""
+
+    INCLUDED = "included"
+    FAILED = "failed"
+    OPEN = "not included yet"
+    LAPSED = "lapsed"
+    HELD = "not sent"
+
+
+@dataclasses.dataclass(frozen=True)
+class Step:
+    """What a transaction carries: messages for a client, which bring it to these heights; their gas and their fee by the plan, and where the host stood
+    when that was made."""
+
+    client: Client
+    messages: tuple[bytes, ...]
+    heights: tuple[int, ...]
+    gas: int
+    fee: int
+    since: Standing
+
+
+@dataclasses.dataclass(frozen=True)
+class Sent:
+    """A transaction, and what became of it."""
+
+    client: str
+    heights: tuple[int, ...]
+    hash: str
+    ending: Ending
+    words: str = ""
+    fee: int = 0
+    gas_used: int = 0
+
+
+class Failed(Exception):
+    """Why a transaction couldn't be made, signed or broadcast, in words for a terminal."""
+
+
+class Senders:
+    """Sends to hosts, to each in a thread of its own, one transaction after another."""
+
+    def __init__(self, config: Config, sources: Sources, state: State, clock: Clock, stop: threading.Event, log: Log, tell: Callable[[Sent], None]) -> None:
+        self.config, self.sources, self.state, self.clock, self.stop, self.log, self.tell = config, sources, state, clock, stop, log, tell
+        self.done: dict[str, threading.Event] = {}  # of hosts to which something is on its way; set at the end
+
+    def start(self, host: str, steps: list[Step]) -> None:
+        """Begins to send steps to a host."""
+        chain = self.config.chain(host)
+        assert chain.sender is not None and not self.is_busy(host)
+        sender, done = HostSender(self, chain, chain.sender), threading.Event()
+        self.done[host] = done
+
+        def run() -> None:
+            try:
+                sender.run(steps)
+            finally:
+                done.set()
+
+        threading.Thread(target=run, name=f"send {host}").start()
+
+    def is_busy(self, host: str) -> bool:
+        return host in self.done and not self.done[host].is_set()
+
+    def ended(self) -> set[str]:
+        """The hosts to which nothing is on its way any more, since this was asked last."""
+        ended = {host for host, done in self.done.items() if done.is_set()}
+        for host in ended:
+            del self.done[host]
+        return ended
+
+    def wait(self, hosts: list[str] | None = None) -> None:
+        """Waits until nothing is on its way to some hosts, or to any."""
+        for host, done in self.done.items():
+            while (hosts is None or host in hosts) and not self.clock.wait(done, SECONDS):
+                pass
+
+    # ---- inclusion
+
+    def settle(self, transaction: Open) -> Sent:
+        """Asks what became of an open transaction, and closes it where that is known: where a node knows it, or none does though no block can have it any
+        more. Nodes that stand still aren't asked, and those without an index only if no other is there."""
+        def ended(ending: Ending, words: str = "", gas: int = 0) -> Sent:
+            return Sent(transaction.client, transaction.heights, transaction.hash, ending, words, transaction.fee, gas)
+
+        found = [(source, standing[0]) for source in self.sources.usable(transaction.host, Kind.NODE) if (standing := self.sources.standing(source))]
+        moving = [pair for pair in found if not self.sources.is_still(pair[1])]
+        words = f"{transaction.host} stands still" if found else f"no node of {transaction.host} answers"
+        for source, _ in (asked := [pair for pair in moving if pair[1].has_index] or moving):
+            try:
+                answer = source.ask(f"/tx?hash=0x{transaction.hash}").fields
+            except Refused as refused:
+                words = str(refused)
+                continue
+            except SourceFailure as failure:
+                self.sources.fail(source, str(failure))
+                return ended(Ending.OPEN, str(failure))
+            result, block = answer.object("tx_result"), answer.number("height")
+            if (answer.text("hash") or "").upper() != transaction.hash or block is None:
+                return ended(Ending.OPEN, "a node answers of another transaction")
+            code, gas = result.number("code") or 0, result.number("gas_used") or 0
+            if code:
+                self.state.close(transaction)
+                return ended(Ending.FAILED, f"code {code}: {shown(result.text('log') or '', 200)}", gas)
+            self.state.close(transaction, Included(max(transaction.heights, default=0), block))
+            return ended(Ending.INCLUDED, gas=gas)
+        if not asked or any(standing.height <= transaction.last_block + INDEX_BLOCKS for _, standing in asked):
+            return ended(Ending.OPEN, words)
+        self.state.close(transaction)
+        return ended(Ending.LAPSED, f"no block up to {transaction.last_block} has it: {words}")
+
+
+class HostSender:
+    """Sends to one host."""
+
+    def __init__(self, senders: Senders, chain: Chain, sender: Sender) -> None:
+        self.senders, self.sources, self.chain, self.sender = senders, senders.sources, chain, sender
+        self.folder = senders.config.folder / "sending" / chain.id
+
+    def run(self, steps: list[Step]) -> None:
+        """Sends step by step. Behind one that isn't included its client's steps don't go; behind one that is open none does, as its account is the same."""
+        ended: set[str] = set()
+        for step in steps:
+            if step.client.name in ended or self.senders.stop.is_set():
+                continue
+            try:
+                sent = self.send(step)
+            except Fault as fault:  # of the state file: nothing is sent without it
+                sent = Sent(step.client.name, step.heights, "", Ending.HELD, str(fault))
+            self.senders.tell(sent)
+            if sent.ending is Ending.FAILED:  # another gateway may know the client better
+                self.sources.prefer_another(self.chain.id, Kind.GATEWAY)
+            if sent.ending is not Ending.INCLUDED:
+                ended.add(step.client.name)
+            if sent.ending in (Ending.OPEN, Ending.HELD):
+                return
+
+    def send(self, step: Step) -> Sent:
+        """Sends a transaction that can be included for some blocks, and waits for it."""
+        def ended(ending: Ending, words: str, digest: str = "") -> Sent:
+            return Sent(step.client.name, step.heights, digest, ending, words, step.fee)
+
+        try:
+            standing = self.sources.first_standing(self.chain.id)
+            until = step.since.nanos + self.senders.config.window_nanos
+            if self.sources.is_still(standing) or standing.nanos > until:
+                return ended(Ending.HELD, f"{self.chain.id} stands still" if standing.nanos <= until else "the window of its plan is over")
+            last_block = min(standing.height, step.since.height + 10 * self.sender.open_blocks) + self.sender.open_blocks  # a node may lie
+            signed = self.signed(step, last_block)
+            digest = self.hash_of(signed)
+        except Unavailable as error:
+            return ended(Ending.HELD, str(error))
+        except Failed as failed:
+            return ended(Ending.FAILED, str(failed))
+        transaction = Open(self.chain.id, step.client.name, digest, step.heights, step.fee, last_block)
+        self.senders.state.add(transaction)
+        self.senders.log.info("broadcast", host=self.chain.id, client=step.client.name, heights=step.heights, hash=digest)
+        if words := self.broadcast(signed):
+            self.senders.state.close(transaction)
+            return ended(Ending.FAILED, words, digest)
+        while True:
+            sent = self.senders.settle(transaction)
+            is_over = self.senders.clock.now() > until
+            if sent.ending is not Ending.OPEN or is_over or self.senders.clock.wait(self.senders.stop, self.senders.config.poll_seconds):
+                return sent
+
+    # ---- the chain's program
+
+    def signed(self, step: Step, last_block: int) -> pathlib.Path:
+        """The file of the signed transaction."""
+        unsigned, signed = self.folder / "unsigned.json", self.folder / "signed.json"
+        made = [self.made(step, message, last_block) for message in step.messages]
+        write_whole(unsigned, json.dumps(joined(made)).encode())
+        signed.unlink(missing_ok=True)
+        self.run_program("sign", "tx", "sign", str(unsigned), *self.common(), "--output-document", str(signed))
+        if not signed.exists():
+            raise Failed("sign wrote no transaction")
+        return signed
+
+    def made(self, step: Step, message: bytes, last_block: int) -> dict[str, object]:
+        """The unsigned transaction of a message; its fee is that of the whole."""
+        file = self.folder / "message.json"
+        write_whole(file, message)
+        price = ("--gas-prices", self.sender.gas_price) if self.sender.gas_price else ()
+        gas = str(max(1, round(step.gas * self.sender.gas_factor)))
+        output = self.run_program("make", "tx", "ibc", "client", "update", step.client.id, str(file), *self.common(), "--gas", gas, *price,
+                                  "--timeout-height", str(last_block), "--generate-only", "--output", "json")
+        value = fields_in(output.encode()).value
+        if "body" not in value:
+            raise Failed("the unsigned transaction has no body")
+        return value
+
+    def common(self) -> tuple[str, ...]:
+        return ("--from", self.sender.signer, "--chain-id", self.chain.id, "--node", self.node(), *self.sender.options)
+
+    def node(self) -> str:
+        """The address of a node, as the chain's program takes it."""
+        usable = self.sources.usable(self.chain.id, Kind.NODE)
+        if not usable:
+            raise Failed(f"no node of {self.chain.id} answers")
+        parts = usable[0].parts
+        host = f"[{parts.hostname}]" if ":" in (parts.hostname or "") else parts.hostname
+        return f"{parts.scheme}://{host}:{parts.port or (443 if parts.scheme == 'https' else 80)}{parts.path}"
+
+    def hash_of(self, signed: pathlib.Path) -> str:
+        """The hash of a signed transaction, before it is broadcast."""
+        try:
+            data = base64.b64decode(self.run_program("encode", "tx", "encode", str(signed)).strip(), validate=True)
+        except (binascii.Error, ValueError):
+            raise Failed("encode wrote no base64") from None
+        if not data:
+            raise Failed("encode wrote nothing")
+        return hashlib.sha256(data).hexdigest().upper()
+
+    def broadcast(self, signed: pathlib.Path) -> str:
+        """Why the node refused the transaction; empty where it took it, or where that isn't known."""
+        try:
+            output = self.run_program("broadcast", "tx", "broadcast", str(signed), "--node", self.node(), "--broadcast-mode", "sync", "--output", "json")
+        except Failed as failed:
+            self.senders.log.warn("broadcast open", host=self.chain.id, why=str(failed))
+            return ""
+        answer = fields_in(output.encode())
+        code = answer.number("code")
+        return "" if code in (None, 0, IN_CACHE) else f"the node refused it, code {code}: {shown(answer.text('raw_log') or '', 200)}"
+
+    def run_program(self, what: str, *words: str) -> str:
+        try:
+            done = subprocess.run([*self.sender.program, *words], stdin=subprocess.DEVNULL, capture_output=True, timeout=SECONDS)
+        except (OSError, subprocess.TimeoutExpired) as error:
+            raise Failed(f"{what}: {shown(error, 200)}") from None
+        if done.returncode != 0:
+            raise Failed(f"{what} ended with status {done.returncode}: {shown(done.stderr.decode(errors='replace').strip()[-300:])}")
+        return done.stdout.decode(errors="replace")
+
+
+def joined(made: list[dict[str, object]]) -> dict[str, object]:
+    """One unsigned transaction with the messages of several."""
+    messages = [message.value for each in made for message in Fields(each).object("body").objects("messages")]
+    Fields(made[0]).object("body").value["messages"] = messages
+    return made[0]
