@@ -16,13 +16,14 @@ import xml.etree.ElementTree as ElementTree
 sys.dont_write_bytecode = True
 from program import TOP, Case, run_program
 from schema import read_json
-from script_text import LATER, a_set, chains, client, members, packet, path, stored, turn
+from script_text import LATER, a_set, chains, client, goal, header, members, packet, path, stored, turn
 
 sys.path.insert(0, str(TOP / "tests" / "reference"))
 import explain
 import reference
 
 SVG = "{http://www.w3.org/2000/svg}"
+NOT_SEARCHED = "not searched, since that takes long for so many turns and clients (--turn, --client)"
 MOST_UPDATES, MOST_OTHERS, MOST_REFUSED = 12, 10, 3  # so many arcs of a plan, of a bisection, and to a height out of reach are drawn
 EXPLAIN_WORDS = (
     (["--turn", "9"], b"error: invalid value '9' for '--turn <N>': the last turn of standard input is 4\n"),
@@ -66,6 +67,7 @@ def explain_cases():
         yield Case(f"{file.name}, explained as JSON", ["explain", "--json", "-"], file.read_bytes(), value, b"", 0, reader=read_json)
     yield from chosen_cases()
     yield from whole_cases()
+    yield from unsearched_cases()
     yield from refused_cases()
 
 
@@ -109,6 +111,25 @@ def whole_cases():
     text = explain.text_of(explain.value_of(script))
     explain.MOST = most
     yield Case("thirty updates, all", ["explain", "--all", "-"], given, text.encode(), b"", 0)
+
+
+def unsearched_cases():
+    """A plan beside which the fewest updates have to be searched, in the last of 25 turns: for one turn they are, for all they are left out."""
+    sets = [a_set("s", members([0])), a_set("t", members([1])), a_set("large", members(range(50))), *(a_set(f"u{number}", members([number])) for number in range(2, 1002))]
+    events = [*sets, stored("c", 1), header(2, "C", "s", "t"), header(3, "C", "t", "t"), *(header(height, "C" * 50, "large", "large") for height in range(4, 8))]
+    turns = "".join(turn(LATER, events if number == 1 else [], [goal("c", 3, "exactly")] if number == 25 else []) for number in range(1, 26))
+    given = (chains(2, 3) + client("c", "a1", "a0") + 'votes = "needed"\n' + turns).encode()
+    value = explain.value_of(reference.read_script(given))
+    last = chosen(value, 25)
+    fewest = f"  fewest updates: {NOT_SEARCHED}\n"
+    texts = [explain.text_of(each) for each in (value, last)]
+    texts[0] = "".join(fewest if line.startswith("  fewest updates: ") else line for line in texts[0].splitlines(keepends=True))
+    yield Case("the fewest updates of one turn", ["explain", "--last", "-"], given, texts[1].encode(), b"", 0)
+    yield Case("the fewest updates of 25 turns", ["explain", "-"], given, texts[0].encode(), b"", 0)
+    yield Case("the fewest updates of one turn as JSON", ["explain", "--json", "--last", "-"], given, last, b"", 0, reader=read_json)
+    value = json.loads(json.dumps(value))
+    value["turns"][-1]["clients"][0]["fewest"] = None
+    yield Case("the fewest updates of 25 turns as JSON", ["explain", "--json", "-"], given, value, b"", 0, reader=read_json)
 
 
 def refused_cases():

@@ -127,24 +127,26 @@ def fleet_cases(top):
     yield Case("a fleet with a file that can't be read", ["import", str(setup), str(top / "fleet")], b"", b"", b"device\n", 4)
 
 
-def bloated_row(top, words):
-    """A commit with 16 MB of objects beside it, and little memory: the client of its chain is left out, and the other one is written as if it were alone."""
-    folder, setup = top / "bloated", top / "bloated.toml"
-    answers.make(folder, 1, between=0)
-    file, second = folder / "hub-4" / "commit-80.json", CLIENT % ("zone-on-hub", "hub-4", "zone-1")
-    turn = (TURN % 20).replace("hub-on-zone", "zone-on-hub").replace("80", "60")
-    head, tail = f'{file.read_text()[:-1]}, "more": [', "0]}"
-    file.write_text(head + '{"":0},' * ((MOST_BYTES - len(head) - len(tail)) // 7) + tail)
-    setup.write_text(HEAD + ONE + second + turn)
-    line = f'ulimit -v 2000000; exec {words} import "$0" "$1"'
-    script, told = answers.script_of(HEAD + second + turn, folder), b"left out hub-on-zone: refused TooManyValues at -\n"
-    yield Case("16 MB of objects beside a commit", ["sh", "-c", line, str(setup), str(folder)], b"", script, told, 7, reader=values_of, named=(f"{file}: ".encode(),))
+def bloated_rows(top, words):
+    """A commit with so many objects beside it: where they are more than an answer may have, or there is no memory for them, the client of its chain is left out, and
+    the other one is written as if it were alone."""
+    second, turn = CLIENT % ("zone-on-hub", "hub-4", "zone-1"), (TURN % 20).replace("hub-on-zone", "zone-on-hub").replace("80", "60")
+    for name, count, memory, refusal in (("16 MB of objects", MOST_BYTES // 7, 2_000_000, "TooManyValues"), ("too many objects for little memory", 399_000, 200_000, "OutOfMemory")):
+        folder, setup = top / f"bloated-{memory}", top / f"bloated-{memory}.toml"
+        answers.make(folder, 1, between=0)
+        file = folder / "hub-4" / "commit-80.json"
+        head, tail = f'{file.read_text()[:-1]}, "more": [', "0]}"
+        file.write_text(head + '{"":0},' * min(count, (MOST_BYTES - len(head) - len(tail)) // 7) + tail)
+        setup.write_text(HEAD + ONE + second + turn)
+        line = f'ulimit -v {memory}; exec {words} import "$0" "$1"'
+        script, told = answers.script_of(HEAD + second + turn, folder), f"left out hub-on-zone: refused {refusal} at -\n".encode()
+        yield Case(f"{name} beside a commit", ["sh", "-c", line, str(setup), str(folder)], b"", script, told, 7, reader=values_of, named=(f"{file}: ".encode(),))
 
 
 def fleet_rows(top, program):
     """What is written of the whole fleet and of its sound part by a shell: the same bytes, and the same notices behind the lines of what is left out."""
     words = " ".join(map(shlex.quote, program))
-    yield from bloated_row(top, words)
+    yield from bloated_rows(top, words)
     line = (f'{words} import "$0-whole.toml" "$0" > "$0.whole" 2> "$0.told"; [ $? = 7 ] && {words} import "$0-sound.toml" "$0" 2> "$0.notices" | cmp - "$0.whole" && '
             'tail -c "$(wc -c < "$0.notices")" "$0.told" | cmp - "$0.notices" && grep -c "^left out" "$0.told"')
     count = len(CHAINS) * 2 + len(CLIENTS) * 2 + len(PATHS)

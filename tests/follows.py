@@ -217,6 +217,7 @@ def fault_runs(program, folder):
         ("a goal of nobody", window + b'goal = [{ client = "nobody", at_least = 1 }]\n', "1009 UnknownIdentifier at goal[0].client"),
         ("more entries than are allowed", window + b"goal = [" + b"0," * 200_001 + b"]\n", "1018 TooManyEvents at -"),
         ("a key with quotes", b'"a\\"b" = 1\n', '1003 UnknownKey at a"b'),
+        ("more tables than are allowed", b"x = [" + b"[]," * 899_999 + b"]\n", "1034 TooManyTables at -"),
         ("a document that is too long", b"#" * 16_777_216 + b"\n", "1030 InputTooBig at -"),
     )
     runs = wrong = 0
