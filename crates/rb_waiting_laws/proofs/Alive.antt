@@ -25,7 +25,8 @@ use Rattle.rb_super_turn.specs.Report.{PricedUpdate, PlanReport, PlannedReport, 
 use Rattle.rb_super_turn.specs.Script.{Turn, Script, IsTurn}
 use Rattle.rb_super_turn.specs.Turns.{before_plans, after_turn, priced, reported_plan, IsOutcome}
 use Rattle.rb_super_laws.specs.Laws.{PlannedViewsAreViews}
-use Rattle.rb_waiting_laws.specs.Alive.{newest_time, reach_time, planned_heights, asks_exactly, is_left, is_held, held_in, turns_of, stored_of, terms_for, IsByGain, TurnsFollowTheRule, KeptAlive}
+use Rattle.rb_waiting_laws.specs.Alive.{newest_time, reach_time, planned_heights, is_left, is_held, held_in, turns_of, stored_of, terms_for, IsByGain, TurnsFollowTheRule, KeptAlive}
+use Rattle.rb_waiting_laws.specs.Pressing.{asks_exactly}
 use Rattle.rb_waiting_laws.specs.Fewest.{ClientTurn, AreTurnsOf, IsRun}
 use Rattle.rb_waiting_laws.specs.InTime.{IsPlannedIn}
 use Rattle.rb_waiting_laws.proofs.Expired.{Extends}

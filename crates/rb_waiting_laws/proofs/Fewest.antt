@@ -19,11 +19,11 @@ use Rattle.rb_super_turn.specs.Report.{Outcome, held, idle, planned, TurnReport}
 use Rattle.rb_super_turn.specs.Script.{Turn, IsTurn}
 use Rattle.rb_super_turn.specs.Turns.{IsOutcome, after_turn}
 use Rattle.rb_waiting_laws.specs.Fewest.{ClientTurn, AreTurnsOf, in_turn, MessageId, id_on, has_id, far_on, is_far, is_in_batch, is_ready, presses_on, is_pressing, far_ids, opens_batch, is_update, is_within_reach, UpdatesAreFewest}
+use Rattle.rb_waiting_laws.specs.Pressing.{PressingGoes}
 use Rattle.rb_waiting_laws.proofs.InTime.{outcome_of}
 use Rattle.rb_waiting_laws.proofs.Later.{empty_books}
 use Rattle.rb_waiting_laws.proofs.Members.{In, in_map, in_flat_map, from_map, from_flat_map, from_test, test_from, far_is_ready}
 use Rattle.rb_waiting_laws.proofs.Moments.{first_is}
-use Rattle.rb_waiting_laws.proofs.Pressing.{PressedGo}
 use Rattle.rb_waiting_laws.proofs.Sends.{has_id_from, gone_for_good}
 use Rattle.rb_waiting_laws.proofs.TurnByTurn.{HasPressed, sending_turns}
 
@@ -107,7 +107,7 @@ pub new_found : (cs : List PathConfig) → AllByRecursion AllFound (map new_path
 new_found [] = tt
 new_found (c ∷ cs) = (tt, new_found cs)
 
-pub fewest : SeenIsFewest → PressedGo → StaysABook → SettledIsNotOwed → UpdatesAreFewest
+pub fewest : SeenIsFewest → PressingGoes → StaysABook → SettledIsNotOwed → UpdatesAreFewest
 fewest seen goes stays_books law script report place ks choice is whole stays punctual =
     seen.fewest (length ks) _ _ choice
     (sending_turns is_ready is_pressing is_update far_ids ks

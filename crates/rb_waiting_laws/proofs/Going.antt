@@ -34,7 +34,7 @@ from_going can ms m h =
     let at = from_map (λ (p : ℕ × PacketMsg). p.1) (filter test (enumerate_from 0 ms)) m h in
     ap can (sym at.2) ∙ (from_passing test (enumerate_from 0 ms) at.0 at.1).1
 
-to_going : (can : PacketMsg → Bool) (ms : List PacketMsg) (m : PacketMsg) → In ms m → can m ≡ true → In (going Unordered can ms) m
+pub to_going : (can : PacketMsg → Bool) (ms : List PacketMsg) (m : PacketMsg) → In ms m → can m ≡ true → In (going Unordered can ms) m
 to_going can ms m there e =
     let test = λ (p : ℕ × PacketMsg). is_going Unordered can ms p.0 p.1 in
     let at = to_get ms m there in
@@ -56,7 +56,7 @@ in_going t p m plain there can = go t.config.refresh_to refl
 
 -- ---- from a turn to one before it
 
-barred_is : (t : Task) (p : PathTask) (kind : Kind) → is_barred (bars_of t p) kind ≡ nat_lt t.config.limits.gas (gas_for p.gas kind + t.config.limits.transaction_gas)
+pub barred_is : (t : Task) (p : PathTask) (kind : Kind) → is_barred (bars_of t p) kind ≡ nat_lt t.config.limits.gas (gas_for p.gas kind + t.config.limits.transaction_gas)
 barred_is t p Receive = refl
 barred_is t p Acknowledge = refl
 barred_is t p Timeout = refl

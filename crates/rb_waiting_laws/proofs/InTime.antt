@@ -19,9 +19,9 @@ use Rattle.rb_super_turn.specs.Report.{PlanReport, PlannedReport, Outcome, held,
 use Rattle.rb_super_turn.specs.Script.{Turn}
 use Rattle.rb_super_turn.specs.Turns.{before_plans, numbered, reported_plan, IsOutcome, IsClientReport}
 use Rattle.rb_waiting_laws.specs.InTime.{Presses, IsInBatchUnlessTooBig, GoesUnlessTooBig, IsPlannedIn, MessagesGoInTime}
+use Rattle.rb_waiting_laws.specs.Pressing.{KeepsNoneBack, PressingGoes}
 use Rattle.rb_waiting_laws.proofs.Members.{In, in_from, contains_from, in_map, in_flat_map, far_is_ready}
 use Rattle.rb_waiting_laws.proofs.Moments.{no_later}
-use Rattle.rb_waiting_laws.proofs.Pressing.{PressedGo}
 
 -- ---- a message that presses
 
@@ -53,7 +53,7 @@ both_some {X} {Y} o x q y R e f h = subst (λ (q : Option Y). IsSomeAnd q (R x))
 
 -- ---- what is planned
 
-module _ (goes : PressedGo) (t : Task) (reach : Option ℕ) (book : t.config.refresh_to ≡ Newer → IsBook t.book) (is : IsReach (client_of (view_of t)) reach) (asked : t.asked ≡ None) (pressed : presses t reach ≡ true) (m : Message) (there : In (ready_messages t reach) m) where
+module _ (goes : PressingGoes) (t : Task) (reach : Option ℕ) (book : t.config.refresh_to ≡ Newer → IsBook t.book) (is : IsReach (client_of (view_of t)) reach) (asked : KeepsNoneBack t.asked t.config.refresh_to) (pressed : presses t reach ≡ true) (m : Message) (there : In (ready_messages t reach) m) where
   in_plan : (other : Option ℕ) (number : ℕ) (p : Plan) → IsSending t other p p.sending → p.messages ≡ ready_messages t reach → IsInBatchUnlessTooBig m (reported_plan t number p) (numbered number p.sending)
   in_plan other number p sending all = go p.sending sending
     where
@@ -89,7 +89,7 @@ outcome_of s turn r place c report t reach is =
     let window = same_Some of_client.window is.window (sym of_client.is_window ∙ is.is_window) in
     subst (λ u. IsOutcome u c report.outcome) (ap (λ w. task_in here w place c) window ∙ sym is.task) of_client.outcome
 
-pub in_time : PressedGo → MessagesGoInTime
+pub in_time : PressingGoes → MessagesGoInTime
 in_time goes s turn r place c report t reach p m is book free asked pressed =
-    sent goes t reach book is.is_reach (ap (λ (u : Task). u.asked) is.task ∙ asked) (pressing t reach p m pressed) (message_on p m) (among_ready t reach p m pressed) c free report.outcome
+    sent goes t reach book is.is_reach (subst (λ (u : Task). KeepsNoneBack u.asked u.config.refresh_to) (sym is.task) asked) (pressing t reach p m pressed) (message_on p m) (among_ready t reach p m pressed) c free report.outcome
     (outcome_of s turn r place c report t reach is)

@@ -28,7 +28,7 @@ use Rattle.rb_plan_client.specs.Draft.{Plan, Planned, IsPlan, IsAnswer}
 use Rattle.rb_plan_client.specs.Reach.{IsReach, IsReachable}
 use Rattle.rb_plan_client.specs.Task.{Task, Message, view_of, message_on, going_on, ready_on, ready_messages, is_live, near_reach, presses, sending_reach, due_messages, wanted_height, newest_stored, terms_of, reach_record, gain_time, newer_height, asked_in_reach, joined_goal, goal_by, goal_of, messages_of}
 use Rattle.rb_core_model.proofs.Options.{mapped, tested}
-use Rattle.rb_waiting_laws.specs.Alive.{asks_exactly}
+use Rattle.rb_waiting_laws.specs.Pressing.{asks_exactly}
 use Rattle.rb_waiting_laws.proofs.Members.{In, all_in, contains_from, from_get, from_map, from_flat_map, last_above}
 use Rattle.rb_waiting_laws.proofs.Records.{floors, no_later_than, found_at, some_record, one_reach}
 
@@ -36,7 +36,7 @@ pub then_some : {X Y : Type 0} (f : X → Option Y) (o : Option X) (y : Y) → o
 then_some f None y e = absurd (none-some y e)
 then_some f (Some x) y e = (x, refl, e)
 
-if_some : (b : Bool) (h g : ℕ) → ◌≡◌ {A = Option ℕ} (if b then Some h else None) (Some g) → (b ≡ true) × (h ≡ g)
+pub if_some : (b : Bool) (h g : ℕ) → ◌≡◌ {A = Option ℕ} (if b then Some h else None) (Some g) → (b ≡ true) × (h ≡ g)
 if_some true h g e = (refl, same_Some h g e)
 if_some false h g e = absurd (none-some g e)
 

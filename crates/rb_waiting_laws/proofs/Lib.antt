@@ -18,6 +18,9 @@ pub mod Going
 pub mod Steady
 pub mod Punctual
 pub mod Updates
+pub mod Still
+pub mod Nexts
+pub mod Idle
 pub mod Refreshed
 pub mod Viewed
 pub mod Alive

@@ -1,5 +1,5 @@
 -- Where a message presses, the goal is as high as all that are ready, and all of them go, however the client is refreshed.
-use Rattle.std.proofs.Common.{◌≡◌, ◌≢◌, ◌⊎◌, ℕ, ◌≤◌, true, nat_le, List, [], ◌∷◌, ◌++◌, map, Option, Some, None, IfSome, IsSomeAnd, refl, sym, ap, ◌∙◌, subst, inl, inr, arith, if◌then◌else◌}
+use Rattle.std.proofs.Common.{◌≡◌, ◌≢◌, ◌⊎◌, ℕ, ◌≤◌, true, false, nat_le, List, [], ◌∷◌, ◌++◌, map, Option, Some, None, IfSome, IsSomeAnd, refl, sym, ap, ◌∙◌, subst, inl, inr, arith, if◌then◌else◌}
 use Rattle.std.specs.List.{AllByRecursion, flat_map}
 use Rattle.std.specs.Option.{option_map, option_or}
 use Rattle.std.proofs.lemmas.List.Elements.{All-from_recursion}
@@ -11,16 +11,17 @@ use Rattle.rb_scan.specs.Owed.{ready, ready_beyond, wanted}
 use Rattle.rb_scan.specs.declared.message.PacketMsg.{PacketMsg}
 use Rattle.rb_script_types.specs.declared.config.RefreshTo.{RefreshTo}
 use Rattle.rb_script_types.specs.declared.config.RefreshTo.TheVariants.{Lowest, Highest, Newer}
+use Rattle.rb_script_types.specs.declared.goal.Goal.{Goal}
 use Rattle.rb_script_types.specs.declared.goal.Goal.TheVariants.{AtLeast}
 use Rattle.rb_step.specs.LightClient.{Leaves}
 use Rattle.rb_step.specs.View.{client_of}
 use Rattle.rb_plan_client.proofs.Ages.{first_is_goal}
 use Rattle.rb_plan_client.specs.Draft.{Plan, Planned, IsAnswer}
-use Rattle.rb_plan_client.specs.Laws.{PressingGoes}
+use Rattle.rb_plan_client.specs.Laws.{PressingGoes as PressingGoesByAge}
 use Rattle.rb_plan_client.specs.Reach.{IsReach}
 use Rattle.rb_plan_client.specs.Task.{PathTask, Task, Message, view_of, message_on, going_on, ready_on, ready_messages, near_reach, press_moment, press_moments_on, first_press, presses, due_messages, wanted_height, refresh_goal, goal_of, messages_by}
 use Rattle.rb_core_model.proofs.Options.{tested}
-use Rattle.rb_waiting_laws.specs.Alive.{asks_exactly}
+use Rattle.rb_waiting_laws.specs.Pressing.{asks_exactly, KeepsNoneBack, PressingGoes}
 use Rattle.rb_waiting_laws.proofs.Joined.{IsGoal, goal_is, IsMet, is_met}
 use Rattle.rb_waiting_laws.proofs.Members.{In, in_map, in_flat_map, from_map, from_flat_map, far_is_ready}
 use Rattle.rb_waiting_laws.proofs.Moments.{first_is}
@@ -61,6 +62,9 @@ module _ (t : Task) (reach : Option ℕ) (pressing : presses t reach ≡ true) w
   is_wanted : wanted_height t reach ≡ Some greatest.0
   is_wanted = ap (λ (ms : List Message). wanted (map (λ (m : Message). m.packet) ms)) all_due ∙ greatest.1
 
+  pub some_wanted : wanted_height t reach ≢ None
+  some_wanted = λ none. none-some greatest.0 (sym none ∙ is_wanted)
+
   -- something can be reached
   has_reach : (top : ℕ) × (reach ≡ Some top)
   has_reach = go reach refl one_far.3
@@ -77,7 +81,7 @@ pub record IsHigh (t : Task) (reach : Option ℕ) : Type 0 where
   pub goal : goal_of t reach ≡ Some (AtLeast height)
   pub above : (x : Message) → In (ready_messages t reach) x → x.packet.floor ≤ height
 
-module _ (t : Task) (reach : Option ℕ) (is : IsReach (client_of (view_of t)) reach) (asked : t.asked ≡ None) (pressing : presses t reach ≡ true) where
+module _ (t : Task) (reach : Option ℕ) (asked : t.asked ≡ None) (pressing : presses t reach ≡ true) where
   high_by_age : t.config.refresh_to ≢ Newer → IsHigh t reach
   high_by_age by_age =
       let most = greatest t reach pressing in
@@ -87,13 +91,15 @@ module _ (t : Task) (reach : Option ℕ) (is : IsReach (client_of (view_of t)) r
         above = most.2;
       }
 
-  module _ (in_reach : RefreshIsInReach) (book : IsBook t.book) (by_gain : t.config.refresh_to ≡ Newer) where
+module _ (t : Task) (reach : Option ℕ) (is : IsReach (client_of (view_of t)) reach) (plain : asks_exactly t.asked ≡ false) (pressing : presses t reach ≡ true)
+    (in_reach : RefreshIsInReach) (book : IsBook t.book) (by_gain : t.config.refresh_to ≡ Newer)
+  where
     top : (top : ℕ) × (reach ≡ Some top)
     top = has_reach t reach pressing
 
     joined_goal : IsGoal t reach top.0
     joined_goal =
-        goal_is in_reach t book reach is top.0 top.1 by_gain (ap asks_exactly asked) (λ none _. none-some (greatest t reach pressing).0 (sym none ∙ is_wanted t reach pressing))
+        goal_is in_reach t book reach is top.0 top.1 by_gain plain (λ none _. some_wanted t reach pressing none)
 
     above_all : (x : Message) → In (ready_messages t reach) x → x.packet.floor ≤ joined_goal.height
     above_all x there =
@@ -141,24 +147,27 @@ module _ (t : Task) (reach : Option ℕ) (is : IsReach (client_of (view_of t)) r
             let high = met.least.meets.2 in
             along law b (omega (arith, up, high)) low
 
-  pub high : RefreshIsInReach → (t.config.refresh_to ≡ Newer → IsBook t.book) → IsHigh t reach
-  high in_reach book = go (newer_or_not t.config.refresh_to)
-    where
-      go : (t.config.refresh_to ≡ Newer) ⊎ (t.config.refresh_to ≢ Newer) → IsHigh t reach
-      go (inl by_gain) = high_by_gain in_reach (book by_gain) by_gain
-      go (inr by_age) = high_by_age by_age
+pub high : (t : Task) (reach : Option ℕ) → IsReach (client_of (view_of t)) reach → KeepsNoneBack t.asked t.config.refresh_to → presses t reach ≡ true
+    → RefreshIsInReach → (t.config.refresh_to ≡ Newer → IsBook t.book) → IsHigh t reach
+high t reach is keeps pressing in_reach book = go t.config.refresh_to refl keeps
+  where
+    go : (to : RefreshTo) → t.config.refresh_to ≡ to → KeepsNoneBack t.asked to → IsHigh t reach
+    go Lowest e none = high_by_age t reach none pressing (λ newer. (let other : Lowest ≡ Newer = sym e ∙ newer in cc))
+    go Highest e none = high_by_age t reach none pressing (λ newer. (let other : Highest ≡ Newer = sym e ∙ newer in cc))
+    go Newer e plain = high_by_gain t reach is plain pressing in_reach (book e) e
 
 -- ---- what goes
 
--- where a message presses, and no goal was asked for, a client is planned for, its goal can be reached, and all that are ready go
-abbrev pub PressedGo : Type 0
-PressedGo =
-    (t : Task) (reach : Option ℕ) (answer : Option Planned) → (t.config.refresh_to ≡ Newer → IsBook t.book) → IsReach (client_of (view_of t)) reach → t.asked ≡ None → presses t reach ≡ true
-    → IsAnswer t answer → IsSomeAnd answer (λ (a : Planned). IsSomeAnd a.plan (λ (p : Plan). p.messages ≡ ready_messages t reach))
+-- where no goal was asked for, none keeps messages back
+pub none_asked : (asked : Option Goal) (to : RefreshTo) → asked ≡ None → KeepsNoneBack asked to
+none_asked asked Lowest e = e
+none_asked asked Highest e = e
+none_asked asked Newer e = ap asks_exactly e
 
-pub pressed_go : PressingGoes → RefreshIsInReach → AllGoAlong → PressedGo
-pressed_go goes in_reach law t reach answer book is asked pressing right = go (newer_or_not t.config.refresh_to)
+pub pressing_goes : PressingGoesByAge → RefreshIsInReach → AllGoAlong → PressingGoes
+pressing_goes goes in_reach law t reach answer book is keeps pressing right = go t.config.refresh_to refl keeps
   where
-    go : (t.config.refresh_to ≡ Newer) ⊎ (t.config.refresh_to ≢ Newer) → IsSomeAnd answer (λ (a : Planned). IsSomeAnd a.plan (λ (p : Plan). p.messages ≡ ready_messages t reach))
-    go (inl by_gain) = goes_by_gain t reach is asked pressing in_reach (book by_gain) by_gain law answer right
-    go (inr by_age) = goes t reach answer by_age is asked pressing right
+    go : (to : RefreshTo) → t.config.refresh_to ≡ to → KeepsNoneBack t.asked to → IsSomeAnd answer (λ (a : Planned). IsSomeAnd a.plan (λ (p : Plan). p.messages ≡ ready_messages t reach))
+    go Lowest e none = goes t reach answer (λ newer. (let other : Lowest ≡ Newer = sym e ∙ newer in cc)) is none pressing right
+    go Highest e none = goes t reach answer (λ newer. (let other : Highest ≡ Newer = sym e ∙ newer in cc)) is none pressing right
+    go Newer e plain = goes_by_gain t reach is plain pressing in_reach (book e) e law answer right

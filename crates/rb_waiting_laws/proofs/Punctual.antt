@@ -23,6 +23,7 @@ use Rattle.rb_waiting_laws.specs.Punctual.{HasTooBig, PlansTooBig, UpdatesKeepDe
 use Rattle.rb_waiting_laws.proofs.InTime.{pressing}
 use Rattle.rb_waiting_laws.proofs.Later.{AreBooks, before_later, rest_later, planned_book, empty_books}
 use Rattle.rb_waiting_laws.proofs.Members.{In, in_passing, all_in, contains_from, in_from, from_get, from_map, from_test}
+use Rattle.rb_waiting_laws.proofs.Pressing.{none_asked}
 use Rattle.rb_waiting_laws.proofs.Taken.{AllAt, IsFree, before_free, after_free, none_at_first}
 
 -- ---- one turn
@@ -65,7 +66,7 @@ updates : MessagesGoInTime → (s : Standing) (turn : Turn) (r : TurnReport) (pl
     → (¬ PlansTooBig k.report.outcome) → (i : MessageId) → is_pressing i k ≡ true → is_update k ≡ true
 updates goes s turn r place k is book free fits i e =
     let x = presses_at i k e in
-    let sent = goes s turn r place k.client k.report k.task k.reach x.0 x.1 is (λ _. book) free.0 free.1 x.2 in
+    let sent = goes s turn r place k.client k.report k.task k.reach x.0 x.1 is (λ _. book) free.0 (none_asked k.client.asked k.client.config.refresh_to free.1) x.2 in
     and_from (not (is_some k.client.asked)) (presses k.task k.reach && opens_batch k.report.outcome) (ap (λ o. not (is_some o)) free.1)
     (and_from (presses k.task k.reach) (opens_batch k.report.outcome) (pressing k.task k.reach x.0 x.1 x.2) (opens (message_on x.0 x.1) k.report.outcome sent fits))
 

@@ -16,7 +16,7 @@ use Rattle.rb_plan_refresh.specs.Refresh.{needed_time}
 use Rattle.rb_plan_client.specs.Draft.{Plan, Planned, IsAnswer, planned_updates}
 use Rattle.rb_plan_client.specs.Reach.{IsReach}
 use Rattle.rb_plan_client.specs.Task.{Task, view_of, newest_stored, terms_of, reach_record, newer_height}
-use Rattle.rb_waiting_laws.specs.Alive.{asks_exactly}
+use Rattle.rb_waiting_laws.specs.Pressing.{asks_exactly}
 use Rattle.rb_waiting_laws.proofs.Joined.{then_some, first_new, newest_above, IsGoal, goal_is, is_met}
 use Rattle.rb_waiting_laws.proofs.Members.{In, in_from}
 use Rattle.rb_waiting_laws.proofs.Records.{no_later_than, found_at, live_record}

@@ -32,11 +32,12 @@ use Rattle.rb_super_turn.specs.Script.{Turn, IsSeen, IsTurn}
 use Rattle.rb_super_turn.specs.Turns.{after_window, after_host_window, after_question, before_events, before_plans, priced, update_of, numbered, reported_plan, IsOutcome, batch_sent, after_outcome, after_reports, after_plans, after_settlement, takers, after_turn}
 use Rattle.rb_waiting_laws.specs.Fewest.{ClientTurn, MessageId, AreTurnsOf, has_id, far_on, is_far, is_in_batch, is_ready, is_batched, opens_batch, is_update, AreWholeFor, SettlesWhole, is_within_reach}
 use Rattle.rb_waiting_laws.specs.InTime.{IsPlannedIn}
+use Rattle.rb_waiting_laws.specs.Pressing.{PressingGoes}
 use Rattle.rb_waiting_laws.proofs.InTime.{outcome_of}
 use Rattle.rb_waiting_laws.proofs.Later.{AreBooks, before_later, rest_later, planned_book}
 use Rattle.rb_waiting_laws.proofs.Members.{In, all_in, from_test, test_from}
 use Rattle.rb_core_model.proofs.Owed.{going_all}
-use Rattle.rb_waiting_laws.proofs.Pressing.{PressedGo}
+use Rattle.rb_waiting_laws.proofs.Pressing.{none_asked}
 use Rattle.rb_waiting_laws.proofs.Owing.{IsOwing, AreOwing, owing, far_all, going}
 use Rattle.rb_waiting_laws.proofs.Spent.{mark_for, CarryAll, IsSpent, AreFound, Keeps, keeps_self, keeps_trans, host_window_keeps, window_keeps, asked_keeps, events_keep, settlements_keep, takings_keep}
 
@@ -203,7 +204,7 @@ module _ (place : ℕ) (s : Standing) (turn : Turn) (r : TurnReport) (k : Client
       whole : CarryAll batch
       messages : batch.messages ≡ ready_messages k.task k.reach
 
-    module _ (goes : PressedGo) (book : k.task.config.refresh_to ≡ Newer → IsBook k.task.book) (asked : k.task.asked ≡ None) (pressed : presses k.task k.reach ≡ true) where
+    module _ (goes : PressingGoes) (book : k.task.config.refresh_to ≡ Newer → IsBook k.task.book) (asked : k.task.asked ≡ None) (pressed : presses k.task k.reach ≡ true) where
       by_sending : (other : Option ℕ) (number : ℕ) (p : Plan) → p.messages ≡ ready_messages k.task k.reach → (x : Sending) → IsSending k.task other p x
           → is_batched (numbered number x) ≡ true → TakesAll (with_batch k.client (batch_sent (reported_plan k.task number p) (numbered number x)))
       by_sending other number p all nothing right e = absurd (false≢true e)
@@ -227,7 +228,7 @@ module _ (place : ℕ) (s : Standing) (turn : Turn) (r : TurnReport) (k : Client
       takes_all (planned x) right e =
           let a = right.1.answer in
           subst (λ (x : PlannedReport). opens_batch (planned x) ≡ true → TakesAll (after_outcome (planned x) k.client)) (sym right.1.is)
-          (go a.plan (goes k.task k.reach (Some a) book is.is_reach asked pressed right.1.right) right.1.right.plan) e
+          (go a.plan (goes k.task k.reach (Some a) book is.is_reach (none_asked k.task.asked k.task.config.refresh_to asked) pressed right.1.right) right.1.right.plan) e
         where
           go : (o : Option Plan) → IsSomeAnd o (λ (p : Plan). p.messages ≡ ready_messages k.task k.reach)
               → MatchOption o (IsUnreachable (client_of (view_of k.task)) right.1.answer.goal) (IsPlan k.task right.1.right.reach right.1.answer.goal)
@@ -236,7 +237,7 @@ module _ (place : ℕ) (s : Standing) (turn : Turn) (r : TurnReport) (k : Client
           go None all plan e = absurd all
           go (Some p) all plan e = by_sending right.1.right.reach (k.client.batches + 1) p all p.sending plan.sending e
 
-    pub sent_is_spent : PressedGo → (k.task.config.refresh_to ≡ Newer → IsBook k.task.book) → (i : MessageId) → is_update k ≡ true → is_within_reach i k ≡ true → IsSpent (after_plans s turn r) place i
+    pub sent_is_spent : PressingGoes → (k.task.config.refresh_to ≡ Newer → IsBook k.task.book) → (i : MessageId) → is_update k ≡ true → is_within_reach i k ≡ true → IsSpent (after_plans s turn r) place i
     sent_is_spent goes book i update within =
         let one = and_parts (not (is_some k.client.asked)) (presses k.task k.reach && opens_batch k.report.outcome) update in
         let two = and_parts (presses k.task k.reach) (opens_batch k.report.outcome) one.1 in
@@ -258,7 +259,7 @@ module _ (place : ℕ) (s : Standing) (turn : Turn) (r : TurnReport) (k : Client
 
 -- ---- turn after turn
 
-module _ (law : SettledIsNotOwed) (stays : StaysABook) (goes : PressedGo) (config : Config) (place : ℕ) where
+module _ (law : SettledIsNotOwed) (stays : StaysABook) (goes : PressingGoes) (config : Config) (place : ℕ) where
   -- what is spent is never ready again
   spent_for_good : (i : MessageId) (turns : List Turn) (rs : List TurnReport) (ks : List ClientTurn) (s : Standing) → AllByRecursion (IsTurn config) turns
       → AreTurnsOf place s turns rs ks → SettlesWhole place s turns rs → AreFound s → IsSpent s place i

@@ -216,13 +216,13 @@ same_timeout Timeout q w more = refl
 -- ---- three turns
 
 -- the client's task in a turn is that of a standing
-record Stands (place : ℕ) (k : ClientTurn) (s : Standing) : Type 0 where
-  tasks : k.task.paths ≡ path_tasks (owed_at s) s.paths place
-  client : slice_get s.clients place ≡ Some k.client
-  config : k.task.config ≡ k.client.config
-  window : window_in s k.client ≡ Some k.task.window
-  found : AreFound s
-  books : AreBooks s
+pub record Stands (place : ℕ) (k : ClientTurn) (s : Standing) : Type 0 where
+  pub tasks : k.task.paths ≡ path_tasks (owed_at s) s.paths place
+  pub client : slice_get s.clients place ≡ Some k.client
+  pub config : k.task.config ≡ k.client.config
+  pub window : window_in s k.client ≡ Some k.task.window
+  pub found : AreFound s
+  pub books : AreBooks s
 
 rising_known : (ks : List RecordAt) → Up (λ (a b : RecordAt). height_of a < height_of b) ks → Up (λ (a b : RecordAt). time_of a < time_of b) ks → Rising (map (λ (k : RecordAt). (height_of k, time_of k)) ks)
 rising_known [] up late = tt
@@ -349,11 +349,11 @@ module _ (place : ℕ) (i : MessageId) (j k l : ClientTurn) (s t u : Standing) (
 
 -- ---- turn after turn
 
-record One (place : ℕ) (k : ClientTurn) (s : Standing) : Type 0 where
-  standing : Standing
-  stands : Stands place k standing
-  later : Later s standing
-  kept : Kept s standing
+pub record One (place : ℕ) (k : ClientTurn) (s : Standing) : Type 0 where
+  pub standing : Standing
+  pub stands : Stands place k standing
+  pub later : Later s standing
+  pub kept : Kept s standing
 
 record Two (place : ℕ) (k l : ClientTurn) (s : Standing) : Type 0 where
   first : Standing
@@ -393,7 +393,7 @@ module _ (stays : StaysABook) (config : Config) (place : ℕ) where
         kept = before_kept s turn;
       }
 
-  one_of_turns : (turns : List Turn) (rs : List TurnReport) (ks : List ClientTurn) (s : Standing) → AllByRecursion (IsTurn config) turns → AreTurnsOf place s turns rs ks → AreFound s → AreBooks s
+  pub one_of_turns : (turns : List Turn) (rs : List TurnReport) (ks : List ClientTurn) (s : Standing) → AllByRecursion (IsTurn config) turns → AreTurnsOf place s turns rs ks → AreFound s → AreBooks s
       → (n : ℕ) (k : ClientTurn) → slice_get ks n ≡ Some k → One place k s
   one_of_turns [] rs [] s right are found books n k at = absurd (none-some k at)
   one_of_turns [] rs (x ∷ ks) s right are found books n k at = absurd are

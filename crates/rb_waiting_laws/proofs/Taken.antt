@@ -24,6 +24,7 @@ use Rattle.rb_super_turn.specs.Turns.{after_window, window_event, after_host_win
 use Rattle.rb_waiting_laws.specs.InTime.{MessagesGoInTime}
 use Rattle.rb_waiting_laws.specs.Taken.{AllSendInTime, TakenGoesInTime}
 use Rattle.rb_waiting_laws.proofs.Later.{AreBooks, before_later, rest_later, planned_book, empty_books}
+use Rattle.rb_waiting_laws.proofs.Pressing.{none_asked}
 
 -- ---- what holds of the client at each place
 
@@ -290,7 +291,7 @@ in_turns goes stays config (turn ∷ turns) (r ∷ rs) s are all free books repo
     let before = before_free config s turn are.0 all.0.1 free in
     let known = (before_later stays config s turn are.0 books).are_books books in (
       λ place c report t reach p m is presses.
-          goes s turn r place c report t reach p m is (λ _. planned_book s turn r place c report t reach is known) (before place c is.is_client).0 (before place c is.is_client).1 presses,
+          goes s turn r place c report t reach p m is (λ _. planned_book s turn r place c report t reach is known) (before place c is.is_client).0 (none_asked c.asked c.config.refresh_to (before place c is.is_client).1) presses,
       in_turns goes stays config turns rs (after_turn s turn r) are.1 all.1 (after_free config s turn r are.0 all.0.0 all.0.1 free) ((rest_later s turn r).are_books known) reports.1,
     )
 

@@ -28,6 +28,7 @@ use Rattle.rb_plan_client.specs.Draft.{Plan, Planned, IsPlan, IsPlanned}
 use Rattle.rb_plan_client.specs.Reach.{IsReach}
 use Rattle.rb_plan_client.specs.Same.{kinds_Decides}
 use Rattle.rb_plan_client.specs.Task.{PathTask, Task, Message, view_of, message_on, going_on, ready_on, ready_messages, is_live, near_reach, presses, goal_of}
+use Rattle.rb_waiting_laws.specs.Pressing.{KeepsNoneBack}
 use Rattle.rb_waiting_laws.specs.Updates.{PressingUpdates}
 use Rattle.rb_waiting_laws.proofs.Members.{In, in_places, from_places, in_passing, from_passing, all_in, in_map, in_flat_map, in_from, from_get, from_map, last_above}
 use Rattle.rb_waiting_laws.proofs.Pressing.{one_far, high}
@@ -101,7 +102,7 @@ module _ (ms : List PacketMsg) (near reach : ℕ) where
 -- ---- the greatest stored height is live where a stored one is
 
 -- it is the near reach then
-near_is : (t : Task) → IsView (view_of t) → (g : ℕ) → Contains t.stored g → IsSomeAnd (record_at t.book g) (λ r. t.window.until < r.time + t.config.options.period) → (top : ℕ) × (near_reach t ≡ Some top) × (g ≤ top)
+pub near_is : (t : Task) → IsView (view_of t) → (g : ℕ) → Contains t.stored g → IsSomeAnd (record_at t.book g) (λ r. t.window.until < r.time + t.config.options.period) → (top : ℕ) × (near_reach t ≡ Some top) × (g ≤ top)
 near_is t view g stored live =
     let rises = Up-from_increasing (λ (h : ℕ). h) t.stored (subst IsStrictlyIncreasing (sym (map-id t.stored)) view.stored.rising) in
     let last = last_above (λ (a b : ℕ). a < b) t.stored rises g (in_from t.stored g stored) in
@@ -124,7 +125,7 @@ near_is t view g stored live =
 
 -- ---- the law
 
-module _ (in_reach : RefreshIsInReach) (t : Task) (reach : Option ℕ) (view : IsView (view_of t)) (is : IsReach (client_of (view_of t)) reach) (asked : t.asked ≡ None) (pressing : presses t reach ≡ true) where
+module _ (in_reach : RefreshIsInReach) (t : Task) (reach : Option ℕ) (view : IsView (view_of t)) (is : IsReach (client_of (view_of t)) reach) (keeps : KeepsNoneBack t.asked t.config.refresh_to) (pressing : presses t reach ≡ true) where
   -- no stored height that is live is as high as all that are ready
   none_meets : (h : ℕ) → ((x : Message) → In (ready_messages t reach) x → x.packet.floor ≤ h) → Meets (client_of (view_of t)) (AtLeast h) [] → ⊥
   unfolding client_of
@@ -145,11 +146,11 @@ module _ (in_reach : RefreshIsInReach) (t : Task) (reach : Option ℕ) (view : I
 
   some_updates : (a : Planned) (p : Plan) → IsPlanned t a → a.plan ≡ Some p → p.updates ≢ []
   some_updates a p planned at none =
-      let goal = high t reach is asked pressing in_reach (λ _. view.book) in
+      let goal = high t reach is keeps pressing in_reach (λ _. view.book) in
       let same : reach ≡ planned.reach = one_reach (client_of (view_of t)) reach planned.reach is planned.is_reach in
       let is_goal : a.goal ≡ AtLeast goal.height = same_Some a.goal (AtLeast goal.height) (sym planned.goal ∙ ap (goal_of t) (sym same) ∙ goal.goal) in
       let plan : IsPlan t planned.reach a.goal p = subst (λ (o : Option Plan). MatchOption o (IsUnreachable (client_of (view_of t)) a.goal) (IsPlan t planned.reach a.goal)) at planned.plan in
       none_meets goal.height goal.above (subst (λ (x : Goal × List Update). Meets (client_of (view_of t)) x.0 x.1) (λ i. (is_goal i, none i)) plan.least.meets)
 
 pub pressing_updates : RefreshIsInReach → PressingUpdates
-pressing_updates in_reach t reach a p view is asked pressing planned at = some_updates in_reach t reach view is asked pressing a p planned at
+pressing_updates in_reach t reach a p view is keeps pressing planned at = some_updates in_reach t reach view is keeps pressing a p planned at

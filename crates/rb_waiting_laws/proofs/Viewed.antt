@@ -14,15 +14,15 @@ use Rattle.rb_waiting_laws.specs.Fewest.{ClientTurn, AreTurnsOf, IsRun}
 use Rattle.rb_waiting_laws.specs.InTime.{IsPlannedIn}
 
 -- a turn, how things stand when it begins, and what it plans for the client
-record Turning (place : ℕ) (s : Standing) (turns : List Turn) (n : ℕ) (k : ClientTurn) : Type 0 where
-  begun : Standing
-  earlier : Leads s (take n turns) begun
-  this : Turn
-  is_this : slice_get turns n ≡ Some this
-  report : TurnReport
-  planned : IsPlannedIn begun this report place k.client k.report k.task k.reach
+pub record Turning (place : ℕ) (s : Standing) (turns : List Turn) (n : ℕ) (k : ClientTurn) : Type 0 where
+  pub begun : Standing
+  pub earlier : Leads s (take n turns) begun
+  pub this : Turn
+  pub is_this : slice_get turns n ≡ Some this
+  pub report : TurnReport
+  pub planned : IsPlannedIn begun this report place k.client k.report k.task k.reach
 
-turning : (place : ℕ) (turns : List Turn) (rs : List TurnReport) (ks : List ClientTurn) (s : Standing) → AreTurnsOf place s turns rs ks
+pub turning : (place : ℕ) (turns : List Turn) (rs : List TurnReport) (ks : List ClientTurn) (s : Standing) → AreTurnsOf place s turns rs ks
     → (n : ℕ) (k : ClientTurn) → slice_get ks n ≡ Some k → Turning place s turns n k
 turning place [] rs [] s are n k at = absurd (none-some k at)
 turning place [] rs (x ∷ ks) s are n k at = absurd are

@@ -1,18 +1,17 @@
 -- Clients that are refreshed by gain, turn by turn of a script (own choice, over what a script's turns report).
-use Rattle.std.specs.Prelude.{◌≡◌, ℕ, ◌+◌, ◌-◌, ◌<◌, ◌==◌, Bool, true, false, not, ◌||◌, List, [], length, map, Option, Some, None, is_some, slice_get}
+use Rattle.std.specs.Prelude.{◌≡◌, ℕ, ◌+◌, ◌-◌, ◌<◌, ◌==◌, Bool, true, not, ◌||◌, List, [], length, map, Some, is_some, slice_get}
 use Rattle.std.specs.List.{list_any}
 use Rattle.std.specs.Option.{option_map_or, option_or}
 use Rattle.rb_book.specs.Header.{Record}
 use Rattle.rb_script_types.specs.declared.config.ClientConfig.{ClientConfig}
 use Rattle.rb_script_types.specs.declared.config.RefreshTo.TheVariants.{Newer}
-use Rattle.rb_script_types.specs.declared.goal.Goal.{Goal}
-use Rattle.rb_script_types.specs.declared.goal.Goal.TheVariants.{AtLeast, Exactly}
 use Rattle.rb_plan_refresh.specs.Turns.{Turns, IsLive, FollowsRule, WouldExpire, CanBeKept}
 use Rattle.rb_plan_refresh.specs.declared.terms.Terms.{Terms}
 use Rattle.rb_plan_client.specs.Task.{newest_stored, reach_record}
 use Rattle.rb_super_turn.specs.Report.{PricedUpdate, PlanReport, Outcome, held, idle, planned, Report}
 use Rattle.rb_super_turn.specs.Script.{Script}
 use Rattle.rb_waiting_laws.specs.Fewest.{ClientTurn, IsRun}
+use Rattle.rb_waiting_laws.specs.Pressing.{asks_exactly}
 
 -- ---- a turn, as a refresh sees it
 
@@ -28,12 +27,6 @@ abbrev pub planned_heights : Outcome → List ℕ
 planned_heights (held number) = []
 planned_heights (idle next) = []
 planned_heights (planned a) = option_map_or (λ (p : PlanReport). map (λ (u : PricedUpdate). u.update.height) p.updates) a.plan []
-
--- the client was asked for a height that has to be met exactly
-abbrev pub asks_exactly : Option Goal → Bool
-asks_exactly None = false
-asks_exactly (Some (AtLeast height)) = false
-asks_exactly (Some (Exactly height)) = true
 
 -- a height that the turn plans isn't stored in the next one
 abbrev pub is_left : ClientTurn → ClientTurn → Bool

@@ -13,6 +13,7 @@ use Rattle.rb_core_model.specs.Standing.{ClientState, Standing, task_in}
 use Rattle.rb_super_turn.specs.Report.{SendingReport, nothing, too_big, batched, PlanReport, Outcome, held, idle, planned, ClientReport, TurnReport}
 use Rattle.rb_super_turn.specs.Script.{Turn}
 use Rattle.rb_super_turn.specs.Turns.{before_plans, IsTurnReport}
+use Rattle.rb_waiting_laws.specs.Pressing.{KeepsNoneBack}
 
 -- a message of one of the client's paths that only an update brings across, and that presses by the end of the window
 pub record Presses (t : Task) (reach : Option ℕ) (p : PathTask) (m : PacketMsg) : Type 0 where
@@ -43,10 +44,10 @@ pub record IsPlannedIn (s : Standing) (turn : Turn) (r : TurnReport) (place : �
   pub task : t ≡ task_in (before_plans s turn) window place c
   pub is_reach : IsReach (client_of (view_of t)) reach
 
--- a message that presses in a turn goes in it, unless its client has an open batch or was asked for a goal; of a client that is refreshed by
--- gain, if heights and times rise together in its book
+-- a message that presses in a turn goes in it, unless its client has an open batch, or what it was asked for keeps messages back; of a client
+-- that is refreshed by gain, if heights and times rise together in its book
 abbrev pub MessagesGoInTime : Type 0
 MessagesGoInTime =
     (s : Standing) (turn : Turn) (r : TurnReport) (place : ℕ) (c : ClientState) (report : ClientReport) (t : Task) (reach : Option ℕ) (p : PathTask) (m : PacketMsg)
-    → IsPlannedIn s turn r place c report t reach → (t.config.refresh_to ≡ Newer → IsBook t.book) → c.batch ≡ None → c.asked ≡ None → Presses t reach p m
+    → IsPlannedIn s turn r place c report t reach → (t.config.refresh_to ≡ Newer → IsBook t.book) → c.batch ≡ None → KeepsNoneBack c.asked c.config.refresh_to → Presses t reach p m
     → GoesUnlessTooBig (message_on p m) report.outcome

@@ -1,3 +1,4 @@
+pub mod Pressing
 pub mod InTime
 pub mod Taken
 pub mod Fewest
@@ -5,3 +6,4 @@ pub mod Steady
 pub mod Punctual
 pub mod Updates
 pub mod Alive
+pub mod Next

@@ -2,27 +2,55 @@
 ghost use Rattle.rb_waiting_laws.specs.Alive.{KeptAlive, TurnsFollowTheRule};
 ghost use Rattle.rb_waiting_laws.specs.Fewest.{UpdatesAreFewest};
 ghost use Rattle.rb_waiting_laws.specs.InTime.{MessagesGoInTime};
+ghost use Rattle.rb_waiting_laws.specs.Next.{IdleUntilNext, NextIsNext};
+ghost use Rattle.rb_waiting_laws.specs.Pressing.{PressingGoes};
 ghost use Rattle.rb_waiting_laws.specs.Punctual.{UpdatesKeepDeadlines};
 ghost use Rattle.rb_waiting_laws.specs.Steady.{MessagesStayReady, TakenUpdatesAreFewest};
 ghost use Rattle.rb_waiting_laws.specs.Taken.{TakenGoesInTime};
 ghost use Rattle.rb_waiting_laws.specs.Updates.{PressingUpdates};
 
 use rb_book::laws::stays_a_book;
-use rb_plan_client::laws::pressing_goes;
-use rb_plan_refresh::laws::refresh_is_in_reach;
+use rb_plan_refresh::laws::{next_refresh, refresh_is_in_reach};
 use rb_plan_waiting::laws::seen_is_fewest;
 use rb_scan::laws::{all_go_along, settled_is_not_owed};
 use rb_super_laws::laws::planned_views_are_views;
 
+/// Where a message presses, all ready messages go, in a plan that can be made, however the client is refreshed,
+/// unless a goal was asked for; by gain only one that has to be met exactly keeps them back.
+pub fn pressing_goes()
+    ensures { PressingGoes }
+{
+    rb_plan_client::laws::pressing_goes();
+    refresh_is_in_reach();
+    all_go_along();
+}
+
+/// A client without a goal has one next at the moment that is told, and not before, while nothing new is seen,
+/// however it is refreshed.
+pub fn next_is_next()
+    ensures { NextIsNext }
+{
+    rb_plan_client::laws::next_is_next();
+    next_refresh();
+    refresh_is_in_reach();
+}
+
+/// So it is of each client that a script's turn reports as idle.
+pub fn idle_until_next()
+    ensures { IdleUntilNext }
+{
+    next_is_next();
+    stays_a_book();
+    planned_views_are_views();
+}
+
 /// A message that presses in a turn is in the batch that the turn opens for its client, unless that client is
-/// held by an open batch or was asked for a goal, or nothing of its plan is sent because a message is over the
-/// gas limit alone.
+/// held by an open batch, or what it was asked for keeps messages back, or nothing of its plan is sent because a
+/// message is over the gas limit alone.
 pub fn messages_go_in_time()
     ensures { MessagesGoInTime }
 {
     pressing_goes();
-    refresh_is_in_reach();
-    all_go_along();
 }
 
 /// In a script whose turns take all batches that are open, and ask for no goal, every message that presses is
@@ -42,8 +70,6 @@ pub fn updates_are_fewest()
 {
     seen_is_fewest();
     pressing_goes();
-    refresh_is_in_reach();
-    all_go_along();
     stays_a_book();
     settled_is_not_owed();
 }
@@ -75,8 +101,8 @@ pub fn updates_keep_deadlines()
     stays_a_book();
 }
 
-/// Where a message presses and no goal was asked for, the plan has updates, if what is known of the client keeps what
-/// every view keeps (`rb_super_laws::planned_views_are_views`).
+/// Where a message presses, and what was asked for keeps no message back, the plan has updates, if what is known of the
+/// client keeps what every view keeps (`rb_super_laws::planned_views_are_views`).
 pub fn pressing_updates()
     ensures { PressingUpdates }
 {
