@@ -6,3 +6,4 @@ pub mod Waits
 pub mod Nexts
 pub mod Pressing
 pub mod Refreshes
+pub mod ProofHeights

@@ -161,9 +161,11 @@ pub fn next_once_taken<A: Allocator + Copy>(
     ensures { IfOk result (IsNextWithin job.now.task reach.now (planned_updates planned.now)) }
 {
     let updates = planned_updates(planned);
-    let proof = proof_height(&job.view(), updates);
     match job.config().refresh_to {
         RefreshTo::Lowest | RefreshTo::Highest => Ok(next_by_age(job, *reach, first, updates)),
-        RefreshTo::Newer => next_by_gain(alloc, job, reach, &proof, updates),
+        RefreshTo::Newer => {
+            let proof = proof_height(&job.view(), updates);
+            next_by_gain(alloc, job, reach, &proof, updates)
+        }
     }
 }

@@ -4,6 +4,7 @@ ghost use Rattle.rb_batch.specs.Cut.{IsLeastCut, IsCutApart, IsFirstTooBig};
 ghost use Rattle.std.specs.Bool.{OnTrue, OnFalse};
 ghost use Rattle.rb_plan_types.specs.Goal.{Meets};
 ghost use Rattle.rb_plan_types.specs.Labelling.{IsExact, IsLabelling, label_of};
+ghost use Rattle.rb_plan_types.specs.ProofHeight.{IsProofHeight};
 ghost use Rattle.rb_step.specs.View.{client_of};
 ghost use Rattle.rb_plan_client.specs.Draft.{IsCut, IsSending, IsAnswer, planned_updates};
 ghost use Rattle.rb_plan_client.specs.Next.{IsNext};
@@ -148,17 +149,19 @@ fn transactions<A: Allocator + Copy>(
     }
 }
 
-/// How updates that meet a goal are sent, with the messages that go with them. The reach is the greatest height that
-/// the client can be brought to.
+/// How updates that meet a goal are sent, with their proof height and the messages that go with them. The reach is the
+/// greatest height that the client can be brought to.
 fn sending<A: Allocator + Copy>(
     alloc: A,
     job: &JobView<A>,
     reach: &Option<Height>,
     goal: &Goal,
     updates: &[Update],
+    proof: Option<Height>,
     messages: &[Message],
 ) -> Result<Sending<A>, AllocError>
-    requires { Meets (client_of (view_of job.now.task)) goal.now updates.now }
+    requires meets { Meets (client_of (view_of job.now.task)) goal.now updates.now }
+    requires proof { IsProofHeight (client_of (view_of job.now.task)) updates.now proof }
     ensures { IfOk result (λ s. IsSending job.now.task reach.now (record { updates = updates.now; messages = messages.now; sending = sending_view s }) (sending_view s)) }
 {
     if is_nothing(updates, messages) {
@@ -166,7 +169,7 @@ fn sending<A: Allocator + Copy>(
     }
     match transactions(alloc, job, reach, updates, messages) {
         Ok(transactions) => {
-            let proof = proof_height(&job.view(), updates).unwrap();
+            let proof = proof.unwrap();
             Ok(Sending::Batched(Batch::new(proof, transactions)))
         }
         Err(BatchError::TooBig(index)) => Ok(Sending::TooBig(index)),
@@ -220,6 +223,7 @@ fn planned<A: Allocator + Copy>(
                 reach,
                 &goal,
                 updates.as_slice(),
+                proof,
                 messages.as_slice(),
             )?;
             let sent = Plan::new(updates, messages, sending);
