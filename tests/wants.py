@@ -1,6 +1,7 @@
 """Runs of `want` over folders that are made step by step, and of `examples/collect` over made-up nodes: how many requests it makes, none of them twice,
 and whether what it saves plans as well as all heights would."""
 import contextlib
+import json
 import os
 import pathlib
 import re
@@ -8,6 +9,7 @@ import shutil
 import subprocess
 import sys
 import tomllib
+import urllib.parse
 
 import answers
 import nodes
@@ -63,9 +65,9 @@ def records(page=1, key=""):
     return get(f"{GATEWAY}/consensus_states/{CLIENT}?pagination.limit=1000{key}", f"{CLIENT}/consensus_states-{page}.json", "zone-1")
 
 
-def filled(folder, chain, lines):
+def filled(folder, chain, lines, stored=(1, 30, 52)):
     """Saves the answers that lines ask for, which the node or the gateway gives."""
-    host = Host(chain, {CLIENT: [1, 30, 52]}, page=2)
+    host = Host(chain, {CLIENT: list(stored)}, page=2)
     for line in lines.splitlines():
         _, asked, path, file = line.split()
         address, _, words = path.partition("?")
@@ -341,6 +343,83 @@ def collected(folder, chain, stored, goal, program, page=1000):
     return asked, done
 
 
+STORED = (1, 2, 3, 40, 52)  # three pages, the first and the second of which have one in common
+# what is lost, what want asks for then, and after that is there
+LOSSES = [
+    *(([f"hub-4/validators-{height}-{page}"], [validators(height, page)]) for height in (53, 99) for page in (1, 2, 3)),
+    (["hub-4/validators-53-1", "hub-4/validators-53-3"], [validators(53, 1), validators(53, 3)]),
+    (["hub-4/validators-99-2", "hub-4/validators-99-3"], [validators(99, 2), validators(99, 3)]),
+    *(([f"{CLIENT}/consensus_states-{page}"], [page]) for page in (1, 2, 3)),
+    *(([f"{CLIENT}/consensus_states-{page}" for page in pages], pages) for pages in ([1, 2], [1, 3], [2, 3])),
+]
+
+
+def lost_page_flaws(program, folder):
+    """What is wrong with `want` where pages are lost: it asks for each by its number, and for no page that is there; then the script is as before the loss."""
+    chain = LongChain("hub-4", "quiet", 100, 201)
+    folder.mkdir()
+    setup, whole = folder / "setup.toml", folder / "whole"
+    setup.write_text(setup_of(chain, ""))
+
+    def asked_in(answered):
+        return "".join(line for line in done_by("want", answered).splitlines(True) if line.startswith("get "))
+
+    def done_by(command, answered):
+        done = subprocess.run([program, command, setup, answered], capture_output=True, timeout=600)
+        return done.stdout.decode() if done.returncode == 0 else f"status {done.returncode}: {done.stderr.decode()}"
+
+    while lines := asked_in(whole):
+        flaws = [f"asks for what is there: {line}" for line in lines.splitlines() if (whole / line.rpartition(" ")[2]).exists()]
+        if flaws:
+            return flaws
+        filled(whole, chain, lines, STORED)
+    script, states = done_by("import", whole), {}
+    for path in (whole / CLIENT).glob("consensus_states-*.json"):
+        page = int(path.stem.partition("-")[2])
+        before = json.loads((whole / CLIENT / f"consensus_states-{page - 1}.json").read_text())["pagination"]["next_key"] if page > 1 else None
+        states[page] = records(page, f"&pagination.key={urllib.parse.quote(before, safe='')}" if before else "")
+    flaws = [] if not script.startswith("status") and sorted(states) == [1, 2, 3] else [f"no script of three pages of states: {script}"]
+    for number, (lost, wanted) in enumerate(LOSSES):
+        some = folder / str(number)
+        shutil.copytree(whole, some)
+        kept = {path: path.read_bytes() for path in some.rglob("*.json") if str(path.relative_to(some).with_suffix("")) not in lost}
+        for name in lost:
+            (some / f"{name}.json").unlink()
+        for line in [states[page] if isinstance(page, int) else page for page in wanted]:
+            asked = asked_in(some)
+            flaws += [] if asked == line else [f"{lost} lost, asks for {asked} and not for {line}"]
+            filled(some, chain, asked, STORED)
+        flaws += [] if not asked_in(some) else [f"{lost} lost, goes on with {asked_in(some)}"]
+        flaws += [f"{lost} lost, {path} is overwritten" for path, content in kept.items() if path.read_bytes() != content]
+        flaws += [] if done_by("import", some) == script else [f"{lost} lost, another script"]
+    return flaws
+
+
+def renamed_page_flaws(program, folder):
+    """What is wrong with `want` where a page is in a file of another name, which may be any page, or is lost beside one that was refused."""
+    chain = LongChain("hub-4", "quiet", 100, 201)
+    folder.mkdir()
+    (folder / "setup.toml").write_text(setup_of(chain, ""))
+    first = STATE + records() + STATUS + records(2, "&pagination.key=NC01Mg%3D%3D") + commit(99) + "".join(validators(99, page) for page in (1, 2, 3))
+    flaws = []
+    for number, (there, rename, wanted) in enumerate((
+        ((1, 2, 3), {1: "a.json"}, ""),
+        ((1, 2), {2: "page.json"}, validators(53, 3)),
+        ((1, 3), {1: "a.json"}, validators(53, 2)),
+        ((2,), {2: "validators-53-3.refused"}, validators(53, 1)),
+        ((2, 3), {3: "validators-53-3.refused"}, validators(53, 1)),
+        ((1, 2, 3), {1: "validators-53-1.refused"}, ""),
+    )):
+        some = folder / str(number)
+        filled(some, chain, first + "".join(validators(53, page) for page in there))
+        for page, name in rename.items():
+            (some / "hub-4" / f"validators-53-{page}.json").rename(some / "hub-4" / name)
+        done = subprocess.run([program, "want", folder / "setup.toml", some], capture_output=True, timeout=600)
+        asked = "".join(line for line in done.stdout.decode().splitlines(True) if line.startswith("get "))
+        flaws += [] if asked == wanted else [f"pages {there}, {rename}: asks for {asked} and not for {wanted}: {done.stderr.decode()}"]
+    return flaws
+
+
 def refusal_flaws(program, folder):
     """What is wrong with a run of `examples/collect` whose node refuses a height, in words with control characters."""
     _, done = collected(folder, LongChain("hub-4", "switch", 100, 6, 70, lowest=60), [52], "", program)
@@ -421,12 +500,13 @@ def run_collects(program, top, is_told=False):
             print(f"== collect, {name}: {len(asked)} requests, {len(plan[1]) if plan else 'no'} updates", *flaws, sep="\n-- ")
         wrong += bool(flaws)
         shutil.rmtree(folder)
-    for name, flaws_of in ("a height refused", refusal_flaws), ("two clients of one chain", shared_flaws), ("a busy node", busy_flaws), ("packets", packet_flaws), ("times", time_flaws):
+    for name, flaws_of in ("a height refused", refusal_flaws), ("two clients of one chain", shared_flaws), ("a busy node", busy_flaws), ("packets", packet_flaws), ("times", time_flaws), \
+            ("lost pages", lost_page_flaws), ("renamed pages", renamed_page_flaws):
         flaws = flaws_of(program, top / f"collect, {name}")
         if is_told or flaws:
             print(f"== collect, {name}", *flaws, sep="\n-- ")
         wrong += bool(flaws)
-    return len(COLLECTS) + 5, wrong
+    return len(COLLECTS) + 7, wrong
 
 
 if __name__ == "__main__":  # tests/wants.py PROGRAM

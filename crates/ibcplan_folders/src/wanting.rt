@@ -166,42 +166,50 @@ fn read_named<'a, R: FileSystem>(
     if let Some(request) = name.strip_suffix(".refused") {
         return add_name(rt.alloc(), &mut read.refused, request);
     }
-    if name != "status" && !name.ends_with(".json") {
+    let Some(request) = request_of(name) else {
         return Ok(());
-    }
-    let content = read_content(rt, path, name, since)?;
-    add_content(rt.alloc(), name, content, read)
+    };
+    let file = path_in(rt.alloc(), path, name)?;
+    let content = read_content(rt, file.as_str(), request, since)?;
+    add_content(rt.alloc(), request, content, read)
 }
 
-/// Reads what a file of a folder holds. What there is no memory to read is passed over, as what can't be read is; `import`
+/// The name of the request that a file of this name answers, if it is an answer.
+fn request_of(name: &str) -> Option<&str> {
+    if name == "status" {
+        Some(name)
+    } else {
+        name.strip_suffix(".json")
+    }
+}
+
+/// Reads what the file of a request holds. What there is no memory to read is passed over, as what can't be read is; `import`
 /// refuses it by name.
 fn read_content<'a, R: FileSystem>(
     rt: &R,
-    path: &str,
-    name: &str,
+    file: &str,
+    request: &str,
     since: u64,
 ) -> Result<Content, ProgramError<'a>> {
-    let file = path_in(rt.alloc(), path, name)?;
-    match read_bytes(rt, file.as_str()) {
-        Ok(bytes) => Ok(contents_of(rt.alloc(), bytes.as_slice(), since)),
+    match read_bytes(rt, file) {
+        Ok(bytes) => Ok(contents_of(rt.alloc(), request, bytes.as_slice(), since)),
         Err(error) if error.kind() == io::ErrorKind::OutOfMemory => Ok(Content::Other),
-        Err(error) => Err(ProgramError::of_file(rt.alloc(), file.as_str(), error)),
+        Err(error) => Err(ProgramError::of_file(rt.alloc(), file, error)),
     }
 }
 
-fn contents_of(alloc: Global, bytes: &[u8], since: u64) -> Content {
-    content_of(alloc, bytes, since).unwrap_or(Content::Other)
+fn contents_of(alloc: Global, request: &str, bytes: &[u8], since: u64) -> Content {
+    content_of(alloc, request, bytes, since).unwrap_or(Content::Other)
 }
 
-/// Adds what a file holds, and its name, if it is an answer of a search.
+/// Adds what the file of a request holds, and the request's name, if it is an answer of a search.
 fn add_content<'a>(
     alloc: Global,
-    name: &str,
+    request: &str,
     content: Content,
     read: &mut Folder,
 ) -> Result<(), ProgramError<'a>> {
     if let Content::Search(_) = &content {
-        let request = name.strip_suffix(".json").unwrap_or(name);
         add_name(alloc, &mut read.searched, request)?;
     }
     add(&mut read.contents, content)

@@ -1,5 +1,5 @@
 -- What the folder of a client tells of it, and that of the chain that it tracks.
-use Rattle.std.specs.Prelude.{◌≡◌, ◌≢◌, ◌↔◌, ℕ, ◌+◌, ◌-◌, ◌^◌, ◌==◌, min, nat_le, Contains, Bool, true, false, if◌then◌else◌, List, [], ◌∷◌, Option, Some, None, fold, filter, length, count_by, slice_get}
+use Rattle.std.specs.Prelude.{◌≡◌, ◌≢◌, ◌↔◌, ℕ, ◌==◌, nat_le, Contains, Bool, true, false, if◌then◌else◌, List, [], ◌∷◌, Option, Some, None, find, fold, filter, length, option_and_then}
 use Rattle.std.specs.List.{filter_map, flat_map, sum_by}
 use Rattle.rb_import_answers.specs.declared.client.ClientState.{ClientState}
 use Rattle.rb_import_answers.specs.declared.client.ConsensusState.{ConsensusState}
@@ -16,11 +16,8 @@ use Rattle.rb_want_requests.specs.declared.content.Content.TheVariants as conten
 use Rattle.rb_want_requests.specs.declared.content.NodeStatus.{NodeStatus}
 use Rattle.rb_want_requests.specs.declared.request.Query.{Query}
 use Rattle.rb_want_requests.specs.declared.request.Query.TheVariants as queries
-use Rattle.rb_want_requests.specs.Answered.{is_page_of}
-
--- the number after one, in 64 bits
-abbrev pub after : ℕ → ℕ
-after n = min (n + 1) (2 ^ 64 - 1)
+use Rattle.rb_want_requests.specs.Answered.{is_part_to, next_part}
+use Rattle.rb_want_requests.specs.declared.answered.PartKind.TheVariants as kinds
 
 -- ---- a client
 
@@ -28,11 +25,6 @@ after n = min (n + 1) (2 ^ 64 - 1)
 abbrev pub is_other_client : Content → Bool
 is_other_client contents.OtherClient = true
 is_other_client _ = false
-
--- the last page of the client's consensus states
-abbrev pub is_last_states : Content → Bool
-is_last_states (contents.ConsensusStates page key) = page.is_last
-is_last_states _ = false
 
 -- the client's state, where the content has it, else the one before
 abbrev pub later_state : Option ClientState → Content → Option ClientState
@@ -45,7 +37,7 @@ state_in there = fold later_state None there
 
 -- the consensus states of a page that are of this revision number
 abbrev pub states_of : ℕ → Content → List ConsensusState
-states_of revision (contents.ConsensusStates page key) = filter (λ s. s.revision == revision) page.states.items
+states_of revision (contents.ConsensusStates number page key) = filter (λ s. s.revision == revision) page.states.items
 states_of revision _ = []
 
 -- all that the client has stored
@@ -69,7 +61,7 @@ IsHeaderAt there height h = Contains there (contents.Commit h) × (h.height ≡ 
 
 -- the page, if the content is one of validators
 abbrev pub page_in : Content → Option ValidatorsPage
-page_in (contents.Validators page) = Some page
+page_in (contents.Validators number page) = Some page
 page_in _ = None
 
 -- the page, if it is of this height
@@ -106,15 +98,19 @@ AreSetsThere there sets = (hash : List ℕ) → ∥ WasSeen sets hash ∥₁ ↔
 abbrev pub members_at : ℕ → List Content → ℕ
 members_at height there = sum_by (λ p. length p.validators.items) (pages_at height there)
 
--- The next page after so many, with so many validators: of as many as the first has; none where that has none, or where there are as many as it says.
--- Without a first one it is the first, of 100 (CometBFT: `per_page`).
+-- the first page of the validators of a height
+abbrev pub first_page : ℕ → List Content → Option ValidatorsPage
+first_page height there = option_and_then page_in (find (is_part_to (kinds.Validators height) 1) there)
+
+-- The page with this number, where there are so many validators: of as many as the first page has; none where that has none, or where there are as
+-- many as it says. Without the first page it is that, of 100 (CometBFT: `per_page`).
 abbrev pub page_after : ℕ → Option ValidatorsPage → ℕ → ℕ → List Query
-page_after height None count members = queries.Validators height 1 100 ∷ []
-page_after height (Some p) count members =
+page_after height None page members = queries.Validators height 1 100 ∷ []
+page_after height (Some p) page members =
     if nat_le (length p.validators.items) 0 then []
     else if nat_le p.total members then []
-    else queries.Validators height (after count) (length p.validators.items) ∷ []
+    else queries.Validators height page (length p.validators.items) ∷ []
 
--- the next page of the validators of a height, unless all are there
+-- the least page of the validators of a height that isn't there, unless all are
 unfoldable pub next_page : ℕ → List Content → List Query
-next_page height there = page_after height (slice_get (pages_at height there) 0) (count_by (is_page_of height) there) (members_at height there)
+next_page height there = page_after height (first_page height there) (next_part (kinds.Validators height) there) (members_at height there)

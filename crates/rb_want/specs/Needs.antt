@@ -1,6 +1,6 @@
 -- What a client of a setup needs in its last turn: first its state, its consensus states and what the node of its chain says of itself, then what a
 -- search for accepted steps asks for.
-use Rattle.std.specs.Prelude.{◌≡◌, ◌==◌, ℕ, ◌*◌, ◌-◌, ◌<◌, ◌≤◌, ◌^◌, nat_le, nat_lt, Bool, true, false, not, ◌&&◌, ◌||◌, if◌then◌else◌, List, [], ◌∷◌, ◌++◌, All, Any, Option, Some, None, count_by, is_some, length, map, slice_get, option_map}
+use Rattle.std.specs.Prelude.{◌≡◌, ◌==◌, ℕ, ◌*◌, ◌-◌, ◌<◌, ◌≤◌, ◌^◌, nat_le, nat_lt, Bool, true, false, not, ◌&&◌, ◌||◌, if◌then◌else◌, List, [], ◌∷◌, ◌++◌, All, Any, Option, Some, None, is_some, length, map, slice_get, option_map}
 use Rattle.std.specs.List.{filter_map, list_any}
 use Rattle.std.specs.List.Sorted.{IsPermutation}
 use Rattle.std.specs.Option.{option_or}
@@ -22,7 +22,7 @@ use Rattle.rb_script_types.specs.declared.goal.Goal.{Goal}
 use Rattle.rb_script_types.specs.declared.goal.Goal.TheVariants as goals
 use Rattle.rb_script_types.specs.declared.script.Asked.{Asked}
 use Rattle.rb_step.specs.declared.verdict.Verdict.{Verdict}
-use Rattle.rb_want_requests.specs.Answered.{is_part_of}
+use Rattle.rb_want_requests.specs.Answered.{has_all, next_part}
 use Rattle.rb_want_requests.specs.Requests.{is_named}
 use Rattle.rb_want_requests.specs.declared.answered.PartKind.TheVariants as kinds
 use Rattle.rb_want_requests.specs.declared.content.Folder.{Folder}
@@ -43,7 +43,7 @@ use Rattle.rb_want_search.specs.declared.searching.Finding.{Finding}
 use Rattle.rb_want_search.specs.declared.searching.Finding.TheVariants as findings
 use Rattle.rb_want_search.specs.declared.searching.Question.{Question}
 use Rattle.rb_want.specs.Adding.{Outcome, ended, no_outcome}
-use Rattle.rb_want.specs.Clients.{after, is_last_states, is_other_client, state_in, status_in, stored_in}
+use Rattle.rb_want.specs.Clients.{is_other_client, state_in, status_in, stored_in}
 use Rattle.rb_want.specs.Judgements.{AreByRule, IsSaidIf, IsSaidOf}
 use Rattle.rb_want.specs.Waiting.{WaitsFor}
 use Rattle.rb_want.specs.declared.client.Case.{Case}
@@ -82,7 +82,7 @@ lacks_state t = not (is_told t.setup) && not (is_some (state_in t.own.contents.i
 
 -- not all pages of its consensus states are there
 abbrev pub lacks_states : Tracking → Bool
-lacks_states t = not (list_any is_last_states t.own.contents.items)
+lacks_states t = not (has_all kinds.ConsensusStates t.own.contents.items)
 
 -- it isn't there what the node says of itself
 abbrev pub lacks_status : Tracking → Bool
@@ -91,9 +91,9 @@ lacks_status t = not (is_some (status_in t.chain.contents.items))
 abbrev pub lacks_first : Tracking → Bool
 lacks_first t = lacks_state t || lacks_states t || lacks_status t
 
--- the number of the next page of its consensus states
+-- the number of the next page of its consensus states, which is the least that isn't there
 abbrev pub next_states : Tracking → ℕ
-next_states t = after (count_by (is_part_of kinds.ConsensusStates) t.own.contents.items)
+next_states t = next_part kinds.ConsensusStates t.own.contents.items
 
 unfoldable pub first_needs : Tracking → List Request
 first_needs t =

@@ -1,5 +1,5 @@
 -- What the folder of a path tells of its pending packets (ICS 4: packet commitments, receipts and acknowledgements).
-use Rattle.std.specs.Prelude.{ℕ, ◌≡◌, ◌==◌, ◌&&◌, ◌+◌, ◌/◌, nat_le, Bool, true, false, not, List, [], Option, Some, None, count_by, find, length, string_bytes}
+use Rattle.std.specs.Prelude.{ℕ, ◌≡◌, ◌==◌, ◌&&◌, ◌+◌, ◌/◌, nat_lt, Bool, true, false, not, List, [], Option, Some, None, find, length, string_bytes}
 use Rattle.std.specs.List.{flat_map, list_any}
 use Rattle.std.specs.List.Sorted.{IsNonDecreasing}
 use Rattle.std.specs.Option.{option_and_then, option_map}
@@ -7,7 +7,7 @@ use Rattle.std.specs.Str.{bytes_eq}
 use Rattle.rb_import_answers.specs.declared.packets.PacketEvent.{PacketEvent}
 use Rattle.rb_import_answers.specs.declared.packets.PacketKind.{PacketKind}
 use Rattle.rb_import_answers.specs.declared.packets.PacketKind.TheVariants as did
-use Rattle.rb_want_requests.specs.Answered.{is_part_of}
+use Rattle.rb_want_requests.specs.Answered.{next_part}
 use Rattle.rb_want_requests.specs.PacketPaths.{pending_in}
 use Rattle.rb_want_requests.specs.Requests.{is_named}
 use Rattle.rb_want_requests.specs.declared.answered.PartKind.TheVariants as kinds
@@ -16,19 +16,14 @@ use Rattle.rb_want_requests.specs.declared.content.Content.TheVariants as conten
 use Rattle.rb_want_requests.specs.declared.content.Folder.{Folder}
 use Rattle.rb_want_requests.specs.declared.request.Query.TheVariants as queries
 
--- the last page of the commitments of the source's end
-abbrev pub is_last_page : Content → Bool
-is_last_page (contents.Commitments page key) = page.is_last
-is_last_page _ = false
-
 -- the packets that an answer tells weren't received
 abbrev pub unreceived_of : Content → List ℕ
-unreceived_of (contents.Unreceived sequences) = sequences.items
+unreceived_of (contents.Unreceived number sequences) = sequences.items
 unreceived_of _ = []
 
 -- the packets of which an answer tells that the acknowledgement was written
 abbrev pub acknowledged_of : Content → List ℕ
-acknowledged_of (contents.Acknowledgements sequences) = sequences.items
+acknowledged_of (contents.Acknowledgements number sequences) = sequences.items
 acknowledged_of _ = []
 
 -- whether a sequence is among these
@@ -39,14 +34,20 @@ has n sequences = list_any (λ m. m == n) sequences
 abbrev pub AreOf : List ℕ → List ℕ → Type 0
 AreOf told sorted = IsNonDecreasing sorted × ((n : ℕ) → has n sorted ≡ has n told)
 
--- how many parts of 100 the pending packets make
-abbrev pub parts_in : List Content → ℕ
-parts_in there = (length (pending_in there) + 99) / 100
+-- how many parts of 100 these packets make
+abbrev pub parts_of : List ℕ → ℕ
+parts_of sequences = (length sequences + 99) / 100
 
--- both answers on each part are there
+abbrev pub parts_in : List Content → ℕ
+parts_in there = parts_of (pending_in there)
+
+-- both answers on each of so many parts are there
+abbrev pub have_parts : ℕ → List Content → Bool
+have_parts parts there = nat_lt parts (next_part kinds.Unreceived there) && nat_lt parts (next_part kinds.Acknowledgements there)
+
+-- both answers on each part of the pending packets are there
 abbrev pub are_complete : List Content → Bool
-are_complete there =
-    nat_le (parts_in there) (count_by (is_part_of kinds.Unreceived) there) && nat_le (parts_in there) (count_by (is_part_of kinds.Acknowledgements) there)
+are_complete there = have_parts (parts_in there) there
 
 -- a pending packet was received: the answers on all parts are there, and none tells that it wasn't
 abbrev pub is_received : List Content → ℕ → Bool

@@ -1,13 +1,13 @@
 -- Which requests a path needs that names both ends of its channel: what tells which of its packets are pending, and where each was sent, received and
 -- acknowledged (ICS 4).
-use Rattle.std.specs.Prelude.{◌≡◌, ℕ, ◌==◌, nat_le, if◌then◌else◌, List, [], ◌∷◌, ◌++◌, Option, Some, None, count_by, slice_get}
+use Rattle.std.specs.Prelude.{◌≡◌, ℕ, ◌==◌, nat_le, if◌then◌else◌, List, [], ◌∷◌, ◌++◌, Option, Some, None, slice_get}
 use Rattle.std.specs.List.{flat_map, list_any, range_with_len}
 use Rattle.rb_import_setup.specs.declared.setup.PathSetup.{PathSetup}
 use Rattle.rb_script_types.specs.Channels.{end_text}
 use Rattle.rb_script_types.specs.declared.channel.Channel.{Channel}
 use Rattle.rb_script_types.specs.declared.channel.ChannelEnd.{ChannelEnd}
 use Rattle.rb_script_types.specs.declared.waits.Waits.{Waits}
-use Rattle.rb_want_requests.specs.Answered.{is_part_of}
+use Rattle.rb_want_requests.specs.Answered.{has_all, next_part}
 use Rattle.rb_want_requests.specs.PacketPaths.{pending_in}
 use Rattle.rb_want_requests.specs.declared.answered.PartKind.TheVariants as kinds
 use Rattle.rb_want_requests.specs.declared.content.Folder.{Folder}
@@ -17,8 +17,7 @@ use Rattle.rb_want_requests.specs.declared.request.Owner.TheVariants as owners
 use Rattle.rb_want_requests.specs.declared.request.Query.{Query}
 use Rattle.rb_want_requests.specs.declared.request.Query.TheVariants as queries
 use Rattle.rb_want_requests.specs.declared.request.Request.{Request}
-use Rattle.rb_want.specs.Clients.{after}
-use Rattle.rb_want.specs.Packets.{is_last_page, is_received, lacks_ack, parts_in, sent_block, written_block}
+use Rattle.rb_want.specs.Packets.{is_received, lacks_ack, parts_in, sent_block, written_block}
 use Rattle.rb_want.specs.declared.path.PathCase.{PathCase}
 use Rattle.rb_want.specs.declared.path.Side.{Side}
 
@@ -78,10 +77,10 @@ time_needs p folder n =
 -- that since when each waits
 unfoldable pub path_needs : NamedPath → Folder → List Request
 path_needs p folder =
-    if list_any is_last_page folder.contents.items
+    if has_all kinds.Commitments folder.contents.items
     then flat_map (part_needs p) (range_with_len 1 (parts_in folder.contents.items))
     ++ flat_map (packet_needs p folder) (pending_in folder.contents.items) ++ flat_map (time_needs p folder) (pending_in folder.contents.items)
-    else side_request p p.source (queries.Commitments (after (count_by (is_part_of kinds.Commitments) folder.contents.items))) ∷ []
+    else side_request p p.source (queries.Commitments (next_part kinds.Commitments folder.contents.items)) ∷ []
 
 -- ---- what isn't given
 
@@ -96,9 +95,9 @@ part_ends p folder part =
 -- of the commitments; once all of these are there, of each part of the pending packets
 unfoldable pub path_ends : NamedPath → Folder → List PathEnd
 path_ends p folder =
-    if list_any is_last_page folder.contents.items
+    if has_all kinds.Commitments folder.contents.items
     then flat_map (part_ends p folder) (range_with_len 1 (parts_in folder.contents.items))
-    else side_ends p folder p.source (queries.Commitments (after (count_by (is_part_of kinds.Commitments) folder.contents.items)))
+    else side_ends p folder p.source (queries.Commitments (next_part kinds.Commitments folder.contents.items))
 
 -- ---- the paths of a setup
 

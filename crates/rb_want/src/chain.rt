@@ -1,5 +1,5 @@
 //! The answers of a chain that judge steps.
-ghost use Rattle.std.specs.Prelude.{◌≡◌, ◌==◌, ◌↔◌, ◌⊎◌, ℕ, false, List, IfNone, IfOk, IfSome, IsSome, IsTrue, OnOk, filter, map, min, not, slice_get, ◌-◌, ◌^◌};
+ghost use Rattle.std.specs.Prelude.{◌≡◌, ◌==◌, ◌↔◌, ◌⊎◌, ℕ, false, List, IfNone, IfOk, IfSome, IsSome, IsTrue, OnOk, filter, map, min, not, ◌-◌, ◌^◌};
 ghost use Rattle.std.specs.List.{filter_map, list_all, list_any};
 ghost use Rattle.std.specs.List.Sorted.{IsNonDecreasingBy};
 ghost use Rattle.std.specs.Option.{option_copied, option_to_list};
@@ -8,13 +8,15 @@ ghost use Rattle.rb_import_check.specs.Sets.{WasSeen};
 ghost use Rattle.rb_valset.specs.ValidatorSet.{set_hash};
 ghost use Rattle.rb_want_requests.specs.Answered.{is_commit_of};
 ghost use Rattle.rb_want_requests.specs.Requests.{is_named};
-ghost use Rattle.rb_want.specs.Clients.{AreSetsThere, IsHeaderAt, IsSetThere, MakeSet, MayMake, later_status, members_at, next_page, page_at, page_in, pages_at, status_in};
+ghost use Rattle.rb_want.specs.Clients.{AreSetsThere, IsHeaderAt, IsSetThere, MakeSet, MayMake, first_page, later_status, members_at, next_page, page_at, page_in, pages_at, status_in};
 
 use rb_base::Height;
 use rb_import_answers::{SignedHeader, ValidatorsPage};
 use rb_import_check::{SeenSet, SeenSets};
 use rb_valset::{Validator, ValidatorSet, ValsetError};
-use rb_want_requests::{Content, Folder, NodeStatus, Query, count_pages, is_named};
+use rb_want_requests::{
+    Content, Folder, NodeStatus, PartKind, Query, first_part, is_named, next_part,
+};
 use std::alloc::{AllocError, Global};
 
 /// How many validators are asked for on a page, the most that nodes give.
@@ -69,7 +71,7 @@ impl<'a> ChainAnswers<'a> {
         self.set_with(hash).is_some()
     }
 
-    /// The next page of the validators of a height; none where all are there.
+    /// The next page of the validators of a height, which is the least that isn't there; none where all are there.
     #[tactic(auto, unfolding(crate::specs::Clients::next_page))]
     pub fn next_page_at(&self, height: Height) -> Option<Query>
         ensures { option_to_list result ≡ next_page height self.now.folder.now.contents.items }
@@ -86,11 +88,8 @@ impl<'a> ChainAnswers<'a> {
         if size == 0 || count_members(contents, height) >= first.total {
             return None;
         }
-        Some(Query::Validators {
-            height,
-            page: count_pages(contents, height).saturating_add(1),
-            size,
-        })
+        let page = next_part(contents, &PartKind::Validators(height));
+        Some(Query::Validators { height, page, size })
     }
 
     /// Whether a query may still be answered: it wasn't refused.
@@ -140,16 +139,10 @@ fn header_in(contents: &[Content], height: Height) -> Option<&SignedHeader>
 }
 
 /// The first page of the validators of a height.
-#[tactic(auto, using(crate::proofs::Pages::paging))]
 fn first_page(contents: &[Content], height: Height) -> Option<&ValidatorsPage>
-    ensures { option_copied result ≡ slice_get (pages_at height contents.now) 0 }
+    ensures { option_copied result ≡ first_page height contents.now }
 {
-    for content in contents {
-        if let Some(page) = page_at(content, height) {
-            return Some(page);
-        }
-    }
-    None
+    page_in(first_part(contents, &PartKind::Validators(height))?)
 }
 
 /// The page, if a content is one of the validators of a height.
@@ -167,7 +160,7 @@ fn page_in(content: &Content) -> Option<&ValidatorsPage>
     ensures { option_copied result ≡ page_in content.now }
 {
     match content {
-        Content::Validators(page) => Some(page),
+        Content::Validators { page, .. } => Some(page),
         _ => None,
     }
 }

@@ -17,7 +17,10 @@ use rb_import_answers::{ConsensusState, TrustLevel, revision_of};
 use rb_import_setup::{ClientSetup, Setup};
 use rb_script_types::{Asked, Goal};
 use rb_step::Verdict;
-use rb_want_requests::{End, Folders, Missing, Owner, Query, Request, Wanted, Why, is_named};
+use rb_want_requests::{
+    End, Folders, Missing, Owner, PartKind, Query, Request, Wanted, Why, has_all, is_named,
+    next_part,
+};
 use rb_want_search::{Aim, Finding, Question, search};
 use std::alloc::{AllocError, Global};
 
@@ -179,10 +182,11 @@ impl<'b, 'a> Case<'b, 'a> {
             (if lacks_states (tracking_of self.now) then if_refused self.now.answers.folder.now (queries.ConsensusStates (next_states (tracking_of self.now))) (not_given (tracking_of self.now) Records) else [])) }
         ensures path_ends { wanted.new.path_ends ≡ wanted.old.path_ends }
     {
-        if self.answers.has_last {
+        let contents = self.answers.folder.contents.as_slice();
+        if has_all(contents, &PartKind::ConsensusStates) {
             return Ok(false);
         }
-        let page = self.answers.pages.saturating_add(1);
+        let page = next_part(contents, &PartKind::ConsensusStates);
         self.ask_host(wanted, Query::ConsensusStates { page }, Missing::Records)?;
         Ok(true)
     }

@@ -1,40 +1,31 @@
 //! Pending packets, by the answers in the folder of a path.
-ghost use Rattle.std.specs.Prelude.{◌≡◌, IfOk, ◌&&◌, nat_le, count_by, find, length};
+ghost use Rattle.std.specs.Prelude.{◌≡◌, IfOk, ◌&&◌, find};
 ghost use Rattle.std.specs.Option.{option_copied};
 ghost use Rattle.std.specs.List.{flat_map, list_any};
 ghost use Rattle.std.specs.List.Sorted.{IsNonDecreasing};
 ghost use Rattle.std.specs.Str.{bytes_eq};
-ghost use Rattle.rb_want_requests.specs.Answered.{is_part_of};
 ghost use Rattle.rb_want_requests.specs.PacketPaths.{pending_in};
 ghost use Rattle.rb_want_requests.specs.Pending.{committed_in};
-ghost use Rattle.rb_want_requests.specs.declared.answered.PartKind.{PartKind};
-ghost use Rattle.rb_want.specs.Packets.{AreOf, acknowledged_of, are_complete, has, is_ack_written, is_acknowledged, is_last_page, is_received, is_sent_to_wait, may_wait, parts_in, sent_block, sent_in, tells_ack_written, tells_sent_to_wait, unreceived_of, written_block, written_in};
+ghost use Rattle.rb_want.specs.Packets.{AreOf, acknowledged_of, are_complete, has, have_parts, is_ack_written, is_acknowledged, is_received, is_sent_to_wait, may_wait, parts_in, parts_of, sent_block, sent_in, tells_ack_written, tells_sent_to_wait, unreceived_of, written_block, written_in};
 
 use rb_base::Height;
 use rb_import_answers::{PacketEvent, PacketKind};
-use rb_want_requests::{Content, Folder, PartKind, SEQUENCES_A_PART, count_parts};
+use rb_want_requests::{Content, Folder, PartKind, SEQUENCES_A_PART, next_part};
 use std::alloc::{AllocError, Global};
 
-/// The pending packets of a path: how many pages of commitments there are, and whether the last is one of them;
-/// the sequences of the commitments, in the order of the answers; the sequences that weren't received, and
-/// those with an acknowledgement, by rising sequence; and how many answers tell either.
+/// The pending packets of a path: the sequences of the commitments, in the order of the answers; the sequences that weren't
+/// received, and those with an acknowledgement, by rising sequence; and whether all parts have both answers.
 #[derive(Drop)]
 pub struct PacketAnswers<'a> {
     pub folder: &'a Folder,
-    pub pages: u64,
-    pub has_last: bool,
     pub pending: Vec<u64>,
     unreceived: Vec<u64>,
-    unreceived_parts: u64,
     acknowledged: Vec<u64>,
-    acknowledged_parts: u64,
-    ghost counted: { pages ≡ count_by (is_part_of PartKind.Commitments) folder.now.contents.items },
-    ghost last: { has_last ≡ list_any is_last_page folder.now.contents.items },
+    is_complete: bool,
     ghost committed: { pending.items ≡ pending_in folder.now.contents.items },
     ghost not_received: { AreOf (flat_map unreceived_of folder.now.contents.items) unreceived.items },
-    ghost answered: { unreceived_parts ≡ count_by (is_part_of PartKind.Unreceived) folder.now.contents.items },
     ghost written: { AreOf (flat_map acknowledged_of folder.now.contents.items) acknowledged.items },
-    ghost told: { acknowledged_parts ≡ count_by (is_part_of PartKind.Acknowledgements) folder.now.contents.items },
+    ghost answered: { is_complete ≡ are_complete folder.now.contents.items },
 }
 
 impl<'a> PacketAnswers<'a> {
@@ -43,15 +34,14 @@ impl<'a> PacketAnswers<'a> {
         ensures { IfOk result (λ answers. answers.folder.now ≡ folder.entry.now) }
     {
         let contents = folder.contents.as_slice();
+        let pending = pending_in(alloc, contents)?;
+        let is_complete = are_complete(contents, parts_of(pending.as_slice()));
         Ok(PacketAnswers {
             folder,
-            pages: count_parts(contents, PartKind::Commitments),
-            has_last: has_last(contents),
-            pending: pending_in(alloc, contents)?,
+            pending,
             unreceived: sorted(unreceived_in(alloc, contents)?),
-            unreceived_parts: count_parts(contents, PartKind::Unreceived),
             acknowledged: sorted(acknowledged_in(alloc, contents)?),
-            acknowledged_parts: count_parts(contents, PartKind::Acknowledgements),
+            is_complete,
         })
     }
 
@@ -59,31 +49,38 @@ impl<'a> PacketAnswers<'a> {
     pub fn parts(&self) -> u64
         ensures { result ≡ parts_in self.now.folder.now.contents.items }
     {
-        (self.pending.len() as u64).div_ceil(SEQUENCES_A_PART)
-    }
-
-    /// Whether all parts of the pending packets have their answers: which weren't received, and which
-    /// acknowledgements were written.
-    fn are_complete(&self) -> bool
-        ensures { result ≡ are_complete self.now.folder.now.contents.items }
-    {
-        let parts = self.parts();
-        parts <= self.unreceived_parts && parts <= self.acknowledged_parts
+        parts_of(self.pending.as_slice())
     }
 
     /// Whether a pending packet was received.
     pub fn is_received(&self, sequence: u64) -> bool
         ensures { result ≡ is_received self.now.folder.now.contents.items sequence }
     {
-        self.are_complete() && !has(self.unreceived.as_slice(), sequence)
+        self.is_complete && !has(self.unreceived.as_slice(), sequence)
     }
 
     /// Whether the acknowledgement of a pending packet was written.
     pub fn is_acknowledged(&self, sequence: u64) -> bool
         ensures { result ≡ is_acknowledged self.now.folder.now.contents.items sequence }
     {
-        self.are_complete() && has(self.acknowledged.as_slice(), sequence)
+        self.is_complete && has(self.acknowledged.as_slice(), sequence)
     }
+}
+
+/// How many parts these pending packets have.
+fn parts_of(pending: &[u64]) -> u64
+    ensures { result ≡ parts_of pending.now }
+{
+    (pending.len() as u64).div_ceil(SEQUENCES_A_PART)
+}
+
+/// Whether so many parts of the pending packets have their answers: which weren't received, and which acknowledgements were
+/// written.
+fn are_complete(contents: &[Content], parts: u64) -> bool
+    ensures { result ≡ have_parts parts contents.now }
+{
+    parts < next_part(contents, &PartKind::Unreceived)
+        && parts < next_part(contents, &PartKind::Acknowledgements)
 }
 
 /// Whether a sequence is among these, which rise.
@@ -148,7 +145,7 @@ fn unreceived_of(content: &Content) -> &[u64]
     ensures { result.now ≡ unreceived_of content.now }
 {
     match content {
-        Content::Unreceived(sequences) => sequences.as_slice(),
+        Content::Unreceived { sequences, .. } => sequences.as_slice(),
         _ => &[],
     }
 }
@@ -157,25 +154,8 @@ fn acknowledged_of(content: &Content) -> &[u64]
     ensures { result.now ≡ acknowledged_of content.now }
 {
     match content {
-        Content::Acknowledgements(sequences) => sequences.as_slice(),
+        Content::Acknowledgements { sequences, .. } => sequences.as_slice(),
         _ => &[],
-    }
-}
-
-/// Whether the last page of commitments is there.
-fn has_last(contents: &[Content]) -> bool
-    ensures { result ≡ list_any is_last_page contents.now }
-{
-    contents.iter().any(|content| is_last_page(content))
-}
-
-/// Whether a content is the last page of commitments.
-fn is_last_page(content: &Content) -> bool
-    ensures { result ≡ is_last_page content.now }
-{
-    match content {
-        Content::Commitments { page, .. } => page.is_last,
-        _ => false,
     }
 }
 

@@ -12,7 +12,9 @@ use crate::packets::{PacketAnswers, sent_block, tell_ack_written, written_block}
 use rb_base::{ChainId, Height, PathId};
 use rb_import_setup::{PathSetup, Setup};
 use rb_script_types::{ChannelEnd, Waits};
-use rb_want_requests::{Folder, Folders, Owner, PathEnd, Query, Request, Wanted, is_named};
+use rb_want_requests::{
+    Folder, Folders, Owner, PartKind, PathEnd, Query, Request, Wanted, has_all, is_named, next_part,
+};
 use std::alloc::{AllocError, Global};
 
 /// An end of a path's channel, and its chain, which has a place in the setup.
@@ -90,8 +92,9 @@ impl PathCase<'_> {
         ensures ends { wanted.new.ends ≡ wanted.old.ends }
         ensures path_ends { OnOk result (wanted.new.path_ends.items ≡ with_path_ends wanted.old.path_ends.items (path_ends (path_view self.now) self.now.answers.folder.now)) }
     {
-        if !self.answers.has_last {
-            let page = self.answers.pages.saturating_add(1);
+        let contents = self.answers.folder.contents.as_slice();
+        if !has_all(contents, &PartKind::Commitments) {
+            let page = next_part(contents, &PartKind::Commitments);
             return self.need(wanted, &self.source, Query::Commitments { page });
         }
         self.add_parts(wanted)?;

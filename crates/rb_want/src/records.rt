@@ -1,31 +1,25 @@
 //! A client's answers.
-ghost use Rattle.std.specs.Prelude.{◌≡◌, ◌==◌, ◌++◌, IfOk, OnOk, count_by, filter, map};
+ghost use Rattle.std.specs.Prelude.{◌≡◌, ◌==◌, ◌++◌, IfOk, OnOk, filter, map};
 ghost use Rattle.std.specs.List.{list_any};
 ghost use Rattle.std.specs.List.Sorted.{IsNonDecreasingBy, IsPermutation};
 ghost use Rattle.std.specs.Option.{option_copied};
-ghost use Rattle.rb_want_requests.specs.Answered.{is_part_of};
-ghost use Rattle.rb_want_requests.specs.declared.answered.PartKind.{PartKind};
-ghost use Rattle.rb_want.specs.Clients.{is_last_states, is_other_client, later_state, state_in, states_of, stored_in};
+ghost use Rattle.rb_want.specs.Clients.{is_other_client, later_state, state_in, states_of, stored_in};
 
 use rb_import_answers::{ClientState, ConsensusState};
-use rb_want_requests::{Content, Folder, PartKind, count_parts};
+use rb_want_requests::{Content, Folder};
 use std::alloc::{AllocError, Global};
 
-/// The answers of a client: its state, or whether one is of a client that is frozen or isn't Tendermint's; its
-/// consensus states by rising height, how many pages of them there are, and whether the last is one of them.
+/// The answers of a client: its state, or whether one is of a client that is frozen or isn't Tendermint's; and its
+/// consensus states by rising height.
 #[derive(Drop)]
 pub struct ClientAnswers<'a> {
     pub folder: &'a Folder,
     pub state: Option<&'a ClientState>,
     pub is_other: bool,
     pub records: Vec<&'a ConsensusState>,
-    pub pages: u64,
-    pub has_last: bool,
     ghost judging: { option_copied state ≡ state_in folder.now.contents.items },
     ghost other: { is_other ≡ list_any is_other_client folder.now.contents.items },
     ghost rising: { IsNonDecreasingBy (λ r. r.now.height) records.items },
-    ghost counted: { pages ≡ count_by (is_part_of PartKind.ConsensusStates) folder.now.contents.items },
-    ghost last: { has_last ≡ list_any is_last_states folder.now.contents.items },
 }
 
 impl<'a> ClientAnswers<'a> {
@@ -46,8 +40,6 @@ impl<'a> ClientAnswers<'a> {
             state: state_in(contents),
             is_other: has_other(contents),
             records: sorted(stored)?,
-            pages: count_parts(contents, PartKind::ConsensusStates),
-            has_last: has_last(contents),
         })
     }
 }
@@ -81,28 +73,11 @@ fn has_other(contents: &[Content]) -> bool
     contents.iter().any(|content| is_other_client(content))
 }
 
-/// Whether the last page of consensus states is there.
-fn has_last(contents: &[Content]) -> bool
-    ensures { result ≡ list_any is_last_states contents.now }
-{
-    contents.iter().any(|content| is_last_states(content))
-}
-
 /// Whether a content is the state of a client that is frozen, or isn't Tendermint's.
 fn is_other_client(content: &Content) -> bool
     ensures { result ≡ is_other_client content.now }
 {
     matches!(content, Content::OtherClient)
-}
-
-/// Whether a content is the last page of consensus states.
-fn is_last_states(content: &Content) -> bool
-    ensures { result ≡ is_last_states content.now }
-{
-    match content {
-        Content::ConsensusStates { page, .. } => page.is_last,
-        _ => false,
-    }
 }
 
 /// The consensus states of this revision number, in the order of the answers.

@@ -1,4 +1,5 @@
 pub mod Asking
+pub mod Overwritten
 pub mod Same
 pub mod Searching
 pub mod Staying

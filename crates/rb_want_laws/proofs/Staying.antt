@@ -8,8 +8,10 @@ use Rattle.std.proofs.lemmas.List.Folds.{list_any-append}
 use Rattle.std.proofs.lemmas.List.Recursion.{is_count_by}
 use Rattle.std.proofs.lemmas.List.Sorted.{list_any-IsPermutation, sum_by-IsPermutation}
 use Rattle.std.proofs.lemmas.List.Sums.{sum_by-append, sum_by-cons}
-use Rattle.rb_want_requests.specs.Answered.{is_answered}
+use Rattle.rb_want_requests.specs.Answered.{has_part, is_answered, is_part, is_part_to}
 use Rattle.rb_want_requests.specs.Requests.{folder_of, is_named, is_new, is_new_at, is_new_in}
+use Rattle.rb_want_requests.specs.declared.answered.PartKind.{PartKind}
+use Rattle.rb_want_requests.specs.declared.answered.PartKind.TheVariants as kinds
 use Rattle.rb_want_requests.specs.declared.content.Content.{Content}
 use Rattle.rb_want_requests.specs.declared.content.Folder.{Folder}
 use Rattle.rb_want_requests.specs.declared.content.Folders.{Folders}
@@ -49,15 +51,27 @@ count_stays p xs ys (more, same) =
 up_to : (k m n : ℕ) → m ≤ n → nat_le k m ≡ true → nat_le k n ≡ true
 up_to k m n le is = grind (arith, nat_tests, le, is)
 
+either : (a b c d : Bool) → (a ≡ true → c ≡ true) → (b ≡ true → d ≡ true) → a || b ≡ true → c || d ≡ true
+either a b true d f g is = refl
+either true b false d f g is = absurd (true≢false (sym (f refl)))
+either false b false d f g is = g is
+
+-- a part that is there stays there
+part_stays : (kind : PartKind) (n : ℕ) (there after : List Content) → HasAll there after → has_part kind n there ≡ true → has_part kind n after ≡ true
+unfolding has_part
+part_stays kind n there after all is =
+    either (list_any (is_part kind n) there) (nat_le n (count_by (is_part_to kind n) there)) (list_any (is_part kind n) after) (nat_le n (count_by (is_part_to kind n) after))
+    (any_stays (is_part kind n) there after all) (up_to n _ _ (count_stays (is_part_to kind n) there after all)) is
+
 answered_stays : (there after : List Content) (query : Query) → HasAll there after → is_answered there query ≡ true → is_answered after query ≡ true
 answered_stays there after queries.ClientState all is = any_stays _ there after all is
-answered_stays there after (queries.ConsensusStates page) all is = up_to page _ _ (count_stays _ there after all) is
+answered_stays there after (queries.ConsensusStates page) all is = part_stays kinds.ConsensusStates page there after all is
 answered_stays there after queries.Status all is = any_stays _ there after all is
 answered_stays there after (queries.Commit height) all is = any_stays _ there after all is
-answered_stays there after (queries.Validators height page size) all is = up_to page _ _ (count_stays _ there after all) is
-answered_stays there after (queries.Commitments page) all is = up_to page _ _ (count_stays _ there after all) is
-answered_stays there after (queries.Unreceived part) all is = up_to part _ _ (count_stays _ there after all) is
-answered_stays there after (queries.Acknowledgements part) all is = up_to part _ _ (count_stays _ there after all) is
+answered_stays there after (queries.Validators height page size) all is = part_stays (kinds.Validators height) page there after all is
+answered_stays there after (queries.Commitments page) all is = part_stays kinds.Commitments page there after all is
+answered_stays there after (queries.Unreceived part) all is = part_stays kinds.Unreceived part there after all is
+answered_stays there after (queries.Acknowledgements part) all is = part_stays kinds.Acknowledgements part there after all is
 answered_stays there after (queries.Sent sequence) all is = absurd (true≢false (sym is))
 answered_stays there after (queries.Received sequence) all is = absurd (true≢false (sym is))
 answered_stays there after (queries.AckWritten sequence) all is = absurd (true≢false (sym is))

@@ -6,10 +6,10 @@ use Rattle.std.proofs.lemmas.Bool.{and_from, and_parts, false_from_ne_true, lt-l
 use Rattle.std.proofs.lemmas.List.{append_cancel_left, drop_at, take-append-drop, take_at}
 use Rattle.rb_want_requests.specs.Lines.{own_id}
 
-begins : (needle rest : List ℕ) → starts_with nat_eq (needle ++ rest) needle ≡ true
+pub begins : (needle rest : List ℕ) → starts_with nat_eq (needle ++ rest) needle ≡ true
 begins needle rest = (bytes_decides needle (take (length needle) (needle ++ rest))).1 (sym (take_at needle rest (length needle) refl))
 
-parts : (text needle : List ℕ) → starts_with nat_eq text needle ≡ true → text ≡ needle ++ drop (length needle) text
+pub parts : (text needle : List ℕ) → starts_with nat_eq text needle ≡ true → text ≡ needle ++ drop (length needle) text
 parts text needle e =
     sym (take-append-drop (length needle) text)
     ∙ ap (λ (xs : List ℕ). xs ++ drop (length needle) text) (sym ((bytes_decides needle (take (length needle) text)).0 e))

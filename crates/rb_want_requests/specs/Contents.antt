@@ -1,5 +1,7 @@
 -- What a file of a folder holds, by what its bytes tell.
-use Rattle.std.specs.Prelude.{ℕ, Bool, if◌then◌else◌, List, codes, Option, Some, None, option_map, option_and_then, Result, Ok, Err, string_bytes}
+use Rattle.std.specs.Prelude.{ℕ, nat_eq, Bool, if◌then◌else◌, List, ◌++◌, length, drop, codes, Option, Some, None, option_map, option_and_then, Result, Ok, Err, string_bytes}
+use Rattle.std.specs.Fmt.{decimal}
+use Rattle.std.specs.List.{starts_with}
 use Rattle.std.specs.Option.{option_or}
 use Rattle.serde_json.specs.Data.{Data}
 use Rattle.serde_json.specs.Find.{get, as_str}
@@ -19,32 +21,46 @@ use Rattle.rb_want_requests.specs.declared.content.Content.{Content}
 use Rattle.rb_want_requests.specs.declared.content.Content.TheVariants as contents
 use Rattle.rb_want_requests.specs.declared.content.NodeStatus.{NodeStatus}
 
--- what a file holds; of a page that isn't the last also the key of the next one, where it names one
+-- what a file holds, of a page or a part with its number by the file's name; of a page that isn't the last also the key of the next one, where it
+-- names one
 pub data FileContent : Type 0 where
   header : Signed → FileContent
-  set_page : Page → FileContent
+  set_page : Option ℕ → Page → FileContent
   client : ClientState → FileContent
   other_client : FileContent
-  states : States → Option (List ℕ) → FileContent
+  states : Option ℕ → States → Option (List ℕ) → FileContent
   status : NodeStatus → FileContent
-  commitment_page : SequencePage → Option (List ℕ) → FileContent
-  not_received : List ℕ → FileContent
-  acknowledged : List ℕ → FileContent
+  commitment_page : Option ℕ → SequencePage → Option (List ℕ) → FileContent
+  not_received : Option ℕ → List ℕ → FileContent
+  acknowledged : Option ℕ → List ℕ → FileContent
   found : Search → FileContent
   nothing : FileContent
 
 abbrev pub content_view : Content → FileContent
 content_view (contents.Commit h) = header (signed_view h)
-content_view (contents.Validators page) = set_page (set_view page)
+content_view (contents.Validators number page) = set_page number (set_view page)
 content_view (contents.ClientState state) = client state
 content_view contents.OtherClient = other_client
-content_view (contents.ConsensusStates page key) = states (states_view page) (option_map string_bytes key)
+content_view (contents.ConsensusStates number page key) = states number (states_view page) (option_map string_bytes key)
 content_view (contents.Status s) = status s
-content_view (contents.Commitments page key) = commitment_page (page_view page) (option_map string_bytes key)
-content_view (contents.Unreceived sequences) = not_received sequences.items
-content_view (contents.Acknowledgements sequences) = acknowledged sequences.items
+content_view (contents.Commitments number page key) = commitment_page number (page_view page) (option_map string_bytes key)
+content_view (contents.Unreceived number sequences) = not_received number sequences.items
+content_view (contents.Acknowledgements number sequences) = acknowledged number sequences.items
 content_view (contents.Search page) = found (search_view page)
 content_view contents.Other = nothing
+
+-- ---- the number of a page or part, as the name of its file has it (own: the names of requests)
+
+-- the number behind this front of a name
+unfoldable pub number_after : List ℕ → List ℕ → Option ℕ
+number_after front name = if starts_with nat_eq name front then number_of (drop (length front) name) else None
+
+-- of the validators of a height
+abbrev pub validators_number : ℕ → List ℕ → Option ℕ
+validators_number height name = number_after (codes "validators-" ++ (decimal height ++ codes "-")) name
+
+abbrev pub states_number : List ℕ → Option ℕ
+states_number name = number_after (codes "consensus_states-") name
 
 -- ---- the key of the next page
 
@@ -95,21 +111,21 @@ abbrev pub other_content : List ℕ → Query → FileContent
 other_content bytes Query.Status = status_in bytes
 other_content bytes _ = nothing
 
-abbrev pub pending_content : List ℕ → Pending → FileContent
-pending_content bytes (commitments page) = commitment_page page (key_unless page.is_last bytes)
-pending_content bytes (unreceived sequences) = not_received sequences
-pending_content bytes (acknowledgements sequences) = acknowledged sequences
+abbrev pub pending_content : List ℕ → List ℕ → Pending → FileContent
+pending_content name bytes (commitments page) = commitment_page (number_after (codes "commitments-") name) page (key_unless page.is_last bytes)
+pending_content name bytes (unreceived sequences) = not_received (number_after (codes "unreceived-") name) sequences
+pending_content name bytes (acknowledgements sequences) = acknowledged (number_after (codes "acknowledgements-") name) sequences
 
--- the content of bytes that tell this
-abbrev pub told_content : List ℕ → Told → FileContent
-told_content bytes (commit signed) = header signed
-told_content bytes (validators page) = set_page page
-told_content bytes (judging state) = client state
-told_content bytes (stored page) = states page (key_unless page.is_last bytes)
-told_content bytes (transactions page) = found page
-told_content bytes (packets pending) = pending_content bytes pending
-told_content bytes (verified verdicts) = nothing
-told_content bytes (other query) = other_content bytes query
+-- the content of bytes that tell this, in a file of this name
+abbrev pub told_content : List ℕ → List ℕ → Told → FileContent
+told_content name bytes (commit signed) = header signed
+told_content name bytes (validators page) = set_page (validators_number page.height name) page
+told_content name bytes (judging state) = client state
+told_content name bytes (stored page) = states (states_number name) page (key_unless page.is_last bytes)
+told_content name bytes (transactions page) = found page
+told_content name bytes (packets pending) = pending_content name bytes pending
+told_content name bytes (verified verdicts) = nothing
+told_content name bytes (other query) = other_content bytes query
 
 -- the content of bytes with this flaw: a client that is frozen, or isn't Tendermint's, or nothing
 abbrev pub flawed_content : FieldErrorName → FileContent
@@ -117,10 +133,10 @@ flawed_content FrozenClient = other_client
 flawed_content UnsupportedClient = other_client
 flawed_content _ = nothing
 
-abbrev pub content_by : List ℕ → Result Told FieldError → FileContent
-content_by bytes (Ok t) = told_content bytes t
-content_by bytes (Err flaw) = flawed_content flaw.name
+abbrev pub content_by : List ℕ → List ℕ → Result Told FieldError → FileContent
+content_by name bytes (Ok t) = told_content name bytes t
+content_by name bytes (Err flaw) = flawed_content flaw.name
 
--- what a file of these bytes holds, of a client's records those of this revision and of later ones
-abbrev pub content_in : ℕ → List ℕ → FileContent
-content_in since bytes = content_by bytes (told since bytes)
+-- what a file of this name and these bytes holds, of a client's records those of this revision and of later ones
+abbrev pub content_in : ℕ → List ℕ → List ℕ → FileContent
+content_in since name bytes = content_by name bytes (told since bytes)

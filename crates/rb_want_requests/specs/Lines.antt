@@ -7,6 +7,7 @@ use Rattle.rb_want_requests.specs.Keys.{next_key}
 use Rattle.rb_want_requests.specs.PacketPaths.{packet_path}
 use Rattle.rb_want_requests.specs.Reasons.{why_line}
 use Rattle.rb_want_requests.specs.Requests.{folder_of, name_of}
+use Rattle.rb_want_requests.specs.declared.answered.PartKind.TheVariants as kinds
 use Rattle.rb_want_requests.specs.declared.content.Content.{Content}
 use Rattle.rb_want_requests.specs.declared.content.Folder.{Folder}
 use Rattle.rb_want_requests.specs.declared.content.Folders.{Folders}
@@ -53,8 +54,8 @@ key_text None = []
 
 -- the key that the page of a query begins with
 abbrev pub page_key : Query → List Content → Option (List ℕ)
-page_key (queries.ConsensusStates page) there = next_key there
-page_key (queries.Commitments page) there = next_key there
+page_key (queries.ConsensusStates page) there = next_key kinds.ConsensusStates page there
+page_key (queries.Commitments page) there = next_key kinds.Commitments page there
 page_key _ there = None
 
 -- ---- files

@@ -5,7 +5,8 @@ ghost use Rattle.serde_json.specs.View.{view};
 ghost use Rattle.rb_import_answers.specs.Answers.{json};
 ghost use Rattle.rb_import_answers.specs.Clients.{states_view};
 ghost use Rattle.rb_import_answers.specs.Pending.{pending_view};
-ghost use Rattle.rb_want_requests.specs.Contents.{answer_in, content_in, content_view, key_unless, latest_of, network_of, next_key_of, other_content, pending_content, states, status_in, status_of};
+ghost use Rattle.rb_import_answers.specs.Validators.{page_view as set_view};
+ghost use Rattle.rb_want_requests.specs.Contents.{answer_in, content_in, content_view, key_unless, latest_of, network_of, next_key_of, number_after, other_content, pending_content, set_page, states, states_number, status_in, status_of, validators_number};
 
 use rb_base::{ChainId, Height};
 use rb_import_answers::{
@@ -21,28 +22,41 @@ use std::alloc::{AllocError, Global};
 pub enum Content {
     /// The answer to `/commit`.
     Commit(SignedHeader),
-    /// A page of the answer to `/validators`.
-    Validators(ValidatorsPage),
+    /// A page of the answer to `/validators`, with its number by the file's name.
+    Validators {
+        number: Option<u64>,
+        page: ValidatorsPage,
+    },
     /// The state of a client.
     ClientState(ClientState),
     /// The state of a client that is frozen, or isn't Tendermint's.
     OtherClient,
-    /// A page of a client's consensus states, and the key of the next page as the gateway wrote it, if there is one.
+    /// A page of a client's consensus states, with its number by the file's name, and the key of the next page as the gateway
+    /// wrote it, if there is one.
     ConsensusStates {
+        number: Option<u64>,
         page: ConsensusPage,
         next_key: Option<String>,
     },
     /// The node's answer to `/status`.
     Status(NodeStatus),
-    /// A page of the commitments of a channel's end, and the key of the next page as the gateway wrote it, if there is one.
+    /// A page of the commitments of a channel's end, with its number by the file's name, and the key of the next page as the
+    /// gateway wrote it, if there is one.
     Commitments {
+        number: Option<u64>,
         page: SequencePage,
         next_key: Option<String>,
     },
-    /// Which packets of some a channel's end hasn't received.
-    Unreceived(Vec<u64>),
-    /// Of which packets of some a channel's end has written the acknowledgement.
-    Acknowledgements(Vec<u64>),
+    /// Which packets of a part a channel's end hasn't received, with the part's number by the file's name.
+    Unreceived {
+        number: Option<u64>,
+        sequences: Vec<u64>,
+    },
+    /// Of which packets of a part a channel's end has written the acknowledgement, with the part's number by the file's name.
+    Acknowledgements {
+        number: Option<u64>,
+        sequences: Vec<u64>,
+    },
     /// What transactions did with packets.
     Search(PacketPage),
     /// Another text.
@@ -74,18 +88,23 @@ pub struct Folders {
     pub paths: Vec<Folder>,
 }
 
-/// The content of a file; of a client's consensus states those of this revision and of later ones. `AllocError`
-/// comes where a growth is refused.
-pub fn content_of(alloc: Global, bytes: &[u8], since: u64) -> Result<Content, AllocError>
-    ensures content { IfOk result (λ content. content_view content ≡ content_in since bytes.now) }
+/// The content of a file of this name, without the ending; of a client's consensus states those of this revision and of later
+/// ones. `AllocError` comes where a growth is refused.
+pub fn content_of(
+    alloc: Global,
+    name: &str,
+    bytes: &[u8],
+    since: u64,
+) -> Result<Content, AllocError>
+    ensures content { IfOk result (λ content. content_view content ≡ content_in since name.now bytes.now) }
 {
     match read_answer(alloc, bytes, since) {
         Ok(NodeAnswer::Commit(header)) => Ok(Content::Commit(header)),
-        Ok(NodeAnswer::Validators(page)) => Ok(Content::Validators(page)),
+        Ok(NodeAnswer::Validators(page)) => validators_in(alloc, name, page),
         Ok(NodeAnswer::ClientState(state)) => Ok(Content::ClientState(state)),
-        Ok(NodeAnswer::ConsensusStates(page)) => states_in(alloc, bytes, page),
+        Ok(NodeAnswer::ConsensusStates(page)) => states_in(alloc, name, bytes, page),
         Ok(NodeAnswer::Transactions(page)) => Ok(Content::Search(page)),
-        Ok(NodeAnswer::Pending(pending)) => pending_in(alloc, bytes, pending),
+        Ok(NodeAnswer::Pending(pending)) => pending_in(alloc, name, bytes, pending),
         Ok(NodeAnswer::Verdicts(_)) => Ok(Content::Other),
         Ok(NodeAnswer::Other(query)) => other_in(alloc, bytes, query),
         Err(AnswerError::NoMemory) => Err(AllocError),
@@ -97,25 +116,71 @@ pub fn content_of(alloc: Global, bytes: &[u8], since: u64) -> Result<Content, Al
     }
 }
 
-/// A page of consensus states, with the key of the next.
-fn states_in(alloc: Global, bytes: &[u8], page: ConsensusPage) -> Result<Content, AllocError>
-    ensures { IfOk result (λ content. content_view content ≡ states (states_view page) (key_unless page.is_last bytes.now)) }
+/// The number that stands in a name behind this front.
+fn number_after(front: &str, name: &str) -> Option<u64>
+    ensures { result ≡ number_after front.now name.now }
 {
-    let next_key = key_unless(alloc, bytes, page.is_last)?;
-    Ok(Content::ConsensusStates { page, next_key })
+    let Some(digits) = name.strip_prefix(front) else {
+        return None;
+    };
+    number_of(digits)
 }
 
-/// What an answer tells of pending packets, of commitments with the key of the next page.
-fn pending_in(alloc: Global, bytes: &[u8], pending: Pending) -> Result<Content, AllocError>
-    ensures { IfOk result (λ content. content_view content ≡ pending_content bytes.now (pending_view pending)) }
+/// A page of validators, with its number.
+fn validators_in(alloc: Global, name: &str, page: ValidatorsPage) -> Result<Content, AllocError>
+    ensures { IfOk result (λ content. content_view content ≡ set_page (validators_number page.height name.now) (set_view page)) }
+{
+    let height = page.height;
+    let front = format!(in alloc; "validators-{height}-")?;
+    let number = number_after(front.as_str(), name);
+    Ok(Content::Validators { number, page })
+}
+
+/// A page of consensus states, with its number and the key of the next.
+fn states_in(
+    alloc: Global,
+    name: &str,
+    bytes: &[u8],
+    page: ConsensusPage,
+) -> Result<Content, AllocError>
+    ensures { IfOk result (λ content. content_view content ≡ states (states_number name.now) (states_view page) (key_unless page.is_last bytes.now)) }
+{
+    let number = number_after("consensus_states-", name);
+    let next_key = key_unless(alloc, bytes, page.is_last)?;
+    Ok(Content::ConsensusStates {
+        number,
+        page,
+        next_key,
+    })
+}
+
+/// What an answer tells of pending packets, with the number of its page or part, of commitments with the key of the next page.
+fn pending_in(
+    alloc: Global,
+    name: &str,
+    bytes: &[u8],
+    pending: Pending,
+) -> Result<Content, AllocError>
+    ensures { IfOk result (λ content. content_view content ≡ pending_content name.now bytes.now (pending_view pending)) }
 {
     match pending {
         Pending::Commitments(page) => {
+            let number = number_after("commitments-", name);
             let next_key = key_unless(alloc, bytes, page.is_last)?;
-            Ok(Content::Commitments { page, next_key })
+            Ok(Content::Commitments {
+                number,
+                page,
+                next_key,
+            })
         }
-        Pending::Unreceived(sequences) => Ok(Content::Unreceived(sequences)),
-        Pending::Acknowledgements(sequences) => Ok(Content::Acknowledgements(sequences)),
+        Pending::Unreceived(sequences) => {
+            let number = number_after("unreceived-", name);
+            Ok(Content::Unreceived { number, sequences })
+        }
+        Pending::Acknowledgements(sequences) => {
+            let number = number_after("acknowledgements-", name);
+            Ok(Content::Acknowledgements { number, sequences })
+        }
     }
 }
 

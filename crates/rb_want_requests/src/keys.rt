@@ -1,23 +1,59 @@
 //! The keys of pages of consensus states and of commitments.
-ghost use Rattle.std.specs.Prelude.{◌≡◌, [], MatchOption};
+ghost use Rattle.std.specs.Prelude.{◌≡◌, find, reverse};
 ghost use Rattle.std.specs.Option.{option_copied};
-ghost use Rattle.rb_want_requests.specs.Keys.{IsGreatest, digit_of, greater_of, is_above, key_in, keys_in, next_key};
+ghost use Rattle.rb_want_requests.specs.Answered.{is_part};
+ghost use Rattle.rb_want_requests.specs.Keys.{is_other, key_after, key_in, next_key, other_key};
 
+use crate::answered::{PartKind, is_part, is_part_of, number_in};
 use crate::content::Content;
 
-/// The greatest key of a next page: all pages before it are there.
-#[tactic(auto, using(crate::proofs::Greatest::steps))]
-pub fn next_key(contents: &[Content]) -> Option<&str>
-    ensures key { option_copied result ≡ next_key contents.now }
-    ensures greatest { MatchOption (option_copied result) (keys_in contents.now ≡ []) (IsGreatest (keys_in contents.now)) }
+/// The key that a page begins with, but for the first: which the page before it names or, where no file's name says which that
+/// is, the last page in a file of another name.
+pub fn next_key<'a>(contents: &'a [Content], kind: &PartKind, page: u64) -> Option<&'a str>
+    ensures { option_copied result ≡ next_key kind.now page contents.entry.now }
 {
-    let mut greatest: Option<&str> = None;
-    for content in contents {
-        if let Some(key) = key_in(content) {
-            greatest = Some(greater(greatest, key));
-        }
+    match key_after(contents, kind, page.saturating_sub(1)) {
+        Some(key) => Some(key),
+        None => other_key(contents, kind),
     }
-    greatest
+}
+
+/// The key that the page with a number names.
+fn key_after<'a>(contents: &'a [Content], kind: &PartKind, number: u64) -> Option<&'a str>
+    ensures { option_copied result ≡ key_after kind.now number contents.entry.now }
+{
+    key_in(page_numbered(contents, kind, number)?)
+}
+
+fn page_numbered<'a>(contents: &'a [Content], kind: &PartKind, number: u64) -> Option<&'a Content>
+    ensures { option_copied result ≡ find (is_part kind.now number) contents.entry.now }
+{
+    contents
+        .iter()
+        .find(|content| is_part(content, kind, number))
+}
+
+/// The key that the last of the pages in files of other names has.
+fn other_key<'a>(contents: &'a [Content], kind: &PartKind) -> Option<&'a str>
+    ensures { option_copied result ≡ other_key kind.now contents.entry.now }
+{
+    key_in(last_other(contents, kind)?)
+}
+
+fn last_other<'a>(contents: &'a [Content], kind: &PartKind) -> Option<&'a Content>
+    ensures { option_copied result ≡ find (is_other kind.now) (reverse contents.entry.now) }
+{
+    contents
+        .iter()
+        .rev()
+        .find(|content| is_other(content, kind))
+}
+
+/// Whether a content is a page of a kind in a file whose name has no number.
+fn is_other(content: &Content, kind: &PartKind) -> bool
+    ensures { result ≡ is_other kind.now content.now }
+{
+    is_part_of(content, kind) && number_in(content).is_none()
 }
 
 /// The key of the page after one that a file holds.
@@ -34,48 +70,5 @@ fn key_in(content: &Content) -> Option<&str>
             ..
         } => Some(key.as_str()),
         _ => None,
-    }
-}
-
-/// The greater of two keys, where there is another.
-fn greater<'a>(other: Option<&'a str>, key: &'a str) -> &'a str
-    ensures { result.now ≡ greater_of (option_copied other.entry) key.entry.now }
-{
-    match other {
-        Some(other) if !is_above(key, other) => other,
-        _ => key,
-    }
-}
-
-/// Whether the bytes of one text in base64 come after those of another (RFC 4648).
-#[tactic(auto, using(crate::proofs::KeyOrder::steps))]
-fn is_above(key: &str, other: &str) -> bool
-    ensures { result ≡ is_above key.now other.now }
-{
-    let others = other.as_bytes();
-    for (place, character) in key.as_bytes().iter().enumerate() {
-        let Some(than) = others.get(place) else {
-            return true;
-        };
-        let (digit, than) = (digit_of(*character), digit_of(*than));
-        if digit != than {
-            return digit > than;
-        }
-    }
-    false
-}
-
-/// The value of a character of base64, above 0; of a filling one 0.
-#[tactic(auto, unfolding(crate::specs::Keys::digit_of))]
-fn digit_of(character: u8) -> u8
-    ensures { result ≡ digit_of character }
-{
-    match character {
-        b'A'..=b'Z' => character - b'A' + 1,
-        b'a'..=b'z' => character - b'a' + 27,
-        b'0'..=b'9' => character - b'0' + 53,
-        b'+' | b'-' => 63,
-        b'/' | b'_' => 64,
-        _ => 0,
     }
 }

@@ -11,7 +11,7 @@ mod reason;
 mod request;
 mod wanted;
 
-pub use answered::{PartKind, count_pages, count_parts};
+pub use answered::{PartKind, first_part, has_all, next_part};
 pub use content::{Content, Folder, Folders, NodeStatus, content_of};
 pub use lines::RequestLine;
 pub use packet_lines::SEQUENCES_A_PART;

@@ -5,6 +5,7 @@ ghost use Rattle.std.specs.Option.{option_copied};
 ghost use Rattle.rb_want_requests.specs.Lines.{client_path, contents_of, ending_of, key_character, key_text, node_path, own_id, page_key};
 ghost use Rattle.rb_want_requests.specs.Requests.{folder_of};
 
+use crate::answered::PartKind;
 use crate::content::{Content, Folders};
 use crate::keys::next_key;
 use crate::packet_lines::write_packet_path;
@@ -57,7 +58,10 @@ impl<'a> RequestLine<'a> {
         ensures { option_copied result ≡ page_key self.now.request.now.query (contents_of (folder_of self.now.folders.now self.now.request.now.owner)) }
     {
         match self.request.query {
-            Query::ConsensusStates { .. } | Query::Commitments { .. } => next_key(self.contents()),
+            Query::ConsensusStates { page } => {
+                next_key(self.contents(), &PartKind::ConsensusStates, page)
+            }
+            Query::Commitments { page } => next_key(self.contents(), &PartKind::Commitments, page),
             _ => None,
         }
     }

@@ -112,7 +112,7 @@ fn counted_word(alloc: Global, what: &str, count: usize) -> Result<String, Alloc
 fn plain_word(content: &Content) -> &'static str {
     match content {
         Content::Commit(_) => "commit",
-        Content::Validators(_) => "validators",
+        Content::Validators { .. } => "validators",
         Content::ClientState(_) => "client state",
         Content::OtherClient => "other client",
         _ => "other",
@@ -121,13 +121,17 @@ fn plain_word(content: &Content) -> &'static str {
 
 fn word_of(alloc: Global, content: &Content) -> Result<String, AllocError> {
     match content {
-        Content::ConsensusStates { page, next_key } => states_word(alloc, page.is_last, next_key),
+        Content::ConsensusStates { page, next_key, .. } => {
+            states_word(alloc, page.is_last, next_key)
+        }
         Content::Status(status) => status_word(alloc, status),
-        Content::Commitments { page, next_key } => {
+        Content::Commitments { page, next_key, .. } => {
             commitments_word(alloc, page.sequences.len(), page.is_last, next_key)
         }
-        Content::Unreceived(sequences) => counted_word(alloc, "unreceived", sequences.len()),
-        Content::Acknowledgements(sequences) => {
+        Content::Unreceived { sequences, .. } => {
+            counted_word(alloc, "unreceived", sequences.len())
+        }
+        Content::Acknowledgements { sequences, .. } => {
             counted_word(alloc, "acknowledgements of", sequences.len())
         }
         Content::Search(page) => counted_word(alloc, "search of", page.events.len()),
@@ -136,7 +140,7 @@ fn word_of(alloc: Global, content: &Content) -> Result<String, AllocError> {
 }
 
 fn check_file(rt: &impl Abort, alloc: Global, text: &str, wanted: &str) -> Result<(), AllocError> {
-    let content = content_of(alloc, text.as_bytes(), 0)?;
+    let content = content_of(alloc, "", text.as_bytes(), 0)?;
     let word = word_of(alloc, &content)?;
     assert_same(rt, &text, word.as_str(), wanted);
     Ok(())
@@ -150,14 +154,78 @@ fn knows_files_by_what_they_hold(rt: HostRuntime) -> Result<(), Fail> {
     Ok(())
 }
 
-/// The pages of a client's consensus states, and of a channel's commitments, whose keys the next requests name.
-const STATES: &[&str] = &[
-    r#"{"consensus_states": [], "pagination": {"next_key": "MS0+/w=="}}"#,
-    r#"{"consensus_states": [], "pagination": {"next_key": "MS0y"}}"#,
+const SET: &str = r#"{"block_height": "7", "validators": [], "count": "0", "total": "0"}"#;
+
+const LAST_STATES: &str = r#"{"consensus_states": [], "pagination": {"next_key": null}}"#;
+
+/// The numbers of pages and parts by the names of their files.
+const NUMBERS: &[(&str, &str, Option<u64>)] = &[
+    ("validators-7-2", SET, Some(2)),
+    ("validators-8-2", SET, None),
+    ("validators-7", SET, None),
+    ("consensus_states-12", LAST_STATES, Some(12)),
+    ("validators-7-2", LAST_STATES, None),
+    ("states-2", LAST_STATES, None),
+    ("consensus_states-2b", LAST_STATES, None),
+    (
+        "commitments-3",
+        r#"{"commitments": [], "pagination": {"next_key": null}}"#,
+        Some(3),
+    ),
+    (
+        "unreceived-1",
+        r#"{"sequences": [], "height": {}}"#,
+        Some(1),
+    ),
+    ("acknowledgements-2", r#"{"acknowledgements": []}"#, Some(2)),
 ];
 
-const COMMITMENTS: &[&str] = &[
-    r#"{"commitments": [{"sequence": "5"}, {"sequence": "8"}], "pagination": {"next_key": "OA=="}}"#,
+fn number_in(content: &Content) -> Option<u64> {
+    match content {
+        Content::Validators { number, .. }
+        | Content::ConsensusStates { number, .. }
+        | Content::Commitments { number, .. }
+        | Content::Unreceived { number, .. }
+        | Content::Acknowledgements { number, .. } => *number,
+        _ => Some(0),
+    }
+}
+
+#[test]
+fn knows_pages_by_the_names_of_files(rt: HostRuntime) -> Result<(), Fail> {
+    for (name, text, wanted) in NUMBERS {
+        let content = content_of(rt.alloc(), name, text.as_bytes(), 0)?;
+        assert_same(&rt, name, &number_in(&content), wanted);
+    }
+    Ok(())
+}
+
+/// The pages of a client's consensus states, by the names of their files: the third is lost.
+const STATES: &[(&str, &str)] = &[
+    (
+        "consensus_states-1",
+        r#"{"consensus_states": [], "pagination": {"next_key": "MS0y"}}"#,
+    ),
+    (
+        "consensus_states-2",
+        r#"{"consensus_states": [], "pagination": {"next_key": "MS0+/w=="}}"#,
+    ),
+    (
+        "consensus_states-4",
+        r#"{"consensus_states": [], "pagination": {"next_key": "Mi0x"}}"#,
+    ),
+];
+
+/// The pages of a channel's commitments, in files of other names.
+const COMMITMENTS: &[(&str, &str)] = &[
+    (
+        "a",
+        r#"{"commitments": [{"sequence": "5"}], "pagination": {"next_key": "NQ=="}}"#,
+    ),
+    (
+        "b",
+        r#"{"commitments": [{"sequence": "8"}], "pagination": {"next_key": "OA=="}}"#,
+    ),
 ];
 
 /// What is asked for, in numbers.
@@ -227,8 +295,8 @@ const OF_CLIENT: &[(Asked, &str)] = &[
 
 const OF_PATH: &[(Asked, &str)] = &[
     (
-        Asked::Commitments(2),
-        "get hub-4 /ibc/core/channel/v1/channels/channel-7/ports/transfer%232/packet_commitments?pagination.limit=1000&pagination.key=OA%3D%3D transfers/commitments-2.json",
+        Asked::Commitments(3),
+        "get hub-4 /ibc/core/channel/v1/channels/channel-7/ports/transfer%232/packet_commitments?pagination.limit=1000&pagination.key=OA%3D%3D transfers/commitments-3.json",
     ),
     (
         Asked::Unreceived(1),
@@ -244,10 +312,10 @@ const OF_PATH: &[(Asked, &str)] = &[
     ),
 ];
 
-fn folder_of(alloc: Global, pages: &[&str]) -> Result<Folder, AllocError> {
+fn folder_of(alloc: Global, pages: &[(&str, &str)]) -> Result<Folder, AllocError> {
     let mut contents = Vec::new(alloc);
-    for page in pages {
-        contents.push(content_of(alloc, page.as_bytes(), 0)?)?;
+    for (name, page) in pages {
+        contents.push(content_of(alloc, name, page.as_bytes(), 0)?)?;
     }
     Ok(Folder {
         contents,
