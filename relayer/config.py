@@ -45,6 +45,13 @@ class Chain:
     limits: Three = (4_000_000, 30, 20_000)
     sender: Sender | None = None
 
+    def scaled(self, factor: float) -> "Chain":
+        """The chain with other gas, and with fees that change alike."""
+        def times(values: Three) -> Three:
+            base, vote, validator = (max(1, round(value * factor)) for value in values)
+            return base, vote, validator
+        return dataclasses.replace(self, fee=times(self.fee), gas=times(self.gas))
+
 
 @dataclasses.dataclass(frozen=True)
 class Client:

@@ -6,6 +6,7 @@ import urllib.parse
 
 from relayer.clock import Clock
 from relayer.config import END_WORD, GAS_PRICE, IDENTIFIER, SIGNER, Chain, Client, Config, End, Path, Sender, Three, addresses
+from relayer.gas import measured
 from relayer.node import Kind, Refused
 from relayer.sources import Sources, Unavailable
 from relayer.values import Fields
@@ -156,13 +157,13 @@ class Discovery:
 # ---- writing
 
 
-def config_text(chains: list[Chain], clients: list[Client], paths: list[Path], days: dict[str, float], notes: list[str]) -> str:
-    """The text of the configuration."""
-    text = "# Written by `ibcplan-relayer init`. Gas and fees are guesses: put in those of your chains (docs/OPERATING.md).\n"
+def config_text(chains: list[tuple[Chain, int]], clients: list[Client], paths: list[Path], days: dict[str, float], notes: list[str]) -> str:
+    """The text of the configuration, of chains with the number of updates by which their gas is known."""
+    text = "# Written by `ibcplan-relayer init`. Gas and fees are guesses but where it says how many updates they are by (docs/OPERATING.md).\n"
     text += "".join(f"# {note}\n" for note in notes)
     text += 'version = 1\nprogram = ["ibcplan"]\nfolder = "relayer"  # answers, plans and the state file, beside this file\n'
     text += "window_seconds = 300\npoll_seconds = 5\nround_seconds = 600\nverify = true\nmetrics_port = 0  # 0: none\n\n"
-    text += "".join(map(chain_text, chains))
+    text += "".join(chain_text(chain, updates) for chain, updates in chains)
     for client in clients:
         text += f'[[client]]  # {client.of} on {client.host}, trusted for {days[client.name]:.1f} days\nhost = "{client.host}"\nid = "{client.id}"\nof = "{client.of}"\n\n'
     return text + "".join(map(path_text, paths))
@@ -172,13 +173,13 @@ def array(items: tuple[str, ...]) -> str:
     return "[" + ", ".join(f'"{item}"' for item in items) + "]"
 
 
-def chain_text(chain: Chain) -> str:
+def chain_text(chain: Chain, updates: int) -> str:
     sender = chain.sender or Sender((), "relayer")
     none = "" if chain.gateways else "  # write the address of a gateway (ibc-go's REST), as https://rest.example"
     price = f'gas_price = "{sender.gas_price}"\n' if sender.gas_price else '# gas_price = "0.025stake"\n'
     return (f'[[chain]]\nid = "{chain.id}"\nnodes = {array(chain.nodes)}  # several, as they come\ngateways = {array(chain.gateways)}{none}\n'
             f"program = {array(sender.program)}  # signs and broadcasts\nsigner = \"{sender.signer}\"\noptions = []  # as \"--keyring-backend\", \"test\"\n{price}"
-            f"fee = {list(chain.fee)}\ngas = {list(chain.gas)}\nlimits = {list(chain.limits)}\n\n")
+            f"fee = {list(chain.fee)}\ngas = {list(chain.gas)}{f'  # by {updates} updates' if updates else ''}\nlimits = {list(chain.limits)}\n\n")
 
 
 def path_text(path: Path) -> str:
@@ -195,10 +196,11 @@ def write_config(chains: list[Chain], file: pathlib.Path, log: Log, clock: Clock
     discovery = Discovery(chains, log, clock)
     try:
         clients, paths = discovery.find()
+        priced = [measured(chain, discovery.sources) for chain in chains]
     finally:
         discovery.sources.close()
     try:
-        file.write_text(config_text(chains, clients, paths, discovery.days, discovery.notes))
+        file.write_text(config_text(priced, clients, paths, discovery.days, discovery.notes))
     except OSError as error:
         raise Fault(f"{file}: {error.strerror}", 4) from None
     for note in discovery.notes:

@@ -111,7 +111,7 @@ class Source:
             raise SourceFailure(why_of(error), may_pass=True) from None
 
     def connected(self) -> http.client.HTTPConnection:
-        make = http.client.HTTPSConnection if self.parts.scheme == "https" else http.client.HTTPConnection
+        make: type[http.client.HTTPConnection] = http.client.HTTPSConnection if self.parts.scheme == "https" else http.client.HTTPConnection
         connection = make(self.parts.hostname or "", self.parts.port, timeout=self.seconds)
         connection.connect()
         return connection

@@ -1,6 +1,7 @@
 """`pending`: the packets of each channel that wait, by what the gateways and the nodes of both ends tell; what is due is the proved program's to say."""
 import dataclasses
 import tomllib
+from collections.abc import Mapping
 
 from relayer.planner import setup_text
 from relayer.rounds import Relayer
@@ -67,7 +68,7 @@ def pending(relayer: Relayer) -> Pending:
     return Pending(packets_in(text, heights, due), {name: why for name, why in unknown.items()})
 
 
-def packets_in(script: str, heights: dict[str, int], due: dict[tuple[str, int], str]) -> list[Waiting]:
+def packets_in(script: str, heights: Mapping[str, int], due: Mapping[tuple[str, int], str]) -> list[Waiting]:
     """The packets that a script tells of, and that aren't cleared."""
     events = Fields(tomllib.loads(script)).objects("turn")[-1].objects("event")
     by_kind: dict[str, dict[tuple[str, int], int]] = {}

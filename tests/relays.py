@@ -11,7 +11,7 @@ import time
 import urllib.request
 
 from program import CONTROL, STEERING
-from relaying.chains import BEGIN, SIGNED, Refusal
+from relaying.chains import BEGIN, SIGNED, Refusal, past_update
 from relaying.days import Days
 from relaying.serving import GATEWAY_FAULTS, NODE_FAULTS
 from relaying.world import PROGRAM, RELAYER, World
@@ -314,11 +314,15 @@ def begun(program, folder):
         (world.folder / "hermes.toml").write_text("".join(f'[[chains]]\nid = "{name}"\nrpc_addr = "{address}"\nkey_name = "relayer"\ngas_price = {{ price = 0.025, denom = "u" }}\n' for name, address in nodes.items()))
         (world.folder / "relayer.toml").unlink()
         by_hand = [word for name, address in nodes.items() for word in ("--chain", f"{name}={address}")]
+        # a transaction (20,000) with an update of three votes and eight validators, twice as much as is guessed; the others aren't of one update that was taken, or can't be read
+        right = past_update(201_200, (2, 3, 1, 2), (4, 4))
+        world.chains["hub-4"].past_updates = [past_update(9, (2,), (1, 1), code=5), right, past_update(9, (2,), (1, 1), others=1), right, {**right, "tx": "Cg=="}, {**right, "tx": "?"}, right]
         for words in by_hand, ["--hermes", "hermes.toml"]:
             status, told, error = world.run("init", *words, *gateways)
             flaws += [] if status == 0 and "2 chains, 2 clients, 2 directions of channels" in told else [f"init: {status}: {told}{error}"]
             text = (world.folder / "relayer.toml").read_text()
             (world.folder / "relayer.toml").unlink()
+            flaws += [] if text.count("\ngas = [160000, 6000, 400]  # by 3 updates\n") == 1 and text.count("\ngas = [80000, 3000, 200]\n") == 1 else [f"gas of past updates: {text}"]
         text = text.replace('["ibcplan"]', f'["{program}"]').replace("verify = true", f"verify = {str(SIGNED).lower()}").replace('["simd"]', PROGRAM)
         (world.folder / "relayer.toml").write_text(text)
         status, _, error = world.run("init", *by_hand)

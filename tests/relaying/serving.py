@@ -71,6 +71,8 @@ def node_answer(source, path, asked):
         return result({"code": code, "log": log, "hash": hash_text})
     if path == "/sequence":
         return result({"sequence": str(chain.sequences.get(asked["signer"][0], 0))})
+    if path == "/tx_search" and asked["query"] == ["\"message.action='/ibc.core.client.v1.MsgUpdateClient'\""]:
+        return result({"txs": chain.past_updates[:int(asked["per_page"][0])], "total_count": str(len(chain.past_updates))})
     if path == "/tx_search":
         return chain.transfers.search(asked["query"][0])
     height = int(asked.get("height", [str(latest)])[0])
