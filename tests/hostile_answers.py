@@ -10,7 +10,7 @@ import sys
 
 import answers
 from answer_edits import COMMIT_FILE, edited, hashed, in_turn, judged
-from imports import CLIENT, ENDS, HEAD, NO_HEADERS, ONE, PACKETS, PATH, TURN, import_case, setups
+from imports import CLIENT, ENDS, HEAD, MORE, NO_HEADERS, ONE, PACKETS, PATH, TURN, import_case, setups
 from json_paths import put
 from program import TOP, Case
 
@@ -179,6 +179,21 @@ def many_sends_row(top, words):
     yield Case("210,000 packets of a path", ["sh", "-c", line, str(setup), str(folder)], b"", f"0\n0\n4096\n0\n2\n{told}".encode(), b"", 0)
 
 
+def unseen_sends_row(top, words):
+    """390,000 commitments to packets of whose sending no answer tells: the first 100 are told one by one, the others in a line."""
+    folder, setup = folder_in(top, "unseen-sends", lambda folder: None), top / "unseen-sends.toml"
+    setup.write_text(HEAD + ONE + TWO + PATH + ENDS + (TURN % 20).partition("goal")[0])
+    shutil.rmtree(folder / "transfers")
+    states = ",".join(f'{{"sequence":"{sequence}"}}' for sequence in range(1, 390_001))
+    text = f'{{"commitments":[{states}],"pagination":{{"next_key":null}},"height":{{"revision_number":"4","revision_height":"80"}}}}'
+    assert len(text) <= MOST_BYTES
+    (folder / "transfers").mkdir()
+    (folder / "transfers" / "commitments-1.json").write_text(text)
+    line = (f'{words} import "$0" "$1" > "$1.script" 2> "$1.told"; echo "$?"; grep -c "^left out" "$1.told"; grep -c "^notice MissingSend at transfers" "$1.told"; '
+            'grep -c "kind = \\"sent\\"" "$1.script"; grep "^notice MorePackets" "$1.told"')
+    yield Case("390,000 commitments to packets that nobody saw sent", ["sh", "-c", line, str(setup), str(folder)], b"", f"0\n0\n100\n0\n{MORE % (101, 389_900)}".encode(), b"", 0)
+
+
 def hostile_cases(top):
     yield from verified_cases(top)
     yield from forged_cases(top)
@@ -190,3 +205,4 @@ def hostile_rows(top, program):
     words = " ".join(map(shlex.quote, program))
     yield from crowded_row(top, words)
     yield from many_sends_row(top, words)
+    yield from unseen_sends_row(top, words)

@@ -428,6 +428,16 @@ def lacking(name, sequence, file):
             f"fetch {remedy}{INTO}transfers\n")
 
 
+MORE = "notice MorePackets at transfers %d: %d more packets, this the first, are left out alike\n"
+
+
+def unseen(count):
+    """The change that adds so many packets with commitments, from 1001 on, of whose sending no answer tells, and the lines that tell of the first 100, and of the others."""
+    sequences = range(1001, 1001 + count)
+    lines = [lacking("MissingSend", sequence, "commitments-1") for sequence in sequences[:100]]
+    return pending([3, *sequences], unreceived=[3, *sequences]), lines + ([MORE % (1101, count - 100)] if count > 100 else [])
+
+
 WARNING = "# Signatures were not verified: headers and votes stand as the nodes gave them.\n"
 SETTING, FROM, UNTIL = "drift_ns = 7\n", "12:09:20Z", "12:09:30Z"
 PATH_GAS = "gas = [5, 5, 5]\n"
@@ -540,6 +550,9 @@ NOTICES = [
     (1, str, pending([3, 77]), [lacking("MissingReceipt", 3, "sent"), lacking("MissingSend", 77, "commitments-1")]),
     (1, str, pending([3, 77], unreceived=[3, 77]), [lacking("MissingSend", 77, "commitments-1")]),
     (1, str, pending([2, 3], unreceived=[]), [lacking("MissingReceive", 3, "commitments-1")]),
+    # of an unordered path that leaves out many packets the first 100 are told one by one, the others by their number; of an ordered one the first
+    *((1, str, *unseen(count)) for count in (99, 100, 101, 102, 1_000)),
+    *((1, ORDERED, change, lines[:1]) for change, lines in (unseen(101),)),
     (1, ORDERED, edited(RECEIVED_FILE, gone(f"{TX}.tx_result.events[1]")), [lacking("MissingReceive", 2, "received"), UNSEARCHED % "recv_packet"]),
     (1, str, in_turn(pending([1, 2], unreceived=[1]), saved(*packet_txs(OURS, (58, "acknowledge_packet", 2)))), []),
     # a setup that names another source than that of the packets; and such answers that tell of none, or of one from it

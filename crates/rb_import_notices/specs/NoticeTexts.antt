@@ -23,6 +23,7 @@ use Rattle.rb_import_notices.specs.declared.latest.MissingLatest.{MissingLatest}
 use Rattle.rb_import_notices.specs.declared.missing.MissingHeaders.{MissingHeaders}
 use Rattle.rb_import_notices.specs.declared.missing.MissingNextSet.{MissingNextSet}
 use Rattle.rb_import_notices.specs.declared.notice.Notices.{Notices}
+use Rattle.rb_import_notices.specs.declared.packets.MorePackets.{MorePackets}
 use Rattle.rb_import_notices.specs.declared.packets.PacketLeftOut.{PacketLeftOut}
 use Rattle.rb_import_notices.specs.declared.pages.MissingStates.{MissingStates}
 use Rattle.rb_import_notices.specs.declared.passed.PassedOver.{PassedOver}
@@ -110,6 +111,16 @@ packet_left_out_by name words remedy n =
 
 abbrev pub packet_left_out_text : PacketLeftOut → List ℕ
 packet_left_out_text n = packet_left_out_by (lack_name n.packet.lack) (lack_words n.packet.lack) (lack_remedy n.packet.lack) n
+
+abbrev pub more_packets_text : MorePackets → List ℕ
+more_packets_text n =
+    codes "notice MorePackets at "
+    ++ n.path.now
+    ++ codes " "
+    ++ decimal n.first
+    ++ codes ": "
+    ++ decimal n.packets
+    ++ codes " more packets, this the first, are left out alike"
 
 -- ---- headers
 
@@ -395,6 +406,7 @@ excess_lines n =
     ++ lines_of too_many_records_text n.too_many.items
     ++ lines_of too_many_packets_text n.too_many_packets.items
     ++ lines_of packet_left_out_text n.packets.items
+    ++ lines_of more_packets_text n.more_packets.items
 
 abbrev pub unusable_lines : Notices → List ℕ
 unusable_lines n =

@@ -10,7 +10,7 @@ use Rattle.rb_import_notices.specs.Excess.{TellExcessHeaders, TellExcessPackets,
 use Rattle.rb_import_notices.specs.Headers.{TellSets, TellUnsigned}
 use Rattle.rb_import_notices.specs.Latest.{TellLatest}
 use Rattle.rb_import_notices.specs.Missing.{TellHeaders, TellNextSets}
-use Rattle.rb_import_notices.specs.Packets.{TellLeftOut}
+use Rattle.rb_import_notices.specs.Packets.{TellLeftOut, TellMore}
 use Rattle.rb_import_notices.specs.Pages.{TellPages}
 use Rattle.rb_import_notices.specs.Passed.{TellOthersOfChains, TellOthersOfClients, TellOthersOfPaths}
 use Rattle.rb_import_notices.specs.Stale.{TellFresh}
@@ -18,9 +18,12 @@ use Rattle.rb_import_notices.specs.Unsearched.{TellSearches}
 use Rattle.rb_import_notices.specs.Unusable.{TellFuture, TellGoals, TellUntrusted}
 use Rattle.rb_import_notices.specs.Verified.{TellUnchecked, TellUnverified}
 
--- they tell what is left out by itself: headers without sets, headers that too few validators signed, packets on which answers are lacking
+-- they tell what is left out by itself: headers without sets, headers that too few validators signed, packets on which answers are lacking, the first 100
+-- of a path one by one
 abbrev pub TellLeft : Setup → Seen → Notices → Type 0
-TellLeft setup seen n = TellSets setup seen n.sets.items × TellUnsigned setup seen n.unsigned.items × TellLeftOut setup seen n.packets.items
+TellLeft setup seen n =
+    TellSets setup seen n.sets.items × TellUnsigned setup seen n.unsigned.items × TellLeftOut setup seen n.packets.items
+    × TellMore setup seen n.more_packets.items
 
 -- they tell what isn't among the answers: headers, next sets, records of latest heights, pages of records, searches
 abbrev pub TellMissing : Setup → SavedAnswers → Seen → Notices → Type 0

@@ -29,7 +29,7 @@ pub use headers::{MissingSets, UnsignedHeaders};
 pub use latest::MissingLatest;
 pub use missing::{MissingHeaders, MissingNextSet};
 pub use notice::{Notices, notices_of};
-pub use packets::PacketLeftOut;
+pub use packets::{MorePackets, PacketLeftOut};
 pub use pages::MissingStates;
 pub use passed::PassedOver;
 pub use stale::NothingFresh;

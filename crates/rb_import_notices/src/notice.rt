@@ -14,7 +14,7 @@ use crate::headers::{MissingSets, UnsignedHeaders, missing_sets, unsigned_header
 use crate::latest::{MissingLatest, missing_latest};
 use crate::lines::write_lines;
 use crate::missing::{MissingHeaders, MissingNextSet, missing_headers, missing_next_sets};
-use crate::packets::{PacketLeftOut, packets_left_out};
+use crate::packets::{MorePackets, PacketLeftOut, more_packets, packets_left_out};
 use crate::pages::{MissingStates, missing_states};
 use crate::passed::{PassedOver, others_of_chains, others_of_clients, others_of_paths};
 use crate::stale::{NothingFresh, nothing_fresh};
@@ -41,6 +41,7 @@ pub struct Notices<'a> {
     pub too_many: Vec<TooManyRecords<'a>>,
     pub too_many_packets: Vec<TooManyPackets<'a>>,
     pub packets: Vec<PacketLeftOut<'a>>,
+    pub more_packets: Vec<MorePackets<'a>>,
     pub untrusted: Vec<NothingTrusted<'a>>,
     pub future: Vec<FutureHeaders<'a>>,
     pub goals: Vec<UnseenGoal<'a>>,
@@ -95,7 +96,8 @@ impl Notices<'_> {
         write_lines(f, self.too_many_sets.as_slice())?;
         write_lines(f, self.too_many.as_slice())?;
         write_lines(f, self.too_many_packets.as_slice())?;
-        write_lines(f, self.packets.as_slice())
+        write_lines(f, self.packets.as_slice())?;
+        write_lines(f, self.more_packets.as_slice())
     }
 
     /// Writes a line for each notice of what can't be used.
@@ -165,6 +167,7 @@ pub fn notices_of<'a>(
     let too_many = too_many_records(alloc, setup, seen)?;
     let too_many_packets = too_many_packets(alloc, setup, seen)?;
     let packets = packets_left_out(alloc, setup, seen)?;
+    let more_packets = more_packets(alloc, setup, seen)?;
     let untrusted = nothing_trusted(alloc, setup, seen)?;
     let future = future_headers(alloc, setup, seen)?;
     let goals = unseen_goals(alloc, setup, seen)?;
@@ -190,6 +193,7 @@ pub fn notices_of<'a>(
         too_many,
         too_many_packets,
         packets,
+        more_packets,
         untrusted,
         future,
         goals,
