@@ -1,0 +1,4 @@
+pub mod Attributes
+pub mod Events
+pub mod Steps
+pub mod Transactions

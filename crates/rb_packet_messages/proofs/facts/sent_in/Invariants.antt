@@ -1,0 +1,8 @@
+use Rattle.std.proofs.Common.{◌≡◌, drop, map}
+use Rattle.rb_packet_messages.specs.Facts.{answer_view, sent_in}
+use Rattle.rb_packet_messages.proofs.facts.sent_in.Given as goal
+
+-- the first answer that tells it is among those that are left
+abbrev pub invariant-loop-answer : goal.invariant-loop-answer
+invariant-loop-answer l =
+    sent_in l.ends l.sequence (map answer_view (drop l.answer-index l.answers)) ≡ sent_in l.ends l.sequence (map answer_view l.answers)

@@ -1,0 +1,4 @@
+pub mod Asking
+pub mod Claims
+pub mod Judging
+pub mod Proving

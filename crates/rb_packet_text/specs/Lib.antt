@@ -1,0 +1,3 @@
+pub mod MessageTexts
+pub mod PacketTexts
+pub mod Values
